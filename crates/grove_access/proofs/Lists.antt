@@ -1,0 +1,63 @@
+-- Accesses seen by their nodes.
+use Rattle.std.proofs.Common.{◌≡◌, ℕ, zero, suc, ◌<◌, nat_lt, Bool, true, false, List, [], ◌∷◌, length, drop, slice_get, Option, Some, None, refl, ap, sym, ◌∙◌, subst, inl, inr, option_map, is_some, not, IsTrue, ◌↔◌}
+use Rattle.std.proofs.Math.Seq.{drop-cons}
+use Rattle.std.proofs.lemmas.Option.{slice_get_within, get_or_from_slice_get, none-some, same_Some}
+use Rattle.std.proofs.lemmas.Bool.{cond-true, cond-false, lt-ltb, le-ltb, cases_lt}
+use Rattle.grove_access.specs.declared.access.Access.{Access}
+use Rattle.grove_access.specs.Lists.{nodes_of, AreBelow, first_beyond}
+
+-- what stands at a place stands first in what is left from there
+pub drop_at : (list : List Access) (place : ℕ) (access : Access) → slice_get list place ≡ Some access → drop place list ≡ access ∷ drop (suc place) list
+drop_at list place access at =
+    drop-cons list place access (slice_get_within list place access at)
+    ∙ ap (λ (a : Access). a ∷ drop (suc place) list) (get_or_from_slice_get list place access access at)
+
+-- the node of an access stands at the access's place
+pub node_at : (list : List Access) (place : ℕ) (access : Access) → slice_get list place ≡ Some access → slice_get (nodes_of list) place ≡ Some access.node
+node_at [] place access at = absurd (none-some access at)
+node_at (first ∷ rest) zero access at = ap (λ (o : Option Access). option_map (λ (a : Access). a.node) o) at
+node_at (first ∷ rest) (suc place) access at = node_at rest place access at
+
+-- no place beyond n was found exactly where all nodes are below n
+pub none_beyond : (n place : ℕ) (nodes : List ℕ) → AreBelow n nodes → first_beyond n place nodes ≡ None
+none_beyond n place [] below = refl
+none_beyond n place (node ∷ nodes) below =
+    let lt : node < n = below 0 node refl in
+    cond-true (nat_lt node n) (first_beyond n (suc place) nodes) (Some place) (lt-ltb node n lt)
+    ∙ none_beyond n (suc place) nodes (λ access other. below (suc access) other)
+
+below_rest : (n node : ℕ) (nodes : List ℕ) → node < n → AreBelow n nodes → AreBelow n (node ∷ nodes)
+below_rest n node nodes lt below zero other at = subst (λ (k : ℕ). k < n) (same_Some node other at) lt
+below_rest n node nodes lt below (suc access) other at = below access other at
+
+pub below_none : (n place : ℕ) (nodes : List ℕ) → first_beyond n place nodes ≡ None → AreBelow n nodes
+below_none n place [] found access node at = absurd (none-some node at)
+below_none n place (node ∷ nodes) found access other at = elim (cases_lt node n) [
+  | inl lt ↦ below_rest n node nodes lt
+      (below_none n (suc place) nodes (sym (cond-true (nat_lt node n) (first_beyond n (suc place) nodes) (Some place) (lt-ltb node n lt)) ∙ found)) access other at
+  | inr ge ↦ absurd (none-some place (sym found ∙ cond-false (nat_lt node n) (first_beyond n (suc place) nodes) (Some place) (le-ltb node n ge)))
+]
+
+-- nothing was found
+none_from : (found : Option ℕ) → is_some found ≡ false → found ≡ None
+none_from None h = refl
+none_from (Some place) h = absurd (cc)
+
+-- the answer that no place was found beyond n tells whether all nodes are below n
+pub found_tells : (n m : ℕ) (list seen : List Access) (found : Option ℕ) (answer : Bool) → found ≡ first_beyond m 0 (nodes_of seen) → m ≡ n → seen ≡ list
+    → is_some found ≡ not answer → IsTrue answer ↔ AreBelow n (nodes_of list)
+found_tells n m list seen found true is size same test =
+    let none : found ≡ None = none_from found test in
+    let below : AreBelow m (nodes_of seen) = below_none m 0 (nodes_of seen) (sym is ∙ none) in
+    (λ _. rw (← size, ← same) below, λ _. refl)
+found_tells n m list seen found false is size same test = (
+  λ truth. absurd (cc),
+  λ below. let none : first_beyond n 0 (nodes_of list) ≡ None = none_beyond n 0 (nodes_of list) below in
+      let some : is_some (first_beyond n 0 (nodes_of list)) ≡ true = rw (← size, ← same, ← is) test in
+      absurd (cc (ap is_some none)),
+)
+
+-- there are as many nodes as accesses
+pub nodes_length : (list : List Access) → length (nodes_of list) ≡ length list
+nodes_length [] = refl
+nodes_length (access ∷ list) = ap suc (nodes_length list)

@@ -1,0 +1,28 @@
+use Rattle.std.proofs.Common.{◌≡◌, ◌≤◌, length, sym, ◌∙◌, arith}
+use Rattle.grove_access.specs.Lists.{nodes_of}
+use Rattle.grove_access.proofs.Lists.{nodes_length}
+use Rattle.grove_plan.proofs.Verdicts.{missing_is, still_is, none_is}
+use Rattle.grove_plan.proofs.judging.judge_by.Goals as goal
+
+pub returns-then-watch-len-clause-fault : goal.returns-then-watch-len-clause-fault
+returns-then-watch-len-clause-fault c =
+    let count : length (nodes_of c.args.list.now) ≡ length c.args.list.now = nodes_length c.args.list.now in
+    missing_is c.args.tree.now (nodes_of c.args.list.now) c.args.plan.now c.follow.new.watch c.in_ok-follow.ensures.faultless c.in_ok-follow.ensures.watched (omega arith)
+
+pub first_held-requires : goal.first_held-requires
+first_held-requires c =
+    let few : length c.args.tree.now ≤ 4096 = c.requires.limits.few in
+    let nodes : length c.follow.new.watch.holds.items ≡ length c.args.tree.now = c.in_ok-follow.ensures.watched.nodes in
+    omega arith
+
+pub returns-in-Some-clause-fault : goal.returns-in-Some-clause-fault
+returns-in-Some-clause-fault c =
+    let count : length (nodes_of c.args.list.now) ≡ length c.args.list.now = nodes_length c.args.list.now in
+    still_is c.args.tree.now (nodes_of c.args.list.now) c.args.plan.now c.follow.new.watch c.in-Some.node c.in_ok-follow.ensures.faultless c.in_ok-follow.ensures.watched (omega arith)
+    (sym c.first_held.ensures ∙ c.in-Some.is)
+
+pub returns-clause-faultless : goal.returns-clause-faultless
+returns-clause-faultless c =
+    let count : length (nodes_of c.args.list.now) ≡ length c.args.list.now = nodes_length c.args.list.now in
+    none_is c.args.tree.now (nodes_of c.args.list.now) c.args.plan.now c.follow.new.watch c.in_ok-follow.ensures.faultless c.in_ok-follow.ensures.watched (omega arith)
+    (sym c.first_held.ensures ∙ c.in_default.is)

@@ -1,0 +1,11 @@
+use Rattle.std.proofs.Common.{◌≡◌, false}
+use Rattle.std.specs.List.{slice_get}
+use Rattle.grove_tree.specs.Numbers.{any_below}
+use Rattle.grove_plan.specs.Plans.{locks}
+use Rattle.grove_plan.specs.Slots.{accesses_before}
+use Rattle.grove_plan.proofs.plan.Plan.lock_slot.Given as goal
+
+abbrev pub invariant-loop-step : goal.invariant-loop-step
+invariant-loop-step l =
+    (l.accesses ≡ accesses_before l.self l.step-index)
+    × (any_below l.step-index (λ i. locks l.node (slice_get l.self i)) ≡ false)

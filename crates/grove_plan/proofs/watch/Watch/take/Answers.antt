@@ -1,0 +1,60 @@
+use Rattle.std.proofs.Common.{◌≡◌, ◌<◌, ◌≤◌, ◌+◌, ◌-◌, ◌*◌, length, refl, ◌∙◌, ap, arith}
+use Rattle.std.specs.List.{slice_get}
+use Rattle.grove_tree.specs.Trees.{weight_of}
+use Rattle.grove_tree.proofs.Counting.{count_le}
+use Rattle.grove_plan.specs.declared.step.Step.TheVariants.{Unlock}
+use Rattle.grove_plan.specs.Plans.{is_access}
+use Rattle.grove_plan.specs.Slots.{accesses_before}
+use Rattle.grove_plan.proofs.Rules.{unlock_kept}
+use Rattle.grove_plan.proofs.Watched.{kept_read, watch_locked, watch_unlocked, watch_accessed, watched_weight, watched_part}
+use Rattle.grove_plan.proofs.watch.Watch.take.Goals as goal
+
+pub overflow_add-self : goal.overflow_add-self
+overflow_add-self c =
+    let held : c.args.self.now.weight ≤ 4096000 = watched_weight c.args.tree.now c.args.plan.now c.args.place c.args.self.now c.requires.limits c.requires.watched in
+    let light : weight_of c.args.tree.now c.in-Lock.node ≤ 1000 = c.requires.limits.light c.in-Lock.node in
+    omega arith
+
+pub index_mut-requires-in-Unlock : goal.index_mut-requires-in-Unlock
+index_mut-requires-in-Unlock c =
+    let lt : c.in-Unlock.node < length c.args.tree.now = (unlock_kept c.args.tree.now c.args.plan.now c.args.place c.in-Unlock.node
+    (kept_read c.args.tree.now c.requires.faultless.0 c.args.plan.now c.args.place (Unlock c.in-Unlock.node) _ c.requires.within c.in-Unlock.is c.requires.faultless.1)).0 in
+    omega (arith, c.requires.watched.nodes)
+
+pub weight-requires-in-Unlock : goal.weight-requires-in-Unlock
+weight-requires-in-Unlock c =
+    (unlock_kept c.args.tree.now c.args.plan.now c.args.place c.in-Unlock.node
+    (kept_read c.args.tree.now c.requires.faultless.0 c.args.plan.now c.args.place (Unlock c.in-Unlock.node) _ c.requires.within c.in-Unlock.is c.requires.faultless.1)).0
+
+pub overflow_sub-self : goal.overflow_sub-self
+overflow_sub-self c =
+    let part : weight_of c.args.tree.now c.in-Unlock.node ≤ c.args.self.now.weight =
+    watched_part c.args.tree.now c.requires.faultless.0 c.args.plan.now c.args.place c.in-Unlock.node _ c.args.self.now c.requires.within c.in-Unlock.is c.requires.watched c.requires.faultless.1 in
+    omega arith
+
+pub overflow_add-self-in-Access : goal.overflow_add-self-in-Access
+overflow_add-self-in-Access c =
+    let count : c.args.self.now.accesses ≡ accesses_before c.args.plan.now c.args.place = c.requires.watched.accesses in
+    let at_most : accesses_before c.args.plan.now c.args.place ≤ c.args.place = count_le c.args.place (λ i. is_access (slice_get c.args.plan.now i)) in
+    omega arith
+
+pub overflow_add-self-in-Access-2 : goal.overflow_add-self-in-Access-2
+overflow_add-self-in-Access-2 c =
+    let held : c.args.self.now.weight ≤ 4096000 = watched_weight c.args.tree.now c.args.plan.now c.args.place c.args.self.now c.requires.limits c.requires.watched in
+    let small : c.args.self.now.cost ≤ 4096000 * c.args.place = c.requires.watched.small in
+    omega arith
+
+pub returns-in-Lock : goal.returns-in-Lock
+returns-in-Lock c =
+    watch_locked c.args.tree.now c.requires.faultless.0 c.args.plan.now c.args.place c.in-Lock.node c.number.result _ c.args.self.now _ c.requires.within c.in-Lock.is c.number.ensures.is_it
+    c.requires.watched c.requires.faultless.1 refl refl refl (ap (λ w. c.args.self.now.weight + w) (c.from.ensures ∙ c.weight.ensures)) refl
+
+pub returns-in-Unlock : goal.returns-in-Unlock
+returns-in-Unlock c =
+    watch_unlocked c.args.tree.now c.requires.faultless.0 c.args.plan.now c.args.place c.in-Unlock.node c.number-in-Unlock.result _ c.args.self.now _ c.requires.within c.in-Unlock.is
+    c.number-in-Unlock.ensures.is_it c.requires.watched c.requires.faultless.1 refl refl refl
+    (ap (λ w. c.args.self.now.weight - w) (c.from-in-Unlock.ensures ∙ c.weight-in-Unlock.ensures)) refl
+
+pub returns-in-Access : goal.returns-in-Access
+returns-in-Access c =
+    watch_accessed c.args.tree.now c.args.plan.now c.args.place c.in-Access.field-0 _ c.args.self.now _ c.requires.limits c.requires.within c.in-Access.is c.requires.watched refl refl refl refl refl

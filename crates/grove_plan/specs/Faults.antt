@@ -1,0 +1,67 @@
+-- The first fault of a plan.
+use Rattle.std.specs.Prelude.{ℕ, zero, suc, ◌==◌, nat_lt, Bool, false, not, ◌&&◌, List, length, slice_get, Option, Some, None, if◌then◌else◌}
+use Rattle.grove_tree.specs.Numbers.{any_below, least_below}
+use Rattle.grove_tree.specs.Trees.{Rows, parent_of}
+use Rattle.grove_plan.specs.declared.step.Step.{Step}
+use Rattle.grove_plan.specs.declared.step.Step.TheVariants.{Lock, Unlock, Access}
+use Rattle.grove_plan.specs.declared.fault.PlanFault.{PlanFault}
+use Rattle.grove_plan.specs.declared.fault.PlanFault.TheVariants.{Strange, Relock, ParentNotHeld, NotHeld, WrongAccess, AccessNotHeld, AccessMissing, StillHeld}
+use Rattle.grove_plan.specs.Plans.{locks, is_lock, held}
+use Rattle.grove_plan.specs.Slots.{accesses_before}
+
+-- a node that may be missing is held at a place
+abbrev pub is_held : List Step → ℕ → Option ℕ → Bool
+is_held plan place None = false
+is_held plan place (Some node) = held plan node place
+
+-- an earlier step locks a node
+abbrev pub is_later : List Step → ℕ → Bool
+is_later plan place = any_below place (λ i. is_lock (slice_get plan i))
+
+-- the first rule that a step breaks
+
+abbrev pub lock_fault : Rows → List Step → ℕ → ℕ → Option PlanFault
+lock_fault rows plan place node =
+    if not (nat_lt node (length rows)) then Some (Strange place)
+    else if any_below place (λ i. locks node (slice_get plan i)) then Some (Relock place)
+    else if is_later plan place && not (is_held plan place (parent_of rows node)) then Some (ParentNotHeld place)
+    else None
+
+abbrev pub unlock_fault : Rows → List Step → ℕ → ℕ → Option PlanFault
+unlock_fault rows plan place node =
+    if not (nat_lt node (length rows)) then Some (Strange place)
+    else if not (held plan node place) then Some (NotHeld place)
+    else None
+
+abbrev pub access_fault : List ℕ → List Step → ℕ → ℕ → Option PlanFault
+access_fault nodes plan place access =
+    if not (nat_lt access (length nodes)) then Some (Strange place)
+    else if not (access == accesses_before plan place) then Some (WrongAccess place)
+    else if not (is_held plan place (slice_get nodes access)) then Some (AccessNotHeld place)
+    else None
+
+abbrev pub step_fault : Rows → List ℕ → List Step → ℕ → Option Step → Option PlanFault
+step_fault rows nodes plan place (Some (Lock node)) = lock_fault rows plan place node
+step_fault rows nodes plan place (Some (Unlock node)) = unlock_fault rows plan place node
+step_fault rows nodes plan place (Some (Access access)) = access_fault nodes plan place access
+step_fault rows nodes plan place None = None
+
+-- the fault of the first of the first n steps that has one
+abbrev pub fault_or : Option PlanFault → Option PlanFault → Option PlanFault
+fault_or (Some fault) next = Some fault
+fault_or None next = next
+
+abbrev pub steps_fault : Rows → List ℕ → List Step → ℕ → Option PlanFault
+steps_fault rows nodes plan zero = None
+steps_fault rows nodes plan (suc n) = fault_or (steps_fault rows nodes plan n) (step_fault rows nodes plan n (slice_get plan n))
+
+-- what is amiss at the end: the first access that no step does, else the lowest node that is still held
+abbrev pub end_fault : Rows → List ℕ → List Step → Option PlanFault
+end_fault rows nodes plan =
+    if nat_lt (accesses_before plan (length plan)) (length nodes) then Some (AccessMissing (accesses_before plan (length plan)))
+    else if any_below (length rows) (λ node. held plan node (length plan)) then Some (StillHeld (least_below (length rows) (λ node. held plan node (length plan))))
+    else None
+
+-- the first fault of a plan, want of memory aside
+abbrev pub plan_fault_of : Rows → List ℕ → List Step → Option PlanFault
+plan_fault_of rows nodes plan = fault_or (steps_fault rows nodes plan (length plan)) (end_fault rows nodes plan)

@@ -1,0 +1,4 @@
+pub mod Plans
+pub mod Slots
+pub mod Faults
+pub mod Watching

@@ -1,0 +1,85 @@
+-- Lock plans, judged as whole lists of steps by their positions.
+use Rattle.std.specs.Prelude.{◌≡◌, ℕ, ◌*◌, ◌<◌, ◌≤◌, ◌==◌, nat_lt, Bool, true, false, not, ◌&&◌, IsTrue, List, [], ◌∷◌, length, slice_get, Option, Some, None}
+use Rattle.grove_tree.specs.Numbers.{any_below, count_below, sum_below, numbers_below}
+use Rattle.grove_tree.specs.Trees.{Rows, parent_of, weight_of}
+use Rattle.grove_plan.specs.declared.step.Step.{Step}
+use Rattle.grove_plan.specs.declared.step.Step.TheVariants.{Lock, Unlock, Access}
+
+-- the tests of the step at a position
+abbrev pub locks : ℕ → Option Step → Bool
+locks node (Some (Lock v)) = v == node
+locks node (Some (Unlock v)) = false
+locks node (Some (Access i)) = false
+locks node None = false
+
+abbrev pub unlocks : ℕ → Option Step → Bool
+unlocks node (Some (Lock v)) = false
+unlocks node (Some (Unlock v)) = v == node
+unlocks node (Some (Access i)) = false
+unlocks node None = false
+
+abbrev pub is_lock : Option Step → Bool
+is_lock (Some (Lock v)) = true
+is_lock (Some (Unlock v)) = false
+is_lock (Some (Access i)) = false
+is_lock None = false
+
+abbrev pub is_access : Option Step → Bool
+is_access (Some (Lock v)) = false
+is_access (Some (Unlock v)) = false
+is_access (Some (Access i)) = true
+is_access None = false
+
+-- A node is held at a place where some lock of it stands before the place and no unlock of it stands between the two.
+abbrev pub held : List Step → ℕ → ℕ → Bool
+held plan node place =
+    any_below place (λ i. locks node (slice_get plan i) && not (any_below place (λ j. nat_lt i j && unlocks node (slice_get plan j))))
+
+-- the accesses that a plan does, in order
+abbrev pub accesses_of : List Step → List ℕ
+accesses_of [] = []
+accesses_of (Lock v ∷ steps) = accesses_of steps
+accesses_of (Unlock v ∷ steps) = accesses_of steps
+accesses_of (Access i ∷ steps) = i ∷ accesses_of steps
+
+-- some lock stands before the place
+abbrev pub IsLater : List Step → ℕ → Type 0
+IsLater plan place = (i : ℕ) × (node : ℕ) × (i < place) × (slice_get plan i ≡ Some (Lock node))
+
+-- The tree protocol.
+pub record ObeysTreeProtocol (rows : Rows) (plan : List Step) : Type 0 where
+  pub locks_nodes : (i node : ℕ) → slice_get plan i ≡ Some (Lock node) → node < length rows
+  pub parents : (i node : ℕ) → slice_get plan i ≡ Some (Lock node) → IsLater plan i
+      → (parent : ℕ) × (parent_of rows node ≡ Some parent) × IsTrue (held plan parent i)
+  pub once : (i j node : ℕ) → slice_get plan i ≡ Some (Lock node) → slice_get plan j ≡ Some (Lock node) → i ≡ j
+  pub unlocks_held : (i node : ℕ) → slice_get plan i ≡ Some (Unlock node) → IsTrue (held plan node i)
+  pub ends_free : (node : ℕ) → held plan node (length plan) ≡ false
+
+-- The accesses are done in the list's order, each while its node is held. A list is seen as its nodes.
+pub record Performs (nodes : List ℕ) (plan : List Step) : Type 0 where
+  pub in_order : accesses_of plan ≡ numbers_below (length nodes)
+  pub while_held : (i access node : ℕ) → slice_get plan i ≡ Some (Access access) → slice_get nodes access ≡ Some node → IsTrue (held plan node i)
+
+pub record IsLegal (rows : Rows) (nodes : List ℕ) (plan : List Step) : Type 0 where
+  pub obeys : ObeysTreeProtocol rows plan
+  pub performs : Performs nodes plan
+
+-- how many accesses a plan does while it holds a node
+abbrev pub holding : List Step → ℕ → ℕ
+holding plan node = count_below (length plan) (λ place. is_access (slice_get plan place) && held plan node place)
+
+-- what a plan costs: each node's weight for each access that is done while it is held
+abbrev pub cost : Rows → List Step → ℕ
+cost rows plan = sum_below (length rows) (λ node. weight_of rows node * holding plan node)
+
+-- a legal plan than which no legal plan for the list is cheaper
+pub record IsLeast (rows : Rows) (nodes : List ℕ) (plan : List Step) : Type 0 where
+  pub legal : IsLegal rows nodes plan
+  pub least : (other : List Step) → IsLegal rows nodes other → cost rows plan ≤ cost rows other
+
+abbrev pub IsLockedBy : List Step → ℕ → Type 0
+IsLockedBy plan node = (i : ℕ) × (slice_get plan i ≡ Some (Lock node))
+
+-- every legal plan for the list locks the node
+abbrev pub IsForced : Rows → List ℕ → ℕ → Type 0
+IsForced rows nodes node = (plan : List Step) → IsLegal rows nodes plan → IsLockedBy plan node

@@ -1,0 +1,57 @@
+-- What is known of a plan before the step at a place, as it is followed step by step.
+use Rattle.std.specs.Prelude.{◌≡◌, ℕ, ◌*◌, ◌<◌, ◌≤◌, Bool, true, false, ◌&&◌, List, Option, Some, None, length, slice_get, slice_index_or, if◌then◌else◌}
+use Rattle.grove_tree.specs.Numbers.{any_below, count_below, sum_below, least_below}
+use Rattle.grove_tree.specs.Trees.{Rows, weight_of}
+use Rattle.grove_plan.specs.declared.step.Step.{Step}
+use Rattle.grove_plan.specs.declared.watch.Hold.{Hold}
+use Rattle.grove_plan.specs.declared.watch.Hold.TheVariants.{Free, Held, Done}
+use Rattle.grove_plan.specs.declared.watch.Watch.{Watch}
+use Rattle.grove_plan.specs.Plans.{locks, is_access, held}
+use Rattle.grove_plan.specs.Slots.{accesses_before}
+use Rattle.grove_plan.specs.Faults.{is_later}
+
+-- what the steps before a place did with a node: locked it never, hold it, or let it go again
+abbrev pub hold_of : List Step → ℕ → ℕ → Hold
+hold_of plan node place =
+    if held plan node place then Held
+    else if any_below place (λ i. locks node (slice_get plan i)) then Done
+    else Free
+
+abbrev pub is_free : Hold → Bool
+is_free Free = true
+is_free Held = false
+is_free Done = false
+
+abbrev pub is_holding : Hold → Bool
+is_holding Free = false
+is_holding Held = true
+is_holding Done = false
+
+-- a table of what was done with each node tells that a node is held, where there is one
+abbrev pub holds_node : List Hold → Option ℕ → Bool
+holds_node holds None = false
+holds_node holds (Some node) = is_holding (slice_index_or holds node Free)
+
+abbrev pub first_holding : List Hold → Option ℕ
+first_holding holds =
+    if any_below (length holds) (λ node. holds_node holds (Some node)) then Some (least_below (length holds) (λ node. holds_node holds (Some node)))
+    else None
+
+-- the weights of the nodes held at a place, added up
+abbrev pub held_weight : Rows → List Step → ℕ → ℕ
+held_weight rows plan place = sum_below (length rows) (λ node. if held plan node place then weight_of rows node else 0)
+
+-- what the accesses before a place cost
+abbrev pub cost_before : Rows → List Step → ℕ → ℕ
+cost_before rows plan place =
+    sum_below (length rows) (λ node. weight_of rows node * count_below place (λ i. is_access (slice_get plan i) && held plan node i))
+
+-- a watch has followed a plan to a place
+pub record IsWatched (rows : Rows) (plan : List Step) (place : ℕ) (watch : Watch) : Type 0 where
+  pub nodes : length watch.holds.items ≡ length rows
+  pub each : (node : ℕ) → node < length rows → slice_index_or watch.holds.items node Free ≡ hold_of plan node place
+  pub later : watch.later ≡ is_later plan place
+  pub accesses : watch.accesses ≡ accesses_before plan place
+  pub weight : watch.weight ≡ held_weight rows plan place
+  pub cost : watch.cost ≡ cost_before rows plan place
+  pub small : watch.cost ≤ 4096000 * place

@@ -1,0 +1,69 @@
+ghost use Rattle.std.specs.Prelude.{◌≡◌, ◌≢◌, ◌<◌, ◌^◌, length, IfOk, OnOk, IfErr, Some, None};
+ghost use Rattle.grove_tree.specs.Rules.{IsWithinLimits};
+ghost use Rattle.grove_access.specs.Lists.{nodes_of, AreNodes};
+ghost use Rattle.grove_plan.specs.Plans.{IsLegal, cost};
+ghost use Rattle.grove_plan.specs.Faults.{steps_fault, plan_fault_of};
+ghost use Rattle.grove_plan.specs.Watching.{IsWatched};
+
+use crate::watch::Watch;
+use crate::{Plan, PlanFault, Step};
+use grove_access::AccessList;
+use grove_tree::Tree;
+use std::alloc::Global;
+
+/// The cost of a legal plan, in weight times slots; else the first step that breaks a rule and the first rule that it breaks.
+pub fn judge(alloc: Global, tree: &Tree, list: &AccessList, plan: &Plan) -> Result<u64, PlanFault>
+    requires fits { AreNodes tree.now (nodes_of list.now) }
+    ensures cost { IfOk result (λ sum. sum ≡ cost tree.now plan.now) }
+    ensures legal { OnOk result (IsLegal tree.now (nodes_of list.now) plan.now) }
+    ensures faultless { OnOk result (plan_fault_of tree.now (nodes_of list.now) plan.now ≡ None) }
+    ensures fault { IfErr result (λ fault. fault ≢ PlanFault.Memory → plan_fault_of tree.now (nodes_of list.now) plan.now ≡ Some fault) }
+    ensures illegal { IfErr result (λ fault. fault ≢ PlanFault.Memory → ¬ IsLegal tree.now (nodes_of list.now) plan.now) }
+{
+    let mut watch = Watch::new(alloc, tree.len())?;
+    judge_by(&mut watch, tree, list, plan.steps())
+}
+
+// Judges a plan by a watch that has seen none of it.
+fn judge_by(
+    watch: &mut Watch,
+    tree: &Tree,
+    list: &AccessList,
+    plan: &[Step],
+) -> Result<u64, PlanFault>
+    requires fits { AreNodes tree.now (nodes_of list.now) }
+    requires few { length plan.now < 2 ^ 32 }
+    requires limits { IsWithinLimits tree.now }
+    requires watched { IsWatched tree.now plan.now 0 watch.old }
+    ensures cost { IfOk result (λ sum. sum ≡ cost tree.now plan.now) }
+    ensures faultless { OnOk result (plan_fault_of tree.now (nodes_of list.now) plan.now ≡ None) }
+    ensures fault { IfErr result (λ fault. plan_fault_of tree.now (nodes_of list.now) plan.now ≡ Some fault) }
+{
+    follow(watch, tree, list, plan)?;
+    if watch.accesses < list.len() {
+        return Err(PlanFault::AccessMissing(watch.accesses));
+    }
+    if let Some(node) = watch.first_held() {
+        return Err(PlanFault::StillHeld(node));
+    }
+    Ok(watch.cost)
+}
+
+// Follows a plan to its end, or to the first step that breaks a rule.
+fn follow(watch: &mut Watch, tree: &Tree, list: &AccessList, plan: &[Step]) -> Result<(), PlanFault>
+    requires fits { AreNodes tree.now (nodes_of list.now) }
+    requires few { length plan.now < 2 ^ 32 }
+    requires limits { IsWithinLimits tree.now }
+    requires watched { IsWatched tree.now plan.now 0 watch.old }
+    ensures watched { OnOk result (IsWatched tree.now plan.now (length plan.now) watch.new) }
+    ensures faultless { OnOk result (steps_fault tree.now (nodes_of list.now) plan.now (length plan.now) ≡ None) }
+    ensures fault { IfErr result (λ fault. steps_fault tree.now (nodes_of list.now) plan.now (length plan.now) ≡ Some fault) }
+{
+    for place in 0..plan.len() {
+        if let Some(fault) = watch.fault_at(tree, list, plan, place) {
+            return Err(fault);
+        }
+        watch.take(tree, plan, place);
+    }
+    Ok(())
+}

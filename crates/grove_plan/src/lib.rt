@@ -1,0 +1,15 @@
+//! Lock plans, and the judge that says whether one is legal and what it costs.
+#![tactic(auto)]
+
+pub use fault::PlanFault;
+pub use judging::judge;
+pub use plan::Plan;
+pub use step::Step;
+
+mod fault;
+mod judging;
+mod plan;
+mod step;
+#[cfg(test)]
+mod tests;
+mod watch;

@@ -1,0 +1,176 @@
+ghost use Rattle.std.specs.Prelude.{◌≡◌, ℕ, List, ◌+◌, ◌<◌, ◌^◌, length, IfOk, IfNone, IfSome, None, slice_get, slice_index_or};
+ghost use Rattle.grove_tree.specs.Rules.{IsWithinLimits};
+ghost use Rattle.grove_access.specs.Lists.{nodes_of, AreNodes};
+ghost use Rattle.grove_plan.specs.Faults.{step_fault, end_fault};
+ghost use Rattle.grove_plan.specs.Watching.{IsWatched, is_free, is_holding, holds_node, first_holding};
+ghost use Rattle.grove_tree.specs.Trees.{Rows, IsTree, parent_of};
+ghost use Rattle.grove_plan.specs.declared.watch.Hold.TheVariants.{Free};
+
+use crate::{PlanFault, Step};
+use grove_access::AccessList;
+use grove_tree::{Node, Tree};
+use std::alloc::{AllocError, Global};
+
+/// What a plan did with a node so far.
+#[derive(Clone, Copy, Debug, PartialEq, Eq)]
+pub enum Hold {
+    /// It was never locked.
+    Free,
+    /// It is held.
+    Held,
+    /// It was held, and is no more.
+    Done,
+}
+
+impl Hold {
+    fn is_free(self) -> bool
+        ensures { result ≡ is_free self }
+    {
+        matches!(self, Hold::Free)
+    }
+
+    fn is_held(self) -> bool
+        ensures { result ≡ is_holding self }
+    {
+        matches!(self, Hold::Held)
+    }
+}
+
+/// What is known of a plan that is followed step by step.
+#[derive(Debug, Drop)]
+pub struct Watch {
+    /// By the nodes' numbers.
+    pub holds: Vec<Hold>,
+    /// Some node was locked.
+    pub later: bool,
+    /// How many accesses were done.
+    pub accesses: u32,
+    /// The weight of all nodes held.
+    pub weight: u64,
+    /// What the accesses cost so far.
+    pub cost: u64,
+}
+
+impl Watch {
+    /// Before the first step.
+    pub fn new(alloc: Global, nodes: u32) -> Result<Watch, AllocError>
+        ensures { (rows : Rows) (plan : List Step) → length rows ≡ nodes → IfOk result (IsWatched rows plan 0) }
+    {
+        let holds = Vec::from_elem(alloc, Hold::Free, nodes as usize)?;
+        Ok(Watch {
+            holds,
+            later: false,
+            accesses: 0,
+            weight: 0,
+            cost: 0,
+        })
+    }
+
+    fn hold(&self, node: Node) -> Hold
+        requires { node < length self.now.holds.items }
+        ensures { result ≡ slice_index_or self.now.holds.items node Free }
+    {
+        self.holds[node.number() as usize]
+    }
+
+    fn holds_parent(&self, tree: &Tree, node: Node) -> bool
+        requires tree { IsTree tree.now }
+        requires within { node < length tree.now }
+        requires nodes { length self.now.holds.items ≡ length tree.now }
+        ensures { result ≡ holds_node self.now.holds.items (parent_of tree.now node) }
+    {
+        match tree.parent(node) {
+            Some(parent) => self.hold(parent).is_held(),
+            None => false,
+        }
+    }
+
+    /// The first rule that the step at the place breaks.
+    pub fn fault_at(
+        &self,
+        tree: &Tree,
+        list: &AccessList,
+        plan: &[Step],
+        place: usize,
+    ) -> Option<PlanFault>
+        requires fits { AreNodes tree.now (nodes_of list.now) }
+        requires within { place < length plan.now }
+        requires few { length plan.now < 2 ^ 32 }
+        requires watched { IsWatched tree.now plan.now place self.now }
+        ensures { result ≡ step_fault tree.now (nodes_of list.now) plan.now place (slice_get plan.now place) }
+    {
+        let step = place as u32;
+        match plan[place] {
+            Step::Lock(node) => {
+                if node.number() >= tree.len() {
+                    Some(PlanFault::Strange(step))
+                } else if !self.hold(node).is_free() {
+                    Some(PlanFault::Relock(step))
+                } else if self.later && !self.holds_parent(tree, node) {
+                    Some(PlanFault::ParentNotHeld(step))
+                } else {
+                    None
+                }
+            }
+            Step::Unlock(node) => {
+                if node.number() >= tree.len() {
+                    Some(PlanFault::Strange(step))
+                } else if !self.hold(node).is_held() {
+                    Some(PlanFault::NotHeld(step))
+                } else {
+                    None
+                }
+            }
+            Step::Access(access) => {
+                if access >= list.len() {
+                    Some(PlanFault::Strange(step))
+                } else if access != self.accesses {
+                    Some(PlanFault::WrongAccess(step))
+                } else if !self.hold(list.get(access).node).is_held() {
+                    Some(PlanFault::AccessNotHeld(step))
+                } else {
+                    None
+                }
+            }
+        }
+    }
+
+    /// Takes the step at the place, which breaks no rule.
+    pub fn take(&mut self, tree: &Tree, plan: &[Step], place: usize)
+        requires limits { IsWithinLimits tree.now }
+        requires within { place < length plan.now }
+        requires few { length plan.now < 2 ^ 32 }
+        requires faultless { (nodes : List ℕ) × (step_fault tree.now nodes plan.now place (slice_get plan.now place) ≡ None) }
+        requires watched { IsWatched tree.now plan.now place self.old }
+        ensures { IsWatched tree.now plan.now (place + 1) self.new }
+    {
+        match plan[place] {
+            Step::Lock(node) => {
+                self.holds[node.number() as usize] = Hold::Held;
+                self.later = true;
+                self.weight += u64::from(tree.weight(node));
+            }
+            Step::Unlock(node) => {
+                self.holds[node.number() as usize] = Hold::Done;
+                self.weight -= u64::from(tree.weight(node));
+            }
+            Step::Access(_) => {
+                self.accesses += 1;
+                self.cost += self.weight;
+            }
+        }
+    }
+
+    /// The lowest node that is held.
+    pub fn first_held(&self) -> Option<Node>
+        requires { length self.now.holds.items < 2 ^ 32 }
+        ensures { result ≡ first_holding self.now.holds.items }
+    {
+        for (node, hold) in self.holds.iter().enumerate() {
+            if hold.is_held() {
+                return Some(Node::new(node as u32));
+            }
+        }
+        None
+    }
+}

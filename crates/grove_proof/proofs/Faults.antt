@@ -1,0 +1,159 @@
+-- Faults and certificates exclude each other, and what the parts of the checker answer is its verdict.
+use Rattle.std.proofs.Common.{◌≡◌, ◌≢◌, ℕ, ◌+◌, ℤ, pos, ◌-ℤ◌, Bool, true, false, List, length, Some, Result, Ok, Err, refl, sym, ◌∙◌, ap, subst, arith}
+use Rattle.std.specs.Prelude.{map, MatchResult, IfOk, OnOk, IfErr}
+use Rattle.std.specs.List.{slice_get}
+use Rattle.std.proofs.lemmas.Bool.{both_ways}
+use Rattle.std.proofs.lemmas.Int.{ints}
+use Rattle.grove_tree.specs.Trees.{Rows, IsTree}
+use Rattle.grove_access.specs.declared.access.Access.{Access}
+use Rattle.grove_access.specs.Lists.{AreNodes, nodes_of}
+use Rattle.grove_access.specs.Spanned.{spanned_nodes}
+use Rattle.grove_plan.specs.declared.step.Step.{Step}
+use Rattle.grove_plan.specs.declared.fault.PlanFault.{PlanFault}
+use Rattle.grove_plan.specs.declared.fault.PlanFault.TheVariants as plan_fault
+use Rattle.grove_plan.specs.Plans.{IsLegal, IsLeast, cost}
+use Rattle.grove_plan.specs.Faults.{plan_fault_of}
+use Rattle.grove_proof.specs.declared.flow.FlowRow.{FlowRow}
+use Rattle.grove_proof.specs.declared.fault.ProofFault.{ProofFault}
+use Rattle.grove_proof.specs.declared.fault.ProofFault.TheVariants as fault
+use Rattle.grove_proof.specs.Forced.{IsForcedList}
+use Rattle.grove_proof.specs.Flows.{node_of, AllRows, gains, losses, IsCertificate}
+use Rattle.grove_proof.specs.Faults.{IsFirstDifference, IsFirstStranger, IsFirstBad, bound, IsFault}
+use Rattle.grove_proof.specs.Tables.{PassAll, IsRowsFault, as_proof_fault, IsVerdict}
+use Rattle.grove_proof.proofs.Listed.{span_is_forced_list, forced_lists_same}
+use Rattle.grove_proof.proofs.Duality.{certified_is_least}
+
+-- a difference of numbers, and their sum
+difference : (g l c : ℕ) → pos g -ℤ pos l ≡ pos c → g ≡ c + l
+difference g l c h = omega (arith, ints)
+
+difference_from : (g l c : ℕ) → g ≡ c + l → pos g -ℤ pos l ≡ pos c
+difference_from g l c h = omega (arith, ints)
+
+-- a row that fails, and all rows that pass
+bad_refutes : (test : FlowRow → Bool) (flow : List FlowRow) (i : ℕ) → IsFirstBad test flow i → AllRows test flow → ⊥
+bad_refutes test flow i bad all = both_ways (test bad.row) bad.fails (all i bad.row bad.there)
+
+-- a stranger among the rows' nodes
+stranger_refutes : (rows : Rows) (nodes : List ℕ) (flow : List FlowRow) (i : ℕ) → IsFirstStranger rows nodes flow i → IsForcedList rows nodes (map node_of flow) → ⊥
+stranger_refutes rows nodes flow i stranger forced =
+    stranger.2.differ (ap (λ (xs : List ℕ). slice_get xs i) (forced_lists_same rows nodes (map node_of flow) stranger.0 forced stranger.1))
+
+-- a fault of a legal plan's flow shows that it is no certificate
+pub fault_refutes : (rows : Rows) (nodes : List ℕ) (plan : List Step) (flow : List FlowRow) (e : ProofFault) → ((f : PlanFault) → e ≡ fault.Plan f → IsLegal rows nodes plan → ⊥) → e ≢ fault.Memory
+    → IsFault rows nodes plan flow e → IsLegal rows nodes plan → IsCertificate rows nodes flow (cost rows plan) → ⊥
+fault_refutes rows nodes plan flow (fault.Plan f) none ne is legal certificate = none f refl legal
+fault_refutes rows nodes plan flow (fault.Rows i) none ne is legal certificate = stranger_refutes rows nodes flow i is.1 certificate.balances.forced
+fault_refutes rows nodes plan flow (fault.Sign i) none ne is legal certificate = bad_refutes _ flow i is.1 certificate.balances.signs
+fault_refutes rows nodes plan flow (fault.TooBig i) none ne is legal certificate = bad_refutes _ flow i is.1 certificate.small
+fault_refutes rows nodes plan flow (fault.LockBalance i) none ne is legal certificate = bad_refutes _ flow i is.1 certificate.balances.locks
+fault_refutes rows nodes plan flow (fault.ReleaseBalance i) none ne is legal certificate = bad_refutes _ flow i is.1 certificate.balances.releases
+fault_refutes rows nodes plan flow (fault.Value c b) none ne is legal certificate = is.3 (difference_from (gains nodes flow) (losses nodes flow) (cost rows plan) certificate.value)
+fault_refutes rows nodes plan flow fault.Memory none ne is legal certificate = ne refl
+
+-- a plan's own fault is the checker's
+plan_is_fault : (rows : Rows) (nodes : List ℕ) (plan : List Step) (flow : List FlowRow) (f : PlanFault) → f ≢ plan_fault.Memory → plan_fault_of rows nodes plan ≡ Some f
+    → IsFault rows nodes plan flow (as_proof_fault f)
+plan_is_fault rows nodes plan flow (plan_fault.Strange s) ne h = h
+plan_is_fault rows nodes plan flow (plan_fault.Relock s) ne h = h
+plan_is_fault rows nodes plan flow (plan_fault.ParentNotHeld s) ne h = h
+plan_is_fault rows nodes plan flow (plan_fault.NotHeld s) ne h = h
+plan_is_fault rows nodes plan flow (plan_fault.WrongAccess s) ne h = h
+plan_is_fault rows nodes plan flow (plan_fault.AccessNotHeld s) ne h = h
+plan_is_fault rows nodes plan flow (plan_fault.AccessMissing i) ne h = h
+plan_is_fault rows nodes plan flow (plan_fault.StillHeld v) ne h = h
+plan_is_fault rows nodes plan flow plan_fault.Memory ne h = absurd (ne refl)
+
+-- the verdict on a plan that isn't legal
+pub plan_verdict : (rows : Rows) (nodes : List ℕ) (plan : List Step) (flow : List FlowRow) (f : PlanFault) (e : ProofFault) → e ≡ as_proof_fault f
+    → (f ≢ plan_fault.Memory → plan_fault_of rows nodes plan ≡ Some f) → (f ≢ plan_fault.Memory → IsLegal rows nodes plan → ⊥) → IsVerdict rows nodes plan flow (Err e)
+plan_verdict rows nodes plan flow f e is first illegal = λ ne.
+    let other : f ≢ plan_fault.Memory = λ z. ne (is ∙ ap as_proof_fault z) in
+    (subst (λ (x : ProofFault). IsFault rows nodes plan flow x) (sym is) (plan_is_fault rows nodes plan flow f other (first other)), λ legal certificate. illegal other legal)
+
+-- want of memory
+pub memory_verdict : (rows : Rows) (nodes : List ℕ) (plan : List Step) (flow : List FlowRow) (e : ProofFault) → e ≡ fault.Memory → IsVerdict rows nodes plan flow (Err e)
+memory_verdict rows nodes plan flow e is = λ ne. absurd (ne is)
+
+-- rows with a stranger among them
+pub rows_verdict : (rows : Rows) (nodes : List ℕ) (plan : List Step) (flow : List FlowRow) (span : List ℕ) (i : ℕ) → IsTree rows → AreNodes rows nodes → IsLegal rows nodes plan → span ≡ spanned_nodes rows nodes
+    → IsFirstDifference (map node_of flow) span i → IsVerdict rows nodes plan flow (Err (fault.Rows i))
+rows_verdict rows nodes plan flow span i tree fits legal listed differ = λ ne.
+    let stranger : IsFirstStranger rows nodes flow i = (spanned_nodes rows nodes, span_is_forced_list rows nodes tree fits, subst (λ (xs : List ℕ). IsFirstDifference (map node_of flow) xs i) listed differ) in
+    ((legal, stranger), λ also certificate. stranger_refutes rows nodes flow i stranger certificate.balances.forced)
+
+-- a fault of the rows is one of the checker
+rows_are_fault : (rows : Rows) (nodes : List ℕ) (plan : List Step) (flow : List FlowRow) (e : ProofFault) → IsLegal rows nodes plan → IsForcedList rows nodes (map node_of flow)
+    → IsRowsFault rows nodes flow (cost rows plan) e → IsFault rows nodes plan flow e
+rows_are_fault rows nodes plan flow (fault.Plan f) legal forced is = absurd is
+rows_are_fault rows nodes plan flow (fault.Rows i) legal forced is = absurd is
+rows_are_fault rows nodes plan flow (fault.Sign i) legal forced is = ((legal, forced), is)
+rows_are_fault rows nodes plan flow (fault.TooBig i) legal forced is = (((legal, forced), is.0), is.1)
+rows_are_fault rows nodes plan flow (fault.LockBalance i) legal forced is = ((((legal, forced), is.0), is.1), is.2)
+rows_are_fault rows nodes plan flow (fault.ReleaseBalance i) legal forced is = (((((legal, forced), is.0), is.1), is.2), is.3)
+rows_are_fault rows nodes plan flow (fault.Value c b) legal forced is = ((((((legal, forced), is.0.signs), is.0.sizes), is.0.locks), is.0.releases), is.1, is.2, is.3)
+rows_are_fault rows nodes plan flow fault.Memory legal forced is = absurd is
+
+rows_no_plan : (rows : Rows) (nodes : List ℕ) (flow : List FlowRow) (sum : ℕ) (e : ProofFault) (f : PlanFault) → e ≡ fault.Plan f → IsRowsFault rows nodes flow sum e → ⊥
+rows_no_plan rows nodes flow sum e f is h = subst (λ (x : ProofFault). IsRowsFault rows nodes flow sum x) is h
+
+-- rows that pass all tests and give the cost
+rows_certify : (rows : Rows) (nodes : List ℕ) (plan : List Step) (flow : List FlowRow) → IsForcedList rows nodes (map node_of flow) → PassAll rows nodes flow → bound nodes flow ≡ pos (cost rows plan)
+    → IsCertificate rows nodes flow (cost rows plan)
+rows_certify rows nodes plan flow forced pass value = record {
+    balances = record { forced = forced; signs = pass.signs; locks = pass.locks; releases = pass.releases };
+    small = pass.sizes;
+    value = difference (gains nodes flow) (losses nodes flow) (cost rows plan) value
+  }
+
+-- what the rows say of a legal plan whose forced nodes they have
+abbrev pub RowsSay : Rows → List ℕ → List FlowRow → ℕ → Result ℕ ProofFault → Type 0
+RowsSay rows nodes flow sum r = MatchResult r (λ s. (s ≡ sum) × PassAll rows nodes flow × (bound nodes flow ≡ pos sum)) (λ e. IsRowsFault rows nodes flow sum e)
+
+verdict_at_cost : (rows : Rows) (nodes : List ℕ) (plan : List Step) (flow : List FlowRow) (r : Result ℕ ProofFault) → IsLegal rows nodes plan → IsForcedList rows nodes (map node_of flow)
+    → RowsSay rows nodes flow (cost rows plan) r → IsVerdict rows nodes plan flow r
+verdict_at_cost rows nodes plan flow (Ok s) legal forced say = (say.0, legal, rows_certify rows nodes plan flow forced say.1 say.2)
+verdict_at_cost rows nodes plan flow (Err e) legal forced say = λ ne.
+    let is : IsFault rows nodes plan flow e = rows_are_fault rows nodes plan flow e legal forced say in
+    (is, fault_refutes rows nodes plan flow e (λ f same also. rows_no_plan rows nodes flow (cost rows plan) e f same say) ne is)
+
+pub verdict : (rows : Rows) (nodes : List ℕ) (plan : List Step) (flow : List FlowRow) (span : List ℕ) (sum : ℕ) (r : Result ℕ ProofFault) → IsTree rows → AreNodes rows nodes → IsLegal rows nodes plan
+    → span ≡ spanned_nodes rows nodes → map node_of flow ≡ span → sum ≡ cost rows plan → RowsSay rows nodes flow sum r → IsVerdict rows nodes plan flow r
+verdict rows nodes plan flow span sum r tree fits legal listed same e say =
+    verdict_at_cost rows nodes plan flow r legal (subst (λ (xs : List ℕ). IsForcedList rows nodes xs) (sym (same ∙ listed)) (span_is_forced_list rows nodes tree fits))
+      (subst (λ (s : ℕ). RowsSay rows nodes flow s r) e say)
+
+-- What follows from a verdict
+
+pub verdict_cost : (rows : Rows) (nodes : List ℕ) (plan : List Step) (flow : List FlowRow) (r : Result ℕ ProofFault) → IsVerdict rows nodes plan flow r → IfOk r (λ s. s ≡ cost rows plan)
+verdict_cost rows nodes plan flow (Ok s) is = is.0
+verdict_cost rows nodes plan flow (Err e) is = tt
+
+pub verdict_legal : (rows : Rows) (nodes : List ℕ) (plan : List Step) (flow : List FlowRow) (r : Result ℕ ProofFault) → IsVerdict rows nodes plan flow r → OnOk r (IsLegal rows nodes plan)
+verdict_legal rows nodes plan flow (Ok s) is = is.1
+verdict_legal rows nodes plan flow (Err e) is = tt
+
+pub verdict_certificate : (rows : Rows) (nodes : List ℕ) (plan : List Step) (flow : List FlowRow) (r : Result ℕ ProofFault) → IsVerdict rows nodes plan flow r → OnOk r (IsCertificate rows nodes flow (cost rows plan))
+verdict_certificate rows nodes plan flow (Ok s) is = is.2
+verdict_certificate rows nodes plan flow (Err e) is = tt
+
+pub verdict_least : (rows : Rows) (nodes : List ℕ) (plan : List Step) (flow : List FlowRow) (r : Result ℕ ProofFault) → IsTree rows → AreNodes rows nodes → IsVerdict rows nodes plan flow r → OnOk r (IsLeast rows nodes plan)
+verdict_least rows nodes plan flow (Ok s) tree fits is = certified_is_least rows nodes flow plan tree fits is.1 is.2
+verdict_least rows nodes plan flow (Err e) tree fits is = tt
+
+pub verdict_fault : (rows : Rows) (nodes : List ℕ) (plan : List Step) (flow : List FlowRow) (r : Result ℕ ProofFault) → IsVerdict rows nodes plan flow r → IfErr r (λ e. e ≢ fault.Memory → IsFault rows nodes plan flow e)
+verdict_fault rows nodes plan flow (Ok s) is = tt
+verdict_fault rows nodes plan flow (Err e) is = λ ne. (is ne).0
+
+pub verdict_refused : (rows : Rows) (nodes : List ℕ) (plan : List Step) (flow : List FlowRow) (r : Result ℕ ProofFault) → IsVerdict rows nodes plan flow r
+    → IfErr r (λ e. e ≢ fault.Memory → IsLegal rows nodes plan → ¬ IsCertificate rows nodes flow (cost rows plan))
+verdict_refused rows nodes plan flow (Ok s) is = tt
+verdict_refused rows nodes plan flow (Err e) is = λ ne. (is ne).1
+
+-- what rows say, of the same tree, list and rows
+pub say_same : (rows tree : Rows) (accesses list : List Access) (flow other : List FlowRow) (sum : ℕ) (r : Result ℕ ProofFault) → RowsSay rows (nodes_of accesses) flow sum r
+    → rows ≡ tree → accesses ≡ list → flow ≡ other → RowsSay tree (nodes_of list) other sum r
+say_same rows tree accesses list flow other sum r say e f g =
+    subst (λ (x : List FlowRow). RowsSay tree (nodes_of list) x sum r) g
+      (subst (λ (x : List Access). RowsSay tree (nodes_of x) flow sum r) f
+        (subst (λ (x : Rows). RowsSay x (nodes_of accesses) flow sum r) e say))

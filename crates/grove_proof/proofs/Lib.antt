@@ -1,0 +1,11 @@
+pub mod Chains
+pub mod Wide
+pub mod Constraints
+pub mod Sums
+pub mod Listed
+pub mod Duality
+pub mod Meets
+pub mod Marks
+pub mod ByNode
+pub mod Totals
+pub mod Faults

@@ -1,0 +1,95 @@
+-- Sums over lists, term by term.
+use Rattle.std.proofs.Common.{◌≡◌, ℕ, zero, suc, ◌+◌, ◌*◌, ◌<◌, ◌≤◌, Bool, true, false, cond, List, [], ◌∷◌, ◌++◌, length, Option, Some, None, refl, sym, ◌∙◌, ap, subst, inl, inr, arith, zero-mul, mul-zero, add-mul, mul-add, suc-ne-zero, add-zero}
+use Rattle.std.specs.Prelude.{map}
+use Rattle.std.specs.List.{slice_get, sum_by}
+use Rattle.std.proofs.lemmas.Option.{none-some, same_Some}
+use Rattle.std.proofs.lemmas.Bool.{cases_eq, cases_Bool, cond-true, cond-false}
+use Rattle.std.proofs.lemmas.List.Sums.{sum_by-cons, sum_by-append}
+use Rattle.grove_tree.specs.Numbers.{sum_below, passing_below, alone}
+
+-- terms that agree
+pub sums_same : {X : Type 0} (f g : X → ℕ) (xs : List X) → ((i : ℕ) (x : X) → slice_get xs i ≡ Some x → f x ≡ g x) → sum_by f xs ≡ sum_by g xs
+sums_same f g [] h = refl
+sums_same f g (x ∷ xs) h =
+    let here : f x ≡ g x = h 0 x refl in
+    let there : sum_by f xs ≡ sum_by g xs = sums_same f g xs (λ i y is. h (suc i) y is) in
+    omega (arith, sum_by-cons f x xs, sum_by-cons g x xs)
+
+-- terms that are nowhere greater
+pub sums_le : {X : Type 0} (f g : X → ℕ) (xs : List X) → ((i : ℕ) (x : X) → slice_get xs i ≡ Some x → f x ≤ g x) → sum_by f xs ≤ sum_by g xs
+sums_le f g [] h = omega arith
+sums_le f g (x ∷ xs) h =
+    let here : f x ≤ g x = h 0 x refl in
+    let there : sum_by f xs ≤ sum_by g xs = sums_le f g xs (λ i y is. h (suc i) y is) in
+    omega (arith, sum_by-cons f x xs, sum_by-cons g x xs)
+
+-- zeros
+pub sums_zero : {X : Type 0} (f : X → ℕ) (xs : List X) → ((i : ℕ) (x : X) → slice_get xs i ≡ Some x → f x ≡ 0) → sum_by f xs ≡ 0
+sums_zero f [] h = refl
+sums_zero f (x ∷ xs) h =
+    let here : f x ≡ 0 = h 0 x refl in
+    let there : sum_by f xs ≡ 0 = sums_zero f xs (λ i y is. h (suc i) y is) in
+    omega (arith, sum_by-cons f x xs)
+
+-- a sum of sums
+pub sums_add : {X : Type 0} (f g : X → ℕ) (xs : List X) → sum_by (λ x. f x + g x) xs ≡ sum_by f xs + sum_by g xs
+sums_add f g [] = refl
+sums_add f g (x ∷ xs) =
+    let there : sum_by (λ x. f x + g x) xs ≡ sum_by f xs + sum_by g xs = sums_add f g xs in
+    omega (arith, sum_by-cons f x xs, sum_by-cons g x xs, sum_by-cons (λ x. f x + g x) x xs)
+
+-- a factor behind each term, and before it
+pub sums_times : {X : Type 0} (f : X → ℕ) (c : ℕ) (xs : List X) → sum_by (λ x. f x * c) xs ≡ sum_by f xs * c
+sums_times f c [] = sym (zero-mul c)
+sums_times f c (x ∷ xs) = sum_by-cons (λ x. f x * c) x xs
+    ∙ (ap (λ (s : ℕ). f x * c + s) (sums_times f c xs)
+    ∙ (sym (add-mul (f x) (sum_by f xs) c) ∙ ap (λ (s : ℕ). s * c) (sym (sum_by-cons f x xs))))
+
+pub sums_scale : {X : Type 0} (c : ℕ) (f : X → ℕ) (xs : List X) → sum_by (λ x. c * f x) xs ≡ c * sum_by f xs
+sums_scale c f [] = sym (mul-zero c)
+sums_scale c f (x ∷ xs) = sum_by-cons (λ x. c * f x) x xs
+    ∙ (ap (λ (s : ℕ). c * f x + s) (sums_scale c f xs)
+    ∙ (sym (mul-add c (f x) (sum_by f xs)) ∙ ap (λ (s : ℕ). c * s) (sym (sum_by-cons f x xs))))
+
+-- a double sum, the other way round
+pub sums_swap : {X Y : Type 0} (h : X → Y → ℕ) (xs : List X) (ys : List Y) → sum_by (λ x. sum_by (λ y. h x y) ys) xs ≡ sum_by (λ y. sum_by (λ x. h x y) xs) ys
+sums_swap h [] ys = sym (sums_zero (λ y. sum_by (λ x. h x y) []) ys (λ i y is. refl))
+sums_swap h (x ∷ xs) ys = sum_by-cons (λ x. sum_by (λ y. h x y) ys) x xs
+    ∙ (ap (λ (s : ℕ). sum_by (λ y. h x y) ys + s) (sums_swap h xs ys)
+    ∙ (sym (sums_add (λ y. h x y) (λ y. sum_by (λ x. h x y) xs) ys)
+    ∙ sums_same (λ y. h x y + sum_by (λ x. h x y) xs) (λ y. sum_by (λ x. h x y) (x ∷ xs)) ys (λ i y is. sym (sum_by-cons (λ x. h x y) x xs))))
+
+-- numbers with the same successor
+suc-same : (i k : ℕ) → suc i ≡ suc k → i ≡ k
+suc-same i k e = omega arith
+
+-- one term alone
+pub sums_one : {X : Type 0} (f : X → ℕ) (xs : List X) (k : ℕ) (y : X) → slice_get xs k ≡ Some y
+    → ((i : ℕ) (x : X) → slice_get xs i ≡ Some x → (i ≡ k → ⊥) → f x ≡ 0) → sum_by f xs ≡ f y
+sums_one f [] k y there h = absurd (none-some y there)
+sums_one f (x ∷ xs) zero y there h =
+    let here : f x ≡ f y = ap f (same_Some x y there) in
+    let rest : sum_by f xs ≡ 0 = sums_zero f xs (λ i z is. h (suc i) z is (λ e. suc-ne-zero i e)) in
+    omega (arith, sum_by-cons f x xs)
+sums_one f (x ∷ xs) (suc k) y there h =
+    let here : f x ≡ 0 = h 0 x refl (λ e. suc-ne-zero k (sym e)) in
+    let rest : sum_by f xs ≡ f y = sums_one f xs k y there (λ i z is ne. h (suc i) z is (λ e. ne (suc-same i k e))) in
+    omega (arith, sum_by-cons f x xs)
+
+-- a sum over a mapped list
+pub sums_map : {X Y : Type 0} (f : Y → ℕ) (g : X → Y) (xs : List X) → sum_by f (map g xs) ≡ sum_by (λ x. f (g x)) xs
+sums_map f g [] = refl
+sums_map f g (x ∷ xs) = sum_by-cons f (g x) (map g xs) ∙ (ap (λ (s : ℕ). f (g x) + s) (sums_map f g xs) ∙ sym (sum_by-cons (λ x. f (g x)) x xs))
+
+-- a number listed alone, or not at all
+sum_alone : (f : ℕ → ℕ) (b : Bool) (n : ℕ) → sum_by f (alone b n) ≡ cond b (f n) 0
+sum_alone f true n = sum_by-cons f n []  ∙ add-zero (f n)
+sum_alone f false n = refl
+
+-- a sum over the numbers that pass
+pub sums_passing : (f : ℕ → ℕ) (n : ℕ) (test : ℕ → Bool) → sum_by f (passing_below n test) ≡ sum_below n (λ k. cond (test k) (f k) 0)
+sums_passing f zero test = refl
+sums_passing f (suc n) test =
+    let so_far : sum_by f (passing_below n test) ≡ sum_below n (λ k. cond (test k) (f k) 0) = sums_passing f n test in
+    let here : sum_by f (alone (test n) n) ≡ cond (test n) (f n) 0 = sum_alone f (test n) n in
+    omega (arith, sum_by-append f (passing_below n test) (alone (test n) n))

@@ -1,0 +1,9 @@
+-- The sum of the rows so far.
+use Rattle.std.proofs.Common.{◌≡◌, ℕ, ◌*◌, ◌^◌, ◌≤◌, take}
+use Rattle.std.specs.List.{sum_by}
+use Rattle.grove_access.specs.Lists.{nodes_of}
+use Rattle.grove_proof.proofs.Totals.{IsTotal, loss_of}
+use Rattle.grove_proof.proofs.ledger.Ledger.losses.Given as goal
+
+abbrev pub invariant-loop-row : goal.invariant-loop-row
+invariant-loop-row l = IsTotal (loss_of (nodes_of l.self.list.now)) l.self.rows.now l.row-index l.total

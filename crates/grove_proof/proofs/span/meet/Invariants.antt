@@ -1,0 +1,11 @@
+-- What is above both nodes stays the same.
+use Rattle.std.proofs.Common.{ℕ, ◌+◌, ◌<◌, length}
+use Rattle.grove_tree.specs.Trees.{IsAbove}
+use Rattle.grove_proof.proofs.Meets.{IsSameMeet}
+use Rattle.grove_proof.proofs.span.meet.Given as goal
+
+abbrev pub invariant-loop-right : goal.invariant-loop-right
+invariant-loop-right l = IsSameMeet l.tree l.fn.first l.fn.second l.left l.right
+
+abbrev pub decreases-loop-right : goal.decreases-loop-right
+decreases-loop-right l = l.left + l.right

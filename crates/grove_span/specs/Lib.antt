@@ -1,0 +1,2 @@
+pub mod SpanRows
+pub mod Ways

@@ -1,0 +1,16 @@
+//! The nodes that a list needs, with what the planner asks of each.
+#![tactic(auto)]
+
+pub use row::SpanRow;
+pub use spanning::span;
+
+mod lowest;
+mod marks;
+mod row;
+mod rows;
+mod spanning;
+mod visit;
+mod visits;
+
+#[cfg(test)]
+mod tests;

@@ -1,0 +1,14 @@
+use grove_tree::Node;
+
+/// A node that a list needs.
+#[derive(Clone, Copy, Debug, PartialEq, Eq)]
+pub struct SpanRow {
+    pub node: Node,
+    /// The place of the parent among the rows; the topmost node has none there.
+    pub parent: Option<u32>,
+    /// The number of the first access of the node itself, where there is one.
+    pub first: Option<u32>,
+    /// The number of the last access of the node itself, where there is one.
+    pub last: Option<u32>,
+}
+

@@ -1,0 +1,159 @@
+-- Rows without a fault are the rows of a tree within the limits.
+use Rattle.std.proofs.Common.{◌≡◌, ℕ, zero, suc, ◌+◌, ◌<◌, ◌≤◌, ◌==◌, Bool, true, false, ◌&&◌, ◌||◌, not, cond, if◌then◌else◌, List, [], length, Option, Some, None, refl, sym, ◌∙◌, ap, subst, inl, inr, eq-eqb, true≢false, arith, bytes_eq}
+use Rattle.std.specs.Option.{is_none, is_some, option_and_then, option_map, unwrap_or}
+use Rattle.std.specs.Prelude.{nat_lt, nat_le}
+use Rattle.std.proofs.lemmas.Option.{none-some, same_Some, slice_get_past}
+use Rattle.std.proofs.lemmas.Bool.{cases_lt, cases_order, leb-true, ltb-false, and_parts}
+use Rattle.std.proofs.lemmas.Slice.Eq.{bytes_eq-Decides}
+use Rattle.grove_tree.specs.Numbers.{any_below}
+use Rattle.grove_tree.specs.Trees.{Rows, NodeRow, parent_of, name_of, weight_of, depth_of, IsAbove, IsTree, is_above}
+use Rattle.grove_tree.specs.declared.fault.TreeFault.{TreeFault}
+use Rattle.grove_tree.specs.declared.fault.TreeFault.TheVariants.{Empty, TooMany}
+use Rattle.grove_tree.specs.Rules.{is_name, is_well_placed, is_on_the_way, is_well_named, is_twin, share_parent, is_weight, row_fault, first_fault, rows_fault, tree_fault_of, IsWithinLimits}
+use Rattle.grove_tree.proofs.Counting.{any_false}
+use Rattle.grove_tree.proofs.Depths.{depth_root}
+use Rattle.grove_tree.proofs.Ups.{parent_within}
+use Rattle.grove_tree.proofs.Tests.{is_at_from}
+use Rattle.grove_tree.proofs.RowTests.{placed_way, less_to}
+
+-- a row that breaks no rule
+pub record IsRuled (rows : Rows) (row : ℕ) : Type 0 where
+  pub placed : is_well_placed rows row ≡ true
+  pub shallow : nat_lt 32 (depth_of rows row) ≡ false
+  pub named : is_well_named rows row ≡ true
+  pub alone : any_below row (is_twin rows row) ≡ false
+  pub weighed : is_weight (weight_of rows row) ≡ true
+
+no_fault : (f : TreeFault) → Some f ≡ None → ⊥
+no_fault f h = none-some f (sym h)
+
+chain_none : (a b c d e : Bool) (f g h i j : TreeFault)
+    → (if not a then Some f else if b then Some g else if not c then Some h else if d then Some i else if not e then Some j else None) ≡ None
+    → (a ≡ true) × (b ≡ false) × (c ≡ true) × (d ≡ false) × (e ≡ true)
+chain_none true false true false true f g h i j k = (refl, refl, refl, refl, refl)
+chain_none true false true false false f g h i j k = absurd (no_fault j k)
+chain_none true false true true e f g h i j k = absurd (no_fault i k)
+chain_none true false false d e f g h i j k = absurd (no_fault h k)
+chain_none true true c d e f g h i j k = absurd (no_fault g k)
+chain_none false b c d e f g h i j k = absurd (no_fault f k)
+
+pub row_ruled : (rows : Rows) (row : ℕ) → row_fault rows row ≡ None → IsRuled rows row
+row_ruled rows row h =
+    let (placed, shallow, named, alone, weighed) =
+        chain_none (is_well_placed rows row) (nat_lt 32 (depth_of rows row)) (is_well_named rows row) (any_below row (is_twin rows row)) (is_weight (weight_of rows row)) _ _ _ _ _ h in
+    record { placed = placed; shallow = shallow; named = named; alone = alone; weighed = weighed }
+
+first_none : (rows : Rows) (row : ℕ) (o : Option TreeFault) → first_fault rows row o ≡ None → (o ≡ None) × (row_fault rows row ≡ None)
+first_none rows row None h = (refl, h)
+first_none rows row (Some fault) h = absurd (no_fault fault h)
+
+pub rows_ruled : (rows : Rows) (n : ℕ) → rows_fault rows n ≡ None → (row : ℕ) → row < n → IsRuled rows row
+rows_ruled rows zero h row lt = absurd (omega arith)
+rows_ruled rows (suc n) h row lt =
+    let (before, here) = first_none rows n (rows_fault rows n) h in
+    elim (cases_lt row n) [
+        inl lower ↦ rows_ruled rows n before row lower
+      | inr last ↦ let e : row ≡ n = omega arith in rw e (row_ruled rows n here) ]
+
+-- the parents of rows without a fault stand before them
+pub rows_less : (rows : Rows) (n : ℕ) → rows_fault rows n ≡ None → (v p : ℕ) → v < n → parent_of rows v ≡ Some p → p < v
+rows_less rows zero h v p lt own = absurd (omega arith)
+rows_less rows (suc n) h v p lt own =
+    let (before, here) = first_none rows n (rows_fault rows n) h in
+    less_to rows n (rows_less rows n before) (row_ruled rows n here).placed v p lt own
+
+-- the first fault of some rows is the first fault of more
+pub fault_stays : (rows : Rows) (n m : ℕ) (fault : TreeFault) → n ≤ m → rows_fault rows n ≡ Some fault → rows_fault rows m ≡ Some fault
+fault_stays rows n zero fault le h = let e : n ≡ zero = omega arith in rw e at h
+fault_stays rows n (suc m) fault le h = elim (cases_lt m n) [
+    inl last ↦ let e : n ≡ suc m = omega arith in rw e at h
+  | inr before ↦ ap (λ (o : Option TreeFault). first_fault rows m o) (fault_stays rows n m fault before h) ]
+
+-- the first fault, found at a row
+pub fault_found : (rows : Rows) (n m : ℕ) (o : Option TreeFault) → n < m → rows_fault rows n ≡ None → o ≡ row_fault rows n → is_some o ≡ true → o ≡ rows_fault rows m
+fault_found rows n m None lt none is some = absurd (cc)
+fault_found rows n m (Some fault) lt none is some =
+    let here : rows_fault rows (suc n) ≡ Some fault = ap (λ (o : Option TreeFault). first_fault rows n o) none ∙ sym is in
+    sym (fault_stays rows (suc n) m fault (omega arith) here)
+
+-- none is found at a row
+pub fault_not_found : (rows : Rows) (n : ℕ) (o : Option TreeFault) → rows_fault rows n ≡ None → o ≡ row_fault rows n → is_some o ≡ false → rows_fault rows (suc n) ≡ None
+fault_not_found rows n None none is some = ap (λ (o : Option TreeFault). first_fault rows n o) none ∙ sym is
+fault_not_found rows n (Some fault) none is some = absurd (cc)
+
+tree_none : (a b : Bool) (o : Option TreeFault) → (if a then Some Empty else if b then Some TooMany else o) ≡ None → (a ≡ false) × (b ≡ false) × (o ≡ None)
+tree_none false false o h = (refl, refl, h)
+tree_none false true o h = absurd (no_fault TooMany h)
+tree_none true b o h = absurd (no_fault Empty h)
+
+on_the_way_parent : (rows : Rows) (before : ℕ) (o : Option ℕ) → is_on_the_way rows before o ≡ true → (parent : ℕ) × (o ≡ Some parent)
+on_the_way_parent rows before None h = absurd (cc)
+on_the_way_parent rows before (Some parent) h = (parent, refl)
+
+root_none : (o : Option ℕ) → is_none o ≡ true → o ≡ None
+root_none None h = refl
+root_none (Some p) h = absurd (cc)
+
+some_row : (n : ℕ) → (n == 0) ≡ false → 0 < n
+some_row zero h = absurd (true≢false h)
+some_row (suc n) h = omega arith
+
+-- rows without a fault are those of a tree
+pub faultless_tree : (rows : Rows) → tree_fault_of rows ≡ None → IsTree rows
+faultless_tree rows h =
+    let (some, few, none) = tree_none (length rows == 0) (nat_lt 4096 (length rows)) (rows_fault rows (length rows)) h in
+    let ruled : (row : ℕ) → row < length rows → IsRuled rows row = rows_ruled rows (length rows) none in
+    let lt : 0 < length rows = some_row (length rows) some in
+    record {
+      some = lt;
+      root = root_none (parent_of rows 0) (ruled 0 lt).placed;
+      preorder = λ node within.
+        let (parent, own) = on_the_way_parent rows node (parent_of rows (suc node)) (ruled (suc node) within).placed in
+        (parent, own, placed_way rows node parent (ruled (suc node) within).placed own) }
+
+past_depth : (rows : Rows) (node : ℕ) → length rows ≤ node → depth_of rows node ≡ 0
+past_depth rows node past = depth_root rows node (ap (λ (o : Option NodeRow). option_and_then (λ (r : NodeRow). r.parent) o) (slice_get_past rows node past))
+
+past_weight : (rows : Rows) (node : ℕ) → length rows ≤ node → weight_of rows node ≡ 0
+past_weight rows node past = ap (λ (o : Option NodeRow). unwrap_or (option_map (λ (r : NodeRow). r.weight) o) 0) (slice_get_past rows node past)
+
+-- a row that isn't alone has a twin
+twins : (rows : Rows) (first second parent : ℕ) → first < second → parent_of rows first ≡ Some parent → parent_of rows second ≡ Some parent
+    → name_of rows first ≡ name_of rows second → is_twin rows second first ≡ true
+twins rows first second parent lt one two same =
+    let named : bytes_eq (name_of rows first) (name_of rows second) ≡ true = (bytes_eq-Decides (name_of rows first) (name_of rows second)).1 same in
+    let at = is_at_from parent (parent_of rows first) one in
+    rw (two, named, at) refl
+
+not_twins : (rows : Rows) (n : ℕ) → ((row : ℕ) → row < n → IsRuled rows row) → n ≡ length rows → (first second parent : ℕ) → first < second
+    → parent_of rows first ≡ Some parent → parent_of rows second ≡ Some parent → name_of rows first ≡ name_of rows second → ⊥
+not_twins rows n ruled e first second parent lt one two same =
+    let within : second < length rows = parent_within rows second parent two in
+    true≢false (sym (twins rows first second parent lt one two same) ∙ any_false second (is_twin rows second) (ruled second (omega arith)).alone first lt)
+
+-- and they are within the limits
+pub faultless_within : (rows : Rows) → tree_fault_of rows ≡ None → IsWithinLimits rows
+faultless_within rows h =
+    let (some, few, none) = tree_none (length rows == 0) (nat_lt 4096 (length rows)) (rows_fault rows (length rows)) h in
+    let ruled : (row : ℕ) → row < length rows → IsRuled rows row = rows_ruled rows (length rows) none in
+    let lt : 0 < length rows = some_row (length rows) some in
+    record {
+      few = ltb-false 4096 (length rows) few;
+      shallow = λ node. elim (cases_lt node (length rows)) [
+          inl within ↦ ltb-false 32 (depth_of rows node) (ruled node within).shallow
+        | inr past ↦ let e : depth_of rows node ≡ 0 = past_depth rows node past in omega arith ];
+      unnamed_root = (bytes_eq-Decides (name_of rows 0) []).0 (ruled 0 lt).named;
+      names = λ node within. (ruled (suc node) within).named;
+      differ = λ first second parent one two same. elim (cases_order first second) [
+          inl here ↦ here
+        | inr other ↦ elim other [
+              inl before ↦ absurd (not_twins rows (length rows) ruled refl first second parent before one two same)
+            | inr after ↦ absurd (not_twins rows (length rows) ruled refl second first parent after two one (sym same)) ] ];
+      weighty = λ node within.
+        let (low, high) = and_parts (nat_le 1 (weight_of rows node)) (nat_le (weight_of rows node) 1000) (ruled node within).weighed in
+        leb-true 1 (weight_of rows node) low;
+      light = λ node. elim (cases_lt node (length rows)) [
+          inl within ↦
+            let (low, high) = and_parts (nat_le 1 (weight_of rows node)) (nat_le (weight_of rows node) 1000) (ruled node within).weighed in
+            leb-true (weight_of rows node) 1000 high
+        | inr past ↦ let e : weight_of rows node ≡ 0 = past_weight rows node past in omega arith ] }

@@ -1,0 +1,17 @@
+pub mod Ups
+pub mod Lists
+pub mod Counting
+pub mod Tests
+pub mod Children
+pub mod Grown
+pub mod Depths
+pub mod OwnRows
+pub mod Ways
+pub mod RowTests
+pub mod Faultless
+pub mod Places
+pub mod Placed
+pub mod Names
+pub mod PathParts
+pub mod Found
+pub mod Paths

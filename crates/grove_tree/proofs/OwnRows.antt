@@ -1,0 +1,21 @@
+-- A row of a list as a tree sees it.
+use Rattle.std.proofs.Common.{◌≡◌, ℕ, ◌<◌, List, [], length, Option, Some, get_or, refl, ◌∙◌, ap, string_bytes}
+use Rattle.std.specs.List.{slice_get}
+use Rattle.std.specs.Option.{option_map, option_and_then, unwrap_or}
+use Rattle.std.proofs.lemmas.Option.{slice_get-map, slice_get_read}
+use Rattle.grove_tree.specs.Trees.{NodeRow, parent_of, name_of, weight_of}
+use Rattle.grove_tree.specs.declared.row.Row.{Row}
+use Rattle.grove_tree.specs.Rules.{row_of, rows_of}
+
+pub own_row : (rows : List Row) (node : ℕ) (row : Row) → row ≡ get_or rows node row → node < length rows → slice_get (rows_of rows) node ≡ Some (row_of row)
+own_row rows node row is within =
+    slice_get-map row_of rows node ∙ ap (λ (o : Option Row). option_map row_of o) (slice_get_read rows (length rows) node row refl within is)
+
+pub own_parent : (rows : List Row) (node : ℕ) (row : Row) → row ≡ get_or rows node row → node < length rows → parent_of (rows_of rows) node ≡ row.parent
+own_parent rows node row is within = ap (λ (o : Option NodeRow). option_and_then (λ (r : NodeRow). r.parent) o) (own_row rows node row is within)
+
+pub own_name : (rows : List Row) (node : ℕ) (row : Row) → row ≡ get_or rows node row → node < length rows → name_of (rows_of rows) node ≡ string_bytes row.name
+own_name rows node row is within = ap (λ (o : Option NodeRow). unwrap_or (option_map (λ (r : NodeRow). r.name) o) []) (own_row rows node row is within)
+
+pub own_weight : (rows : List Row) (node : ℕ) (row : Row) → row ≡ get_or rows node row → node < length rows → weight_of (rows_of rows) node ≡ row.weight
+own_weight rows node row is within = ap (λ (o : Option NodeRow). unwrap_or (option_map (λ (r : NodeRow). r.weight) o) 0) (own_row rows node row is within)

@@ -1,0 +1,22 @@
+use Rattle.std.proofs.Common.{sym, subst}
+use Rattle.grove_tree.specs.Trees.{Rows, IsTree}
+use Rattle.grove_tree.specs.Rules.{rows_of, IsWithinLimits}
+use Rattle.grove_tree.proofs.Faultless.{faultless_tree, faultless_within}
+use Rattle.grove_tree.proofs.Grown.{grown_whole}
+use Rattle.grove_tree.proofs.tree.Tree.build.Goals as goal
+
+pub grow-requires-clause-tree : goal.grow-requires-clause-tree
+grow-requires-clause-tree c = faultless_tree (rows_of c.args.rows.now) (sym c.in-None.ensures.fault)
+
+pub invariant_of-result : goal.invariant_of-result
+invariant_of-result c =
+    let none = sym c.in-None.ensures.fault in
+    let tree = faultless_tree (rows_of c.args.rows.now) none in
+    let whole = grown_whole (rows_of c.args.rows.now) c.in_ok-root-in-None.root tree c.in_ok-root-in-None.ensures in
+    (c.in_ok-root-in-None.ensures.number,
+      subst (λ (rows : Rows). IsTree rows) (sym whole) tree,
+      subst (λ (rows : Rows). IsWithinLimits rows) (sym whole) (faultless_within (rows_of c.args.rows.now) none))
+
+pub returns-in_ok-root-in-None-clause-rows : goal.returns-in_ok-root-in-None-clause-rows
+returns-in_ok-root-in-None-clause-rows c =
+    grown_whole (rows_of c.args.rows.now) c.in_ok-root-in-None.root (faultless_tree (rows_of c.args.rows.now) (sym c.in-None.ensures.fault)) c.in_ok-root-in-None.ensures

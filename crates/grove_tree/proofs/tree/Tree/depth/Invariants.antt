@@ -1,0 +1,8 @@
+use Rattle.std.proofs.Common.{◌≡◌, ◌+◌, ◌↔◌, IsTrue, string_bytes}
+use Rattle.grove_tree.specs.Trees.{parent_of, depth_of, IsAbove}
+use Rattle.grove_tree.proofs.Placed.{IsReached}
+use Rattle.grove_tree.proofs.Names.{names_of}
+use Rattle.grove_tree.proofs.tree.Tree.depth.Given as goal
+
+abbrev pub invariant-loop-child : goal.invariant-loop-child
+invariant-loop-child l = IsReached l.self l.node l.at × (l.depth ≡ depth_of l.self l.at.0)

@@ -1,0 +1,28 @@
+use Rattle.std.proofs.Common.{◌≡◌, ℕ, suc, ◌+◌, ◌<◌, ◌≤◌, ◌++◌, ◌∷◌, List, [], length, Option, Some, None, IsTrue, refl, sym, ◌∙◌, ap, subst, add-one, arith, eqb-true, eq-eqb, string_bytes}
+use Rattle.grove_tree.specs.Trees.{Rows, IsTree, IsAbove, parent_of, name_of, weight_of, depth_of}
+use Rattle.grove_tree.specs.Rules.{IsWithinLimits}
+use Rattle.grove_tree.specs.Paths.{path_of, or_slash}
+use Rattle.grove_tree.specs.Outlines.{Under, rows_under}
+use Rattle.grove_tree.proofs.Ups.{parent_lt, above_child, above_self}
+use Rattle.grove_tree.proofs.Ways.{above_parent, above_top}
+use Rattle.grove_tree.proofs.Depths.{depth_step, depth_root}
+use Rattle.grove_tree.proofs.Names.{names_of, names_step, names_root}
+use Rattle.grove_tree.proofs.Placed.{reached_root, reached_child, placed_own}
+use Rattle.grove_tree.proofs.tree.Tree.weight.Goals as goal
+
+pub loop-child-init : goal.loop-child-init
+loop-child-init c =
+    let tree = subst (λ (rows : Rows). IsTree rows) c.self.view_is c.self.invariant.1 in
+    reached_root c.args.self.now c.self.inside.root c.args.node tree c.self.invariant.0 c.self.view_is c.requires
+
+pub loop-child-preserved : goal.loop-child-preserved
+loop-child-preserved c =
+    let (next, own) = reached_child c.args.self.now c.args.node _ c.loop-child.at.now c.in-Some.child.now c.loop-child.invariant c.number.ensures.is_it c.in-Some.ensures.0 c.in-Some.ensures.1 in
+    next
+
+pub returns : goal.returns
+returns c =
+    let end : c.loop-child.at.now.0 ≡ c.args.node = sym c.in_default.ensures ∙ c.number.ensures.is_it in
+    let long : suc (length (rows_under c.at.inside.number c.at.inside.children.items)) ≡ length c.loop-child.at.now.1 = ap (λ (v : Under). length v.1) c.at.view_is in
+    let (parent, name, weight) = placed_own c.args.self.now _ c.loop-child.at.now c.loop-child.invariant.placed (omega arith) in
+    ap (λ (v : Under). weight_of v.1 0) c.at.view_is ∙ sym weight ∙ ap (λ (v : ℕ). weight_of c.args.self.now v) end

@@ -1,0 +1,6 @@
+pub mod Numbers
+pub mod Trees
+pub mod Outlines
+pub mod OutlineFalls
+pub mod Paths
+pub mod Rules

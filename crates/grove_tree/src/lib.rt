@@ -1,0 +1,19 @@
+//! Trees of named, weighted nodes: built from rows, found by path.
+#![tactic(auto)]
+
+pub use fault::{NoMemory, TreeFault};
+pub use node::Node;
+pub use outline::Outline;
+pub use row::Row;
+pub use tree::Tree;
+
+mod fault;
+mod finding;
+mod growing;
+mod node;
+mod outline;
+mod row;
+mod rules;
+#[cfg(test)]
+mod examples;
+mod tree;

@@ -1,0 +1,80 @@
+ghost use Rattle.std.specs.Prelude.{◌≡◌, ℕ, List, Some, MatchOption};
+ghost use Rattle.grove_tree.specs.Trees.{parent_of, name_of};
+ghost use Rattle.grove_tree.specs.Paths.{GoesOn};
+ghost use Rattle.grove_tree.specs.Outlines.{Covers, IsChild};
+
+use crate::finding::after_name;
+use std::marker::Model;
+
+/// A node with all that is below it.
+#[derive(Debug, Drop)]
+pub struct Outline {
+    pub name: String,
+    pub weight: u32,
+    pub number: u32,
+    /// How many nodes the outline has, its own included.
+    pub size: u32,
+    pub children: Vec<Outline>,
+}
+
+impl Model for Outline {
+    ghost use Rattle.std.specs.Prelude.{◌∷◌, None, string_bytes, length};
+    ghost use Rattle.grove_tree.specs.Trees.{NodeRow};
+    ghost use Rattle.grove_tree.specs.Outlines.{Under, rows_under, IsOutline};
+    ghost use Rattle.grove_tree.specs.OutlineFalls.{length-rows_under, most_le-total};
+    ghost use Rattle.std.proofs.Common.{arith};
+
+    ghost Value = { Under };
+
+    ghost view = {
+        λ a. (a.number, record { parent = None; name = string_bytes a.name; weight = a.weight } ∷ rows_under a.number a.children.items)
+    };
+
+    ghost invariant = { λ a. IsOutline a.number a.size a.children.items };
+
+    ghost size = { λ value. length value.1 };
+
+    ghost size_decreases = {
+        λ a h. omega (arith, most_le-total a.children.items, length-rows_under a.number a.children.items)
+    };
+}
+
+impl Outline {
+    /// The child that the node is in or at; none where the node is the outline's own.
+    pub(crate) fn towards(&self, node: u32) -> Option<&Outline>
+        requires { Covers self.now node }
+        ensures { MatchOption result (node ≡ self.now.0) (λ child. IsChild self.now child.now × Covers child.now node) }
+    {
+        if node == self.number {
+            return None;
+        }
+        let mut low = 0;
+        let mut high = self.children.len();
+        while high - low > 1 {
+            let middle = low + (high - low) / 2;
+            let child = &self.children[middle];
+            if child.number <= node {
+                low = middle;
+            } else {
+                high = middle;
+            }
+        }
+        Some(&self.children[low])
+    }
+
+    /// The child whose name comes next in the path below the node, with what the path goes on with.
+    pub(crate) fn child_on<'a, 'b>(&'a self, path: &'b [u8]) -> Option<(&'a Outline, &'b [u8])>
+        ensures {
+            MatchOption result
+                ((row : ℕ) (rest : List ℕ) → parent_of self.now.1 row ≡ Some self.now.0 → ¬ GoesOn path.now (name_of self.now.1 row) rest)
+                (λ found. IsChild self.now found.0.now × GoesOn path.now (name_of found.0.now.1 0) found.1.now)
+        }
+    {
+        for child in &self.children {
+            if let Some(rest) = after_name(path, child.name.as_bytes()) {
+                return Some((child, rest));
+            }
+        }
+        None
+    }
+}

@@ -1,0 +1,169 @@
+ghost use Rattle.std.specs.Prelude.{◌≡◌, ◌≢◌, ℕ, ◌<◌, ◌↔◌, length, IsTrue, IfOk, IfErr, IfSome, Some, None, string_bytes};
+ghost use Rattle.grove_tree.specs.Trees.{IsTree, IsAbove, parent_of, weight_of, depth_of};
+ghost use Rattle.grove_tree.specs.Paths.{path_of, node_at, names_within};
+ghost use Rattle.grove_tree.specs.Rules.{rows_of, tree_fault_of, IsWithinLimits};
+
+use crate::growing::grow;
+use crate::rules::fault_of;
+use crate::{Node, NoMemory, Outline, Row, TreeFault};
+use std::alloc::Global;
+use std::marker::Model;
+
+/// A tree of at most 4,096 nodes, no deeper than 32, numbered in preorder.
+#[derive(Debug, Drop)]
+pub struct Tree {
+    root: Outline,
+}
+
+impl Model for Tree {
+    ghost use Rattle.std.specs.Prelude.{◌≡◌};
+    ghost use Rattle.grove_tree.specs.Trees.{Rows, IsTree};
+    ghost use Rattle.grove_tree.specs.Rules.{IsWithinLimits};
+
+    ghost Value = { Rows };
+
+    ghost view = { λ tree. tree.root.1 };
+
+    ghost invariant = { λ tree. (tree.root.0 ≡ 0) × IsTree tree.root.1 × IsWithinLimits tree.root.1 };
+}
+
+impl Tree {
+    /// Builds the tree of the rows, which stand in preorder: each after its parent's, children in the order given.
+    pub fn build(alloc: Global, rows: &[Row]) -> Result<Tree, TreeFault>
+        ensures rows { IfOk result (λ tree. tree ≡ rows_of rows.now) }
+        ensures faultless { IfOk result (λ tree. tree_fault_of (rows_of rows.now) ≡ None) }
+        ensures fault { IfErr result (λ fault. fault ≢ TreeFault.Memory → tree_fault_of (rows_of rows.now) ≡ Some fault) }
+    {
+        match fault_of(rows) {
+            Some(fault) => Err(fault),
+            None => {
+                let root = grow(alloc, rows, 0)?;
+                Ok(Tree { root })
+            }
+        }
+    }
+
+    /// The node with the path, if there is one: a slash, or names joined by slashes with one in front.
+    pub fn find(&self, path: &str) -> Option<Node>
+        ensures node { result ≡ node_at self.now path.now }
+        ensures found { IfSome result (λ node. path_of self.now node ≡ path.now) }
+        ensures within { IfSome result (λ node. node < length self.now) }
+        ensures only { (node : ℕ) → node < length self.now → path_of self.now node ≡ path.now → result ≡ Some node }
+    {
+        match path {
+            "" => None,
+            "/" => self.find_names(b""),
+            _ => self.find_names(path.as_bytes()),
+        }
+    }
+
+    /// The node to which the names lead down from the root, each after a slash. No names lead to the root.
+    fn find_names(&self, names: &[u8]) -> Option<Node>
+        ensures tree { IsTree self.now }
+        ensures limits { IsWithinLimits self.now }
+        ensures found {
+            IfSome result (λ node. (node < length self.now) × (names_within self.now (length self.now) node ≡ names.now))
+        }
+        ensures only {
+            (node : ℕ) → node < length self.now → names_within self.now (length self.now) node ≡ names.now → result ≡ Some node
+        }
+    {
+        let mut at = &self.root;
+        let mut rest = names;
+        while !rest.is_empty() {
+            let (child, below) = at.child_on(rest)?;
+            at = child;
+            rest = below;
+        }
+        Some(Node::new(at.number))
+    }
+
+    pub fn parent(&self, node: Node) -> Option<Node>
+        requires { node < length self.now }
+        ensures { result ≡ parent_of self.now node }
+    {
+        let mut at = &self.root;
+        let mut parent = None;
+        while let Some(child) = at.towards(node.number()) {
+            parent = Some(Node::new(at.number));
+            at = child;
+        }
+        parent
+    }
+
+    /// How many parents are above the node.
+    pub fn depth(&self, node: Node) -> u32
+        requires { node < length self.now }
+        ensures { result ≡ depth_of self.now node }
+    {
+        let mut at = &self.root;
+        let mut depth = 0;
+        while let Some(child) = at.towards(node.number()) {
+            depth += 1;
+            at = child;
+        }
+        depth
+    }
+
+    /// Is `high` the node `low` or one above it?
+    pub fn is_above(&self, high: Node, low: Node) -> bool
+        requires high { high < length self.now }
+        requires low { low < length self.now }
+        ensures { IsTrue result ↔ IsAbove self.now high low }
+    {
+        let mut at = &self.root;
+        let mut met = at.number == high.number();
+        while let Some(child) = at.towards(low.number()) {
+            met = met || child.number == high.number();
+            at = child;
+        }
+        met
+    }
+
+    pub fn weight(&self, node: Node) -> u32
+        requires { node < length self.now }
+        ensures { result ≡ weight_of self.now node }
+    {
+        let mut at = &self.root;
+        while let Some(child) = at.towards(node.number()) {
+            at = child;
+        }
+        at.weight
+    }
+
+    /// The number of nodes. What holds of every tree is told here.
+    pub fn len(&self) -> u32
+        ensures number { result ≡ length self.now }
+        ensures tree { IsTree self.now }
+        ensures limits { IsWithinLimits self.now }
+    {
+        let root = &self.root;
+        root.size
+    }
+
+    pub fn root(&self) -> Node
+        ensures root { result ≡ 0 }
+        ensures within { 0 < length self.now }
+    {
+        let _ = &self.root;
+        Node::new(0)
+    }
+
+    /// The path of the node: `/`, or the names from the root down, each after a slash.
+    pub fn path_of(&self, alloc: Global, node: Node) -> Result<String, NoMemory>
+        requires { node < length self.now }
+        ensures { IfOk result (λ path. string_bytes path ≡ path_of self.now node) }
+    {
+        let mut path = String::new(alloc);
+        let mut at = &self.root;
+        while let Some(child) = at.towards(node.number()) {
+            path.push_str("/")?;
+            path.push_str(child.name.as_str())?;
+            at = child;
+        }
+        if path.is_empty() {
+            path.push_str("/")?;
+        }
+        Ok(path)
+    }
+}

@@ -1,0 +1,22 @@
+-- Where in a document something is amiss.
+use Rattle.std.specs.Prelude.{ℕ, codes, List, Some, None}
+use Rattle.grove_wire.specs.declared.place.Part.{Part}
+use Rattle.grove_wire.specs.declared.place.Part.TheVariants as part
+use Rattle.grove_wire.specs.declared.place.Place.{Place}
+
+-- a part as a whole
+abbrev pub whole_of : Part → Place
+whole_of part = record { part = part; at = None; item = None }
+
+-- one item of a part
+abbrev pub item_of : Part → ℕ → Place
+item_of part at = record { part = part; at = Some at; item = None }
+
+-- the word of a part, which is also the name of the member where it stands
+abbrev pub part_word : Part → List ℕ
+part_word part.Whole = codes "whole"
+part_word part.Nodes = codes "nodes"
+part_word part.List = codes "list"
+part_word part.Lists = codes "lists"
+part_word part.Plan = codes "plan"
+part_word part.Flow = codes "flow"

@@ -1,0 +1,133 @@
+-- What a text, and each part of its document, reads as: a value or the first fault.
+use Rattle.std.specs.Prelude.{ℕ, codes, ℤ, List, [], ◌∷◌, length, map, nat_lt, Option, Some, None, is_some, Result, Ok, Err, if◌then◌else◌}
+use Rattle.std.specs.Str.{is_utf8}
+use Rattle.serde_json.specs.Data.{Data}
+use Rattle.serde_json.specs.Find.{as_object, as_str}
+use Rattle.serde_json.specs.Read.{read}
+use Rattle.grove_tree.specs.Trees.{Rows, NodeRow}
+use Rattle.grove_tree.specs.Paths.{node_at}
+use Rattle.grove_tree.specs.Rules.{tree_fault_of}
+use Rattle.grove_tree.specs.declared.fault.TreeFault.{TreeFault}
+use Rattle.grove_access.specs.declared.access.Access.{Access}
+use Rattle.grove_access.specs.declared.access.Op.{Op}
+use Rattle.grove_plan.specs.declared.step.Step.{Step}
+use Rattle.grove_plan.specs.declared.step.Step.TheVariants as step
+use Rattle.grove_proof.specs.declared.flow.FlowRow.{FlowRow}
+use Rattle.grove_wire.specs.declared.fault.WireFault.{WireFault}
+use Rattle.grove_wire.specs.declared.fault.WireFault.TheVariants.{BadJson, Shape, NoPath, Limit, Tree}
+use Rattle.grove_wire.specs.declared.place.Part.{Part}
+use Rattle.grove_wire.specs.declared.place.Part.TheVariants as part
+use Rattle.grove_wire.specs.declared.place.Place.{Place}
+use Rattle.grove_wire.specs.Outcomes.{◌>>=◌, or_fault, each_from}
+use Rattle.grove_wire.specs.Places.{whole_of, item_of, part_word}
+use Rattle.grove_wire.specs.Forms.{items_of, as_list, as_short, is_word, row_form, access_form, FlowForm, flow_form}
+
+-- ---- the document: an object in UTF-8, of few bytes
+
+abbrev pub value_of : List ℕ → Option Data
+value_of bytes = if is_utf8 bytes then read bytes else None
+
+abbrev pub object_of : Data → Result Data WireFault
+object_of d = if is_some (as_object d) then Ok d else Err (Shape (whole_of part.Whole))
+
+unfoldable pub document_of : List ℕ → Result Data WireFault
+document_of bytes =
+    if nat_lt 4194304 (length bytes) then Err (Limit (whole_of part.Whole))
+    else (or_fault BadJson (value_of bytes) >>= object_of)
+
+-- the items of a part of the document
+unfoldable pub items_in : Part → Data → Result (List Data) WireFault
+items_in part d = or_fault (Shape (whole_of part)) (items_of (part_word part) d)
+
+-- ---- the tree: each row's form, then the rules of trees
+
+unfoldable pub row_at : ℕ → Data → Result (NodeRow × ℤ) WireFault
+row_at at d = or_fault (Shape (item_of part.Nodes at)) (row_form d)
+
+abbrev pub rows_in : List (NodeRow × ℤ) → Rows
+rows_in rows = map (λ row. row.0) rows
+
+abbrev pub records_in : List (NodeRow × ℤ) → List ℤ
+records_in rows = map (λ row. row.1) rows
+
+abbrev pub unless_fault : {A : Type 0} → Option TreeFault → A → Result A WireFault
+unless_fault None x = Ok x
+unless_fault (Some fault) x = Err (Tree fault)
+
+-- the rows and the records of values, apart
+abbrev pub columns_of : List Data → Result (Rows × List ℤ) WireFault
+columns_of ds = each_from row_at 0 ds >>= λ rows. Ok (rows_in rows, records_in rows)
+
+abbrev pub tree_of : Rows × List ℤ → Result (Rows × List ℤ) WireFault
+tree_of columns = unless_fault (tree_fault_of columns.0) columns
+
+unfoldable pub tree_in : Data → Result (Rows × List ℤ) WireFault
+tree_in d = do
+  ds ← items_in part.Nodes d
+  columns ← columns_of ds
+  tree_of columns
+
+-- ---- a list: few accesses, each of its form and then with a path of the tree
+
+abbrev pub node_on : Rows → Place → List ℕ → Result ℕ WireFault
+node_on tree place path = or_fault (NoPath place) (node_at tree path)
+
+unfoldable pub access_at : Rows → Place → Data → Result Access WireFault
+access_at tree place d = do
+  form ← or_fault (Shape place) (access_form d)
+  node ← node_on tree place form.0
+  Ok (record { node = node; op = form.1 })
+
+abbrev pub access_in : Rows → ℕ → Data → Result Access WireFault
+access_in tree at d = access_at tree (item_of part.List at) d
+
+abbrev pub list_of : Rows → List Data → Result (List Access) WireFault
+list_of tree ds = if nat_lt 64 (length ds) then Err (Limit (whole_of part.List)) else each_from (access_in tree) 0 ds
+
+unfoldable pub list_in : Rows → Data → Result (List Access) WireFault
+list_in tree d = items_in part.List d >>= list_of tree
+
+-- ---- a plan: its steps, each of its form and then with a path of the tree
+
+abbrev pub path_at : Rows → Place → Data → Result ℕ WireFault
+path_at tree place d = or_fault (Shape place) (as_str d) >>= node_on tree place
+
+unfoldable pub step_of : Rows → Place → Data → Data → Result Step WireFault
+step_of tree place word operand =
+    if is_word (codes "lock") word then (path_at tree place operand >>= λ node. Ok (step.Lock node))
+    else if is_word (codes "unlock") word then (path_at tree place operand >>= λ node. Ok (step.Unlock node))
+    else if is_word (codes "access") word then (or_fault (Shape place) (as_short operand) >>= λ access. Ok (step.Access access))
+    else Err (Shape place)
+
+-- a step has a word and what it is done to, and no further items
+abbrev pub step_on : Rows → Place → List Data → Result Step WireFault
+step_on tree place [] = Err (Shape place)
+step_on tree place (word ∷ []) = Err (Shape place)
+step_on tree place (word ∷ operand ∷ []) = step_of tree place word operand
+step_on tree place (word ∷ operand ∷ other ∷ others) = Err (Shape place)
+
+unfoldable pub step_at : Rows → Place → Data → Result Step WireFault
+step_at tree place d = or_fault (Shape place) (as_list d) >>= step_on tree place
+
+abbrev pub step_in : Rows → ℕ → Data → Result Step WireFault
+step_in tree at d = step_at tree (item_of part.Plan at) d
+
+unfoldable pub plan_in : Rows → Data → Result (List Step) WireFault
+plan_in tree d = items_in part.Plan d >>= each_from (step_in tree) 0
+
+-- ---- a flow: its rows, each of its form and then with a path of the tree
+
+abbrev pub flow_row : ℕ → FlowForm → FlowRow
+flow_row node form = record { node = node; above = form.above; held = form.held; first = form.first; last = form.last; own = form.own }
+
+unfoldable pub flow_row_at : Rows → Place → Data → Result FlowRow WireFault
+flow_row_at tree place d = do
+  form ← or_fault (Shape place) (flow_form d)
+  node ← node_on tree place form.path
+  Ok (flow_row node form)
+
+abbrev pub flow_row_in : Rows → ℕ → Data → Result FlowRow WireFault
+flow_row_in tree at d = flow_row_at tree (item_of part.Flow at) d
+
+unfoldable pub flow_in : Rows → Data → Result (List FlowRow) WireFault
+flow_in tree d = items_in part.Flow d >>= each_from (flow_row_in tree) 0

@@ -1,0 +1,78 @@
+ghost use Rattle.std.specs.Prelude.{◌≡◌, ◌<◌, ◌^◌, map, IfOk, length, vec_len};
+ghost use Rattle.serde_json.specs.View.{view};
+ghost use Rattle.grove_wire.specs.Outcomes.{Gives, each_from};
+ghost use Rattle.grove_wire.specs.Reading.{path_at, step_of, step_at, step_in, plan_in};
+
+use crate::document::{MOST_ITEMS, items_in};
+use crate::forms::{is_word, list_items, short_number};
+use crate::lists::node_on;
+use crate::{Part, Place, WireFault};
+use grove_plan::{Plan, Step};
+use grove_tree::{Node, Tree};
+use serde_json::Value;
+use std::alloc::Global;
+
+/// The steps of the document's `plan`, over the tree. They are read in order, each first for its `Shape` and then for its
+/// `NoPath`. More steps than a plan can have (2^32 - 1; no document has as many) are refused for memory.
+#[tactic(auto, unfolding(crate::specs::Reading::plan_in))]
+pub fn read_plan(alloc: Global, tree: &Tree, document: &Value) -> Result<Plan, WireFault>
+    ensures { Gives (λ plan. plan) result (plan_in tree.now (view document.now)) }
+{
+    let items = items_in(document, Part::Plan)?;
+    if items.len() > MOST_ITEMS {
+        return Err(WireFault::Memory);
+    }
+    let steps = read_steps(alloc, tree, items)?;
+    Ok(Plan::new(steps))
+}
+
+fn read_steps(alloc: Global, tree: &Tree, items: &[Value]) -> Result<Vec<Step>, WireFault>
+    requires { length items.now < 2 ^ 32 }
+    ensures read { Gives (λ steps. steps.items) result (each_from (step_in tree.now) 0 (map view items.now)) }
+    ensures few { IfOk result (λ steps. vec_len steps < 2 ^ 32) }
+{
+    let mut steps = Vec::new(alloc);
+    for (at, item) in items.iter().enumerate() {
+        let step = step_at(tree, Place::item(Part::Plan, at as u32), item)?;
+        steps.push(step)?;
+    }
+    Ok(steps)
+}
+
+#[tactic(auto, unfolding(crate::specs::Reading::step_at))]
+fn step_at(tree: &Tree, place: Place, value: &Value) -> Result<Step, WireFault>
+    ensures { result ≡ step_at tree.now place (view value.now) }
+{
+    let Some(items) = list_items(value) else {
+        return Err(WireFault::Shape(place));
+    };
+    match items {
+        [word, operand] => step_of(tree, place, word, operand),
+        _ => Err(WireFault::Shape(place)),
+    }
+}
+
+#[tactic(auto, unfolding(crate::specs::Reading::step_of))]
+fn step_of(tree: &Tree, place: Place, word: &Value, operand: &Value) -> Result<Step, WireFault>
+    ensures { result ≡ step_of tree.now place (view word.now) (view operand.now) }
+{
+    if is_word(word, "lock") {
+        Ok(Step::Lock(path_at(tree, place, operand)?))
+    } else if is_word(word, "unlock") {
+        Ok(Step::Unlock(path_at(tree, place, operand)?))
+    } else if is_word(word, "access") {
+        let access = short_number(operand).ok_or(WireFault::Shape(place))?;
+        Ok(Step::Access(access))
+    } else {
+        Err(WireFault::Shape(place))
+    }
+}
+
+fn path_at(tree: &Tree, place: Place, value: &Value) -> Result<Node, WireFault>
+    ensures { result ≡ path_at tree.now place (view value.now) }
+{
+    match value.as_str() {
+        Some(path) => node_on(tree, place, path),
+        None => Err(WireFault::Shape(place)),
+    }
+}
