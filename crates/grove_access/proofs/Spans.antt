@@ -30,9 +30,9 @@ is_common_true rows nodes node h access target there =
 pub is_common_from : (rows : Rows) (nodes : List ℕ) (node : ℕ) → IsTree rows → IsCommon rows nodes node → is_common rows nodes node ≡ true
 is_common_from rows nodes node tree h =
     not_from_false (any_below (length nodes) (λ a. not (covers rows node (slice_get nodes a))))
-      (any_none (length nodes) (λ a. not (covers rows node (slice_get nodes a)))
-        (λ a lt. let there : slice_get nodes a ≡ Some (get_or nodes a 0) = slice_get-get_or nodes a 0 lt in
-          not_from_true (covers rows node (slice_get nodes a)) (covers_from rows node (get_or nodes a 0) (slice_get nodes a) tree there (h a (get_or nodes a 0) there))))
+    (any_none (length nodes) (λ a. not (covers rows node (slice_get nodes a)))
+    (λ a lt. let there : slice_get nodes a ≡ Some (get_or nodes a 0) = slice_get-get_or nodes a 0 lt in
+    not_from_true (covers rows node (slice_get nodes a)) (covers_from rows node (get_or nodes a 0) (slice_get nodes a) tree there (h a (get_or nodes a 0) there))))
 
 -- what is above a node of the list is a node of the tree
 pub common_within : (rows : Rows) (nodes : List ℕ) (common access target : ℕ) → IsTree rows → AreNodes rows nodes → slice_get nodes access ≡ Some target → IsAbove rows common target → common < length rows
@@ -49,7 +49,7 @@ misses rows nodes node common = is_common rows nodes common && not (is_above row
 pub spanned_got : (rows : Rows) (nodes : List ℕ) (node : ℕ) → IsTree rows → AreNodes rows nodes → is_spanned rows nodes node ≡ true → IsSpanned rows nodes node
 spanned_got rows nodes node tree fits h =
     let parts : (any_below (length nodes) (λ a. covers rows node (slice_get nodes a)) ≡ true) × (not (any_below (length rows) (misses rows nodes node)) ≡ true) =
-      and_parts (any_below (length nodes) (λ a. covers rows node (slice_get nodes a))) (not (any_below (length rows) (misses rows nodes node))) h in
+    and_parts (any_below (length nodes) (λ a. covers rows node (slice_get nodes a))) (not (any_below (length rows) (misses rows nodes node))) h in
     let found : (a : ℕ) × (a < length nodes) × (covers rows node (slice_get nodes a) ≡ true) = any_true (length nodes) (λ a. covers rows node (slice_get nodes a)) parts.0 in
     let under : (low : ℕ) × (slice_get nodes found.0 ≡ Some low) × IsAbove rows node low = covers_true rows node (slice_get nodes found.0) found.2 in
     let none : any_below (length rows) (misses rows nodes node) ≡ false = not-true (any_below (length rows) (misses rows nodes node)) parts.1 in
@@ -59,26 +59,28 @@ spanned_got rows nodes node tree fits h =
       names = under.1;
       covers = under.2;
       below = λ common is.
-        let within : common < length rows = common_within rows nodes common found.0 under.0 tree fits under.1 (is found.0 under.0 under.1) in
-        elim (cases_Bool (is_above rows common node)) [
-          inl yes_above ↦ is_above_true rows common node yes_above
-        | inr not_above ↦ absurd (both_ways (misses rows nodes node common)
-            (any_false (length rows) (misses rows nodes node) none common within)
-            (and_from (is_common rows nodes common) (not (is_above rows common node)) (is_common_from rows nodes common tree is) (not_from_false (is_above rows common node) not_above))) ]
+          let within : common < length rows = common_within rows nodes common found.0 under.0 tree fits under.1 (is found.0 under.0 under.1) in
+          elim (cases_Bool (is_above rows common node)) [
+            | inl yes_above ↦ is_above_true rows common node yes_above
+            | inr not_above ↦ absurd (both_ways (misses rows nodes node common)
+                (any_false (length rows) (misses rows nodes node) none common within)
+                (and_from (is_common rows nodes common) (not (is_above rows common node)) (is_common_from rows nodes common tree is) (not_from_false (is_above rows common node) not_above)))
+          ];
     }
 
 pub spanned_get : (rows : Rows) (nodes : List ℕ) (node : ℕ) → IsTree rows → IsSpanned rows nodes node → is_spanned rows nodes node ≡ true
 spanned_get rows nodes node tree h =
     and_from (any_below (length nodes) (λ a. covers rows node (slice_get nodes a))) (not (any_below (length rows) (misses rows nodes node)))
-      (any_from (length nodes) (λ a. covers rows node (slice_get nodes a)) h.access (slice_get_within nodes h.access h.target h.names)
-        (covers_from rows node h.target (slice_get nodes h.access) tree h.names h.covers))
-      (not_from_false (any_below (length rows) (misses rows nodes node))
-        (any_none (length rows) (misses rows nodes node) (λ common lt. elim (cases_Bool (misses rows nodes node common)) [
-            inr none ↦ none
-          | inl some ↦
-              let parts : (is_common rows nodes common ≡ true) × (not (is_above rows common node) ≡ true) = and_parts (is_common rows nodes common) (not (is_above rows common node)) some in
-              absurd (both_ways (is_above rows common node) (not-true (is_above rows common node) parts.1)
-                (is_above_from rows common node tree (h.below common (is_common_true rows nodes common parts.0)))) ])))
+    (any_from (length nodes) (λ a. covers rows node (slice_get nodes a)) h.access (slice_get_within nodes h.access h.target h.names)
+    (covers_from rows node h.target (slice_get nodes h.access) tree h.names h.covers))
+    (not_from_false (any_below (length rows) (misses rows nodes node))
+    (any_none (length rows) (misses rows nodes node) (λ common lt. elim (cases_Bool (misses rows nodes node common)) [
+      | inr none ↦ none
+      | inl some ↦
+          let parts : (is_common rows nodes common ≡ true) × (not (is_above rows common node) ≡ true) = and_parts (is_common rows nodes common) (not (is_above rows common node)) some in
+          absurd (both_ways (is_above rows common node) (not-true (is_above rows common node) parts.1)
+          (is_above_from rows common node tree (h.below common (is_common_true rows nodes common parts.0))))
+    ])))
 
 -- The listed nodes are the spanned ones
 
@@ -93,12 +95,12 @@ listed_spanned rows nodes i node tree fits h = spanned_got rows nodes node tree 
 -- an accessed node is spanned
 pub accessed_is_spanned : (rows : Rows) (nodes : List ℕ) (access node : ℕ) → slice_get nodes access ≡ Some node → IsSpanned rows nodes node
 accessed_is_spanned rows nodes access node h = record {
-    access = access;
-    target = node;
-    names = h;
-    covers = (0, refl);
-    below = λ common is. is access node h
-  }
+  access = access;
+  target = node;
+  names = h;
+  covers = (0, refl);
+  below = λ common is. is access node h;
+}
 
 -- the root is above every node of a list
 pub root_is_common : (rows : Rows) (nodes : List ℕ) → IsTree rows → AreNodes rows nodes → IsCommon rows nodes 0
@@ -108,15 +110,22 @@ root_is_common rows nodes tree fits access target h = root_above rows tree targe
 pub spanned_step : (rows : Rows) (nodes : List ℕ) (node : ℕ) → IsTree rows → AreNodes rows nodes → IsSpanned rows nodes node
     → IsCommon rows nodes node ⊎ ((p : ℕ) × (parent_of rows node ≡ Some p) × IsSpanned rows nodes p)
 spanned_step rows nodes node tree fits h = elim (cases_Bool (is_common rows nodes node)) [
-    inl common ↦ inl (is_common_true rows nodes node common)
+  | inl common ↦ inl (is_common_true rows nodes node common)
   | inr other ↦ elim (above_step rows 0 node (h.below 0 (root_is_common rows nodes tree fits))) [
-      inl e ↦ inl (subst (λ (v : ℕ). IsCommon rows nodes v) e (root_is_common rows nodes tree fits))
-    | inr under ↦ inr (under.0, under.1, record {
+    | inl e ↦ inl (subst (λ (v : ℕ). IsCommon rows nodes v) e (root_is_common rows nodes tree fits))
+    | inr under ↦ inr (
+      under.0,
+      under.1,
+      record {
         access = h.access;
         target = h.target;
         names = h.names;
         covers = above_trans rows under.0 node h.target (parent_above rows node under.0 under.1) h.covers;
         below = λ common is. elim (above_step rows common node (h.below common is)) [
-            inl e ↦ absurd (both_ways (is_common rows nodes node) other (is_common_from rows nodes node tree (subst (λ (v : ℕ). IsCommon rows nodes v) e is)))
-          | inr over ↦ subst (λ (p : ℕ). IsAbove rows common p) (same_Some over.0 under.0 (sym over.1 ∙ under.1)) over.2 ]
-      }) ] ]
+          | inl e ↦ absurd (both_ways (is_common rows nodes node) other (is_common_from rows nodes node tree (subst (λ (v : ℕ). IsCommon rows nodes v) e is)))
+          | inr over ↦ subst (λ (p : ℕ). IsAbove rows common p) (same_Some over.0 under.0 (sym over.1 ∙ under.1)) over.2
+        ];
+      },
+    )
+  ]
+]

@@ -82,36 +82,36 @@ unlocked_between plan v i place = any_below place (λ j. ltb i j && unlocks v (s
 between_none : (plan : List Step) (v i place : ℕ) → unlocked_between plan v i place ≡ false → (j : ℕ) → i < j → j < place → slice_get plan j ≡ Some (Unlock v) → ⊥
 between_none plan v i place h j above below is =
     both_ways (ltb i j && unlocks v (slice_get plan j))
-      (any_false place (λ j. ltb i j && unlocks v (slice_get plan j)) h j below)
-      (and_from (ltb i j) (unlocks v (slice_get plan j)) (lt-ltb i j above) (unlocks_from v (slice_get plan j) is))
+    (any_false place (λ j. ltb i j && unlocks v (slice_get plan j)) h j below)
+    (and_from (ltb i j) (unlocks v (slice_get plan j)) (lt-ltb i j above) (unlocks_from v (slice_get plan j) is))
 
 none_between : (plan : List Step) (v i place : ℕ) → ((j : ℕ) → i < j → j < place → slice_get plan j ≡ Some (Unlock v) → ⊥) → unlocked_between plan v i place ≡ false
 none_between plan v i place h = any_none place (λ j. ltb i j && unlocks v (slice_get plan j))
     (λ j lt. false_from_ne_true (ltb i j && unlocks v (slice_get plan j))
-      (λ both. let parts : (ltb i j ≡ true) × (unlocks v (slice_get plan j) ≡ true) = and_parts (ltb i j) (unlocks v (slice_get plan j)) both in
-        h j (ltb-true i j parts.0) lt (unlocks_true v (slice_get plan j) parts.1)))
+    (λ both. let parts : (ltb i j ≡ true) × (unlocks v (slice_get plan j) ≡ true) = and_parts (ltb i j) (unlocks v (slice_get plan j)) both in
+    h j (ltb-true i j parts.0) lt (unlocks_true v (slice_get plan j) parts.1)))
 
 -- from the test to the fact
 pub held_at : (plan : List Step) (v place : ℕ) → held plan v place ≡ true → HeldAt plan v place
 held_at plan v place h =
     let found : (i : ℕ) × (i < place) × ((locks v (slice_get plan i) && not (unlocked_between plan v i place)) ≡ true) =
-      any_true place (λ i. locks v (slice_get plan i) && not (unlocked_between plan v i place)) h in
+    any_true place (λ i. locks v (slice_get plan i) && not (unlocked_between plan v i place)) h in
     let parts : (locks v (slice_get plan found.0) ≡ true) × (not (unlocked_between plan v found.0 place) ≡ true) =
-      and_parts (locks v (slice_get plan found.0)) (not (unlocked_between plan v found.0 place)) found.2 in
+    and_parts (locks v (slice_get plan found.0)) (not (unlocked_between plan v found.0 place)) found.2 in
     record {
       at = found.0;
       before = found.1;
       is_lock = locks_true v (slice_get plan found.0) parts.0;
-      kept = between_none plan v found.0 place (not-true (unlocked_between plan v found.0 place) parts.1)
+      kept = between_none plan v found.0 place (not-true (unlocked_between plan v found.0 place) parts.1);
     }
 
 -- and back
 pub held_from : (plan : List Step) (v place : ℕ) → HeldAt plan v place → held plan v place ≡ true
 held_from plan v place h =
     any_from place (λ i. locks v (slice_get plan i) && not (unlocked_between plan v i place)) h.at h.before
-      (and_from (locks v (slice_get plan h.at)) (not (unlocked_between plan v h.at place))
-        (locks_from v (slice_get plan h.at) h.is_lock)
-        (not_from_false (unlocked_between plan v h.at place) (none_between plan v h.at place h.kept)))
+    (and_from (locks v (slice_get plan h.at)) (not (unlocked_between plan v h.at place))
+    (locks_from v (slice_get plan h.at) h.is_lock)
+    (not_from_false (unlocked_between plan v h.at place) (none_between plan v h.at place h.kept)))
 
 -- what isn't held, by the fact
 pub held_not : (plan : List Step) (v place : ℕ) → (HeldAt plan v place → ⊥) → held plan v place ≡ false
@@ -131,31 +131,36 @@ held_step_lock plan v i h = held_from plan v (suc i) (record { at = i; before = 
 pub held_step_unlock : (plan : List Step) (v i : ℕ) → slice_get plan i ≡ Some (Unlock v) → held plan v (suc i) ≡ false
 held_step_unlock plan v i h = held_not plan v (suc i) (λ at.
     elim (cases_lt at.at i) [
-      inl lt ↦ at.kept i lt (omega arith) h
-    | inr ge ↦ let before : at.at < suc i = at.before in let e : at.at ≡ i = omega arith in
-        unlock_no_lock v v (sym h ∙ subst (λ (k : ℕ). slice_get plan k ≡ Some (Lock v)) e at.is_lock) ])
+      | inl lt ↦ at.kept i lt (omega arith) h
+      | inr ge ↦ let before : at.at < suc i = at.before in let e : at.at ≡ i = omega arith in
+          unlock_no_lock v v (sym h ∙ subst (λ (k : ℕ). slice_get plan k ≡ Some (Lock v)) e at.is_lock)
+    ])
 
 -- after any other step it is held as before
 pub held_step_other : (plan : List Step) (v i : ℕ) → locks v (slice_get plan i) ≡ false → unlocks v (slice_get plan i) ≡ false → held plan v (suc i) ≡ held plan v i
 held_step_other plan v i no_lock no_unlock = same_tests (held plan v (suc i)) (held plan v i)
     (λ after. let at : HeldAt plan v (suc i) = held_at plan v (suc i) after in
-      let before : at.at < suc i = at.before in
-      held_from plan v i (record {
-        at = at.at;
-        before = elim (cases_eq at.at i) [
-            inl e ↦ absurd (both_ways (locks v (slice_get plan i)) no_lock (locks_from v (slice_get plan i) (subst (λ (k : ℕ). slice_get plan k ≡ Some (Lock v)) e at.is_lock)))
-          | inr ne ↦ omega arith ];
-        is_lock = at.is_lock;
-        kept = λ j above below is. at.kept j above (omega arith) is }))
+    let before : at.at < suc i = at.before in
+    held_from plan v i (record {
+      at = at.at;
+      before = elim (cases_eq at.at i) [
+        | inl e ↦ absurd (both_ways (locks v (slice_get plan i)) no_lock (locks_from v (slice_get plan i) (subst (λ (k : ℕ). slice_get plan k ≡ Some (Lock v)) e at.is_lock)))
+        | inr ne ↦ omega arith
+      ];
+      is_lock = at.is_lock;
+      kept = λ j above below is. at.kept j above (omega arith) is;
+    }))
     (λ now. let at : HeldAt plan v i = held_at plan v i now in
-      let before : at.at < i = at.before in
-      held_from plan v (suc i) (record {
-        at = at.at;
-        before = omega arith;
-        is_lock = at.is_lock;
-        kept = λ j above below is. elim (cases_eq j i) [
-            inl e ↦ both_ways (unlocks v (slice_get plan i)) no_unlock (unlocks_from v (slice_get plan i) (subst (λ (k : ℕ). slice_get plan k ≡ Some (Unlock v)) e is))
-          | inr ne ↦ at.kept j above (omega arith) is ] }))
+    let before : at.at < i = at.before in
+    held_from plan v (suc i) (record {
+      at = at.at;
+      before = omega arith;
+      is_lock = at.is_lock;
+      kept = λ j above below is. elim (cases_eq j i) [
+        | inl e ↦ both_ways (unlocks v (slice_get plan i)) no_unlock (unlocks_from v (slice_get plan i) (subst (λ (k : ℕ). slice_get plan k ≡ Some (Unlock v)) e is))
+        | inr ne ↦ at.kept j above (omega arith) is
+      ];
+    }))
 
 -- Where the accesses stand
 

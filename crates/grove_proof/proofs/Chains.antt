@@ -1,16 +1,16 @@
 -- Spanned nodes are forced: in a legal plan every locked node has a chain of locked nodes up to the first lock's node.
-use Rattle.std.proofs.Common.{◌≡◌, ℕ, zero, suc, ◌+◌, ◌-◌, ◌<◌, ◌≤◌, Bool, true, false, ◌⊎◌, List, length, Option, Some, None, refl, sym, ◌∙◌, ap, subst, inl, inr, zero-add, arith}
+use Rattle.std.proofs.Common.{◌≡◌, ℕ, zero, suc, ◌+◌, ◌-◌, ◌<◌, ◌≤◌, true, ◌⊎◌, List, length, Some, refl, sym, ◌∙◌, ap, subst, inl, inr, arith}
 use Rattle.std.specs.List.{slice_get}
-use Rattle.std.proofs.lemmas.Option.{none-some, same_Some, slice_get_within}
-use Rattle.std.proofs.lemmas.Bool.{cases_lt, cases_eq, cases_order, cases_Bool, both_ways}
-use Rattle.grove_tree.specs.Numbers.{any_below, numbers_below}
+use Rattle.std.proofs.lemmas.Option.{same_Some, slice_get_within}
+use Rattle.std.proofs.lemmas.Bool.{cases_lt, cases_order, cases_Bool, both_ways}
+use Rattle.grove_tree.specs.Numbers.{any_below}
 use Rattle.grove_tree.specs.Trees.{Rows, parent_of, up, IsAbove, IsTree}
-use Rattle.grove_tree.proofs.Counting.{any_true, any_false, any_from, numbers_get, numbers_got}
-use Rattle.grove_tree.proofs.Ups.{up_add, up_le, up_from_parent, above_linear}
+use Rattle.grove_tree.proofs.Counting.{any_true, any_false, numbers_get}
+use Rattle.grove_tree.proofs.Ups.{up_le, up_from_parent, above_linear}
 use Rattle.grove_access.specs.Spanned.{IsCommon, IsSpanned}
 use Rattle.grove_plan.specs.declared.step.Step.{Step}
-use Rattle.grove_plan.specs.declared.step.Step.TheVariants.{Lock, Unlock, Access}
-use Rattle.grove_plan.specs.Plans.{is_lock, held, accesses_of, IsLater, IsLegal, IsLockedBy, IsForced}
+use Rattle.grove_plan.specs.declared.step.Step.TheVariants.{Lock, Access}
+use Rattle.grove_plan.specs.Plans.{is_lock, held, IsLater, IsLegal, IsLockedBy, IsForced}
 use Rattle.grove_plan.specs.Slots.{accesses_before}
 use Rattle.grove_plan.proofs.Holding.{HeldAt, held_at, find_access, is_lock_true, lock_same}
 
@@ -31,20 +31,23 @@ pub record HasChain (rows : Rows) (plan : List Step) (v : ℕ) : Type 0 where
 -- some lock stands before a place, or none does
 pub later_or_first : (plan : List Step) (i : ℕ) → IsLater plan i ⊎ ((j v : ℕ) → j < i → slice_get plan j ≡ Some (Lock v) → ⊥)
 later_or_first plan i = elim (cases_Bool (any_below i (λ j. is_lock (slice_get plan j)))) [
-    inl some ↦
+  | inl some ↦
       let found : (j : ℕ) × (j < i) × (is_lock (slice_get plan j) ≡ true) = any_true i (λ j. is_lock (slice_get plan j)) some in
       let lock : (v : ℕ) × (slice_get plan found.0 ≡ Some (Lock v)) = is_lock_true (slice_get plan found.0) found.2 in
       inl (found.0, lock.0, found.1, lock.1)
   | inr none ↦ inr (λ j v lt h.
-      both_ways (is_lock (slice_get plan j)) (any_false i (λ j. is_lock (slice_get plan j)) none j lt) (ap is_lock h)) ]
+      both_ways (is_lock (slice_get plan j)) (any_false i (λ j. is_lock (slice_get plan j)) none j lt) (ap is_lock h))
+]
 
 -- there is one first lock
 pub first_lock_one : (plan : List Step) (a b i j : ℕ) → IsFirstLock plan a i → IsFirstLock plan b j → (i ≡ j) × (a ≡ b)
 first_lock_one plan a b i j h k = elim (cases_order i j) [
-    inl e ↦ (e, lock_same a b (same_Some (Lock a) (Lock b) (sym h.there ∙ subst (λ (n : ℕ). slice_get plan n ≡ Some (Lock b)) (sym e) k.there)))
+  | inl e ↦ (e, lock_same a b (same_Some (Lock a) (Lock b) (sym h.there ∙ subst (λ (n : ℕ). slice_get plan n ≡ Some (Lock b)) (sym e) k.there)))
   | inr ne ↦ elim ne [
-      inl lt ↦ absurd (k.first i a lt h.there)
-    | inr gt ↦ absurd (h.first j b gt k.there) ] ]
+    | inl lt ↦ absurd (k.first i a lt h.there)
+    | inr gt ↦ absurd (h.first j b gt k.there)
+  ]
+]
 
 -- every node on no way at all, and on a way that is one step longer
 chain_none : (rows : Rows) (plan : List Step) (v i : ℕ) → slice_get plan i ≡ Some (Lock v) → (k w : ℕ) → k ≤ 0 → up rows k v ≡ Some w → IsLockedBy plan w
@@ -61,7 +64,7 @@ chain_within : (rows : Rows) (nodes : List ℕ) (plan : List Step) → IsLegal r
     → (bound i v : ℕ) → i < bound → slice_get plan i ≡ Some (Lock v) → HasChain rows plan v
 chain_within rows nodes plan legal zero i v lt h = absurd (omega arith)
 chain_within rows nodes plan legal (suc bound) i v lt h = elim (later_or_first plan i) [
-    inl later ↦
+  | inl later ↦
       let up_one : (parent : ℕ) × (parent_of rows v ≡ Some parent) × (held plan parent i ≡ true) = legal.obeys.parents i v h later in
       let at : HeldAt plan up_one.0 i = held_at plan up_one.0 i up_one.2 in
       let before : at.at < i = at.before in
@@ -72,16 +75,17 @@ chain_within rows nodes plan legal (suc bound) i v lt h = elim (later_or_first p
         first = chain.first;
         steps = suc chain.steps;
         leads = up_from_parent rows chain.steps v up_one.0 up_one.1 ∙ chain.leads;
-        locked = chain_more rows plan v up_one.0 i h up_one.1 chain
+        locked = chain_more rows plan v up_one.0 i h up_one.1 chain;
       }
   | inr first ↦ record {
-      top = v;
-      at = i;
-      first = record { there = h; first = first };
-      steps = 0;
-      leads = refl;
-      locked = chain_none rows plan v i h
-    } ]
+    top = v;
+    at = i;
+    first = record { there = h; first = first };
+    steps = 0;
+    leads = refl;
+    locked = chain_none rows plan v i h;
+  }
+]
 
 -- a locked node has a chain
 pub chain_to : (rows : Rows) (nodes : List ℕ) (plan : List Step) → IsLegal rows nodes plan
@@ -100,12 +104,12 @@ pub performed : (rows : Rows) (nodes : List ℕ) (plan : List Step) → IsLegal 
     → (access target : ℕ) → slice_get nodes access ≡ Some target → IsPerformed plan access target
 performed rows nodes plan legal access target h =
     let found : (q : ℕ) × (slice_get plan q ≡ Some (Access access)) × (accesses_before plan q ≡ access) =
-      find_access plan access access (ap (λ (xs : List ℕ). slice_get xs access) legal.performs.in_order ∙ numbers_get (length nodes) access (slice_get_within nodes access target h)) in
+    find_access plan access access (ap (λ (xs : List ℕ). slice_get xs access) legal.performs.in_order ∙ numbers_get (length nodes) access (slice_get_within nodes access target h)) in
     record {
       place = found.0;
       there = found.1;
       before = found.2;
-      held = held_at plan target found.0 (legal.performs.while_held found.0 access target found.1 h)
+      held = held_at plan target found.0 (legal.performs.while_held found.0 access target found.1 h);
     }
 
 -- the chain of an accessed node
@@ -130,9 +134,10 @@ spanned_is_forced rows nodes node tree spanned plan legal =
     let below : IsAbove rows chain.top node = spanned.below chain.top (first_is_common rows nodes plan legal chain.top chain.at chain.first) in
     let covers : IsAbove rows node spanned.target = spanned.covers in
     elim (cases_lt chain.steps covers.0) [
-      inr le ↦ chain.locked covers.0 node le covers.1
-    | inl lt ↦
-        let higher : up rows (covers.0 - chain.steps) chain.top ≡ Some node = above_linear rows chain.steps covers.0 spanned.target chain.top node chain.leads covers.1 (omega arith) in
-        let down : node + (covers.0 - chain.steps) ≤ chain.top = up_le rows tree (covers.0 - chain.steps) chain.top node higher in
-        let back : chain.top + below.0 ≤ node = up_le rows tree below.0 node chain.top below.1 in
-        absurd (omega arith) ]
+      | inr le ↦ chain.locked covers.0 node le covers.1
+      | inl lt ↦
+          let higher : up rows (covers.0 - chain.steps) chain.top ≡ Some node = above_linear rows chain.steps covers.0 spanned.target chain.top node chain.leads covers.1 (omega arith) in
+          let down : node + (covers.0 - chain.steps) ≤ chain.top = up_le rows tree (covers.0 - chain.steps) chain.top node higher in
+          let back : chain.top + below.0 ≤ node = up_le rows tree below.0 node chain.top below.1 in
+          absurd (omega arith)
+    ]

@@ -1,23 +1,23 @@
 -- The slots of a legal plan meet the five constraints.
-use Rattle.std.proofs.Common.{◌≡◌, ℕ, zero, suc, ◌+◌, ◌<◌, ◌≤◌, Bool, true, false, not, ◌&&◌, ◌⊎◌, ltb, List, length, Option, Some, None, refl, sym, ◌∙◌, ap, subst, inl, inr, arith}
+use Rattle.std.proofs.Common.{◌≡◌, ℕ, suc, ◌+◌, ◌<◌, ◌≤◌, Bool, true, false, ◌&&◌, List, length, Some, refl, sym, ◌∙◌, ap, subst, inl, inr, arith}
 use Rattle.std.specs.List.{slice_get}
-use Rattle.std.proofs.lemmas.Option.{none-some, same_Some, slice_get_within}
-use Rattle.std.proofs.lemmas.Bool.{cases_lt, cases_eq, cases_order, cases_Bool, both_ways, and_parts, and_from, and_left, and_right, ltb-true, lt-ltb, false_from_ne_true}
-use Rattle.grove_tree.specs.Numbers.{any_below, count_below, least_below}
-use Rattle.grove_tree.specs.Trees.{Rows, parent_of, IsAbove, IsTree}
+use Rattle.std.proofs.lemmas.Option.{same_Some, slice_get_within}
+use Rattle.std.proofs.lemmas.Bool.{cases_lt, cases_order, cases_Bool, both_ways, and_right}
+use Rattle.grove_tree.specs.Numbers.{any_below, count_below}
+use Rattle.grove_tree.specs.Trees.{Rows, parent_of, IsTree}
 use Rattle.grove_tree.proofs.Counting.{any_true, any_from, any_false, count_mono, count_hit, count_miss, count_window, count_stops, least_is}
 use Rattle.grove_tree.proofs.Ups.{above_le, parent_lt}
 use Rattle.grove_access.specs.Lists.{AreNodes}
 use Rattle.grove_access.specs.Spanned.{IsCommon, IsSpanned}
 use Rattle.grove_access.proofs.Spans.{accessed_is_spanned}
 use Rattle.grove_plan.specs.declared.step.Step.{Step}
-use Rattle.grove_plan.specs.declared.step.Step.TheVariants.{Lock, Unlock, Access}
-use Rattle.grove_plan.specs.Plans.{locks, unlocks, is_access, held, holding, IsLater, IsLegal, IsLockedBy}
-use Rattle.grove_plan.specs.Slots.{accesses_before, lock_place, release_place, lock_slot, release_slot, LocksAtSlot, UnlocksAtSlot}
+use Rattle.grove_plan.specs.declared.step.Step.TheVariants.{Lock, Unlock}
+use Rattle.grove_plan.specs.Plans.{locks, unlocks, is_access, held, holding, IsLegal, IsLockedBy}
+use Rattle.grove_plan.specs.Slots.{accesses_before, lock_place, release_place, lock_slot, release_slot}
 use Rattle.grove_plan.proofs.Holding.{HeldAt, held_at, held_from, held_not, locks_true, locks_from, unlocks_true, unlocks_from, access_no_unlock}
 use Rattle.grove_proof.specs.Five.{MeetsFive}
 use Rattle.grove_proof.specs.Laws.{LegalMeetsFive}
-use Rattle.grove_proof.proofs.Chains.{IsFirstLock, IsPerformed, later_or_first, first_is_common, performed, spanned_is_forced}
+use Rattle.grove_proof.proofs.Chains.{IsPerformed, later_or_first, first_is_common, performed, spanned_is_forced}
 
 -- where a legal plan locks and unlocks a node
 pub record HasPlaces (plan : List Step) (v : ℕ) : Type 0 where
@@ -48,15 +48,17 @@ module _ (rows : Rows) (nodes : List ℕ) (plan : List Step) (legal : IsLegal ro
 
   unlock_once : (j k v : ℕ) → slice_get plan j ≡ Some (Unlock v) → slice_get plan k ≡ Some (Unlock v) → j ≡ k
   unlock_once j k v h g = elim (cases_order j k) [
-      inl e ↦ e
+    | inl e ↦ e
     | inr ne ↦ elim ne [
-        inl lt ↦ absurd (unlock_order j k v h g lt)
-      | inr gt ↦ absurd (unlock_order k j v g h gt) ] ]
+      | inl lt ↦ absurd (unlock_order j k v h g lt)
+      | inr gt ↦ absurd (unlock_order k j v g h gt)
+    ]
+  ]
 
   -- and once at least
   has_unlock : (i v : ℕ) → slice_get plan i ≡ Some (Lock v) → (j : ℕ) × (slice_get plan j ≡ Some (Unlock v))
   has_unlock i v h = elim (cases_Bool (any_below (length plan) (λ j. unlocks v (slice_get plan j)))) [
-      inl some ↦
+    | inl some ↦
         let found : (j : ℕ) × (j < length plan) × (unlocks v (slice_get plan j) ≡ true) = any_true (length plan) (λ j. unlocks v (slice_get plan j)) some in
         (found.0, unlocks_true v (slice_get plan found.0) found.2)
     | inr none ↦ absurd (both_ways (held plan v (length plan)) (legal.obeys.ends_free v)
@@ -64,20 +66,21 @@ module _ (rows : Rows) (nodes : List ℕ) (plan : List Step) (legal : IsLegal ro
           at = i;
           before = slice_get_within plan i (Lock v) h;
           is_lock = h;
-          kept = λ j above below is. both_ways (unlocks v (slice_get plan j)) (any_false (length plan) (λ j. unlocks v (slice_get plan j)) none j below) (unlocks_from v (slice_get plan j) is)
-        }))) ]
+          kept = λ j above below is. both_ways (unlocks v (slice_get plan j)) (any_false (length plan) (λ j. unlocks v (slice_get plan j)) none j below) (unlocks_from v (slice_get plan j) is);
+        })))
+  ]
 
   -- the first place of a lock is that of the lock
   lock_place_is : (i v : ℕ) → slice_get plan i ≡ Some (Lock v) → lock_place plan v ≡ i
   lock_place_is i v h =
       let found : (lock_place plan v < length plan) × (locks v (slice_get plan (lock_place plan v)) ≡ true) × ((k : ℕ) → k < lock_place plan v → locks v (slice_get plan k) ≡ false) =
-        least_is (length plan) (λ k. locks v (slice_get plan k)) (any_from (length plan) (λ k. locks v (slice_get plan k)) i (slice_get_within plan i (Lock v) h) (locks_from v (slice_get plan i) h)) in
+      least_is (length plan) (λ k. locks v (slice_get plan k)) (any_from (length plan) (λ k. locks v (slice_get plan k)) i (slice_get_within plan i (Lock v) h) (locks_from v (slice_get plan i) h)) in
       legal.obeys.once (lock_place plan v) i v (locks_true v (slice_get plan (lock_place plan v)) found.1) h
 
   release_place_is : (j v : ℕ) → slice_get plan j ≡ Some (Unlock v) → release_place plan v ≡ j
   release_place_is j v h =
       let found : (release_place plan v < length plan) × (unlocks v (slice_get plan (release_place plan v)) ≡ true) × ((k : ℕ) → k < release_place plan v → unlocks v (slice_get plan k) ≡ false) =
-        least_is (length plan) (λ k. unlocks v (slice_get plan k)) (any_from (length plan) (λ k. unlocks v (slice_get plan k)) j (slice_get_within plan j (Unlock v) h) (unlocks_from v (slice_get plan j) h)) in
+      least_is (length plan) (λ k. unlocks v (slice_get plan k)) (any_from (length plan) (λ k. unlocks v (slice_get plan k)) j (slice_get_within plan j (Unlock v) h) (unlocks_from v (slice_get plan j) h)) in
       unlock_once (release_place plan v) j v (unlocks_true v (slice_get plan (release_place plan v)) found.1) h
 
   -- the places of a locked node
@@ -93,7 +96,7 @@ module _ (rows : Rows) (nodes : List ℕ) (plan : List Step) (legal : IsLegal ro
         lock_is = lock_place_is i v h;
         unlock_is = release_place_is found.0 v found.1;
         only_unlock = λ j is. unlock_once j found.0 v is found.1;
-        only_lock = λ j is. legal.obeys.once j i v is h
+        only_lock = λ j is. legal.obeys.once j i v is h;
       }
 
   -- the nodes of the list are nodes of the tree
@@ -118,21 +121,24 @@ less_or_same a b le ne = elim (cases_lt a b) [ inl lt ↦ lt | inr ge ↦ absurd
 -- a node is held from after its lock up to its unlock
 pub held_within : (plan : List Step) (v q : ℕ) (at : HasPlaces plan v) → at.lock < q → q ≤ at.unlock → held plan v q ≡ true
 held_within plan v q at above below = held_from plan v q (record {
-    at = at.lock;
-    before = above;
-    is_lock = at.is_lock;
-    kept = λ j after before is. let e : j ≡ at.unlock = at.only_unlock j is in omega arith
-  })
+  at = at.lock;
+  before = above;
+  is_lock = at.is_lock;
+  kept = λ j after before is. let e : j ≡ at.unlock = at.only_unlock j is in omega arith;
+})
 
 -- and at no other place
 pub held_only : (plan : List Step) (v q : ℕ) (at : HasPlaces plan v) → HeldAt plan v q → (at.lock < q) × (q ≤ at.unlock)
 held_only plan v q at h =
     let e : h.at ≡ at.lock = at.only_lock h.at h.is_lock in
     let lt : h.at < q = h.before in
-    let order : at.lock < at.unlock = at.before in
-    (omega arith, elim (cases_lt at.unlock q) [
-        inl past ↦ absurd (h.kept at.unlock (omega arith) past at.is_unlock)
-      | inr le ↦ le ])
+    let order : at.lock < at.unlock = at.before in (
+      omega arith,
+      elim (cases_lt at.unlock q) [
+        | inl past ↦ absurd (h.kept at.unlock (omega arith) past at.is_unlock)
+        | inr le ↦ le
+      ],
+    )
 
 -- a step that is none of an access
 no_access : (plan : List Step) (i : ℕ) (step : Step) → slice_get plan i ≡ Some step → is_access (Some step) ≡ false → accesses_before plan (suc i) ≡ accesses_before plan i
@@ -145,21 +151,21 @@ holding_is plan v at =
     let order : at.lock < at.unlock = at.before in
     let inside : at.unlock < length plan = slice_get_within plan at.unlock (Unlock v) at.is_unlock in
     let window : accesses_before plan (suc at.lock) + count_below (suc at.unlock) test ≡ accesses_before plan (suc at.unlock) =
-      count_window test (λ q. is_access (slice_get plan q)) (suc at.lock) (suc at.unlock)
-        (λ q lt. and_right (is_access (slice_get plan q)) (held plan v q) (held_not plan v q (λ h. let in_time : (at.lock < q) × (q ≤ at.unlock) = held_only plan v q at h in let low : at.lock < q = in_time.0 in omega arith)))
-        (λ q above below. and_same (is_access (slice_get plan q)) (held plan v q) (held_within plan v q at (omega arith) (omega arith)))
-        (suc at.unlock) (omega arith) (omega arith) in
+    count_window test (λ q. is_access (slice_get plan q)) (suc at.lock) (suc at.unlock)
+    (λ q lt. and_right (is_access (slice_get plan q)) (held plan v q) (held_not plan v q (λ h. let in_time : (at.lock < q) × (q ≤ at.unlock) = held_only plan v q at h in let low : at.lock < q = in_time.0 in omega arith)))
+    (λ q above below. and_same (is_access (slice_get plan q)) (held plan v q) (held_within plan v q at (omega arith) (omega arith)))
+    (suc at.unlock) (omega arith) (omega arith) in
     let stops : count_below (length plan) test ≡ count_below (suc at.unlock) test =
-      count_stops test (suc at.unlock)
-        (λ q above. and_right (is_access (slice_get plan q)) (held plan v q) (held_not plan v q (λ h. let in_time : (at.lock < q) × (q ≤ at.unlock) = held_only plan v q at h in let high : q ≤ at.unlock = in_time.1 in omega arith)))
-        (length plan) (omega arith) in
+    count_stops test (suc at.unlock)
+    (λ q above. and_right (is_access (slice_get plan q)) (held plan v q) (held_not plan v q (λ h. let in_time : (at.lock < q) × (q ≤ at.unlock) = held_only plan v q at h in let high : q ≤ at.unlock = in_time.1 in omega arith)))
+    (length plan) (omega arith) in
     let first : accesses_before plan (suc at.lock) ≡ accesses_before plan at.lock = no_access plan at.lock (Lock v) at.is_lock refl in
     let last : accesses_before plan (suc at.unlock) ≡ accesses_before plan at.unlock = no_access plan at.unlock (Unlock v) at.is_unlock refl in
     let lock : lock_slot plan v ≡ accesses_before plan at.lock = ap (accesses_before plan) at.lock_is in
     let release : release_slot plan v ≡ accesses_before plan at.unlock = ap (accesses_before plan) at.unlock_is in
     let all : holding plan v ≡ count_below (length plan) test = refl in
     sums_meet (lock_slot plan v) (accesses_before plan at.lock) (accesses_before plan (suc at.lock)) (holding plan v) (count_below (length plan) test) (count_below (suc at.unlock) test)
-      (accesses_before plan (suc at.unlock)) (accesses_before plan at.unlock) (release_slot plan v) lock first all stops window last release
+    (accesses_before plan (suc at.unlock)) (accesses_before plan at.unlock) (release_slot plan v) lock first all stops window last release
 
 -- the places of a spanned node
 pub spanned_places : (rows : Rows) (nodes : List ℕ) (plan : List Step) (v : ℕ) → IsTree rows → IsLegal rows nodes plan → IsSpanned rows nodes v → HasPlaces plan v
@@ -171,30 +177,31 @@ spanned_places rows nodes plan v tree legal spanned =
 parent_held : (rows : Rows) (nodes : List ℕ) (plan : List Step) (v p i : ℕ) → IsTree rows → IsLegal rows nodes plan → IsSpanned rows nodes p → parent_of rows v ≡ Some p
     → slice_get plan i ≡ Some (Lock v) → HeldAt plan p i
 parent_held rows nodes plan v p i tree legal spanned e h = elim (later_or_first plan i) [
-    inl later ↦
+  | inl later ↦
       let up_one : (parent : ℕ) × (parent_of rows v ≡ Some parent) × (held plan parent i ≡ true) = legal.obeys.parents i v h later in
       held_at plan p i (subst (λ (w : ℕ). held plan w i ≡ true) (same_Some up_one.0 p (sym up_one.1 ∙ e)) up_one.2)
   | inr first ↦
       let common : IsCommon rows nodes v = first_is_common rows nodes plan legal v i (record { there = h; first = first }) in
       let le : v ≤ p = above_le rows tree v p (spanned.below v common) in
       let lt : p < v = parent_lt rows tree v p e in
-      absurd (omega arith) ]
+      absurd (omega arith)
+]
 
 -- in a legal plan the slots meet the five constraints
 pub meets_five : (rows : Rows) (nodes : List ℕ) (plan : List Step) → IsTree rows → IsLegal rows nodes plan → MeetsFive rows nodes plan
 meets_five rows nodes plan tree legal = record {
-    above = λ v p sv sp e.
+  above = λ v p sv sp e.
       let at : HasPlaces plan v = spanned_places rows nodes plan v tree legal sv in
       let over : HasPlaces plan p = spanned_places rows nodes plan p tree legal sp in
       let in_time : (over.lock < at.lock) × (at.lock ≤ over.unlock) = held_only plan p at.lock over (parent_held rows nodes plan v p at.lock tree legal sp e at.is_lock) in
       let lt : over.lock < at.lock = in_time.0 in
       rw (at.lock_is, over.lock_is) (count_mono over.lock at.lock (λ k. is_access (slice_get plan k)) (omega arith));
-    held = λ v p sv sp e.
+  held = λ v p sv sp e.
       let at : HasPlaces plan v = spanned_places rows nodes plan v tree legal sv in
       let over : HasPlaces plan p = spanned_places rows nodes plan p tree legal sp in
       let in_time : (over.lock < at.lock) × (at.lock ≤ over.unlock) = held_only plan p at.lock over (parent_held rows nodes plan v p at.lock tree legal sp e at.is_lock) in
       rw (at.lock_is, over.unlock_is) (count_mono at.lock over.unlock (λ k. is_access (slice_get plan k)) in_time.1);
-    first = λ v access h.
+  first = λ v access h.
       let at : HasPlaces plan v = spanned_places rows nodes plan v tree legal (accessed_is_spanned rows nodes access v h) in
       let done : IsPerformed plan access v = performed rows nodes plan legal access v h in
       let in_time : (at.lock < done.place) × (done.place ≤ at.unlock) = held_only plan v done.place at done.held in
@@ -202,7 +209,7 @@ meets_five rows nodes plan tree legal = record {
       let le : accesses_before plan at.lock ≤ accesses_before plan done.place = count_mono at.lock done.place (λ k. is_access (slice_get plan k)) (omega arith) in
       let e : accesses_before plan done.place ≡ access = done.before in
       rw at.lock_is (omega arith);
-    last = λ v access h.
+  last = λ v access h.
       let at : HasPlaces plan v = spanned_places rows nodes plan v tree legal (accessed_is_spanned rows nodes access v h) in
       let done : IsPerformed plan access v = performed rows nodes plan legal access v h in
       let in_time : (at.lock < done.place) × (done.place ≤ at.unlock) = held_only plan v done.place at done.held in
@@ -212,14 +219,16 @@ meets_five rows nodes plan tree legal = record {
       let rest : accesses_before plan (suc done.place) ≤ accesses_before plan at.unlock = count_mono (suc done.place) at.unlock (λ k. is_access (slice_get plan k)) (less_or_same done.place at.unlock le other) in
       let e : accesses_before plan done.place ≡ access = done.before in
       rw at.unlock_is (omega arith);
-    own = λ v sv.
+  own = λ v sv.
       let at : HasPlaces plan v = spanned_places rows nodes plan v tree legal sv in
       let lt : at.lock < at.unlock = at.before in
       rw (at.lock_is, at.unlock_is) (count_mono at.lock at.unlock (λ k. is_access (slice_get plan k)) (omega arith));
-    holds = λ v sv. holding_is plan v (spanned_places rows nodes plan v tree legal sv)
-  }
+  holds = λ v sv. holding_is plan v (spanned_places rows nodes plan v tree legal sv);
+}
 
 pub legal_meets_five : LegalMeetsFive
-legal_meets_five rows nodes plan tree legal = (meets_five rows nodes plan tree legal,
-    λ v sv. let at : HasPlaces plan v = spanned_places rows nodes plan v tree legal sv in
-      ((at.lock, at.is_lock, ap (accesses_before plan) at.lock_is), (at.unlock, at.is_unlock, ap (accesses_before plan) at.unlock_is)))
+legal_meets_five rows nodes plan tree legal = (
+  meets_five rows nodes plan tree legal,
+  λ v sv. let at : HasPlaces plan v = spanned_places rows nodes plan v tree legal sv in
+      ((at.lock, at.is_lock, ap (accesses_before plan) at.lock_is), (at.unlock, at.is_unlock, ap (accesses_before plan) at.unlock_is)),
+)

@@ -1,22 +1,22 @@
 -- The bound of rows that balance is at most the cost of every legal plan; where the plan is tight it is the cost.
-use Rattle.std.proofs.Common.{◌≡◌, ℕ, zero, suc, ◌+◌, ◌*◌, ◌<◌, ◌≤◌, Bool, true, false, ◌&&◌, ◌||◌, cond, eqb, ◌⊎◌, List, length, Option, Some, None, refl, sym, ◌∙◌, ap, subst, inl, inr, arith, add-mul, mul-add, mul-zero, zero-mul, mul-le-mul_left}
+use Rattle.std.proofs.Common.{◌≡◌, ℕ, zero, suc, ◌+◌, ◌*◌, ◌<◌, ◌≤◌, Bool, true, false, ◌&&◌, ◌||◌, cond, eqb, ◌⊎◌, List, length, Option, Some, None, refl, sym, ◌∙◌, ap, inl, inr, arith, add-mul, mul-add, mul-zero, zero-mul, mul-le-mul_left}
 use Rattle.std.specs.Prelude.{map}
 use Rattle.std.specs.List.{slice_get, sum_by}
-use Rattle.std.proofs.lemmas.Option.{none-some, same_Some, slice_get_within}
-use Rattle.std.proofs.lemmas.Bool.{cases_eq, cases_order, cases_Bool, both_ways, and_parts, or_cases, eqb-true, false_from_ne_true, cond-true, cond-false, and_right}
-use Rattle.grove_tree.specs.Numbers.{any_below, sum_below, least_below, last_below}
+use Rattle.std.proofs.lemmas.Option.{same_Some}
+use Rattle.std.proofs.lemmas.Bool.{cases_order, cases_Bool, both_ways, and_parts, or_cases, eqb-true, false_from_ne_true, cond-true, cond-false, and_right}
+use Rattle.grove_tree.specs.Numbers.{sum_below, last_below}
 use Rattle.grove_tree.specs.Trees.{Rows, parent_of, weight_of, IsTree}
-use Rattle.grove_tree.proofs.Counting.{any_true, any_from, any_none, any_false, least_is, last_is, last_above, sum_le, sum_same, count_none}
-use Rattle.grove_tree.proofs.Lists.{get_map, get_map_inv}
-use Rattle.grove_tree.proofs.Tests.{is_at_true, is_at_from}
+use Rattle.grove_tree.proofs.Counting.{any_true, least_is, last_is, sum_le, sum_same, count_none}
+use Rattle.grove_tree.proofs.Lists.{get_map}
+use Rattle.grove_tree.proofs.Tests.{is_at_true}
 use Rattle.grove_access.specs.Lists.{AreNodes}
 use Rattle.grove_access.specs.Spanned.{IsSpanned, is_spanned, spanned_nodes, names_at, is_accessed, first_access, last_end}
 use Rattle.grove_access.proofs.Spans.{spanned_get}
 use Rattle.grove_plan.specs.declared.step.Step.{Step}
 use Rattle.grove_plan.specs.declared.step.Step.TheVariants.{Lock}
-use Rattle.grove_plan.specs.Plans.{is_access, held, holding, cost, IsLegal, IsLeast}
+use Rattle.grove_plan.specs.Plans.{is_access, held, holding, cost, IsLegal}
 use Rattle.grove_plan.specs.Slots.{lock_slot, release_slot}
-use Rattle.grove_plan.proofs.Holding.{HeldAt, held_at, held_from, held_not}
+use Rattle.grove_plan.proofs.Holding.{held_not}
 use Rattle.grove_proof.specs.declared.flow.FlowRow.{FlowRow}
 use Rattle.grove_proof.specs.Forced.{IsForcedList}
 use Rattle.grove_proof.specs.Five.{MeetsFive}
@@ -56,8 +56,8 @@ priced_locks rows flow value balanced =
     let o : FlowRow → ℕ = λ row. row.own * value row.node in
     sym (sums_add a w flow)
     ∙ (sums_same (λ row. a row + w row) (λ row. ((c row + h row) + f row) + o row) flow
-        (λ i row is. weigh_lock row.above (weight_of rows row.node) (child_sum rows (λ child. child.above) flow row) row.held row.first row.own (value row.node)
-          (eqb-true (row.above + weight_of rows row.node) (child_sum rows (λ child. child.above) flow row + row.held + row.first + row.own) (balanced i row is)))
+    (λ i row is. weigh_lock row.above (weight_of rows row.node) (child_sum rows (λ child. child.above) flow row) row.held row.first row.own (value row.node)
+    (eqb-true (row.above + weight_of rows row.node) (child_sum rows (λ child. child.above) flow row + row.held + row.first + row.own) (balanced i row is)))
     ∙ (sums_add (λ row. (c row + h row) + f row) o flow
     ∙ ap (λ (n : ℕ). n + sum_by o flow) (sums_add (λ row. c row + h row) f flow ∙ ap (λ (n : ℕ). n + sum_by f flow) (sums_add c h flow))))
 
@@ -72,8 +72,8 @@ priced_releases rows flow value balanced =
     let w : FlowRow → ℕ = λ row. weight_of rows row.node * value row.node in
     sym (sums_add (λ row. c row + l row) o flow ∙ ap (λ (n : ℕ). n + sum_by o flow) (sums_add c l flow))
     ∙ sums_same (λ row. (c row + l row) + o row) w flow
-        (λ i row is. weigh_release (child_sum rows (λ child. child.held) flow row) row.last row.own (weight_of rows row.node) (value row.node)
-          (eqb-true (child_sum rows (λ child. child.held) flow row + row.last + row.own) (weight_of rows row.node) (balanced i row is)))
+    (λ i row is. weigh_release (child_sum rows (λ child. child.held) flow row) row.last row.own (weight_of rows row.node) (value row.node)
+    (eqb-true (child_sum rows (λ child. child.held) flow row + row.last + row.own) (weight_of rows row.node) (balanced i row is)))
 
 -- a choice, times a value
 swap_choice : (b : Bool) (a x : ℕ) → cond b a 0 * x ≡ a * cond b x 0
@@ -85,12 +85,12 @@ pub child_swap : (rows : Rows) (flow : List FlowRow) (amount : FlowRow → ℕ) 
     → priced flow (child_sum rows amount flow) value ≡ sum_by (λ child. amount child * parent_value rows flow value child) flow
 child_swap rows flow amount value =
     sums_same (λ row. child_sum rows amount flow row * value row.node) (λ row. sum_by (λ child. cond (is_child rows child row) (amount child) 0 * value row.node) flow) flow
-      (λ i row is. sym (sums_times (λ child. cond (is_child rows child row) (amount child) 0) (value row.node) flow))
+    (λ i row is. sym (sums_times (λ child. cond (is_child rows child row) (amount child) 0) (value row.node) flow))
     ∙ (sums_swap (λ row child. cond (is_child rows child row) (amount child) 0 * value row.node) flow flow
     ∙ sums_same (λ child. sum_by (λ row. cond (is_child rows child row) (amount child) 0 * value row.node) flow) (λ child. amount child * parent_value rows flow value child) flow
-      (λ i child is. sums_same (λ row. cond (is_child rows child row) (amount child) 0 * value row.node) (λ row. amount child * cond (is_child rows child row) (value row.node) 0) flow
-          (λ j row there. swap_choice (is_child rows child row) (amount child) (value row.node))
-        ∙ sums_scale (amount child) (λ row. cond (is_child rows child row) (value row.node) 0) flow))
+    (λ i child is. sums_same (λ row. cond (is_child rows child row) (amount child) 0 * value row.node) (λ row. amount child * cond (is_child rows child row) (value row.node) 0) flow
+    (λ j row there. swap_choice (is_child rows child row) (amount child) (value row.node))
+    ∙ sums_scale (amount child) (λ row. cond (is_child rows child row) (value row.node) 0) flow))
 
 -- The rows of the forced nodes
 
@@ -101,16 +101,18 @@ pub record AreSpanRows (rows : Rows) (nodes : List ℕ) (flow : List FlowRow) : 
 
 pub span_rows : (rows : Rows) (nodes : List ℕ) (flow : List FlowRow) → IsTree rows → AreNodes rows nodes → IsForcedList rows nodes (map node_of flow) → AreSpanRows rows nodes flow
 span_rows rows nodes flow tree fits list = record {
-    spanned = λ i row is. (forced_are_spanned rows nodes row.node tree fits).0 ((list.forced row.node).0 (i, get_map node_of flow i row is));
-    once = λ i j row other is there e.
+  spanned = λ i row is. (forced_are_spanned rows nodes row.node tree fits).0 ((list.forced row.node).0 (i, get_map node_of flow i row is));
+  once = λ i j row other is there e.
       let here : slice_get (map node_of flow) i ≡ Some row.node = get_map node_of flow i row is in
       let also : slice_get (map node_of flow) j ≡ Some other.node = get_map node_of flow j other there in
       elim (cases_order i j) [
-        inl same ↦ same
-      | inr ne ↦ elim ne [
-          inl lt ↦ let less : row.node < other.node = list.ascends i j row.node other.node lt here also in absurd (omega arith)
-        | inr gt ↦ let more : other.node < row.node = list.ascends j i other.node row.node gt also here in absurd (omega arith) ] ]
-  }
+        | inl same ↦ same
+        | inr ne ↦ elim ne [
+          | inl lt ↦ let less : row.node < other.node = list.ascends i j row.node other.node lt here also in absurd (omega arith)
+          | inr gt ↦ let more : other.node < row.node = list.ascends j i other.node row.node gt also here in absurd (omega arith)
+        ]
+      ];
+}
 
 parent_here : (rows : Rows) (flow : List FlowRow) (row : FlowRow) (k : ℕ) (o : Option FlowRow) → slice_get flow k ≡ o → is_parent_at rows row o ≡ true
     → (k : ℕ) × (over : FlowRow) × (slice_get flow k ≡ Some over) × (is_child rows row over ≡ true)
@@ -121,19 +123,20 @@ parent_here rows flow row k None e h = absurd (cc)
 pub parent_row : (rows : Rows) (flow : List FlowRow) (row : FlowRow)
     → ((k : ℕ) × (over : FlowRow) × (slice_get flow k ≡ Some over) × (is_child rows row over ≡ true)) ⊎ (has_parent rows flow row ≡ false)
 parent_row rows flow row = elim (cases_Bool (has_parent rows flow row)) [
-    inl some ↦
+  | inl some ↦
       let found : (k : ℕ) × (k < length flow) × (is_parent_at rows row (slice_get flow k) ≡ true) = any_true (length flow) (λ k. is_parent_at rows row (slice_get flow k)) some in
       inl (parent_here rows flow row found.0 (slice_get flow found.0) refl found.2)
-  | inr none ↦ inr none ]
+  | inr none ↦ inr none
+]
 
 -- the value of a parent that has a row
 pub at_parent : (rows : Rows) (nodes : List ℕ) (flow : List FlowRow) (value : ℕ → ℕ) → AreSpanRows rows nodes flow
     → (child over : FlowRow) (k : ℕ) → slice_get flow k ≡ Some over → is_child rows child over ≡ true → parent_value rows flow value child ≡ value over.node
 at_parent rows nodes flow value are child over k there is =
     sums_one (λ row. cond (is_child rows child row) (value row.node) 0) flow k over there
-      (λ i row at ne. cond-false (is_child rows child row) (value row.node) 0 (false_from_ne_true (is_child rows child row)
-        (λ also. ne (are.once i k row over at there
-          (same_Some row.node over.node (sym (is_at_true row.node (parent_of rows child.node) also) ∙ is_at_true over.node (parent_of rows child.node) is))))))
+    (λ i row at ne. cond-false (is_child rows child row) (value row.node) 0 (false_from_ne_true (is_child rows child row)
+    (λ also. ne (are.once i k row over at there
+    (same_Some row.node over.node (sym (is_at_true row.node (parent_of rows child.node) also) ∙ is_at_true over.node (parent_of rows child.node) is))))))
     ∙ cond-true (is_child rows child over) (value over.node) 0 is
 
 -- The signs of a row
@@ -144,13 +147,14 @@ pub record HasSigns (rows : Rows) (nodes : List ℕ) (flow : List FlowRow) (row 
 
 both_zero : (a b : ℕ) (some : Bool) → (some || (eqb a 0 && eqb b 0)) ≡ true → some ≡ false → (a ≡ 0) × (b ≡ 0)
 both_zero a b some h none = elim (or_cases some (eqb a 0 && eqb b 0) h) [
-    inl is ↦ absurd (both_ways some none is)
-  | inr zeros ↦ let parts : (eqb a 0 ≡ true) × (eqb b 0 ≡ true) = and_parts (eqb a 0) (eqb b 0) zeros in (eqb-true a 0 parts.0, eqb-true b 0 parts.1) ]
+  | inl is ↦ absurd (both_ways some none is)
+  | inr zeros ↦ let parts : (eqb a 0 ≡ true) × (eqb b 0 ≡ true) = and_parts (eqb a 0) (eqb b 0) zeros in (eqb-true a 0 parts.0, eqb-true b 0 parts.1)
+]
 
 pub has_signs : (rows : Rows) (nodes : List ℕ) (flow : List FlowRow) (row : FlowRow) → is_sign_ok rows nodes flow row ≡ true → HasSigns rows nodes flow row
 has_signs rows nodes flow row h =
     let parts : ((has_parent rows flow row || (eqb row.above 0 && eqb row.held 0)) ≡ true) × ((is_accessed nodes row.node || (eqb row.first 0 && eqb row.last 0)) ≡ true) =
-      and_parts (has_parent rows flow row || (eqb row.above 0 && eqb row.held 0)) (is_accessed nodes row.node || (eqb row.first 0 && eqb row.last 0)) h in
+    and_parts (has_parent rows flow row || (eqb row.above 0 && eqb row.held 0)) (is_accessed nodes row.node || (eqb row.first 0 && eqb row.last 0)) h in
     record { top = both_zero row.above row.held (has_parent rows flow row) parts.0; unaccessed = both_zero row.first row.last (is_accessed nodes row.node) parts.1 }
 
 -- the first access of an accessed node, and the end of its last
@@ -160,7 +164,7 @@ first_is nodes v h = is_at_true v (slice_get nodes (first_access nodes v)) (leas
 pub last_is_end : (nodes : List ℕ) (v : ℕ) → is_accessed nodes v ≡ true → (g : ℕ) × (last_end nodes v ≡ suc g) × (slice_get nodes g ≡ Some v)
 last_is_end nodes v h =
     let found : (k : ℕ) × (last_below (length nodes) (names_at nodes v) ≡ suc k) × (k < length nodes) × (names_at nodes v k ≡ true) × ((j : ℕ) → k < j → j < length nodes → names_at nodes v j ≡ false) =
-      last_is (length nodes) (names_at nodes v) h in
+    last_is (length nodes) (names_at nodes v) h in
     (found.0, found.1, is_at_true v (slice_get nodes found.0) found.3)
 
 -- an amount of 0 prices nothing
@@ -174,41 +178,45 @@ free_same a x y e = rw e (zero-mul x ∙ sym (zero-mul y))
 
 module _ (rows : Rows) (nodes : List ℕ) (flow : List FlowRow) (plan : List Step) (are : AreSpanRows rows nodes flow)
     (signs : AllRows (is_sign_ok rows nodes flow) flow) (five : MeetsFive rows nodes plan) where
-  above_term : (i : ℕ) (row : FlowRow) → slice_get flow i ≡ Some row → row.above * parent_value rows flow (lock_slot plan) row ≤ row.above * lock_slot plan row.node
+  pub above_term : (i : ℕ) (row : FlowRow) → slice_get flow i ≡ Some row → row.above * parent_value rows flow (lock_slot plan) row ≤ row.above * lock_slot plan row.node
   above_term i row is = elim (parent_row rows flow row) [
-      inl over ↦ mul-le-mul_left row.above
+    | inl over ↦ mul-le-mul_left row.above
         (rw (at_parent rows nodes flow (lock_slot plan) are row over.1 over.0 over.2 over.3)
-          (five.above row.node over.1.node (are.spanned i row is) (are.spanned over.0 over.1 over.2) (is_at_true over.1.node (parent_of rows row.node) over.3)))
-    | inr none ↦ free row.above (parent_value rows flow (lock_slot plan) row) (lock_slot plan row.node) ((has_signs rows nodes flow row (signs i row is)).top none).0 ]
+        (five.above row.node over.1.node (are.spanned i row is) (are.spanned over.0 over.1 over.2) (is_at_true over.1.node (parent_of rows row.node) over.3)))
+    | inr none ↦ free row.above (parent_value rows flow (lock_slot plan) row) (lock_slot plan row.node) ((has_signs rows nodes flow row (signs i row is)).top none).0
+  ]
 
-  held_term : (i : ℕ) (row : FlowRow) → slice_get flow i ≡ Some row → row.held * lock_slot plan row.node ≤ row.held * parent_value rows flow (release_slot plan) row
+  pub held_term : (i : ℕ) (row : FlowRow) → slice_get flow i ≡ Some row → row.held * lock_slot plan row.node ≤ row.held * parent_value rows flow (release_slot plan) row
   held_term i row is = elim (parent_row rows flow row) [
-      inl over ↦ mul-le-mul_left row.held
+    | inl over ↦ mul-le-mul_left row.held
         (rw (at_parent rows nodes flow (release_slot plan) are row over.1 over.0 over.2 over.3)
-          (five.held row.node over.1.node (are.spanned i row is) (are.spanned over.0 over.1 over.2) (is_at_true over.1.node (parent_of rows row.node) over.3)))
-    | inr none ↦ free row.held (lock_slot plan row.node) (parent_value rows flow (release_slot plan) row) ((has_signs rows nodes flow row (signs i row is)).top none).1 ]
+        (five.held row.node over.1.node (are.spanned i row is) (are.spanned over.0 over.1 over.2) (is_at_true over.1.node (parent_of rows row.node) over.3)))
+    | inr none ↦ free row.held (lock_slot plan row.node) (parent_value rows flow (release_slot plan) row) ((has_signs rows nodes flow row (signs i row is)).top none).1
+  ]
 
-  first_term : (i : ℕ) (row : FlowRow) → slice_get flow i ≡ Some row → row.first * lock_slot plan row.node ≤ row.first * first_access nodes row.node
+  pub first_term : (i : ℕ) (row : FlowRow) → slice_get flow i ≡ Some row → row.first * lock_slot plan row.node ≤ row.first * first_access nodes row.node
   first_term i row is = elim (cases_Bool (is_accessed nodes row.node)) [
-      inl some ↦ mul-le-mul_left row.first (five.first row.node (first_access nodes row.node) (first_is nodes row.node some))
-    | inr none ↦ free row.first (lock_slot plan row.node) (first_access nodes row.node) ((has_signs rows nodes flow row (signs i row is)).unaccessed none).0 ]
+    | inl some ↦ mul-le-mul_left row.first (five.first row.node (first_access nodes row.node) (first_is nodes row.node some))
+    | inr none ↦ free row.first (lock_slot plan row.node) (first_access nodes row.node) ((has_signs rows nodes flow row (signs i row is)).unaccessed none).0
+  ]
 
-  last_term : (i : ℕ) (row : FlowRow) → slice_get flow i ≡ Some row → row.last * last_end nodes row.node ≤ row.last * release_slot plan row.node
+  pub last_term : (i : ℕ) (row : FlowRow) → slice_get flow i ≡ Some row → row.last * last_end nodes row.node ≤ row.last * release_slot plan row.node
   last_term i row is = elim (cases_Bool (is_accessed nodes row.node)) [
-      inl some ↦ mul-le-mul_left row.last
+    | inl some ↦ mul-le-mul_left row.last
         (let end : (g : ℕ) × (last_end nodes row.node ≡ suc g) × (slice_get nodes g ≡ Some row.node) = last_is_end nodes row.node some in
-          rw end.1 (five.last row.node end.0 end.2))
-    | inr none ↦ free row.last (last_end nodes row.node) (release_slot plan row.node) ((has_signs rows nodes flow row (signs i row is)).unaccessed none).1 ]
+        rw end.1 (five.last row.node end.0 end.2))
+    | inr none ↦ free row.last (last_end nodes row.node) (release_slot plan row.node) ((has_signs rows nodes flow row (signs i row is)).unaccessed none).1
+  ]
 
-  own_term : (i : ℕ) (row : FlowRow) → slice_get flow i ≡ Some row → row.own * lock_slot plan row.node ≤ row.own * release_slot plan row.node
+  pub own_term : (i : ℕ) (row : FlowRow) → slice_get flow i ≡ Some row → row.own * lock_slot plan row.node ≤ row.own * release_slot plan row.node
   own_term i row is = mul-le-mul_left row.own (five.own row.node (are.spanned i row is))
 
   -- the weights' releases are their locks and holdings
-  holding_sums : priced flow (λ row. weight_of rows row.node) (release_slot plan)
+  pub holding_sums : priced flow (λ row. weight_of rows row.node) (release_slot plan)
       ≡ priced flow (λ row. weight_of rows row.node) (lock_slot plan) + priced flow (λ row. weight_of rows row.node) (holding plan)
   holding_sums =
       sums_same (λ row. weight_of rows row.node * release_slot plan row.node) (λ row. weight_of rows row.node * lock_slot plan row.node + weight_of rows row.node * holding plan row.node) flow
-        (λ i row is. ap (λ (n : ℕ). weight_of rows row.node * n) (sym (five.holds row.node (are.spanned i row is))) ∙ mul-add (weight_of rows row.node) (lock_slot plan row.node) (holding plan row.node))
+      (λ i row is. ap (λ (n : ℕ). weight_of rows row.node * n) (sym (five.holds row.node (are.spanned i row is))) ∙ mul-add (weight_of rows row.node) (lock_slot plan row.node) (holding plan row.node))
       ∙ sums_add (λ row. weight_of rows row.node * lock_slot plan row.node) (λ row. weight_of rows row.node * holding plan row.node) flow
 
 -- the rows' part of the cost
@@ -223,11 +231,11 @@ part_le : (b : Bool) (x : ℕ) → cond b x 0 ≤ x
 part_le true x = omega arith
 part_le false x = omega arith
 
-span_cost_le : (rows : Rows) (nodes : List ℕ) (flow : List FlowRow) (plan : List Step) → map node_of flow ≡ spanned_nodes rows nodes
+pub span_cost_le : (rows : Rows) (nodes : List ℕ) (flow : List FlowRow) (plan : List Step) → map node_of flow ≡ spanned_nodes rows nodes
     → priced flow (λ row. weight_of rows row.node) (holding plan) ≤ cost rows plan
 span_cost_le rows nodes flow plan e = rw (span_cost rows nodes flow plan e)
     (sum_le (length rows) (λ v. cond (is_spanned rows nodes v) (weight_of rows v * holding plan v) 0) (λ v. weight_of rows v * holding plan v)
-      (λ v lt. part_le (is_spanned rows nodes v) (weight_of rows v * holding plan v)))
+    (λ v lt. part_le (is_spanned rows nodes v) (weight_of rows v * holding plan v)))
 
 -- ten sums: two balances, five priced constraints, the holdings and the cost
 weak_sums : (above locks child_above held first own child_held last last_ends releases firsts own_release hold cost : ℕ)
@@ -242,40 +250,40 @@ weak_duality rows nodes flow plan tree fits balances legal =
     let five : MeetsFive rows nodes plan = meets_five rows nodes plan tree legal in
     let listed : map node_of flow ≡ spanned_nodes rows nodes = (forced_list_is_span rows nodes (map node_of flow) tree fits).0 balances.forced in
     weak_sums
-      (priced flow (λ row. row.above) (lock_slot plan))
-      (priced flow (λ row. weight_of rows row.node) (lock_slot plan))
-      (priced flow (child_sum rows (λ child. child.above) flow) (lock_slot plan))
-      (priced flow (λ row. row.held) (lock_slot plan))
-      (priced flow (λ row. row.first) (lock_slot plan))
-      (priced flow (λ row. row.own) (lock_slot plan))
-      (priced flow (child_sum rows (λ child. child.held) flow) (release_slot plan))
-      (priced flow (λ row. row.last) (release_slot plan))
-      (gains nodes flow)
-      (priced flow (λ row. weight_of rows row.node) (release_slot plan))
-      (losses nodes flow)
-      (priced flow (λ row. row.own) (release_slot plan))
-      (priced flow (λ row. weight_of rows row.node) (holding plan))
-      (cost rows plan)
-      (priced_locks rows flow (lock_slot plan) balances.locks)
-      (priced_releases rows flow (release_slot plan) balances.releases)
-      (holding_sums rows nodes flow plan are balances.signs five)
-      (rw (child_swap rows flow (λ child. child.above) (lock_slot plan))
-        (sums_le (λ child. child.above * parent_value rows flow (lock_slot plan) child) (λ row. row.above * lock_slot plan row.node) flow (above_term rows nodes flow plan are balances.signs five)))
-      (rw (child_swap rows flow (λ child. child.held) (release_slot plan))
-        (sums_le (λ row. row.held * lock_slot plan row.node) (λ child. child.held * parent_value rows flow (release_slot plan) child) flow (held_term rows nodes flow plan are balances.signs five)))
-      (sums_le (λ row. row.first * lock_slot plan row.node) (λ row. row.first * first_access nodes row.node) flow (first_term rows nodes flow plan are balances.signs five))
-      (sums_le (λ row. row.last * last_end nodes row.node) (λ row. row.last * release_slot plan row.node) flow (last_term rows nodes flow plan are balances.signs five))
-      (sums_le (λ row. row.own * lock_slot plan row.node) (λ row. row.own * release_slot plan row.node) flow (own_term rows nodes flow plan are balances.signs five))
-      (span_cost_le rows nodes flow plan listed)
+    (priced flow (λ row. row.above) (lock_slot plan))
+    (priced flow (λ row. weight_of rows row.node) (lock_slot plan))
+    (priced flow (child_sum rows (λ child. child.above) flow) (lock_slot plan))
+    (priced flow (λ row. row.held) (lock_slot plan))
+    (priced flow (λ row. row.first) (lock_slot plan))
+    (priced flow (λ row. row.own) (lock_slot plan))
+    (priced flow (child_sum rows (λ child. child.held) flow) (release_slot plan))
+    (priced flow (λ row. row.last) (release_slot plan))
+    (gains nodes flow)
+    (priced flow (λ row. weight_of rows row.node) (release_slot plan))
+    (losses nodes flow)
+    (priced flow (λ row. row.own) (release_slot plan))
+    (priced flow (λ row. weight_of rows row.node) (holding plan))
+    (cost rows plan)
+    (priced_locks rows flow (lock_slot plan) balances.locks)
+    (priced_releases rows flow (release_slot plan) balances.releases)
+    (holding_sums rows nodes flow plan are balances.signs five)
+    (rw (child_swap rows flow (λ child. child.above) (lock_slot plan))
+    (sums_le (λ child. child.above * parent_value rows flow (lock_slot plan) child) (λ row. row.above * lock_slot plan row.node) flow (above_term rows nodes flow plan are balances.signs five)))
+    (rw (child_swap rows flow (λ child. child.held) (release_slot plan))
+    (sums_le (λ row. row.held * lock_slot plan row.node) (λ child. child.held * parent_value rows flow (release_slot plan) child) flow (held_term rows nodes flow plan are balances.signs five)))
+    (sums_le (λ row. row.first * lock_slot plan row.node) (λ row. row.first * first_access nodes row.node) flow (first_term rows nodes flow plan are balances.signs five))
+    (sums_le (λ row. row.last * last_end nodes row.node) (λ row. row.last * release_slot plan row.node) flow (last_term rows nodes flow plan are balances.signs five))
+    (sums_le (λ row. row.own * lock_slot plan row.node) (λ row. row.own * release_slot plan row.node) flow (own_term rows nodes flow plan are balances.signs five))
+    (span_cost_le rows nodes flow plan listed)
 
 pub certified_is_least : CertifiedIsLeast
 certified_is_least rows nodes flow plan tree fits legal certificate = record {
-    legal = legal;
-    least = λ other also.
+  legal = legal;
+  least = λ other also.
       let bound : gains nodes flow ≤ cost rows other + losses nodes flow = weak_duality rows nodes flow other tree fits certificate.balances also in
       let value : gains nodes flow ≡ cost rows plan + losses nodes flow = certificate.value in
-      omega arith
-  }
+      omega arith;
+}
 
 -- A tight plan: each constraint with a positive amount is an equation at the plan's slots.
 pub record IsTight (rows : Rows) (nodes : List ℕ) (flow : List FlowRow) (plan : List Step) : Type 0 where
@@ -291,11 +299,11 @@ tight_term zero x y h = free_same 0 x y refl
 tight_term (suc a) x y h = ap (λ (n : ℕ). suc a * n) (h (omega arith))
 
 -- a plan that locks spanned nodes alone holds no other
-unspanned_free : (rows : Rows) (nodes : List ℕ) (plan : List Step) (v : ℕ) → IsTree rows
+pub unspanned_free : (rows : Rows) (nodes : List ℕ) (plan : List Step) (v : ℕ) → IsTree rows
     → ((i w : ℕ) → slice_get plan i ≡ Some (Lock w) → IsSpanned rows nodes w) → is_spanned rows nodes v ≡ false → holding plan v ≡ 0
 unspanned_free rows nodes plan v tree alone none = count_none (length plan) (λ q. is_access (slice_get plan q) && held plan v q)
     (λ q lt. and_right (is_access (slice_get plan q)) (held plan v q) (held_not plan v q
-      (λ at. both_ways (is_spanned rows nodes v) none (spanned_get rows nodes v tree (alone at.at v at.is_lock)))))
+    (λ at. both_ways (is_spanned rows nodes v) none (spanned_get rows nodes v tree (alone at.at v at.is_lock)))))
 
 part_all : (b : Bool) (w x : ℕ) → (b ≡ false → x ≡ 0) → cond b (w * x) 0 ≡ w * x
 part_all true w x h = refl
@@ -319,42 +327,44 @@ tight_is_certified rows nodes flow plan tree fits legal balances small alone tig
       balances = balances;
       small = small;
       value = tight_sums
-        (priced flow (λ row. row.above) (lock_slot plan))
-        (priced flow (λ row. weight_of rows row.node) (lock_slot plan))
-        (priced flow (child_sum rows (λ child. child.above) flow) (lock_slot plan))
-        (priced flow (λ row. row.held) (lock_slot plan))
-        (priced flow (λ row. row.first) (lock_slot plan))
-        (priced flow (λ row. row.own) (lock_slot plan))
-        (priced flow (child_sum rows (λ child. child.held) flow) (release_slot plan))
-        (priced flow (λ row. row.last) (release_slot plan))
-        (gains nodes flow)
-        (priced flow (λ row. weight_of rows row.node) (release_slot plan))
-        (losses nodes flow)
-        (priced flow (λ row. row.own) (release_slot plan))
-        (priced flow (λ row. weight_of rows row.node) (holding plan))
-        (cost rows plan)
-        (priced_locks rows flow (lock_slot plan) balances.locks)
-        (priced_releases rows flow (release_slot plan) balances.releases)
-        (holding_sums rows nodes flow plan are balances.signs five)
-        (child_swap rows flow (λ child. child.above) (lock_slot plan)
+          (priced flow (λ row. row.above) (lock_slot plan))
+          (priced flow (λ row. weight_of rows row.node) (lock_slot plan))
+          (priced flow (child_sum rows (λ child. child.above) flow) (lock_slot plan))
+          (priced flow (λ row. row.held) (lock_slot plan))
+          (priced flow (λ row. row.first) (lock_slot plan))
+          (priced flow (λ row. row.own) (lock_slot plan))
+          (priced flow (child_sum rows (λ child. child.held) flow) (release_slot plan))
+          (priced flow (λ row. row.last) (release_slot plan))
+          (gains nodes flow)
+          (priced flow (λ row. weight_of rows row.node) (release_slot plan))
+          (losses nodes flow)
+          (priced flow (λ row. row.own) (release_slot plan))
+          (priced flow (λ row. weight_of rows row.node) (holding plan))
+          (cost rows plan)
+          (priced_locks rows flow (lock_slot plan) balances.locks)
+          (priced_releases rows flow (release_slot plan) balances.releases)
+          (holding_sums rows nodes flow plan are balances.signs five)
+          (child_swap rows flow (λ child. child.above) (lock_slot plan)
           ∙ sums_same (λ child. child.above * parent_value rows flow (lock_slot plan) child) (λ row. row.above * lock_slot plan row.node) flow
-            (λ i row is. elim (parent_row rows flow row) [
-                inl over ↦ ap (λ (n : ℕ). row.above * n) (at_parent rows nodes flow (lock_slot plan) are row over.1 over.0 over.2 over.3)
-                  ∙ tight_term row.above (lock_slot plan over.1.node) (lock_slot plan row.node) (tight.above i row over.1.node is (is_at_true over.1.node (parent_of rows row.node) over.3))
-              | inr none ↦ free_same row.above (parent_value rows flow (lock_slot plan) row) (lock_slot plan row.node) ((has_signs rows nodes flow row (balances.signs i row is)).top none).0 ]))
-        (sums_same (λ row. row.held * lock_slot plan row.node) (λ child. child.held * parent_value rows flow (release_slot plan) child) flow
-            (λ i row is. elim (parent_row rows flow row) [
-                inl over ↦ tight_term row.held (lock_slot plan row.node) (release_slot plan over.1.node) (tight.held i row over.1.node is (is_at_true over.1.node (parent_of rows row.node) over.3))
-                  ∙ ap (λ (n : ℕ). row.held * n) (sym (at_parent rows nodes flow (release_slot plan) are row over.1 over.0 over.2 over.3))
-              | inr none ↦ free_same row.held (lock_slot plan row.node) (parent_value rows flow (release_slot plan) row) ((has_signs rows nodes flow row (balances.signs i row is)).top none).1 ])
+          (λ i row is. elim (parent_row rows flow row) [
+            | inl over ↦ ap (λ (n : ℕ). row.above * n) (at_parent rows nodes flow (lock_slot plan) are row over.1 over.0 over.2 over.3)
+                ∙ tight_term row.above (lock_slot plan over.1.node) (lock_slot plan row.node) (tight.above i row over.1.node is (is_at_true over.1.node (parent_of rows row.node) over.3))
+            | inr none ↦ free_same row.above (parent_value rows flow (lock_slot plan) row) (lock_slot plan row.node) ((has_signs rows nodes flow row (balances.signs i row is)).top none).0
+          ]))
+          (sums_same (λ row. row.held * lock_slot plan row.node) (λ child. child.held * parent_value rows flow (release_slot plan) child) flow
+          (λ i row is. elim (parent_row rows flow row) [
+            | inl over ↦ tight_term row.held (lock_slot plan row.node) (release_slot plan over.1.node) (tight.held i row over.1.node is (is_at_true over.1.node (parent_of rows row.node) over.3))
+                ∙ ap (λ (n : ℕ). row.held * n) (sym (at_parent rows nodes flow (release_slot plan) are row over.1 over.0 over.2 over.3))
+            | inr none ↦ free_same row.held (lock_slot plan row.node) (parent_value rows flow (release_slot plan) row) ((has_signs rows nodes flow row (balances.signs i row is)).top none).1
+          ])
           ∙ sym (child_swap rows flow (λ child. child.held) (release_slot plan)))
-        (sums_same (λ row. row.first * lock_slot plan row.node) (λ row. row.first * first_access nodes row.node) flow
+          (sums_same (λ row. row.first * lock_slot plan row.node) (λ row. row.first * first_access nodes row.node) flow
           (λ i row is. tight_term row.first (lock_slot plan row.node) (first_access nodes row.node) (tight.first i row is)))
-        (sums_same (λ row. row.last * last_end nodes row.node) (λ row. row.last * release_slot plan row.node) flow
+          (sums_same (λ row. row.last * last_end nodes row.node) (λ row. row.last * release_slot plan row.node) flow
           (λ i row is. tight_term row.last (last_end nodes row.node) (release_slot plan row.node) (tight.last i row is)))
-        (sums_same (λ row. row.own * lock_slot plan row.node) (λ row. row.own * release_slot plan row.node) flow
+          (sums_same (λ row. row.own * lock_slot plan row.node) (λ row. row.own * release_slot plan row.node) flow
           (λ i row is. tight_term row.own (lock_slot plan row.node) (release_slot plan row.node) (tight.own i row is)))
-        (span_cost rows nodes flow plan listed
+          (span_cost rows nodes flow plan listed
           ∙ sum_same (length rows) (λ v. cond (is_spanned rows nodes v) (weight_of rows v * holding plan v) 0) (λ v. weight_of rows v * holding plan v)
-            (λ v lt. part_all (is_spanned rows nodes v) (weight_of rows v) (holding plan v) (unspanned_free rows nodes plan v tree alone)))
+          (λ v lt. part_all (is_spanned rows nodes v) (weight_of rows v) (holding plan v) (unspanned_free rows nodes plan v tree alone)));
     }

@@ -1,5 +1,5 @@
 -- Faults and certificates exclude each other, and what the parts of the checker answer is its verdict.
-use Rattle.std.proofs.Common.{◌≡◌, ◌≢◌, ℕ, ◌+◌, ℤ, pos, ◌-ℤ◌, Bool, true, false, List, length, Some, Result, Ok, Err, refl, sym, ◌∙◌, ap, subst, arith}
+use Rattle.std.proofs.Common.{◌≡◌, ◌≢◌, ℕ, ◌+◌, pos, ◌-ℤ◌, Bool, List, Some, Result, Ok, Err, refl, sym, ◌∙◌, ap, subst, arith}
 use Rattle.std.specs.Prelude.{map, MatchResult, IfOk, OnOk, IfErr}
 use Rattle.std.specs.List.{slice_get}
 use Rattle.std.proofs.lemmas.Bool.{both_ways}
@@ -101,10 +101,10 @@ rows_no_plan rows nodes flow sum e f is h = subst (λ (x : ProofFault). IsRowsFa
 rows_certify : (rows : Rows) (nodes : List ℕ) (plan : List Step) (flow : List FlowRow) → IsForcedList rows nodes (map node_of flow) → PassAll rows nodes flow → bound nodes flow ≡ pos (cost rows plan)
     → IsCertificate rows nodes flow (cost rows plan)
 rows_certify rows nodes plan flow forced pass value = record {
-    balances = record { forced = forced; signs = pass.signs; locks = pass.locks; releases = pass.releases };
-    small = pass.sizes;
-    value = difference (gains nodes flow) (losses nodes flow) (cost rows plan) value
-  }
+  balances = record { forced = forced; signs = pass.signs; locks = pass.locks; releases = pass.releases };
+  small = pass.sizes;
+  value = difference (gains nodes flow) (losses nodes flow) (cost rows plan) value;
+}
 
 -- what the rows say of a legal plan whose forced nodes they have
 abbrev pub RowsSay : Rows → List ℕ → List FlowRow → ℕ → Result ℕ ProofFault → Type 0
@@ -121,7 +121,7 @@ pub verdict : (rows : Rows) (nodes : List ℕ) (plan : List Step) (flow : List F
     → span ≡ spanned_nodes rows nodes → map node_of flow ≡ span → sum ≡ cost rows plan → RowsSay rows nodes flow sum r → IsVerdict rows nodes plan flow r
 verdict rows nodes plan flow span sum r tree fits legal listed same e say =
     verdict_at_cost rows nodes plan flow r legal (subst (λ (xs : List ℕ). IsForcedList rows nodes xs) (sym (same ∙ listed)) (span_is_forced_list rows nodes tree fits))
-      (subst (λ (s : ℕ). RowsSay rows nodes flow s r) e say)
+    (subst (λ (s : ℕ). RowsSay rows nodes flow s r) e say)
 
 -- What follows from a verdict
 
@@ -155,5 +155,5 @@ pub say_same : (rows tree : Rows) (accesses list : List Access) (flow other : Li
     → rows ≡ tree → accesses ≡ list → flow ≡ other → RowsSay tree (nodes_of list) other sum r
 say_same rows tree accesses list flow other sum r say e f g =
     subst (λ (x : List FlowRow). RowsSay tree (nodes_of list) x sum r) g
-      (subst (λ (x : List Access). RowsSay tree (nodes_of x) flow sum r) f
-        (subst (λ (x : Rows). RowsSay x (nodes_of accesses) flow sum r) e say))
+    (subst (λ (x : List Access). RowsSay tree (nodes_of x) flow sum r) f
+    (subst (λ (x : Rows). RowsSay x (nodes_of accesses) flow sum r) e say))

@@ -1,14 +1,11 @@
 -- Ascending lists with the same members are one, so the list of the forced nodes is that of the spanned ones.
-use Rattle.std.proofs.Common.{◌≡◌, ℕ, zero, suc, ◌<◌, ◌≤◌, ◌⊎◌, List, [], ◌∷◌, length, Option, Some, None, refl, sym, ◌∙◌, ap, subst, inl, inr, arith}
-use Rattle.std.specs.Prelude.{◌↔◌}
-use Rattle.std.specs.List.{slice_get}
+use Rattle.std.proofs.Common.{◌≡◌, ℕ, zero, suc, ◌<◌, ◌⊎◌, List, [], ◌∷◌, length, refl, sym, subst, inl, inr, arith}
 use Rattle.std.proofs.lemmas.Option.{none-some, same_Some}
 use Rattle.grove_tree.specs.Trees.{Rows, IsTree}
 use Rattle.grove_tree.proofs.Counting.{passing_rises}
 use Rattle.grove_access.specs.Lists.{AreNodes}
-use Rattle.grove_access.specs.Spanned.{is_spanned, spanned_nodes, IsSpanned}
+use Rattle.grove_access.specs.Spanned.{is_spanned, spanned_nodes}
 use Rattle.grove_access.proofs.Spans.{spanned_listed, listed_spanned}
-use Rattle.grove_plan.specs.Plans.{IsForced}
 use Rattle.grove_proof.specs.Forced.{Ascends, IsAmong, IsForcedList}
 use Rattle.grove_proof.specs.Laws.{ForcedAreSpanned, ForcedListIsSpan}
 use Rattle.grove_proof.proofs.Chains.{spanned_is_forced}
@@ -30,19 +27,22 @@ above_first x xs up z at = up 0 (suc at.0) x z (omega arith) refl at.1
 -- of two ascending lists with the same members, the first items are one
 first_same : (x y : ℕ) (xs ys : List ℕ) → Ascends (x ∷ xs) → Ascends (y ∷ ys) → IsAmong (y ∷ ys) x → IsAmong (x ∷ xs) y → x ≡ y
 first_same x y xs ys up_x up_y h k = elim (among_cases y ys x h) [
-    inl e ↦ sym e
+  | inl e ↦ sym e
   | inr later ↦ elim (among_cases x xs y k) [
-      inl e ↦ e
+    | inl e ↦ e
     | inr other ↦
         let less : y < x = above_first y ys up_y x later in
         let more : x < y = above_first x xs up_x y other in
-        absurd (omega arith) ] ]
+        absurd (omega arith)
+  ]
+]
 
 -- the members of the rest
 rest_among : (x : ℕ) (xs ys : List ℕ) → Ascends (x ∷ xs) → ((z : ℕ) → IsAmong (x ∷ xs) z → IsAmong (x ∷ ys) z) → (z : ℕ) → IsAmong xs z → IsAmong ys z
 rest_among x xs ys up h z at = elim (among_cases x ys z (h z (suc at.0, at.1))) [
-    inl e ↦ let lt : x < z = above_first x xs up z at in absurd (omega arith)
-  | inr there ↦ there ]
+  | inl e ↦ let lt : x < z = above_first x xs up z at in absurd (omega arith)
+  | inr there ↦ there
+]
 
 -- ascending lists with the same members are one
 pub ascending_same : (xs ys : List ℕ) → Ascends xs → Ascends ys → ((z : ℕ) → IsAmong xs z → IsAmong ys z) → ((z : ℕ) → IsAmong ys z → IsAmong xs z) → xs ≡ ys
@@ -53,8 +53,8 @@ ascending_same (x ∷ xs) (y ∷ ys) up_x up_y h k =
     let e : x ≡ y = first_same x y xs ys up_x up_y (h x (0, refl)) (k y (0, refl)) in
     let up : Ascends (x ∷ ys) = subst (λ (w : ℕ). Ascends (w ∷ ys)) (sym e) up_y in
     let rest : xs ≡ ys = ascending_same xs ys (ascends_rest x xs up_x) (ascends_rest y ys up_y)
-      (rest_among x xs ys up_x (λ z at. subst (λ (w : ℕ). IsAmong (w ∷ ys) z) (sym e) (h z at)))
-      (rest_among x ys xs up (λ z at. k z (subst (λ (w : ℕ). IsAmong (w ∷ ys) z) e at))) in
+    (rest_among x xs ys up_x (λ z at. subst (λ (w : ℕ). IsAmong (w ∷ ys) z) (sym e) (h z at)))
+    (rest_among x ys xs up (λ z at. k z (subst (λ (w : ℕ). IsAmong (w ∷ ys) z) e at))) in
     cc
 
 pub forced_are_spanned : ForcedAreSpanned
@@ -63,10 +63,12 @@ forced_are_spanned rows nodes node tree fits = (forced_is_spanned rows nodes nod
 -- the spanned nodes are the forced ones, in ascending order
 pub span_is_forced_list : (rows : Rows) (nodes : List ℕ) → IsTree rows → AreNodes rows nodes → IsForcedList rows nodes (spanned_nodes rows nodes)
 span_is_forced_list rows nodes tree fits = record {
-    ascends = λ i j a b lt h k. passing_rises (length rows) (is_spanned rows nodes) i j a b lt h k;
-    forced = λ node. (λ at. spanned_is_forced rows nodes node tree (listed_spanned rows nodes at.0 node tree fits at.1),
-      λ is. spanned_listed rows nodes node tree fits (forced_is_spanned rows nodes node tree fits is))
-  }
+  ascends = λ i j a b lt h k. passing_rises (length rows) (is_spanned rows nodes) i j a b lt h k;
+  forced = λ node. (
+    λ at. spanned_is_forced rows nodes node tree (listed_spanned rows nodes at.0 node tree fits at.1),
+    λ is. spanned_listed rows nodes node tree fits (forced_is_spanned rows nodes node tree fits is),
+  );
+}
 
 -- two lists of the forced nodes are one
 pub forced_lists_same : (rows : Rows) (nodes xs ys : List ℕ) → IsForcedList rows nodes xs → IsForcedList rows nodes ys → xs ≡ ys
@@ -74,6 +76,7 @@ forced_lists_same rows nodes xs ys h k = ascending_same xs ys h.ascends k.ascend
     (λ z at. (k.forced z).1 ((h.forced z).0 at)) (λ z at. (h.forced z).1 ((k.forced z).0 at))
 
 pub forced_list_is_span : ForcedListIsSpan
-forced_list_is_span rows nodes list tree fits =
-    (λ h. forced_lists_same rows nodes list (spanned_nodes rows nodes) h (span_is_forced_list rows nodes tree fits),
-     λ e. subst (λ (xs : List ℕ). IsForcedList rows nodes xs) (sym e) (span_is_forced_list rows nodes tree fits))
+forced_list_is_span rows nodes list tree fits = (
+  λ h. forced_lists_same rows nodes list (spanned_nodes rows nodes) h (span_is_forced_list rows nodes tree fits),
+  λ e. subst (λ (xs : List ℕ). IsForcedList rows nodes xs) (sym e) (span_is_forced_list rows nodes tree fits),
+)

@@ -1,5 +1,5 @@
 -- Loop steps of the marks of the spanned nodes.
-use Rattle.std.proofs.Common.{◌≡◌, ℕ, zero, suc, ◌+◌, ◌<◌, ◌≤◌, Bool, true, false, ◌⊎◌, List, [], ◌∷◌, ◌++◌, length, get_or, Some, None, refl, sym, ◌∙◌, ap, subst, inl, inr, arith, length-set, append-nil, min}
+use Rattle.std.proofs.Common.{◌≡◌, ℕ, suc, ◌+◌, ◌<◌, Bool, true, false, ◌⊎◌, List, [], ◌∷◌, ◌++◌, length, get_or, Some, None, refl, sym, ◌∙◌, ap, subst, inl, inr, arith, length-set, append-nil, min}
 use Rattle.std.proofs.lemmas.List.{length-replicate}
 use Rattle.std.proofs.Math.ListN.{set, replicate}
 use Rattle.std.specs.Prelude.{map}
@@ -9,14 +9,14 @@ use Rattle.std.proofs.lemmas.Bool.{cases_lt, cases_eq, cases_Bool, both_ways, fa
 use Rattle.grove_tree.specs.Numbers.{passing_below, alone}
 use Rattle.grove_tree.specs.Trees.{Rows, parent_of, IsAbove, IsTree}
 use Rattle.grove_tree.proofs.Lists.{get_set_same, get_set_other, get_replicate, get_map, map_length, same_lists}
-use Rattle.grove_tree.proofs.Ups.{above_trans, above_step, above_le, above_self, above_same, above_either, parent_above, parent_lt}
+use Rattle.grove_tree.proofs.Ups.{above_trans, above_step, above_self, above_same, above_either, parent_above, parent_lt}
 use Rattle.grove_access.specs.Lists.{AreNodes}
-use Rattle.grove_access.specs.Spanned.{IsCommon, IsSpanned, is_spanned}
+use Rattle.grove_access.specs.Spanned.{IsSpanned, is_spanned}
 use Rattle.grove_access.proofs.Spans.{spanned_get, spanned_got}
 use Rattle.grove_proof.specs.declared.flow.FlowRow.{FlowRow}
 use Rattle.grove_proof.specs.Flows.{node_of}
 use Rattle.grove_proof.specs.Faults.{IsFirstDifference}
-use Rattle.grove_proof.specs.Tables.{IsOver, IsLowest, IsMarked, MarksWay, MarksSpan}
+use Rattle.grove_proof.specs.Tables.{IsLowest, IsMarked, MarksWay, MarksSpan}
 
 -- the way up from a node is marked below a node on it
 pub record IsOnWay (rows : Rows) (top from at : ℕ) (old new : List Bool) : Type 0 where
@@ -30,32 +30,35 @@ pub record IsOnWay (rows : Rows) (top from at : ℕ) (old new : List Bool) : Typ
 
 pub way_start : (rows : Rows) (top from : ℕ) (marks : List Bool) → IsTree rows → length marks ≡ length rows → from < length rows → IsAbove rows top from → IsOnWay rows top from from marks marks
 way_start rows top from marks tree size within above = record {
-    size = size;
-    above = above_self rows from;
-    below = above;
-    within = within;
-    sound = λ v is. inl is;
-    kept = λ v is. is;
-    done = λ v up_v down ne. absurd (ne (above_same rows tree v from up_v down))
-  }
+  size = size;
+  above = above_self rows from;
+  below = above;
+  within = within;
+  sound = λ v is. inl is;
+  kept = λ v is. is;
+  done = λ v up_v down ne. absurd (ne (above_same rows tree v from up_v down));
+}
 
 -- with one more node marked
 marked_more : (marks : List Bool) (at v : ℕ) → at < length marks → IsMarked marks v → IsMarked (set marks at true) v
 marked_more marks at v within is = elim (cases_eq v at) [
-    inl e ↦ rw e (get_set_same marks at true within)
-  | inr ne ↦ get_set_other marks at v true ne ∙ is ]
+  | inl e ↦ rw e (get_set_same marks at true within)
+  | inr ne ↦ get_set_other marks at v true ne ∙ is
+]
 
 way_sound : (rows : Rows) (top from at : ℕ) (old new : List Bool) → IsOnWay rows top from at old new → (v : ℕ) → IsMarked (set new at true) v → IsMarked old v ⊎ (IsAbove rows v from × IsAbove rows top v)
 way_sound rows top from at old new so_far v is = elim (cases_eq v at) [
-    inl e ↦ inr (subst (λ (w : ℕ). IsAbove rows w from) (sym e) so_far.above, subst (λ (w : ℕ). IsAbove rows top w) (sym e) so_far.below)
-  | inr ne ↦ so_far.sound v (sym (get_set_other new at v true ne) ∙ is) ]
+  | inl e ↦ inr (subst (λ (w : ℕ). IsAbove rows w from) (sym e) so_far.above, subst (λ (w : ℕ). IsAbove rows top w) (sym e) so_far.below)
+  | inr ne ↦ so_far.sound v (sym (get_set_other new at v true ne) ∙ is)
+]
 
 way_done : (rows : Rows) (top from at : ℕ) (old new : List Bool) → IsTree rows → IsOnWay rows top from at old new → (v : ℕ) → IsAbove rows v from → IsAbove rows at v → IsMarked (set new at true) v
 way_done rows top from at old new tree so_far v up_v down =
     let within : at < length new = rw so_far.size so_far.within in
     elim (cases_eq v at) [
-      inl e ↦ rw e (get_set_same new at true within)
-    | inr ne ↦ marked_more new at v within (so_far.done v up_v down ne) ]
+      | inl e ↦ rw e (get_set_same new at true within)
+      | inr ne ↦ marked_more new at v within (so_far.done v up_v down ne)
+    ]
 
 pub way_step : (rows : Rows) (top from at p : ℕ) (old new : List Bool) → IsTree rows → IsOnWay rows top from at old new → (at ≡ top → ⊥) → parent_of rows at ≡ Some p
     → IsOnWay rows top from p old (set new at true)
@@ -67,30 +70,34 @@ way_step rows top from at p old new tree so_far other e =
       size = length-set new at true ∙ so_far.size;
       above = above_trans rows p at from (parent_above rows at p e) so_far.above;
       below = elim (above_step rows top at so_far.below) [
-          inl same ↦ absurd (other (sym same))
-        | inr under ↦ subst (λ (q : ℕ). IsAbove rows top q) (same_Some under.0 p (sym under.1 ∙ e)) under.2 ];
+        | inl same ↦ absurd (other (sym same))
+        | inr under ↦ subst (λ (q : ℕ). IsAbove rows top q) (same_Some under.0 p (sym under.1 ∙ e)) under.2
+      ];
       within = omega arith;
       sound = way_sound rows top from at old new so_far;
       kept = λ v is. marked_more new at v within (so_far.kept v is);
       done = λ v up_v down ne. elim (above_either rows at v from so_far.above up_v) [
-          inl over ↦ way_done rows top from at old new tree so_far v up_v over
+        | inl over ↦ way_done rows top from at old new tree so_far v up_v over
         | inr beyond ↦ elim (above_step rows v at beyond) [
-            inl same ↦ way_done rows top from at old new tree so_far v up_v (subst (λ (w : ℕ). IsAbove rows at w) (sym same) (above_self rows at))
-          | inr under ↦ absurd (ne (above_same rows tree v p (subst (λ (q : ℕ). IsAbove rows v q) (same_Some under.0 p (sym under.1 ∙ e)) under.2) down)) ] ]
+          | inl same ↦ way_done rows top from at old new tree so_far v up_v (subst (λ (w : ℕ). IsAbove rows at w) (sym same) (above_self rows at))
+          | inr under ↦ absurd (ne (above_same rows tree v p (subst (λ (q : ℕ). IsAbove rows v q) (same_Some under.0 p (sym under.1 ∙ e)) under.2) down))
+        ]
+      ];
     }
 
 -- below the top the way goes on
 pub way_goes_on : (rows : Rows) (top from at : ℕ) (old new : List Bool) → IsOnWay rows top from at old new → (at ≡ top → ⊥) → parent_of rows at ≡ None → ⊥
 way_goes_on rows top from at old new so_far other none = elim (above_step rows top at so_far.below) [
-    inl same ↦ other (sym same)
-  | inr under ↦ none-some under.0 (sym none ∙ under.1) ]
+  | inl same ↦ other (sym same)
+  | inr under ↦ none-some under.0 (sym none ∙ under.1)
+]
 
 pub way_end : (rows : Rows) (top from at : ℕ) (old new : List Bool) → IsTree rows → IsOnWay rows top from at old new → at ≡ top → MarksWay rows top from old (set new at true)
 way_end rows top from at old new tree so_far e = record {
-    sound = way_sound rows top from at old new so_far;
-    kept = λ v is. marked_more new at v (rw so_far.size so_far.within) (so_far.kept v is);
-    done = λ v up_v down. way_done rows top from at old new tree so_far v up_v (subst (λ (t : ℕ). IsAbove rows t v) (sym e) down)
-  }
+  sound = way_sound rows top from at old new so_far;
+  kept = λ v is. marked_more new at v (rw so_far.size so_far.within) (so_far.kept v is);
+  done = λ v up_v down. way_done rows top from at old new tree so_far v up_v (subst (λ (t : ℕ). IsAbove rows t v) (sym e) down);
+}
 
 -- the ways of the first accesses are marked, and only spanned nodes are
 pub record AreWays (rows : Rows) (nodes : List ℕ) (top n : ℕ) (marks : List Bool) : Type 0 where
@@ -100,55 +107,59 @@ pub record AreWays (rows : Rows) (nodes : List ℕ) (top n : ℕ) (marks : List 
 
 pub ways_start : (rows : Rows) (nodes : List ℕ) (top : ℕ) (marks : List Bool) → length marks ≡ length rows → ((v : ℕ) → IsMarked marks v → ⊥) → AreWays rows nodes top 0 marks
 ways_start rows nodes top marks size none = record {
-    size = size;
-    sound = λ v is. absurd (none v is);
-    done = λ access target v lt names up_v down. absurd (omega arith)
-  }
+  size = size;
+  sound = λ v is. absurd (none v is);
+  done = λ access target v lt names up_v down. absurd (omega arith);
+}
 
 -- the lowest common node is above every node between
 pub ways_step : (rows : Rows) (nodes : List ℕ) (top n target : ℕ) (old new : List Bool) → IsLowest rows nodes (length nodes) top → AreWays rows nodes top n old
     → slice_get nodes n ≡ Some target → MarksWay rows top target old new → length new ≡ length rows → AreWays rows nodes top (n + 1) new
 ways_step rows nodes top n target old new lowest so_far names way size = record {
-    size = size;
-    sound = λ v is. elim (way.sound v is) [
-        inl before ↦ so_far.sound v before
-      | inr now ↦ record {
-          access = n;
-          target = target;
-          names = names;
-          covers = now.0;
-          below = λ common is_common. above_trans rows common top v (lowest.lowest common (λ access other lt there. is_common access other there)) now.1
-        } ];
-    done = λ access other v lt there up_v down. elim (cases_eq access n) [
-        inl e ↦ way.done v (subst (λ (t : ℕ). IsAbove rows v t) (same_Some other target (sym there ∙ (ap (λ (i : ℕ). slice_get nodes i) e ∙ names))) up_v) down
-      | inr ne ↦ way.kept v (so_far.done access other v (omega arith) there up_v down) ]
-  }
+  size = size;
+  sound = λ v is. elim (way.sound v is) [
+    | inl before ↦ so_far.sound v before
+    | inr now ↦ record {
+      access = n;
+      target = target;
+      names = names;
+      covers = now.0;
+      below = λ common is_common. above_trans rows common top v (lowest.lowest common (λ access other lt there. is_common access other there)) now.1;
+    }
+  ];
+  done = λ access other v lt there up_v down. elim (cases_eq access n) [
+    | inl e ↦ way.done v (subst (λ (t : ℕ). IsAbove rows v t) (same_Some other target (sym there ∙ (ap (λ (i : ℕ). slice_get nodes i) e ∙ names))) up_v) down
+    | inr ne ↦ way.kept v (so_far.done access other v (omega arith) there up_v down)
+  ];
+}
 
 pub ways_end : (rows : Rows) (nodes : List ℕ) (top n : ℕ) (marks : List Bool) → IsLowest rows nodes (length nodes) top → AreWays rows nodes top n marks → n ≡ length nodes
     → (v : ℕ) → IsSpanned rows nodes v → IsMarked marks v
 ways_end rows nodes top n marks lowest all e v spanned =
     let lt : spanned.access < length nodes = slice_get_within nodes spanned.access spanned.target spanned.names in
     all.done spanned.access spanned.target v (omega arith) spanned.names spanned.covers
-      (spanned.below top (λ access target names. lowest.over access target (slice_get_within nodes access target names) names))
+    (spanned.below top (λ access target names. lowest.over access target (slice_get_within nodes access target names) names))
 
 -- marks of the spanned nodes
 pub marks_span : (rows : Rows) (nodes : List ℕ) (marks : List Bool) → IsTree rows → AreNodes rows nodes → length marks ≡ length rows
     → ((v : ℕ) → IsMarked marks v → IsSpanned rows nodes v) → ((v : ℕ) → IsSpanned rows nodes v → IsMarked marks v) → MarksSpan rows nodes marks
 marks_span rows nodes marks tree fits size sound complete = record {
-    size = size;
-    marked = λ v lt.
+  size = size;
+  marked = λ v lt.
       let there : slice_get marks v ≡ Some (get_or marks v false) = slice_get-get_or marks v false (rw size lt) in
       there ∙ ap (λ (b : Bool). Some b) (elim (cases_Bool (get_or marks v false)) [
-          inl e ↦ e ∙ sym (spanned_get rows nodes v tree (sound v (there ∙ ap (λ (b : Bool). Some b) e)))
+        | inl e ↦ e ∙ sym (spanned_get rows nodes v tree (sound v (there ∙ ap (λ (b : Bool). Some b) e)))
         | inr e ↦ e ∙ sym (false_from_ne_true (is_spanned rows nodes v)
-            (λ is. both_ways (get_or marks v false) e (same_Some (get_or marks v false) true (sym there ∙ complete v (spanned_got rows nodes v tree fits is))))) ])
-  }
+            (λ is. both_ways (get_or marks v false) e (same_Some (get_or marks v false) true (sym there ∙ complete v (spanned_got rows nodes v tree fits is)))))
+      ]);
+}
 
 -- nothing is marked at first, and nothing is spanned without accesses
 pub none_marked : (n v : ℕ) → IsMarked (replicate n false) v → ⊥
 none_marked n v is = elim (cases_lt v n) [
-    inl lt ↦ both_ways true (same_Some true false (sym is ∙ get_replicate n false v lt)) refl
-  | inr ge ↦ none-some true (sym (slice_get_past (replicate n false) v (rw length-replicate ge)) ∙ is) ]
+  | inl lt ↦ both_ways true (same_Some true false (sym is ∙ get_replicate n false v lt)) refl
+  | inr ge ↦ none-some true (sym (slice_get_past (replicate n false) v (rw length-replicate ge)) ∙ is)
+]
 
 pub none_spanned : (rows : Rows) (nodes : List ℕ) (v : ℕ) → length nodes ≡ 0 → IsSpanned rows nodes v → ⊥
 none_spanned rows nodes v e spanned = let lt : spanned.access < length nodes = slice_get_within nodes spanned.access spanned.target spanned.names in omega arith
@@ -169,35 +180,39 @@ passing_miss n test h =
 pub differ_at : (flow : List FlowRow) (list : List ℕ) (place : ℕ) (row : FlowRow) (v : ℕ) → ((j : ℕ) → j < place → slice_get (map node_of flow) j ≡ slice_get list j)
     → slice_get flow place ≡ Some row → slice_get list place ≡ Some v → (row.node ≡ v → ⊥) → IsFirstDifference (map node_of flow) list place
 differ_at flow list place row v before here there ne = record {
-    differ = λ e. ne (same_Some row.node v (sym (get_map node_of flow place row here) ∙ (e ∙ there)));
-    before = before
-  }
+  differ = λ e. ne (same_Some row.node v (sym (get_map node_of flow place row here) ∙ (e ∙ there)));
+  before = before;
+}
 
 pub agree_more : (flow : List FlowRow) (list : List ℕ) (place : ℕ) (row : FlowRow) → ((j : ℕ) → j < place → slice_get (map node_of flow) j ≡ slice_get list j)
     → slice_get flow place ≡ Some row → slice_get list place ≡ Some row.node → (j : ℕ) → j < place + 1 → slice_get (map node_of flow) j ≡ slice_get list j
 agree_more flow list place row before here there j lt = elim (cases_eq j place) [
-    inl e ↦ rw e (get_map node_of flow place row here ∙ sym there)
-  | inr ne ↦ before j (omega arith) ]
+  | inl e ↦ rw e (get_map node_of flow place row here ∙ sym there)
+  | inr ne ↦ before j (omega arith)
+]
 
 pub agree_all : (flow : List FlowRow) (list : List ℕ) → length flow ≡ length list → ((j : ℕ) → j < length flow → slice_get (map node_of flow) j ≡ slice_get list j) → map node_of flow ≡ list
 agree_all flow list size same = same_lists (map node_of flow) list (λ j. elim (cases_lt j (length flow)) [
-    inl lt ↦ same j lt
-  | inr ge ↦ slice_get_past (map node_of flow) j (rw (map_length node_of flow) ge) ∙ sym (slice_get_past list j (omega arith)) ])
+  | inl lt ↦ same j lt
+  | inr ge ↦ slice_get_past (map node_of flow) j (rw (map_length node_of flow) ge) ∙ sym (slice_get_past list j (omega arith))
+])
 
 -- one list ends before the other
 pub differ_end : (flow : List FlowRow) (list : List ℕ) (place : ℕ) → ((j : ℕ) → j < place → slice_get (map node_of flow) j ≡ slice_get list j)
     → (length flow ≡ length list → ⊥) → place ≡ min (length list) (length flow) → IsFirstDifference (map node_of flow) list place
 differ_end flow list place before ne e = record {
-    differ = elim (cases_lt (length flow) (length list)) [
-        inl shorter ↦ let at : place ≡ length flow = omega arith in
-          λ same. none-some (get_or list place 0) (sym (slice_get_past (map node_of flow) place (rw (map_length node_of flow) (omega arith))) ∙ (same ∙ slice_get-get_or list place 0 (omega arith)))
-      | inr longer ↦ elim (cases_eq (length flow) (length list)) [
-          inl same ↦ absurd (ne same)
-        | inr other ↦ let at : place ≡ length list = omega arith in
-            let within : place < length (map node_of flow) = rw (map_length node_of flow) (omega arith) in
-            λ same. none-some (get_or (map node_of flow) place 0) (sym (slice_get_past list place (omega arith)) ∙ (sym same ∙ slice_get-get_or (map node_of flow) place 0 within)) ] ];
-    before = before
-  }
+  differ = elim (cases_lt (length flow) (length list)) [
+    | inl shorter ↦ let at : place ≡ length flow = omega arith in
+        λ same. none-some (get_or list place 0) (sym (slice_get_past (map node_of flow) place (rw (map_length node_of flow) (omega arith))) ∙ (same ∙ slice_get-get_or list place 0 (omega arith)))
+    | inr longer ↦ elim (cases_eq (length flow) (length list)) [
+      | inl same ↦ absurd (ne same)
+      | inr other ↦ let at : place ≡ length list = omega arith in
+          let within : place < length (map node_of flow) = rw (map_length node_of flow) (omega arith) in
+          λ same. none-some (get_or (map node_of flow) place 0) (sym (slice_get_past list place (omega arith)) ∙ (sym same ∙ slice_get-get_or (map node_of flow) place 0 within))
+    ]
+  ];
+  before = before;
+}
 
 -- what a mark that was read says
 pub mark_says : (rows : Rows) (nodes : List ℕ) (marks : List Bool) (v : ℕ) (b : Bool) → MarksSpan rows nodes marks → v < length rows → b ≡ get_or marks v b → is_spanned rows nodes v ≡ b

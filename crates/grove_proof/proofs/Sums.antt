@@ -1,9 +1,8 @@
 -- Sums over lists, term by term.
-use Rattle.std.proofs.Common.{◌≡◌, ℕ, zero, suc, ◌+◌, ◌*◌, ◌<◌, ◌≤◌, Bool, true, false, cond, List, [], ◌∷◌, ◌++◌, length, Option, Some, None, refl, sym, ◌∙◌, ap, subst, inl, inr, arith, zero-mul, mul-zero, add-mul, mul-add, suc-ne-zero, add-zero}
+use Rattle.std.proofs.Common.{◌≡◌, ℕ, zero, suc, ◌+◌, ◌*◌, ◌≤◌, Bool, true, false, cond, List, [], ◌∷◌, Some, refl, sym, ◌∙◌, ap, arith, zero-mul, mul-zero, add-mul, mul-add, suc-ne-zero, add-zero}
 use Rattle.std.specs.Prelude.{map}
 use Rattle.std.specs.List.{slice_get, sum_by}
 use Rattle.std.proofs.lemmas.Option.{none-some, same_Some}
-use Rattle.std.proofs.lemmas.Bool.{cases_eq, cases_Bool, cond-true, cond-false}
 use Rattle.std.proofs.lemmas.List.Sums.{sum_by-cons, sum_by-append}
 use Rattle.grove_tree.specs.Numbers.{sum_below, passing_below, alone}
 
@@ -83,7 +82,7 @@ sums_map f g (x ∷ xs) = sum_by-cons f (g x) (map g xs) ∙ (ap (λ (s : ℕ). 
 
 -- a number listed alone, or not at all
 sum_alone : (f : ℕ → ℕ) (b : Bool) (n : ℕ) → sum_by f (alone b n) ≡ cond b (f n) 0
-sum_alone f true n = sum_by-cons f n []  ∙ add-zero (f n)
+sum_alone f true n = sum_by-cons f n [] ∙ add-zero (f n)
 sum_alone f false n = refl
 
 -- a sum over the numbers that pass

@@ -1,13 +1,13 @@
 -- The sums of the bound, and what a ledger says of one row.
-use Rattle.std.proofs.Common.{◌≡◌, ℕ, zero, suc, ◌+◌, ◌*◌, ◌^◌, ◌<◌, ◌≤◌, Bool, true, false, not, ◌&&◌, ◌||◌, ◌⊎◌, eqb, ltb, List, length, take, get_or, Some, None, refl, sym, ◌∙◌, ap, subst, inl, inr, arith, zero-mul, mul-zero, mul-le-mul_left, le_trans, lit≤}
+use Rattle.std.proofs.Common.{◌≡◌, ℕ, suc, ◌+◌, ◌*◌, ◌^◌, ◌<◌, ◌≤◌, Bool, true, false, not, ◌&&◌, ◌||◌, eqb, ltb, List, length, take, get_or, Some, sym, ◌∙◌, ap, subst, inl, inr, arith, zero-mul, mul-le-mul_left, le_trans, lit≤}
 use Rattle.std.specs.Prelude.{map}
 use Rattle.std.specs.List.{slice_get, sum_by}
-use Rattle.std.proofs.lemmas.Option.{none-some, same_Some, slice_get_within, slice_get-get_or, get_or_from_slice_get}
+use Rattle.std.proofs.lemmas.Option.{same_Some, slice_get_within, slice_get-get_or, get_or_from_slice_get}
 use Rattle.std.proofs.lemmas.Bool.{cases_lt, cases_eq, cases_Bool, both_ways, false_from_ne_true, lt-ltb, le-ltb, eq-eqb, ne_eqb, not_from_true, not_from_false}
 use Rattle.std.proofs.lemmas.List.Sums.{sum_by_more}
-use Rattle.grove_tree.specs.Numbers.{any_below, least_below, last_below}
+use Rattle.grove_tree.specs.Numbers.{any_below, last_below}
 use Rattle.grove_tree.specs.Trees.{Rows, parent_of, weight_of, IsTree}
-use Rattle.grove_tree.proofs.Counting.{any_from, any_none, passing_got, passing_rises, last_is, last_none, any_false}
+use Rattle.grove_tree.proofs.Counting.{any_from, passing_got, passing_rises, last_is, last_none, any_false}
 use Rattle.grove_tree.proofs.Lists.{get_map, get_map_inv}
 use Rattle.grove_tree.proofs.Ups.{above_le, parent_lt}
 use Rattle.grove_tree.proofs.Tests.{is_at_true, is_at_from}
@@ -16,12 +16,12 @@ use Rattle.grove_access.specs.Spanned.{IsCommon, IsSpanned, is_spanned, spanned_
 use Rattle.grove_access.proofs.Spans.{spanned_step, spanned_listed, listed_spanned}
 use Rattle.grove_proof.specs.declared.flow.FlowRow.{FlowRow}
 use Rattle.grove_proof.specs.declared.tables.Visits.{Visits}
-use Rattle.grove_proof.specs.Flows.{node_of, has_parent, is_parent_at, is_child, is_sign_ok, is_lock_balanced, is_release_balanced}
+use Rattle.grove_proof.specs.Flows.{node_of, has_parent, is_parent_at, is_sign_ok, is_lock_balanced, is_release_balanced}
 use Rattle.grove_proof.specs.declared.tables.Amount.TheVariants.{Above, Held}
 use Rattle.grove_proof.specs.Faults.{IsFirstBad}
 use Rattle.grove_proof.specs.Tables.{AreVisits, VisitsByNode, SumsByNode, sum_at, AreInTree, IsLedger}
 use Rattle.grove_proof.proofs.ByNode.{visited, read_same}
-use Rattle.grove_proof.proofs.Duality.{HasSigns, has_signs, parent_row}
+use Rattle.grove_proof.proofs.Duality.{has_signs, parent_row}
 
 -- what a row gives to the two halves of the bound
 abbrev pub gain_of : List ℕ → FlowRow → ℕ
@@ -41,8 +41,8 @@ total_step term flow n total row so_far there small =
     let few : total ≤ n * 2 ^ 71 = so_far.few in
     record {
       sum = ap (λ (k : ℕ). k + term row) so_far.sum
-        ∙ (ap (λ (r : FlowRow). sum_by term (take n flow) + term r) (sym (get_or_from_slice_get flow n row row there)) ∙ sym (sum_by_more term flow n row (slice_get_within flow n row there)));
-      few = omega arith
+          ∙ (ap (λ (r : FlowRow). sum_by term (take n flow) + term r) (sym (get_or_from_slice_get flow n row row there)) ∙ sym (sum_by_more term flow n row (slice_get_within flow n row there)));
+      few = omega arith;
     }
 
 -- a product of an amount and a number of accesses
@@ -66,10 +66,12 @@ rows_in_tree rows nodes flow listed i row there = (passing_got (length rows) (is
 node_after : (rows : Rows) (nodes : List ℕ) (flow : List FlowRow) (i j v : ℕ) (row : FlowRow) → map node_of flow ≡ spanned_nodes rows nodes → slice_get flow i ≡ Some row
     → slice_get (spanned_nodes rows nodes) j ≡ Some v → v < row.node → j < i
 node_after rows nodes flow i j v row listed there at less = elim (cases_lt j i) [
-    inl lt ↦ lt
+  | inl lt ↦ lt
   | inr ge ↦ elim (cases_eq i j) [
-      inl e ↦ let same : row.node ≡ v = same_Some row.node v (sym (row_node rows nodes flow i row listed there) ∙ (ap (λ (k : ℕ). slice_get (spanned_nodes rows nodes) k) e ∙ at)) in absurd (omega arith)
-    | inr ne ↦ let more : row.node < v = passing_rises (length rows) (is_spanned rows nodes) i j row.node v (omega arith) (row_node rows nodes flow i row listed there) at in absurd (omega arith) ] ]
+    | inl e ↦ let same : row.node ≡ v = same_Some row.node v (sym (row_node rows nodes flow i row listed there) ∙ (ap (λ (k : ℕ). slice_get (spanned_nodes rows nodes) k) e ∙ at)) in absurd (omega arith)
+    | inr ne ↦ let more : row.node < v = passing_rises (length rows) (is_spanned rows nodes) i j row.node v (omega arith) (row_node rows nodes flow i row listed there) at in absurd (omega arith)
+  ]
+]
 
 -- a common node among the rows is the first
 top_is_first : (rows : Rows) (nodes : List ℕ) (flow : List FlowRow) (i : ℕ) (row : FlowRow) → IsTree rows → AreNodes rows nodes → map node_of flow ≡ spanned_nodes rows nodes
@@ -80,18 +82,19 @@ top_is_first rows nodes flow i row tree fits listed there common later =
     let first : slice_get (spanned_nodes rows nodes) 0 ≡ Some (get_or (spanned_nodes rows nodes) 0 0) = slice_get-get_or (spanned_nodes rows nodes) 0 0 (omega arith) in
     let less : get_or (spanned_nodes rows nodes) 0 0 < row.node = passing_rises (length rows) (is_spanned rows nodes) 0 i (get_or (spanned_nodes rows nodes) 0 0) row.node later first here in
     let le : row.node ≤ get_or (spanned_nodes rows nodes) 0 0 =
-      above_le rows tree row.node (get_or (spanned_nodes rows nodes) 0 0) ((listed_spanned rows nodes 0 (get_or (spanned_nodes rows nodes) 0 0) tree fits first).below row.node common) in
+    above_le rows tree row.node (get_or (spanned_nodes rows nodes) 0 0) ((listed_spanned rows nodes 0 (get_or (spanned_nodes rows nodes) 0 0) tree fits first).below row.node common) in
     omega arith
 
 -- the first row's node has no parent among the rows
 no_parent_first : (rows : Rows) (nodes : List ℕ) (flow : List FlowRow) (i : ℕ) (row : FlowRow) → IsTree rows → AreNodes rows nodes → map node_of flow ≡ spanned_nodes rows nodes
     → slice_get flow i ≡ Some row → i ≡ 0 → has_parent rows flow row ≡ true → ⊥
 no_parent_first rows nodes flow i row tree fits listed there e is = elim (parent_row rows flow row) [
-    inl over ↦
+  | inl over ↦
       let less : over.1.node < row.node = parent_lt rows tree row.node over.1.node (is_at_true over.1.node (parent_of rows row.node) over.3) in
       let before : over.0 < i = node_after rows nodes flow i over.0 over.1.node row listed there (row_node rows nodes flow over.0 over.1 listed over.2) less in
       omega arith
-  | inr none ↦ both_ways (has_parent rows flow row) none is ]
+  | inr none ↦ both_ways (has_parent rows flow row) none is
+]
 
 -- the first row's node is the top: all others have their parents among the rows
 pub first_is_top : (rows : Rows) (nodes : List ℕ) (flow : List FlowRow) (i : ℕ) (row : FlowRow) → IsTree rows → AreNodes rows nodes → map node_of flow ≡ spanned_nodes rows nodes
@@ -100,17 +103,19 @@ first_is_top rows nodes flow i row tree fits listed there =
     let here : slice_get (spanned_nodes rows nodes) i ≡ Some row.node = row_node rows nodes flow i row listed there in
     let spanned : IsSpanned rows nodes row.node = listed_spanned rows nodes i row.node tree fits here in
     elim (cases_lt 0 i) [
-      inl later ↦
-        elim (spanned_step rows nodes row.node tree fits spanned) [
-          inl common ↦ absurd (top_is_first rows nodes flow i row tree fits listed there common later)
-        | inr under ↦
-            let at : (k : ℕ) × (slice_get (spanned_nodes rows nodes) k ≡ Some under.0) = spanned_listed rows nodes under.0 tree fits under.2 in
-            let from : (over : FlowRow) × (slice_get flow at.0 ≡ Some over) × (node_of over ≡ under.0) = get_map_inv node_of flow at.0 under.0 (ap (λ (xs : List ℕ). slice_get xs at.0) listed ∙ at.1) in
-            any_from (length flow) (λ k. is_parent_at rows row (slice_get flow k)) at.0 (slice_get_within flow at.0 from.0 from.1)
-              (ap (is_parent_at rows row) from.1 ∙ is_at_from from.0.node (parent_of rows row.node) (under.1 ∙ ap (λ (k : ℕ). Some k) (sym from.2)))
-            ∙ sym (lt-ltb 0 i later) ]
-    | inr first ↦ false_from_ne_true (has_parent rows flow row) (λ is. no_parent_first rows nodes flow i row tree fits listed there (omega arith) is)
-        ∙ sym (le-ltb 0 i first) ]
+      | inl later ↦
+          elim (spanned_step rows nodes row.node tree fits spanned) [
+            | inl common ↦ absurd (top_is_first rows nodes flow i row tree fits listed there common later)
+            | inr under ↦
+                let at : (k : ℕ) × (slice_get (spanned_nodes rows nodes) k ≡ Some under.0) = spanned_listed rows nodes under.0 tree fits under.2 in
+                let from : (over : FlowRow) × (slice_get flow at.0 ≡ Some over) × (node_of over ≡ under.0) = get_map_inv node_of flow at.0 under.0 (ap (λ (xs : List ℕ). slice_get xs at.0) listed ∙ at.1) in
+                any_from (length flow) (λ k. is_parent_at rows row (slice_get flow k)) at.0 (slice_get_within flow at.0 from.0 from.1)
+                (ap (is_parent_at rows row) from.1 ∙ is_at_from from.0.node (parent_of rows row.node) (under.1 ∙ ap (λ (k : ℕ). Some k) (sym from.2)))
+                ∙ sym (lt-ltb 0 i later)
+          ]
+      | inr first ↦ false_from_ne_true (has_parent rows flow row) (λ is. no_parent_first rows nodes flow i row tree fits listed there (omega arith) is)
+          ∙ sym (le-ltb 0 i first)
+    ]
 
 -- What the visits say
 
@@ -123,21 +128,23 @@ row_visits rows nodes v table visits right within there =
 -- the end of the last visit is small
 pub end_few : (nodes : List ℕ) (n v : ℕ) (visits : Visits) → AreVisits nodes n v visits → visits.end ≤ n
 end_few nodes n v visits are = elim (cases_Bool (any_below n (names_at nodes v))) [
-    inl some ↦
+  | inl some ↦
       let found : (k : ℕ) × (last_below n (names_at nodes v) ≡ suc k) × (k < n) × (names_at nodes v k ≡ true) × ((j : ℕ) → k < j → j < n → names_at nodes v j ≡ false) = last_is n (names_at nodes v) some in
       let last : last_below n (names_at nodes v) ≡ suc found.0 = found.1 in
       let lt : found.0 < n = found.2 in
       let end : visits.end ≡ last_below n (names_at nodes v) = are.end in
       omega arith
-  | inr none ↦ let end : visits.end ≡ 0 = are.end ∙ last_none n (names_at nodes v) (any_false n (names_at nodes v) none) in omega arith ]
+  | inr none ↦ let end : visits.end ≡ 0 = are.end ∙ last_none n (names_at nodes v) (any_false n (names_at nodes v) none) in omega arith
+]
 
 -- a first access is priced as its visits say, where the signs are right
 pub first_priced : (rows : Rows) (nodes : List ℕ) (flow : List FlowRow) (row : FlowRow) (visits : Visits) → is_sign_ok rows nodes flow row ≡ true → AreVisits nodes (length nodes) row.node visits
     → row.first * visits.first ≡ loss_of nodes row
 first_priced rows nodes flow row visits sign are = elim (cases_Bool (is_accessed nodes row.node)) [
-    inl some ↦ ap (λ (k : ℕ). row.first * k) (are.first some)
+  | inl some ↦ ap (λ (k : ℕ). row.first * k) (are.first some)
   | inr none ↦ let e : row.first ≡ 0 = ((has_signs rows nodes flow row sign).unaccessed none).0 in
-      ap (λ (k : ℕ). k * visits.first) e ∙ (zero-mul visits.first ∙ sym (ap (λ (k : ℕ). k * first_access nodes row.node) e ∙ zero-mul (first_access nodes row.node))) ]
+      ap (λ (k : ℕ). k * visits.first) e ∙ (zero-mul visits.first ∙ sym (ap (λ (k : ℕ). k * first_access nodes row.node) e ∙ zero-mul (first_access nodes row.node)))
+]
 
 -- the sums' steps
 pub gain_step : (nodes : List ℕ) (flow : List FlowRow) (n total : ℕ) (row : FlowRow) (visits : Visits) → IsTotal (gain_of nodes) flow n total → slice_get flow n ≡ Some row
@@ -145,8 +152,8 @@ pub gain_step : (nodes : List ℕ) (flow : List FlowRow) (n total : ℕ) (row : 
 gain_step nodes flow n total row visits so_far there are short small =
     let few : visits.end ≤ length nodes = end_few nodes (length nodes) row.node visits are in
     subst (λ (k : ℕ). IsTotal (gain_of nodes) flow (n + 1) (total + k)) (sym (ap (λ (k : ℕ). row.last * k) are.end))
-      (total_step (gain_of nodes) flow n total row so_far there
-        (subst (λ (k : ℕ). row.last * k ≤ 2 ^ 71) are.end (small_term row.last visits.end small (omega arith))))
+    (total_step (gain_of nodes) flow n total row so_far there
+    (subst (λ (k : ℕ). row.last * k ≤ 2 ^ 71) are.end (small_term row.last visits.end small (omega arith))))
 
 pub loss_step : (rows : Rows) (nodes : List ℕ) (flow : List FlowRow) (n total : ℕ) (row : FlowRow) (visits : Visits) → IsTotal (loss_of nodes) flow n total → slice_get flow n ≡ Some row
     → is_sign_ok rows nodes flow row ≡ true → AreVisits nodes (length nodes) row.node visits → length nodes ≤ 64 → row.first < 2 ^ 64
@@ -155,8 +162,8 @@ loss_step rows nodes flow n total row visits so_far there sign are short small =
     let few : visits.first ≤ length nodes = are.few in
     let same : row.first * visits.first ≡ loss_of nodes row = first_priced rows nodes flow row visits sign are in
     subst (λ (k : ℕ). IsTotal (loss_of nodes) flow (n + 1) (total + k)) (sym same)
-      (total_step (loss_of nodes) flow n total row so_far there
-        (subst (λ (k : ℕ). k ≤ 2 ^ 71) same (small_term row.first visits.first small (omega arith))))
+    (total_step (loss_of nodes) flow n total row so_far there
+    (subst (λ (k : ℕ). k ≤ 2 ^ 71) same (small_term row.first visits.first small (omega arith))))
 
 -- What a ledger says of a row
 
@@ -175,7 +182,7 @@ node_in rows nodes flow visits above held i row right there =
       in_tree = within;
       in_visits = slice_get_within visits row.node found.0 found.1;
       in_above = slice_get_within above row.node (sum_at rows Above row.node flow) (right.above_right row.node within);
-      in_held = slice_get_within held row.node (sum_at rows Held row.node flow) (right.held_right row.node within)
+      in_held = slice_get_within held row.node (sum_at rows Held row.node flow) (right.held_right row.node within);
     }
 
 -- the visits that were read
@@ -210,8 +217,9 @@ release_made rows flow table made row number children weight right e within at r
 -- whether a place isn't the first
 not_first : (i : ℕ) → not (eqb i 0) ≡ ltb 0 i
 not_first i = elim (cases_eq i 0) [
-    inl e ↦ not_from_true (eqb i 0) (eq-eqb i 0 e) ∙ sym (le-ltb 0 i (omega arith))
-  | inr ne ↦ not_from_false (eqb i 0) (ne_eqb i 0 ne) ∙ sym (lt-ltb 0 i (omega arith)) ]
+  | inl e ↦ not_from_true (eqb i 0) (eq-eqb i 0 e) ∙ sym (le-ltb 0 i (omega arith))
+  | inr ne ↦ not_from_false (eqb i 0) (ne_eqb i 0 ne) ∙ sym (lt-ltb 0 i (omega arith))
+]
 
 pub sign_made : (rows : Rows) (nodes : List ℕ) (flow : List FlowRow) (made row : FlowRow) (i : ℕ) (visits : Visits) → IsTree rows → AreNodes rows nodes → map node_of flow ≡ spanned_nodes rows nodes
     → slice_get flow i ≡ Some row → made ≡ row → AreVisits nodes (length nodes) row.node visits

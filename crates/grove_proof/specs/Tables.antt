@@ -1,5 +1,5 @@
 -- What the checker makes of a tree, a list and rows on its way.
-use Rattle.std.specs.Prelude.{◌≡◌, ◌≢◌, ◌⊎◌, ℕ, ◌<◌, ◌≤◌, ◌^◌, pos, Bool, true, List, length, slice_get, sum_by, Option, Some, Result, Ok, Err, map, if◌then◌else◌}
+use Rattle.std.specs.Prelude.{◌≡◌, ◌≢◌, ◌⊎◌, ℕ, ◌<◌, ◌≤◌, ◌^◌, pos, Bool, true, List, length, slice_get, sum_by, Some, Result, Ok, Err, map, if◌then◌else◌}
 use Rattle.grove_tree.specs.Numbers.{any_below, least_below, last_below}
 use Rattle.grove_tree.specs.Trees.{Rows, parent_of, IsAbove, IsTree, is_at}
 use Rattle.grove_access.specs.Spanned.{is_spanned, spanned_nodes, names_at}

@@ -10,14 +10,20 @@ use crate::ledger::Ledger;
 use crate::span::{first_stranger, forced_nodes};
 use crate::{Flow, ProofFault};
 use grove_access::AccessList;
-use grove_plan::{judge, Plan};
+use grove_plan::{Plan, judge};
 use grove_tree::Tree;
 use std::alloc::Global;
 
 /// The cost of the plan, where it is legal and the flow shows that no legal plan costs less.
 /// Else the first fault: the plan's own; then that of the rows' nodes; then over all rows signs, sizes, balances at the
 /// locks, balances at the releases; last the value.
-pub fn check(alloc: Global, tree: &Tree, list: &AccessList, plan: &Plan, flow: &Flow) -> Result<u64, ProofFault>
+pub fn check(
+    alloc: Global,
+    tree: &Tree,
+    list: &AccessList,
+    plan: &Plan,
+    flow: &Flow,
+) -> Result<u64, ProofFault>
     requires fits { AreNodes tree.now (nodes_of list.now) }
     ensures cost { IfOk result (λ sum. sum ≡ cost tree.now plan.now) }
     ensures legal { OnOk result (IsLegal tree.now (nodes_of list.now) plan.now) }
@@ -30,7 +36,13 @@ pub fn check(alloc: Global, tree: &Tree, list: &AccessList, plan: &Plan, flow: &
 }
 
 /// The same, with what it answers in one clause.
-fn examine(alloc: Global, tree: &Tree, list: &AccessList, plan: &Plan, flow: &Flow) -> Result<u64, ProofFault>
+fn examine(
+    alloc: Global,
+    tree: &Tree,
+    list: &AccessList,
+    plan: &Plan,
+    flow: &Flow,
+) -> Result<u64, ProofFault>
     requires fits { AreNodes tree.now (nodes_of list.now) }
     ensures tree { IsTree tree.now }
     ensures verdict { IsVerdict tree.now (nodes_of list.now) plan.now flow.now result }

@@ -8,7 +8,7 @@ ghost use Rattle.grove_proof.specs.Faults.{IsFirstBad, bound};
 ghost use Rattle.grove_proof.specs.Tables.{test_of, PassAll, IsRowsFault};
 ghost use Rattle.grove_proof.specs.Ledgers.{IsRight};
 
-use crate::tables::{sums_by_node, visits_by_node, Amount, Visits};
+use crate::tables::{Amount, Visits, sums_by_node, visits_by_node};
 use crate::{FlowRow, ProofFault};
 use grove_access::AccessList;
 use grove_tree::Tree;
@@ -38,7 +38,12 @@ pub struct Ledger<'a> {
 }
 
 impl<'a> Ledger<'a> {
-    pub fn new(alloc: Global, tree: &'a Tree, list: &'a AccessList, rows: &'a [FlowRow]) -> Result<Ledger<'a>, AllocError>
+    pub fn new(
+        alloc: Global,
+        tree: &'a Tree,
+        list: &'a AccessList,
+        rows: &'a [FlowRow],
+    ) -> Result<Ledger<'a>, AllocError>
         requires tree { IsTree tree.now }
         requires fits { AreNodes tree.now (nodes_of list.now) }
         requires few { length rows.now < 2 ^ 32 }
@@ -51,7 +56,14 @@ impl<'a> Ledger<'a> {
         let visits = visits_by_node(alloc, tree, list)?;
         let above = sums_by_node(alloc, tree, rows, Amount::Above)?;
         let held = sums_by_node(alloc, tree, rows, Amount::Held)?;
-        Ok(Ledger { tree, list, rows, visits, above, held })
+        Ok(Ledger {
+            tree,
+            list,
+            rows,
+            visits,
+            above,
+            held,
+        })
     }
 
     /// Has the row no amount on a constraint that its node doesn't have? The first row's node is the top one.
@@ -102,10 +114,8 @@ impl<'a> Ledger<'a> {
     /// The first row that fails a test.
     fn first_bad(&self, test: Test) -> Option<u32>
         requires { IsRight self.now }
-        ensures {
-            let bad = test_of self.now.tree.now (nodes_of self.now.list.now) self.now.rows.now test in
-            MatchOption result (AllRows bad self.now.rows.now) (λ place. IsFirstBad bad self.now.rows.now place)
-        }
+        ensures { let bad = test_of self.now.tree.now (nodes_of self.now.list.now) self.now.rows.now test in
+            MatchOption result (AllRows bad self.now.rows.now) (λ place. IsFirstBad bad self.now.rows.now place) }
     {
         for place in 0..self.rows.len() {
             if !self.passes(test, place) {
@@ -118,10 +128,8 @@ impl<'a> Ledger<'a> {
     /// The first fault of the rows by themselves: each test over all rows before the next.
     fn first_fault(&self) -> Option<ProofFault>
         requires { IsRight self.now }
-        ensures {
-            MatchOption result (PassAll self.now.tree.now (nodes_of self.now.list.now) self.now.rows.now)
-                (λ fault. (sum : ℕ) → IsRowsFault self.now.tree.now (nodes_of self.now.list.now) self.now.rows.now sum fault)
-        }
+        ensures { MatchOption result (PassAll self.now.tree.now (nodes_of self.now.list.now) self.now.rows.now)
+            (λ fault. (sum : ℕ) → IsRowsFault self.now.tree.now (nodes_of self.now.list.now) self.now.rows.now sum fault) }
     {
         if let Some(row) = self.first_bad(Test::Sign) {
             return Some(ProofFault::Sign(row));
@@ -168,11 +176,9 @@ impl<'a> Ledger<'a> {
     /// The cost, where the rows show that no legal plan costs less; else their first fault.
     pub fn weigh(&self, cost: u64) -> Result<u64, ProofFault>
         requires { IsRight self.now }
-        ensures {
-            MatchResult result
-                (λ sum. (sum ≡ cost) × PassAll self.now.tree.now (nodes_of self.now.list.now) self.now.rows.now × (bound (nodes_of self.now.list.now) self.now.rows.now ≡ pos cost))
-                (λ fault. IsRowsFault self.now.tree.now (nodes_of self.now.list.now) self.now.rows.now cost fault)
-        }
+        ensures { MatchResult result
+            (λ sum. (sum ≡ cost) × PassAll self.now.tree.now (nodes_of self.now.list.now) self.now.rows.now × (bound (nodes_of self.now.list.now) self.now.rows.now ≡ pos cost))
+            (λ fault. IsRowsFault self.now.tree.now (nodes_of self.now.list.now) self.now.rows.now cost fault) }
     {
         if let Some(fault) = self.first_fault() {
             return Err(fault);
@@ -189,16 +195,19 @@ impl<'a> Ledger<'a> {
 fn is_small(row: &FlowRow) -> bool
     ensures { result ≡ is_small row.now }
 {
-    row.above <= GREATEST && row.held <= GREATEST && row.first <= GREATEST && row.last <= GREATEST && row.own <= GREATEST
+    row.above <= GREATEST
+        && row.held <= GREATEST
+        && row.first <= GREATEST
+        && row.last <= GREATEST
+        && row.own <= GREATEST
 }
 
 /// Are the amounts 0 that price a parent, at the top, and those that price an access, at a node without one?
 fn are_signs_ok(row: &FlowRow, is_top: bool, is_accessed: bool) -> bool
-    ensures {
-        let parent = not is_top || (row.now.above == 0 && row.now.held == 0) in
+    ensures { let parent = not is_top || (row.now.above == 0 && row.now.held == 0) in
         let access = is_accessed || (row.now.first == 0 && row.now.last == 0) in
-        result ≡ (parent && access)
-    }
+        result ≡ (parent && access) }
 {
-    (!is_top || (row.above == 0 && row.held == 0)) && (is_accessed || (row.first == 0 && row.last == 0))
+    (!is_top || (row.above == 0 && row.held == 0))
+        && (is_accessed || (row.first == 0 && row.last == 0))
 }

@@ -12,7 +12,6 @@ mod flow;
 mod ledger;
 mod span;
 mod tables;
-mod theory;
-
 #[cfg(test)]
 mod tests;
+mod theory;

@@ -36,7 +36,11 @@ impl Amount {
 }
 
 /// For each node of the tree, the accesses of its own.
-pub fn visits_by_node(alloc: Global, tree: &Tree, list: &AccessList) -> Result<Vec<Visits>, AllocError>
+pub fn visits_by_node(
+    alloc: Global,
+    tree: &Tree,
+    list: &AccessList,
+) -> Result<Vec<Visits>, AllocError>
     requires fits { AreNodes tree.now (nodes_of list.now) }
     ensures visits { IfOk result (λ table. VisitsByNode tree.now (nodes_of list.now) (length list.now) table.items) }
     ensures short { OnOk result (length list.now ≤ 64) }
@@ -53,7 +57,12 @@ pub fn visits_by_node(alloc: Global, tree: &Tree, list: &AccessList) -> Result<V
 }
 
 /// For each node of the tree, an amount added up over the rows of its children.
-pub fn sums_by_node(alloc: Global, tree: &Tree, rows: &[FlowRow], amount: Amount) -> Result<Vec<u128>, AllocError>
+pub fn sums_by_node(
+    alloc: Global,
+    tree: &Tree,
+    rows: &[FlowRow],
+    amount: Amount,
+) -> Result<Vec<u128>, AllocError>
     requires tree { IsTree tree.now }
     requires few { length rows.now < 2 ^ 32 }
     requires within { AreInTree tree.now rows.now }

@@ -1,4 +1,4 @@
-use crate::{check, laws, Flow, FlowRow, ProofFault};
+use crate::{Flow, FlowRow, ProofFault, check, laws};
 use grove_access::{Access, AccessList, Op};
 use grove_plan::{Plan, PlanFault, Step};
 use grove_tree::{Node, Row, Tree};
@@ -7,12 +7,20 @@ use std::test::Fail;
 
 fn row(alloc: Global, parent: Option<u32>, name: &str, weight: u32) -> Result<Row, AllocError> {
     let name = String::from_str(alloc, name)?;
-    Ok(Row { parent, name, weight })
+    Ok(Row {
+        parent,
+        name,
+        weight,
+    })
 }
 
 // A root of weight 5, node 0, with two children of weight 1, nodes 1 and 2.
 fn heavy_root(alloc: Global) -> Result<Tree, Fail> {
-    let rows = [row(alloc, None, "", 5)?, row(alloc, Some(0), "a", 1)?, row(alloc, Some(0), "b", 1)?];
+    let rows = [
+        row(alloc, None, "", 5)?,
+        row(alloc, Some(0), "a", 1)?,
+        row(alloc, Some(0), "b", 1)?,
+    ];
     Ok(Tree::build(alloc, &rows)?)
 }
 
@@ -31,15 +39,30 @@ fn access(number: u32) -> Step {
 // A row of a node with the amounts above, held, first, last and own.
 fn amounts(node: u32, amounts: [u64; 5]) -> FlowRow {
     let [above, held, first, last, own] = amounts;
-    FlowRow { node: Node::new(node), above, held, first, last, own }
+    FlowRow {
+        node: Node::new(node),
+        above,
+        held,
+        first,
+        last,
+        own,
+    }
 }
 
 // What the checker says of the steps and rows, for reading the nodes.
-fn checked(alloc: Global, nodes: &[u32], steps: &[Step], rows: &[FlowRow]) -> Result<Result<u64, ProofFault>, Fail> {
+fn checked(
+    alloc: Global,
+    nodes: &[u32],
+    steps: &[Step],
+    rows: &[FlowRow],
+) -> Result<Result<u64, ProofFault>, Fail> {
     let tree = heavy_root(alloc)?;
     let mut accesses = Vec::new(alloc);
     for node in nodes {
-        accesses.push(Access { node: Node::new(*node), op: Op::Get })?;
+        accesses.push(Access {
+            node: Node::new(*node),
+            op: Op::Get,
+        })?;
     }
     let list = AccessList::new(alloc, &tree, &accesses)?;
     let plan = Plan::new(Vec::from_slice(alloc, steps)?);
@@ -54,24 +77,44 @@ fn one_read() -> ([Step; 3], FlowRow) {
 
 // The settled plan for reading nodes 1 and 2, and rows that certify it.
 fn two_reads() -> ([Step; 8], [FlowRow; 3]) {
-    let steps = [lock(0), lock(1), lock(2), unlock(0), access(0), unlock(1), access(1), unlock(2)];
-    let rows = [amounts(0, [0, 0, 0, 0, 4]), amounts(1, [1, 0, 2, 1, 0]), amounts(2, [0, 1, 0, 1, 0])];
+    let steps = [
+        lock(0),
+        lock(1),
+        lock(2),
+        unlock(0),
+        access(0),
+        unlock(1),
+        access(1),
+        unlock(2),
+    ];
+    let rows = [
+        amounts(0, [0, 0, 0, 0, 4]),
+        amounts(1, [1, 0, 2, 1, 0]),
+        amounts(2, [0, 1, 0, 1, 0]),
+    ];
     (steps, rows)
 }
 
 #[test]
-fn a_flow_certifies_least_plans(rt: HostRuntime) -> Result<(), Fail> {
+fn a_flow_certifies_least_plans_and_no_illegal_one(rt: HostRuntime) -> Result<(), Fail> {
     let (one, certificate) = one_read();
     let by_the_root = [lock(0), lock(1), unlock(0), access(0), unlock(1)];
     let (two, certificates) = two_reads();
-    let cases: [(&[u32], &[Step], &[FlowRow], u64); 4] = [
-        (&[], &[], &[], 0),
-        (&[1], &one, &[certificate], 1),
-        (&[1], &by_the_root, &[certificate], 1),
-        (&[1, 2], &two, &certificates, 3),
+    let relock = [lock(1), unlock(1), lock(1), access(0), unlock(1)];
+    let cases: [(&[u32], &[Step], &[FlowRow], Result<u64, ProofFault>); 5] = [
+        (&[], &[], &[], Ok(0)),
+        (&[1], &one, &[certificate], Ok(1)),
+        (&[1], &by_the_root, &[certificate], Ok(1)),
+        (&[1, 2], &two, &certificates, Ok(3)),
+        (
+            &[1],
+            &relock,
+            &[certificate],
+            Err(ProofFault::Plan(PlanFault::Relock(2))),
+        ),
     ];
-    for (nodes, steps, rows, cost) in cases {
-        assert_eq!(rt; checked(rt.alloc(), nodes, steps, rows)?, Ok(cost));
+    for (nodes, steps, rows, answer) in cases {
+        assert_eq!(rt; checked(rt.alloc(), nodes, steps, rows)?, answer);
     }
     laws();
     Ok(())
@@ -80,21 +123,54 @@ fn a_flow_certifies_least_plans(rt: HostRuntime) -> Result<(), Fail> {
 #[test]
 fn the_first_fault_is_named(rt: HostRuntime) -> Result<(), Fail> {
     let (one, certificate) = one_read();
-    let relock = [lock(1), unlock(1), lock(1), access(0), unlock(1)];
     let (two, certificates) = two_reads();
     let [root, first, second] = certificates;
-    let throughout = [lock(0), lock(1), lock(2), access(0), access(1), unlock(0), unlock(1), unlock(2)];
+    let throughout = [
+        lock(0),
+        lock(1),
+        lock(2),
+        access(0),
+        access(1),
+        unlock(0),
+        unlock(1),
+        unlock(2),
+    ];
     let with_the_root = [amounts(0, [0, 0, 0, 0, 0]), certificate];
     let last_too_great = [root, first, FlowRow { last: 2, ..second }];
-    let cases: [(&[u32], &[Step], &[FlowRow], ProofFault); 8] = [
-        (&[1], &relock, &[certificate], ProofFault::Plan(PlanFault::Relock(2))),
+    let cases: [(&[u32], &[Step], &[FlowRow], ProofFault); 7] = [
         (&[1], &one, &with_the_root, ProofFault::Rows(0)),
         (&[1], &one, &[], ProofFault::Rows(0)),
         (&[1, 2], &two, &[root, first], ProofFault::Rows(2)),
-        (&[1], &one, &[FlowRow { first: 1_099_511_627_777, ..certificate }], ProofFault::TooBig(0)),
-        (&[1], &one, &[FlowRow { first: 1_099_511_627_776, ..certificate }], ProofFault::LockBalance(0)),
-        (&[1, 2], &two, &last_too_great, ProofFault::ReleaseBalance(2)),
-        (&[1, 2], &throughout, &certificates, ProofFault::Value { cost: 14, bound: 3 }),
+        (
+            &[1],
+            &one,
+            &[FlowRow {
+                first: 1_099_511_627_777,
+                ..certificate
+            }],
+            ProofFault::TooBig(0),
+        ),
+        (
+            &[1],
+            &one,
+            &[FlowRow {
+                first: 1_099_511_627_776,
+                ..certificate
+            }],
+            ProofFault::LockBalance(0),
+        ),
+        (
+            &[1, 2],
+            &two,
+            &last_too_great,
+            ProofFault::ReleaseBalance(2),
+        ),
+        (
+            &[1, 2],
+            &throughout,
+            &certificates,
+            ProofFault::Value { cost: 14, bound: 3 },
+        ),
     ];
     for (nodes, steps, rows, fault) in cases {
         assert_eq!(rt; checked(rt.alloc(), nodes, steps, rows)?, Err(fault));
@@ -116,7 +192,10 @@ fn one_read_has_one_certificate(rt: HostRuntime) -> Result<(), Fail> {
         ([0, 0, 0, 0, 1], ProofFault::Value { cost: 1, bound: 0 }),
     ];
     for (row, fault) in cases {
-        assert_eq!(rt; checked(rt.alloc(), &[1], &steps, &[amounts(1, row)])?, Err(fault));
+        assert_eq!(rt;
+            checked(rt.alloc(), &[1], &steps, &[amounts(1, row)])?,
+            Err(fault)
+        );
     }
     Ok(())
 }

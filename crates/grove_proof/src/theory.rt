@@ -7,5 +7,4 @@ pub fn laws()
     ensures constraints { LegalMeetsFive }
     ensures bound { WeakDuality }
     ensures least { CertifiedIsLeast }
-{
-}
+{}

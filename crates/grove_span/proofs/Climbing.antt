@@ -17,8 +17,9 @@ top_above rows tree (suc u) w lt within none =
 -- what is above a node, and is not the node, is above its parent
 pub above_parent : (rows : Rows) (a v p : ℕ) → parent_of rows v ≡ Some p → IsAbove rows a v → (a ≡ v → ⊥) → IsAbove rows a p
 above_parent rows a v p h above other = elim (above_step rows a v above) [
-    inl e ↦ absurd (other e)
-  | inr (q, is, over) ↦ subst (λ (n : ℕ). IsAbove rows a n) (same_Some q p (sym is ∙ h)) over ]
+  | inl e ↦ absurd (other e)
+  | inr (q, is, over) ↦ subst (λ (n : ℕ). IsAbove rows a n) (same_Some q p (sym is ∙ h)) over
+]
 
 -- a node is the lowest above the accessed nodes so far
 pub record IsLowestTo (rows : Rows) (nodes : List ℕ) (n top : ℕ) : Type 0 where
@@ -29,26 +30,27 @@ pub record IsLowestTo (rows : Rows) (nodes : List ℕ) (n top : ℕ) : Type 0 wh
 -- the first accessed node, before any access
 pub lowest_first : (rows : Rows) (nodes : List ℕ) (first : ℕ) → slice_get nodes 0 ≡ Some first → first < length rows → IsLowestTo rows nodes 0 first
 lowest_first rows nodes first at within = record {
-    within = within;
-    common = λ access target lt h. absurd (omega arith);
-    lowest = λ node all. all 0 first at;
-  }
+  within = within;
+  common = λ access target lt h. absurd (omega arith);
+  lowest = λ node all. all 0 first at;
+}
 
 -- one more access: the lowest node above both
 pub lowest_next : (rows : Rows) (nodes : List ℕ) (n old target new : ℕ) → slice_get nodes n ≡ Some target → IsLowestTo rows nodes n old
     → IsAbove rows new target → IsAbove rows new old → new < length rows
     → ((node : ℕ) → IsAbove rows node old → IsAbove rows node target → IsAbove rows node new) → IsLowestTo rows nodes (suc n) new
 lowest_next rows nodes n old target new at so_far over_target over_old within least = record {
-    within = within;
-    common = λ access other lt h. elim (cases_eq access n) [
-        inl e ↦ subst (λ (t : ℕ). IsAbove rows new t) (same_Some target other (sym at ∙ subst (λ (k : ℕ). slice_get nodes k ≡ Some other) e h)) over_target
-      | inr ne ↦ above_trans rows new old other over_old (so_far.common access other (omega arith) h) ];
-    lowest = λ node all. least node (so_far.lowest node all) (all n target at);
-  }
+  within = within;
+  common = λ access other lt h. elim (cases_eq access n) [
+    | inl e ↦ subst (λ (t : ℕ). IsAbove rows new t) (same_Some target other (sym at ∙ subst (λ (k : ℕ). slice_get nodes k ≡ Some other) e h)) over_target
+    | inr ne ↦ above_trans rows new old other over_old (so_far.common access other (omega arith) h)
+  ];
+  lowest = λ node all. least node (so_far.lowest node all) (all n target at);
+}
 
 -- the same after all accesses
 pub lowest_last : (rows : Rows) (nodes : List ℕ) (n top : ℕ) → length nodes ≤ n → IsLowestTo rows nodes n top → IsLowest rows nodes top
 lowest_last rows nodes n top all so_far = record {
-    common = λ access target h. so_far.common access target (let lt : access < length nodes = slice_get_within nodes access target h in omega arith) h;
-    lowest = so_far.lowest;
-  }
+  common = λ access target h. so_far.common access target (let lt : access < length nodes = slice_get_within nodes access target h in omega arith) h;
+  lowest = so_far.lowest;
+}

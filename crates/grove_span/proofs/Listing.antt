@@ -51,8 +51,9 @@ find_one_more false v n xs lt = ap (find_place v) (append-nil xs)
 pub find_later : (test : ℕ → Bool) (v low high : ℕ) → v < low → low ≤ high → find_place v (passing_below high test) ≡ find_place v (passing_below low test)
 find_later test v low zero lt le = absurd (omega arith)
 find_later test v low (suc high) lt le = elim (cases_eq low (suc high)) [
-    inl e ↦ rw e refl
-  | inr ne ↦ find_one_more (test high) v high (passing_below high test) (omega arith) ∙ find_later test v low high lt (omega arith) ]
+  | inl e ↦ rw e refl
+  | inr ne ↦ find_one_more (test high) v high (passing_below high test) (omega arith) ∙ find_later test v low high lt (omega arith)
+]
 
 -- no number is listed below itself
 pub not_yet : (test : ℕ → Bool) (n i : ℕ) → slice_get (passing_below n test) i ≡ Some n → ⊥
@@ -83,14 +84,14 @@ pub record IsListedTo (rows : Rows) (nodes : List ℕ) (n count : ℕ) (places :
 pub list_first : (rows : Rows) (nodes : List ℕ) (places : List (Option ℕ)) (items : List SpanRow) → items ≡ [] → length places ≡ length rows
     → ((v : ℕ) → v < length rows → slice_get places v ≡ Some None) → IsListedTo rows nodes 0 0 places items
 list_first rows nodes places items none size empty = record {
-    size = size;
-    counted = sym (ap length none);
-    few = omega arith;
-    listed = ap (map node_of_row) none;
-    found = empty;
-    parents = λ i row h. absurd (none-some row (sym (ap (λ (xs : List SpanRow). slice_get xs i) none) ∙ h));
-    accesses = λ i row h. absurd (none-some row (sym (ap (λ (xs : List SpanRow). slice_get xs i) none) ∙ h));
-  }
+  size = size;
+  counted = sym (ap length none);
+  few = omega arith;
+  listed = ap (map node_of_row) none;
+  found = empty;
+  parents = λ i row h. absurd (none-some row (sym (ap (λ (xs : List SpanRow). slice_get xs i) none) ∙ h));
+  accesses = λ i row h. absurd (none-some row (sym (ap (λ (xs : List SpanRow). slice_get xs i) none) ∙ h));
+}
 
 -- the place of a node's parent among the nodes below it is that among all
 parent_later : (rows : Rows) (nodes : List ℕ) (n : ℕ) (o : Option ℕ) → IsTree rows → n < length rows → parent_of rows n ≡ o
@@ -103,9 +104,10 @@ parent_later rows nodes n (Some p) tree lt is =
 each_more : (P : SpanRow → Type 0) (items : List SpanRow) (last : SpanRow) → ((i : ℕ) (row : SpanRow) → slice_get items i ≡ Some row → P row) → P last
     → (i : ℕ) (row : SpanRow) → slice_get (items ++ last ∷ []) i ≡ Some row → P row
 each_more P items last before here i row h = elim (get_append_cases items (last ∷ []) i row h) [
-    inl old ↦ before i row old
+  | inl old ↦ before i row old
   | inr (zero, e, is) ↦ subst P (same_Some last row is) here
-  | inr (suc k, e, is) ↦ absurd (none-some row is) ]
+  | inr (suc k, e, is) ↦ absurd (none-some row is)
+]
 
 -- one more node that is spanned
 pub list_hit : (rows : Rows) (nodes : List ℕ) (n count : ℕ) (places : List (Option ℕ)) (items : List SpanRow) (row : SpanRow) → IsTree rows → n < length rows
@@ -117,7 +119,7 @@ list_hit rows nodes n count places items row tree lt hit is parent visited so_fa
     let counted : count ≡ length items = so_far.counted in
     let few : count ≤ n = so_far.few in
     let grown : passing_below (suc n) (is_spanned rows nodes) ≡ passing_below n (is_spanned rows nodes) ++ n ∷ [] =
-        ap (λ (b : Bool). passing_below n (is_spanned rows nodes) ++ alone b n) hit in
+    ap (λ (b : Bool). passing_below n (is_spanned rows nodes) ++ alone b n) hit in
     let number : length (passing_below n (is_spanned rows nodes)) ≡ count = sym (ap length so_far.listed) ∙ map_length node_of_row items ∙ sym counted in
     record {
       size = length-set places n (Some count) ∙ size;
@@ -126,10 +128,11 @@ list_hit rows nodes n count places items row tree lt hit is parent visited so_fa
       listed = map-append node_of_row items (row ∷ []) ∙ ap (λ (xs : List ℕ). xs ++ row.node ∷ []) so_far.listed
           ∙ ap (λ (v : ℕ). passing_below n (is_spanned rows nodes) ++ v ∷ []) is ∙ sym grown;
       found = λ v within. elim (cases_eq v n) [
-          inl e ↦ rw e (get_set_same places n (Some count) (omega arith)
+        | inl e ↦ rw e (get_set_same places n (Some count) (omega arith)
             ∙ ap (λ (o : Option ℕ). Some o) (ap (λ (k : ℕ). Some k) (sym number) ∙ sym (find_last n (passing_below n (is_spanned rows nodes)) (not_yet (is_spanned rows nodes) n)) ∙ ap (find_place n) (sym grown)))
         | inr ne ↦ get_set_other places n v (Some count) ne ∙ so_far.found v within
-            ∙ ap (λ (o : Option ℕ). Some o) (sym (find_before v n (passing_below n (is_spanned rows nodes)) (λ e. ne (sym e))) ∙ ap (find_place v) (sym grown)) ];
+            ∙ ap (λ (o : Option ℕ). Some o) (sym (find_before v n (passing_below n (is_spanned rows nodes)) (λ e. ne (sym e))) ∙ ap (find_place v) (sym grown))
+      ];
       parents = each_more (λ r. r.parent ≡ parent_place rows (spanned_nodes rows nodes) r.node) items row so_far.parents
           (parent ∙ parent_later rows nodes n (parent_of rows n) tree lt refl ∙ ap (λ (v : ℕ). parent_place rows (spanned_nodes rows nodes) v) (sym is));
       accesses = each_more (IsAccessedSo nodes) items row so_far.accesses visited;
@@ -140,7 +143,7 @@ pub list_miss : (rows : Rows) (nodes : List ℕ) (n count : ℕ) (places : List 
     → IsListedTo rows nodes n count places items → IsListedTo rows nodes (suc n) count places items
 list_miss rows nodes n count places items miss so_far =
     let same : passing_below (suc n) (is_spanned rows nodes) ≡ passing_below n (is_spanned rows nodes) =
-        ap (λ (b : Bool). passing_below n (is_spanned rows nodes) ++ alone b n) miss ∙ append-nil (passing_below n (is_spanned rows nodes)) in
+    ap (λ (b : Bool). passing_below n (is_spanned rows nodes) ++ alone b n) miss ∙ append-nil (passing_below n (is_spanned rows nodes)) in
     let few : count ≤ n = so_far.few in
     record {
       size = so_far.size;
@@ -173,4 +176,3 @@ none_pass rows (suc n) = append-nil (passing_below n (is_spanned rows [])) ∙ n
 pub none_spanned : (rows : Rows) (nodes : List ℕ) → length nodes ≡ 0 → spanned_nodes rows nodes ≡ []
 none_spanned rows [] e = none_pass rows (length rows)
 none_spanned rows (node ∷ nodes) e = absurd (omega arith)
-

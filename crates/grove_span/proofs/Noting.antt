@@ -38,8 +38,9 @@ last_miss nodes n node h = rw h refl
 -- an access of one node is none of another
 names_not : (nodes : List ℕ) (n target node : ℕ) → slice_get nodes n ≡ Some target → (node ≡ target → ⊥) → names_at nodes node n ≡ false
 names_not nodes n target node at other = elim (cases_Bool (names_at nodes node n)) [
-    inl h ↦ absurd (other (sym (eqb-true target node (subst (λ (o : Option ℕ). is_at node o ≡ true) at h))))
-  | inr h ↦ h ]
+  | inl h ↦ absurd (other (sym (eqb-true target node (subst (λ (o : Option ℕ). is_at node o ≡ true) at h))))
+  | inr h ↦ h
+]
 
 names_is : (nodes : List ℕ) (n node : ℕ) → slice_get nodes n ≡ Some node → names_at nodes node n ≡ true
 names_is nodes n node at = subst (λ (o : Option ℕ). is_at node o ≡ true) (sym at) (eq-eqb node node refl)
@@ -49,7 +50,7 @@ pub tell_next : (nodes : List ℕ) (n target : ℕ) (table : List Visits) (old n
     → slice_get table target ≡ Some old → new.first ≡ Some (unwrap_or old.first n) → new.last ≡ Some n
     → TellVisits nodes n table → TellVisits nodes (suc n) (set table target new)
 tell_next nodes n target table old new at was first last so_far node visits is = elim (cases_eq node target) [
-    inl e ↦ rw e (let same : new ≡ visits = same_Some new visits (sym (get_set_same table target new (slice_get_within table target old was)) ∙ subst (λ (k : ℕ). slice_get (set table target new) k ≡ Some visits) e is) in
+  | inl e ↦ rw e (let same : new ≡ visits = same_Some new visits (sym (get_set_same table target new (slice_get_within table target old was)) ∙ subst (λ (k : ℕ). slice_get (set table target new) k ≡ Some visits) e is) in
       let told : TellsOf nodes n target old = so_far target old was in
       subst (λ (v : Visits). TellsOf nodes (suc n) target v) same (record {
         first = first ∙ ap (λ (o : Option ℕ). Some (unwrap_or o n)) told.first ∙ sym (first_hit nodes n target (names_is nodes n target at));
@@ -59,7 +60,8 @@ tell_next nodes n target table old new at was first last so_far node visits is =
       record {
         first = told.first ∙ sym (first_miss nodes n node (names_not nodes n target node at ne));
         last = told.last ∙ sym (last_miss nodes n node (names_not nodes n target node at ne));
-      } ]
+      }
+]
 
 -- a table with no accesses tells of none
 pub tell_none : (nodes : List ℕ) (n : ℕ) (table : List Visits) (none : Visits) → none.first ≡ None → none.last ≡ None → table ≡ replicate n none → TellVisits nodes 0 table

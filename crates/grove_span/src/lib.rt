@@ -9,8 +9,7 @@ mod marks;
 mod row;
 mod rows;
 mod spanning;
-mod visit;
-mod visits;
-
 #[cfg(test)]
 mod tests;
+mod visit;
+mod visits;

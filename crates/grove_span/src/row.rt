@@ -11,4 +11,3 @@ pub struct SpanRow {
     /// The number of the last access of the node itself, where there is one.
     pub last: Option<u32>,
 }
-

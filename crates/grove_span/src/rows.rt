@@ -25,7 +25,13 @@ fn parent_place(tree: &Tree, node: Node, places: &[Option<u32>]) -> Option<u32>
 }
 
 /// The rows of the marked nodes.
-pub fn marked_rows(alloc: Global, tree: &Tree, list: &AccessList, marks: &[bool], table: &[Visits]) -> Result<Vec<SpanRow>, NoMemory>
+pub fn marked_rows(
+    alloc: Global,
+    tree: &Tree,
+    list: &AccessList,
+    marks: &[bool],
+    table: &[Visits],
+) -> Result<Vec<SpanRow>, NoMemory>
     requires fits { AreNodes tree.now (nodes_of list.now) }
     requires marks { length marks.now ≡ length tree.now }
     requires table { length table.now ≡ length tree.now }
@@ -45,7 +51,12 @@ pub fn marked_rows(alloc: Global, tree: &Tree, list: &AccessList, marks: &[bool]
         let node = Node::new(number);
         let parent = parent_place(tree, node, &places);
         let Visits { first, last } = table[number as usize];
-        rows.push(SpanRow { node, parent, first, last })?;
+        rows.push(SpanRow {
+            node,
+            parent,
+            first,
+            last,
+        })?;
         places[number as usize] = Some(place);
         place += 1;
     }

@@ -6,8 +6,8 @@ ghost use Rattle.grove_span.specs.SpanRows.{node_of_row, HaveParents, HaveAccess
 use crate::SpanRow;
 use crate::lowest::lowest_common;
 use crate::marks::mark_spanned;
-use crate::visit::Visits;
 use crate::rows::marked_rows;
+use crate::visit::Visits;
 use crate::visits::note_visits;
 use grove_access::AccessList;
 use grove_tree::{NoMemory, Tree};
@@ -27,7 +27,10 @@ pub fn span(alloc: Global, tree: &Tree, list: &AccessList) -> Result<Vec<SpanRow
     let size = tree.len() as usize;
     let mut marks = vec![in alloc; false; size]?;
     mark_spanned(tree, list, lowest_common(tree, list), &mut marks);
-    let mut table = vec![in alloc; Visits { first: None, last: None }; size]?;
+    let mut table = vec![in alloc; Visits {
+        first: None,
+        last: None
+    }; size]?;
     note_visits(tree, list, &mut table);
     marked_rows(alloc, tree, list, &marks, &table)
 }

@@ -9,7 +9,11 @@ fn tree_of(alloc: Global, rows: &[(Option<u32>, &str, u32)]) -> Result<Tree, Fai
     let mut list = Vec::new(alloc);
     for (parent, name, weight) in rows {
         let name = String::from_str(alloc, name)?;
-        list.push(Row { parent: *parent, name, weight: *weight })?;
+        list.push(Row {
+            parent: *parent,
+            name,
+            weight: *weight,
+        })?;
     }
     Ok(Tree::build(alloc, &list)?)
 }
@@ -17,18 +21,33 @@ fn tree_of(alloc: Global, rows: &[(Option<u32>, &str, u32)]) -> Result<Tree, Fai
 fn gets(alloc: Global, nodes: &[u32]) -> Result<Vec<Access>, AllocError> {
     let mut accesses = Vec::new(alloc);
     for node in nodes {
-        accesses.push(Access { node: Node::new(*node), op: Op::Get })?;
+        accesses.push(Access {
+            node: Node::new(*node),
+            op: Op::Get,
+        })?;
     }
     Ok(accesses)
 }
 
 fn row(node: u32, parent: Option<u32>, first: Option<u32>, last: Option<u32>) -> SpanRow {
-    SpanRow { node: Node::new(node), parent, first, last }
+    SpanRow {
+        node: Node::new(node),
+        parent,
+        first,
+        last,
+    }
 }
 
 #[test]
-fn two_leaves_at_different_depths_span_the_ways_up_to_the_root(rt: HostRuntime) -> Result<(), Fail> {
-    let rows = [(None, "", 9), (Some(0), "y", 1), (Some(0), "p", 1), (Some(2), "x", 3)];
+fn two_leaves_at_different_depths_span_the_ways_up_to_the_root(
+    rt: HostRuntime,
+) -> Result<(), Fail> {
+    let rows = [
+        (None, "", 9),
+        (Some(0), "y", 1),
+        (Some(0), "p", 1),
+        (Some(2), "x", 3),
+    ];
     let tree = tree_of(rt.alloc(), &rows)?;
     let list = AccessList::new(rt.alloc(), &tree, &gets(rt.alloc(), &[1, 3])?)?;
     let found = span(rt.alloc(), &tree, &list)?;
@@ -49,7 +68,10 @@ fn nodes_above_the_lowest_common_one_are_not_spanned(rt: HostRuntime) -> Result<
     let none = AccessList::new(rt.alloc(), &tree, &[])?;
     assert_eq!(rt; span(rt.alloc(), &tree, &none)?.len(), 0);
     let twice = AccessList::new(rt.alloc(), &tree, &gets(rt.alloc(), &[2, 2])?)?;
-    assert_eq!(rt; span(rt.alloc(), &tree, &twice)?.as_slice(), [row(2, None, Some(0), Some(1))].as_slice());
+    assert_eq!(rt;
+        span(rt.alloc(), &tree, &twice)?.as_slice(),
+        [row(2, None, Some(0), Some(1))].as_slice()
+    );
     Ok(())
 }
 
@@ -63,7 +85,13 @@ fn the_root_and_the_end_of_a_chain_span_all_33_nodes(rt: HostRuntime) -> Result<
     let list = AccessList::new(rt.alloc(), &tree, &gets(rt.alloc(), &[0, 32])?)?;
     let found = span(rt.alloc(), &tree, &list)?;
     assert_eq!(rt; found.len(), 33);
-    assert_eq!(rt; found.first().copied(), Some(row(0, None, Some(0), Some(0))));
-    assert_eq!(rt; found.last().copied(), Some(row(32, Some(31), Some(1), Some(1))));
+    assert_eq!(rt;
+        found.first().copied(),
+        Some(row(0, None, Some(0), Some(0)))
+    );
+    assert_eq!(rt;
+        found.last().copied(),
+        Some(row(32, Some(31), Some(1), Some(1)))
+    );
     Ok(())
 }

@@ -15,7 +15,6 @@ mod fault;
 mod reader_source;
 mod sink;
 mod source;
-mod writer_sink;
-
 #[cfg(test)]
 mod tests;
+mod writer_sink;

@@ -1,8 +1,8 @@
 -- The children of an outline, and one more child at their end.
-use Rattle.std.proofs.Common.{◌≡◌, ℕ, zero, suc, ◌+◌, ◌<◌, ◌≤◌, List, [], ◌∷◌, ◌++◌, length, Option, Some, None, refl, sym, ◌∙◌, ap, subst, inl, inr, add-one, arith, length-append, append_assoc, append-nil}
+use Rattle.std.proofs.Common.{◌≡◌, ℕ, zero, suc, ◌+◌, ◌<◌, List, [], ◌∷◌, ◌++◌, length, Some, sym, ◌∙◌, ap, subst, inl, inr, arith, append_assoc, append-nil}
 use Rattle.std.specs.List.{slice_get}
 use Rattle.std.proofs.lemmas.Option.{same_Some, none-some}
-use Rattle.grove_tree.specs.Trees.{Rows, NodeRow}
+use Rattle.grove_tree.specs.Trees.{NodeRow}
 use Rattle.grove_tree.specs.Outlines.{Under, KeepsInside, put_under, rows_under, total, AreNumbered, IsOutline}
 use Rattle.grove_tree.specs.OutlineFalls.{length-rows_under}
 use Rattle.grove_tree.proofs.Lists.{get_append_cases}
@@ -33,8 +33,9 @@ inside_one child here (suc place) c h = absurd (none-some c h)
 pub inside-append : (children : List Under) (child : Under) → ((place : ℕ) (c : Under) → slice_get children place ≡ Some c → KeepsInside c) → KeepsInside child
     → (place : ℕ) (c : Under) → slice_get (children ++ child ∷ []) place ≡ Some c → KeepsInside c
 inside-append children child all here place c h = elim (get_append_cases children (child ∷ []) place c h) [
-    inl before ↦ all place c before
-  | inr (i, at, there) ↦ inside_one child here i c there ]
+  | inl before ↦ all place c before
+  | inr (i, at, there) ↦ inside_one child here i c there
+]
 
 -- the size of an outline is the number of its rows
 pub outline_size : (number size : ℕ) (row : NodeRow) (children : List Under) (outline : Under) → IsOutline number size children

@@ -13,16 +13,18 @@ use Rattle.grove_tree.proofs.Lists.{get_append_left, get_append_cases, get_last}
 pub any_from : (n : ℕ) (test : ℕ → Bool) (k : ℕ) → k < n → test k ≡ true → any_below n test ≡ true
 any_from zero test k lt h = absurd (omega arith)
 any_from (suc n) test k lt h = elim (cases_eq k n) [
-    inl e ↦ or_left (test n) (any_below n test) (subst (λ (m : ℕ). test m ≡ true) e h)
-  | inr ne ↦ or_right (test n) (any_below n test) (any_from n test k (omega arith) h) ]
+  | inl e ↦ or_left (test n) (any_below n test) (subst (λ (m : ℕ). test m ≡ true) e h)
+  | inr ne ↦ or_right (test n) (any_below n test) (any_from n test k (omega arith) h)
+]
 
 -- where some number passes, there is one
 pub any_true : (n : ℕ) (test : ℕ → Bool) → any_below n test ≡ true → (k : ℕ) × (k < n) × (test k ≡ true)
 any_true zero test h = absurd (cc)
 any_true (suc n) test h = elim (or_cases (test n) (any_below n test) h) [
-    inl here ↦ (n, omega arith, here)
+  | inl here ↦ (n, omega arith, here)
   | inr there ↦ let found : (k : ℕ) × (k < n) × (test k ≡ true) = any_true n test there in
-      let lt : found.0 < n = found.1 in (found.0, omega arith, found.2) ]
+      let lt : found.0 < n = found.1 in (found.0, omega arith, found.2)
+]
 
 -- where none passes, each fails
 pub any_false : (n : ℕ) (test : ℕ → Bool) → any_below n test ≡ false → (k : ℕ) → k < n → test k ≡ false
@@ -30,8 +32,9 @@ any_false zero test h k lt = absurd (omega arith)
 any_false (suc n) test h k lt =
     let parts : (test n ≡ false) × (any_below n test ≡ false) = or_parts (test n) (any_below n test) h in
     elim (cases_eq k n) [
-      inl e ↦ subst (λ (m : ℕ). test m ≡ false) (sym e) parts.0
-    | inr ne ↦ any_false n test parts.1 k (omega arith) ]
+      | inl e ↦ subst (λ (m : ℕ). test m ≡ false) (sym e) parts.0
+      | inr ne ↦ any_false n test parts.1 k (omega arith)
+    ]
 
 -- where each fails, none passes
 pub any_none : (n : ℕ) (test : ℕ → Bool) → ((k : ℕ) → k < n → test k ≡ false) → any_below n test ≡ false
@@ -67,17 +70,20 @@ count_none (suc n) test h = count_miss n test (h n (omega arith)) ∙ count_none
 pub count_le : (n : ℕ) (test : ℕ → Bool) → count_below n test ≤ n
 count_le zero test = omega arith
 count_le (suc n) test = let le : count_below n test ≤ n = count_le n test in elim (cases_Bool (test n)) [
-    inl h ↦ let e : count_below (suc n) test ≡ suc (count_below n test) = count_hit n test h in omega arith
-  | inr h ↦ let e : count_below (suc n) test ≡ count_below n test = count_miss n test h in omega arith ]
+  | inl h ↦ let e : count_below (suc n) test ≡ suc (count_below n test) = count_hit n test h in omega arith
+  | inr h ↦ let e : count_below (suc n) test ≡ count_below n test = count_miss n test h in omega arith
+]
 
 -- a greater bound counts at least as many
 pub count_mono : (m n : ℕ) (test : ℕ → Bool) → m ≤ n → count_below m test ≤ count_below n test
 count_mono m zero test le = let e : m ≡ 0 = omega arith in rw e (omega arith)
 count_mono m (suc n) test le = elim (cases_eq m (suc n)) [
-    inl e ↦ rw e (omega arith)
+  | inl e ↦ rw e (omega arith)
   | inr ne ↦ let less : count_below m test ≤ count_below n test = count_mono m n test (omega arith) in elim (cases_Bool (test n)) [
-        inl h ↦ let e : count_below (suc n) test ≡ suc (count_below n test) = count_hit n test h in omega arith
-      | inr h ↦ let e : count_below (suc n) test ≡ count_below n test = count_miss n test h in omega arith ] ]
+    | inl h ↦ let e : count_below (suc n) test ≡ suc (count_below n test) = count_hit n test h in omega arith
+    | inr h ↦ let e : count_below (suc n) test ≡ count_below n test = count_miss n test h in omega arith
+  ]
+]
 
 -- a test that passes more counts more
 pub count_more : (n : ℕ) (s t : ℕ → Bool) → ((k : ℕ) → k < n → s k ≡ true → t k ≡ true) → count_below n s ≤ count_below n t
@@ -85,10 +91,11 @@ count_more zero s t h = omega arith
 count_more (suc n) s t h =
     let le : count_below n s ≤ count_below n t = count_more n s t (λ k lt. h k (omega arith)) in
     elim (cases_Bool (s n)) [
-      inl y ↦ let e : count_below (suc n) s ≡ suc (count_below n s) = count_hit n s y in
-        let f : count_below (suc n) t ≡ suc (count_below n t) = count_hit n t (h n (omega arith) y) in omega arith
-    | inr y ↦ let e : count_below (suc n) s ≡ count_below n s = count_miss n s y in
-        let f : count_below n t ≤ count_below (suc n) t = count_mono n (suc n) t (omega arith) in omega arith ]
+      | inl y ↦ let e : count_below (suc n) s ≡ suc (count_below n s) = count_hit n s y in
+          let f : count_below (suc n) t ≡ suc (count_below n t) = count_hit n t (h n (omega arith) y) in omega arith
+      | inr y ↦ let e : count_below (suc n) s ≡ count_below n s = count_miss n s y in
+          let f : count_below n t ≤ count_below (suc n) t = count_mono n (suc n) t (omega arith) in omega arith
+    ]
 
 -- a test that is false below i and agrees with another from i to below j counts, up to n, what the other counts from i on
 pub count_window : (s t : ℕ → Bool) (i j : ℕ) → ((k : ℕ) → k < i → s k ≡ false) → ((k : ℕ) → i ≤ k → k < j → s k ≡ t k)
@@ -96,17 +103,19 @@ pub count_window : (s t : ℕ → Bool) (i j : ℕ) → ((k : ℕ) → k < i →
 count_window s t i j before within zero le below =
     let e : i ≡ 0 = omega arith in rw e (zero-add 0)
 count_window s t i j before within (suc n) le below = elim (cases_eq i (suc n)) [
-    inl e ↦ let none : count_below (suc n) s ≡ 0 = count_none (suc n) s (λ k lt. before k (omega arith)) in
+  | inl e ↦ let none : count_below (suc n) s ≡ 0 = count_none (suc n) s (λ k lt. before k (omega arith)) in
       let same : count_below i t ≡ count_below (suc n) t = ap (λ (m : ℕ). count_below m t) e in omega arith
   | inr ne ↦ let so_far : count_below i t + count_below n s ≡ count_below n t = count_window s t i j before within n (omega arith) (omega arith) in
-      let step : ◌≡◌ {A = ℕ} (cond (s n) 1 0) (cond (t n) 1 0) = ap (λ (b : Bool). cond b 1 0) (within n (omega arith) (omega arith)) in omega arith ]
+      let step : ◌≡◌ {A = ℕ} (cond (s n) 1 0) (cond (t n) 1 0) = ap (λ (b : Bool). cond b 1 0) (within n (omega arith) (omega arith)) in omega arith
+]
 
 -- a test that is false from j on counts no more from there
 pub count_stops : (test : ℕ → Bool) (j : ℕ) → ((k : ℕ) → j ≤ k → test k ≡ false) → (n : ℕ) → j ≤ n → count_below n test ≡ count_below j test
 count_stops test j none zero le = let e : j ≡ 0 = omega arith in rw e refl
 count_stops test j none (suc n) le = elim (cases_eq j (suc n)) [
-    inl e ↦ rw e refl
-  | inr ne ↦ count_miss n test (none n (omega arith)) ∙ count_stops test j none n (omega arith) ]
+  | inl e ↦ rw e refl
+  | inr ne ↦ count_miss n test (none n (omega arith)) ∙ count_stops test j none n (omega arith)
+]
 
 -- a count over m + n numbers is that over the first m and that over the n after them
 pub count_shift : (m n : ℕ) (test : ℕ → Bool) → count_below (n + m) test ≡ count_below m test + count_below n (λ k. test (k + m))
@@ -123,24 +132,28 @@ pub least_is : (n : ℕ) (test : ℕ → Bool) → any_below n test ≡ true
     → (least_below n test < n) × (test (least_below n test) ≡ true) × ((k : ℕ) → k < least_below n test → test k ≡ false)
 least_is zero test h = absurd (cc)
 least_is (suc n) test h = elim (cases_Bool (any_below n test)) [
-    inl some ↦ let e : least_below (suc n) test ≡ least_below n test = cond-true (any_below n test) (least_below n test) n some in
+  | inl some ↦ let e : least_below (suc n) test ≡ least_below n test = cond-true (any_below n test) (least_below n test) n some in
       let found : (least_below n test < n) × (test (least_below n test) ≡ true) × ((k : ℕ) → k < least_below n test → test k ≡ false) = least_is n test some in
       let lt : least_below n test < n = found.0 in
       rw e (omega arith, found.1, found.2)
   | inr none ↦ let e : least_below (suc n) test ≡ n = cond-false (any_below n test) (least_below n test) n none in
       elim (or_cases (test n) (any_below n test) h) [
-        inl here ↦ rw e (omega arith, here, any_false n test none)
-      | inr some ↦ absurd (both_ways (any_below n test) none some) ] ]
+        | inl here ↦ rw e (omega arith, here, any_false n test none)
+        | inr some ↦ absurd (both_ways (any_below n test) none some)
+      ]
+]
 
 -- a number that passes, and no smaller one, is the least
 pub least_same : (n : ℕ) (test : ℕ → Bool) (k : ℕ) → k < n → test k ≡ true → ((j : ℕ) → j < k → test j ≡ false) → least_below n test ≡ k
 least_same n test k lt h before =
     let found : (least_below n test < n) × (test (least_below n test) ≡ true) × ((j : ℕ) → j < least_below n test → test j ≡ false) = least_is n test (any_from n test k lt h) in
     elim (cases_eq (least_below n test) k) [
-      inl e ↦ e
-    | inr ne ↦ elim (cases_lt (least_below n test) k) [
-        inl less ↦ absurd (both_ways (test (least_below n test)) (before (least_below n test) less) found.1)
-      | inr more ↦ absurd (both_ways (test k) (found.2 k (omega arith)) h) ] ]
+      | inl e ↦ e
+      | inr ne ↦ elim (cases_lt (least_below n test) k) [
+        | inl less ↦ absurd (both_ways (test (least_below n test)) (before (least_below n test) less) found.1)
+        | inr more ↦ absurd (both_ways (test k) (found.2 k (omega arith)) h)
+      ]
+    ]
 
 -- tests that agree have the same least number
 pub least_agrees : (n : ℕ) (s t : ℕ → Bool) → ((k : ℕ) → k < n → s k ≡ t k) → least_below n s ≡ least_below n t
@@ -155,16 +168,23 @@ pub last_is : (n : ℕ) (test : ℕ → Bool) → any_below n test ≡ true
     → (k : ℕ) × (last_below n test ≡ suc k) × (k < n) × (test k ≡ true) × ((j : ℕ) → k < j → j < n → test j ≡ false)
 last_is zero test h = absurd (cc)
 last_is (suc n) test h = elim (cases_Bool (test n)) [
-    inl here ↦ (n, cond-true (test n) (suc n) (last_below n test) here, omega arith, here, λ j above below. absurd (omega arith))
+  | inl here ↦ (n, cond-true (test n) (suc n) (last_below n test) here, omega arith, here, λ j above below. absurd (omega arith))
   | inr miss ↦ elim (or_cases (test n) (any_below n test) h) [
-      inl here ↦ absurd (both_ways (test n) miss here)
+    | inl here ↦ absurd (both_ways (test n) miss here)
     | inr some ↦
         let found : (k : ℕ) × (last_below n test ≡ suc k) × (k < n) × (test k ≡ true) × ((j : ℕ) → k < j → j < n → test j ≡ false) = last_is n test some in
-        let lt : found.0 < n = found.2 in
-        (found.0, cond-false (test n) (suc n) (last_below n test) miss ∙ found.1, omega arith, found.3,
+        let lt : found.0 < n = found.2 in (
+          found.0,
+          cond-false (test n) (suc n) (last_below n test) miss ∙ found.1,
+          omega arith,
+          found.3,
           λ j above below. elim (cases_eq j n) [
-            inl e ↦ subst (λ (m : ℕ). test m ≡ false) (sym e) miss
-          | inr ne ↦ found.4 j above (omega arith) ]) ] ]
+            | inl e ↦ subst (λ (m : ℕ). test m ≡ false) (sym e) miss
+            | inr ne ↦ found.4 j above (omega arith)
+          ],
+        )
+  ]
+]
 
 -- where none passes, the last place is 0
 pub last_none : (n : ℕ) (test : ℕ → Bool) → ((k : ℕ) → k < n → test k ≡ false) → last_below n test ≡ 0
@@ -177,8 +197,9 @@ last_above n test k lt h =
     let found : (g : ℕ) × (last_below n test ≡ suc g) × (g < n) × (test g ≡ true) × ((j : ℕ) → g < j → j < n → test j ≡ false) = last_is n test (any_from n test k lt h) in
     let e : last_below n test ≡ suc found.0 = found.1 in
     elim (cases_lt found.0 k) [
-      inl more ↦ absurd (both_ways (test k) (found.4 k more lt) h)
-    | inr less ↦ omega arith ]
+      | inl more ↦ absurd (both_ways (test k) (found.4 k more lt) h)
+      | inr less ↦ omega arith
+    ]
 
 -- Listing
 
@@ -193,8 +214,9 @@ numbers_get zero i lt = absurd (omega arith)
 numbers_get (suc n) i lt =
     let size : length (numbers_below n) ≡ n = numbers_length n in
     elim (cases_eq i n) [
-      inl e ↦ rw e (subst (λ (k : ℕ). slice_get (numbers_below n ++ n ∷ []) k ≡ Some n) size (get_last (numbers_below n) n))
-    | inr ne ↦ get_append_left (numbers_below n) (n ∷ []) i (omega arith) ∙ numbers_get n i (omega arith) ]
+      | inl e ↦ rw e (subst (λ (k : ℕ). slice_get (numbers_below n ++ n ∷ []) k ≡ Some n) size (get_last (numbers_below n) n))
+      | inr ne ↦ get_append_left (numbers_below n) (n ∷ []) i (omega arith) ∙ numbers_get n i (omega arith)
+    ]
 
 -- and nowhere else
 pub numbers_got : (n i x : ℕ) → slice_get (numbers_below n) i ≡ Some x → (x ≡ i) × (i < n)
@@ -213,20 +235,24 @@ alone_got false n i x h = absurd (none-some x h)
 pub passing_got : (n : ℕ) (test : ℕ → Bool) (i x : ℕ) → slice_get (passing_below n test) i ≡ Some x → (x < n) × (test x ≡ true)
 passing_got zero test i x h = absurd (none-some x h)
 passing_got (suc n) test i x h = elim (get_append_cases (passing_below n test) (alone (test n) n) i x h) [
-    inl there ↦ let got : (x < n) × (test x ≡ true) = passing_got n test i x there in
+  | inl there ↦ let got : (x < n) × (test x ≡ true) = passing_got n test i x there in
       let lt : x < n = got.0 in (omega arith, got.1)
   | inr there ↦ let got : (test n ≡ true) × (x ≡ n) = alone_got (test n) n there.0 x there.2 in
-      let e : x ≡ n = got.1 in (omega arith, subst (λ (m : ℕ). test m ≡ true) (sym e) got.0) ]
+      let e : x ≡ n = got.1 in (omega arith, subst (λ (m : ℕ). test m ≡ true) (sym e) got.0)
+]
 
 -- a number that passes is listed
 pub passing_get : (n : ℕ) (test : ℕ → Bool) (x : ℕ) → x < n → test x ≡ true → (i : ℕ) × (slice_get (passing_below n test) i ≡ Some x)
 passing_get zero test x lt h = absurd (omega arith)
 passing_get (suc n) test x lt h = elim (cases_eq x n) [
-    inl e ↦ (length (passing_below n test),
-      rw e (let hit : test n ≡ true = subst (λ (m : ℕ). test m ≡ true) e h in
-        subst (λ (b : Bool). slice_get (passing_below n test ++ alone b n) (length (passing_below n test)) ≡ Some n) (sym hit) (get_last (passing_below n test) n)))
+  | inl e ↦ (
+    length (passing_below n test),
+    rw e (let hit : test n ≡ true = subst (λ (m : ℕ). test m ≡ true) e h in
+        subst (λ (b : Bool). slice_get (passing_below n test ++ alone b n) (length (passing_below n test)) ≡ Some n) (sym hit) (get_last (passing_below n test) n)),
+  )
   | inr ne ↦ let found : (i : ℕ) × (slice_get (passing_below n test) i ≡ Some x) = passing_get n test x (omega arith) h in
-      (found.0, get_append_left (passing_below n test) (alone (test n) n) found.0 (slice_get_within (passing_below n test) found.0 x found.1) ∙ found.1) ]
+      (found.0, get_append_left (passing_below n test) (alone (test n) n) found.0 (slice_get_within (passing_below n test) found.0 x found.1) ∙ found.1)
+]
 
 -- at most one number is listed alone
 alone_once : (t : Bool) (n i j a b : ℕ) → slice_get (alone t n) i ≡ Some a → slice_get (alone t n) j ≡ Some b → i < j → ⊥
@@ -238,21 +264,25 @@ alone_once false n i j a b h k lt = none-some a h
 pub passing_rises : (n : ℕ) (test : ℕ → Bool) (i j a b : ℕ) → i < j → slice_get (passing_below n test) i ≡ Some a → slice_get (passing_below n test) j ≡ Some b → a < b
 passing_rises zero test i j a b lt h k = absurd (none-some a h)
 passing_rises (suc n) test i j a b lt h k = elim (get_append_cases (passing_below n test) (alone (test n) n) j b k) [
-    inl there ↦ passing_rises n test i j a b lt
+  | inl there ↦ passing_rises n test i j a b lt
       (sym (get_append_left (passing_below n test) (alone (test n) n) i (let w : j < length (passing_below n test) = slice_get_within (passing_below n test) j b there in omega arith)) ∙ h) there
   | inr there ↦ let got : (test n ≡ true) × (b ≡ n) = alone_got (test n) n there.0 b there.2 in
       let e : b ≡ n = got.1 in
       elim (get_append_cases (passing_below n test) (alone (test n) n) i a h) [
-        inl first ↦ let less : a < n = (passing_got n test i a first).0 in omega arith
-      | inr first ↦ absurd (alone_once (test n) n first.0 there.0 a b first.2 there.2 (let p : i ≡ length (passing_below n test) + first.0 = first.1 in let q : j ≡ length (passing_below n test) + there.0 = there.1 in omega arith)) ] ]
+        | inl first ↦ let less : a < n = (passing_got n test i a first).0 in omega arith
+        | inr first ↦ absurd (alone_once (test n) n first.0 there.0 a b first.2 there.2 (let p : i ≡ length (passing_below n test) + first.0 = first.1 in let q : j ≡ length (passing_below n test) + there.0 = there.1 in omega arith))
+      ]
+]
 
 -- a number is listed once
 pub passing_once : (n : ℕ) (test : ℕ → Bool) (i j x : ℕ) → slice_get (passing_below n test) i ≡ Some x → slice_get (passing_below n test) j ≡ Some x → i ≡ j
 passing_once n test i j x h k = elim (cases_eq i j) [
-    inl e ↦ e
+  | inl e ↦ e
   | inr ne ↦ elim (cases_lt i j) [
-      inl less ↦ let lt : x < x = passing_rises n test i j x x less h k in absurd (omega arith)
-    | inr more ↦ let lt : x < x = passing_rises n test j i x x (omega arith) k h in absurd (omega arith) ] ]
+    | inl less ↦ let lt : x < x = passing_rises n test i j x x less h k in absurd (omega arith)
+    | inr more ↦ let lt : x < x = passing_rises n test j i x x (omega arith) k h in absurd (omega arith)
+  ]
+]
 
 -- Adding up
 
@@ -291,17 +321,19 @@ sum_scale (suc n) c f = ap (λ (s : ℕ). c * f n + s) (sum_scale n c f) ∙ sym
 pub sum_one : (n k : ℕ) (f : ℕ → ℕ) → k < n → ((j : ℕ) → j < n → (j ≡ k → ⊥) → f j ≡ 0) → sum_below n f ≡ f k
 sum_one zero k f lt h = absurd (omega arith)
 sum_one (suc n) k f lt h = elim (cases_eq k n) [
-    inl e ↦ let rest : sum_below n f ≡ 0 = sum_zero n f (λ j less. h j (omega arith) (λ same. omega arith)) in
+  | inl e ↦ let rest : sum_below n f ≡ 0 = sum_zero n f (λ j less. h j (omega arith) (λ same. omega arith)) in
       rw e (omega arith)
   | inr ne ↦ let rest : sum_below n f ≡ f k = sum_one n k f (omega arith) (λ j less other. h j (omega arith) other) in
-      let here : f n ≡ 0 = h n (omega arith) (λ same. ne (sym same)) in omega arith ]
+      let here : f n ≡ 0 = h n (omega arith) (λ same. ne (sym same)) in omega arith
+]
 
 -- a term is at most the sum
 pub sum_term : (n k : ℕ) (f : ℕ → ℕ) → k < n → f k ≤ sum_below n f
 sum_term zero k f lt = absurd (omega arith)
 sum_term (suc n) k f lt = elim (cases_eq k n) [
-    inl e ↦ rw e (omega arith)
-  | inr ne ↦ let rest : f k ≤ sum_below n f = sum_term n k f (omega arith) in omega arith ]
+  | inl e ↦ rw e (omega arith)
+  | inr ne ↦ let rest : f k ≤ sum_below n f = sum_term n k f (omega arith) in omega arith
+]
 
 -- a sum over m + n numbers is that over the first m and that over the n after them
 pub sum_shift : (m n : ℕ) (f : ℕ → ℕ) → sum_below (n + m) f ≡ sum_below m f + sum_below n (λ k. f (k + m))

@@ -1,7 +1,6 @@
 -- The depth of a node is one more than its parent's.
-use Rattle.std.proofs.Common.{◌≡◌, ℕ, zero, suc, ◌+◌, ◌-◌, ◌<◌, ◌≤◌, List, length, Option, Some, None, refl, sym, ◌∙◌, ap, arith}
-use Rattle.std.proofs.lemmas.Option.{none-some, same_Some}
-use Rattle.grove_tree.specs.Trees.{Rows, parent_of, one_more, depth_within, depth_of}
+use Rattle.std.proofs.Common.{◌≡◌, ℕ, zero, suc, ◌<◌, length, Option, Some, None, refl, sym, ap, arith}
+use Rattle.grove_tree.specs.Trees.{Rows, parent_of, depth_within, depth_of}
 use Rattle.grove_tree.proofs.Ups.{parent_within}
 
 depth_enough_by : (rows : Rows) (n v : ℕ) (o : Option ℕ) → parent_of rows v ≡ o

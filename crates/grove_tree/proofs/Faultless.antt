@@ -1,15 +1,15 @@
 -- Rows without a fault are the rows of a tree within the limits.
-use Rattle.std.proofs.Common.{◌≡◌, ℕ, zero, suc, ◌+◌, ◌<◌, ◌≤◌, ◌==◌, Bool, true, false, ◌&&◌, ◌||◌, not, cond, if◌then◌else◌, List, [], length, Option, Some, None, refl, sym, ◌∙◌, ap, subst, inl, inr, eq-eqb, true≢false, arith, bytes_eq}
+use Rattle.std.proofs.Common.{◌≡◌, ℕ, zero, suc, ◌<◌, ◌≤◌, ◌==◌, Bool, true, false, not, if◌then◌else◌, [], length, Option, Some, None, refl, sym, ◌∙◌, ap, inl, inr, true≢false, arith, bytes_eq}
 use Rattle.std.specs.Option.{is_none, is_some, option_and_then, option_map, unwrap_or}
 use Rattle.std.specs.Prelude.{nat_lt, nat_le}
-use Rattle.std.proofs.lemmas.Option.{none-some, same_Some, slice_get_past}
+use Rattle.std.proofs.lemmas.Option.{none-some, slice_get_past}
 use Rattle.std.proofs.lemmas.Bool.{cases_lt, cases_order, leb-true, ltb-false, and_parts}
 use Rattle.std.proofs.lemmas.Slice.Eq.{bytes_eq-Decides}
 use Rattle.grove_tree.specs.Numbers.{any_below}
-use Rattle.grove_tree.specs.Trees.{Rows, NodeRow, parent_of, name_of, weight_of, depth_of, IsAbove, IsTree, is_above}
+use Rattle.grove_tree.specs.Trees.{Rows, NodeRow, parent_of, name_of, weight_of, depth_of, IsTree}
 use Rattle.grove_tree.specs.declared.fault.TreeFault.{TreeFault}
 use Rattle.grove_tree.specs.declared.fault.TreeFault.TheVariants.{Empty, TooMany}
-use Rattle.grove_tree.specs.Rules.{is_name, is_well_placed, is_on_the_way, is_well_named, is_twin, share_parent, is_weight, row_fault, first_fault, rows_fault, tree_fault_of, IsWithinLimits}
+use Rattle.grove_tree.specs.Rules.{is_well_placed, is_on_the_way, is_well_named, is_twin, is_weight, row_fault, first_fault, rows_fault, tree_fault_of, IsWithinLimits}
 use Rattle.grove_tree.proofs.Counting.{any_false}
 use Rattle.grove_tree.proofs.Depths.{depth_root}
 use Rattle.grove_tree.proofs.Ups.{parent_within}
@@ -40,7 +40,7 @@ chain_none false b c d e f g h i j k = absurd (no_fault f k)
 pub row_ruled : (rows : Rows) (row : ℕ) → row_fault rows row ≡ None → IsRuled rows row
 row_ruled rows row h =
     let (placed, shallow, named, alone, weighed) =
-        chain_none (is_well_placed rows row) (nat_lt 32 (depth_of rows row)) (is_well_named rows row) (any_below row (is_twin rows row)) (is_weight (weight_of rows row)) _ _ _ _ _ h in
+    chain_none (is_well_placed rows row) (nat_lt 32 (depth_of rows row)) (is_well_named rows row) (any_below row (is_twin rows row)) (is_weight (weight_of rows row)) _ _ _ _ _ h in
     record { placed = placed; shallow = shallow; named = named; alone = alone; weighed = weighed }
 
 first_none : (rows : Rows) (row : ℕ) (o : Option TreeFault) → first_fault rows row o ≡ None → (o ≡ None) × (row_fault rows row ≡ None)
@@ -52,8 +52,9 @@ rows_ruled rows zero h row lt = absurd (omega arith)
 rows_ruled rows (suc n) h row lt =
     let (before, here) = first_none rows n (rows_fault rows n) h in
     elim (cases_lt row n) [
-        inl lower ↦ rows_ruled rows n before row lower
-      | inr last ↦ let e : row ≡ n = omega arith in rw e (row_ruled rows n here) ]
+      | inl lower ↦ rows_ruled rows n before row lower
+      | inr last ↦ let e : row ≡ n = omega arith in rw e (row_ruled rows n here)
+    ]
 
 -- the parents of rows without a fault stand before them
 pub rows_less : (rows : Rows) (n : ℕ) → rows_fault rows n ≡ None → (v p : ℕ) → v < n → parent_of rows v ≡ Some p → p < v
@@ -66,8 +67,9 @@ rows_less rows (suc n) h v p lt own =
 pub fault_stays : (rows : Rows) (n m : ℕ) (fault : TreeFault) → n ≤ m → rows_fault rows n ≡ Some fault → rows_fault rows m ≡ Some fault
 fault_stays rows n zero fault le h = let e : n ≡ zero = omega arith in rw e at h
 fault_stays rows n (suc m) fault le h = elim (cases_lt m n) [
-    inl last ↦ let e : n ≡ suc m = omega arith in rw e at h
-  | inr before ↦ ap (λ (o : Option TreeFault). first_fault rows m o) (fault_stays rows n m fault before h) ]
+  | inl last ↦ let e : n ≡ suc m = omega arith in rw e at h
+  | inr before ↦ ap (λ (o : Option TreeFault). first_fault rows m o) (fault_stays rows n m fault before h)
+]
 
 -- the first fault, found at a row
 pub fault_found : (rows : Rows) (n m : ℕ) (o : Option TreeFault) → n < m → rows_fault rows n ≡ None → o ≡ row_fault rows n → is_some o ≡ true → o ≡ rows_fault rows m
@@ -108,8 +110,9 @@ faultless_tree rows h =
       some = lt;
       root = root_none (parent_of rows 0) (ruled 0 lt).placed;
       preorder = λ node within.
-        let (parent, own) = on_the_way_parent rows node (parent_of rows (suc node)) (ruled (suc node) within).placed in
-        (parent, own, placed_way rows node parent (ruled (suc node) within).placed own) }
+          let (parent, own) = on_the_way_parent rows node (parent_of rows (suc node)) (ruled (suc node) within).placed in
+          (parent, own, placed_way rows node parent (ruled (suc node) within).placed own);
+    }
 
 past_depth : (rows : Rows) (node : ℕ) → length rows ≤ node → depth_of rows node ≡ 0
 past_depth rows node past = depth_root rows node (ap (λ (o : Option NodeRow). option_and_then (λ (r : NodeRow). r.parent) o) (slice_get_past rows node past))
@@ -140,20 +143,25 @@ faultless_within rows h =
     record {
       few = ltb-false 4096 (length rows) few;
       shallow = λ node. elim (cases_lt node (length rows)) [
-          inl within ↦ ltb-false 32 (depth_of rows node) (ruled node within).shallow
-        | inr past ↦ let e : depth_of rows node ≡ 0 = past_depth rows node past in omega arith ];
+        | inl within ↦ ltb-false 32 (depth_of rows node) (ruled node within).shallow
+        | inr past ↦ let e : depth_of rows node ≡ 0 = past_depth rows node past in omega arith
+      ];
       unnamed_root = (bytes_eq-Decides (name_of rows 0) []).0 (ruled 0 lt).named;
       names = λ node within. (ruled (suc node) within).named;
       differ = λ first second parent one two same. elim (cases_order first second) [
-          inl here ↦ here
+        | inl here ↦ here
         | inr other ↦ elim other [
-              inl before ↦ absurd (not_twins rows (length rows) ruled refl first second parent before one two same)
-            | inr after ↦ absurd (not_twins rows (length rows) ruled refl second first parent after two one (sym same)) ] ];
+          | inl before ↦ absurd (not_twins rows (length rows) ruled refl first second parent before one two same)
+          | inr after ↦ absurd (not_twins rows (length rows) ruled refl second first parent after two one (sym same))
+        ]
+      ];
       weighty = λ node within.
-        let (low, high) = and_parts (nat_le 1 (weight_of rows node)) (nat_le (weight_of rows node) 1000) (ruled node within).weighed in
-        leb-true 1 (weight_of rows node) low;
+          let (low, high) = and_parts (nat_le 1 (weight_of rows node)) (nat_le (weight_of rows node) 1000) (ruled node within).weighed in
+          leb-true 1 (weight_of rows node) low;
       light = λ node. elim (cases_lt node (length rows)) [
-          inl within ↦
+        | inl within ↦
             let (low, high) = and_parts (nat_le 1 (weight_of rows node)) (nat_le (weight_of rows node) 1000) (ruled node within).weighed in
             leb-true (weight_of rows node) 1000 high
-        | inr past ↦ let e : weight_of rows node ≡ 0 = past_weight rows node past in omega arith ] }
+        | inr past ↦ let e : weight_of rows node ≡ 0 = past_weight rows node past in omega arith
+      ];
+    }

@@ -30,12 +30,14 @@ climb rows first past parent tree below own zero node high from to h =
     let e : node ≡ high = same_Some _ _ h in inl (omega arith, omega arith)
 climb rows first past parent tree below own (suc n) node high from to h =
     option_and_then_some (parent_of rows) (up rows n node) high h (λ (m : ℕ) e k.
-      let less : high < m = parent_lt rows tree m high k in
-      elim (climb rows first past parent tree below own n node m from to e) [
-        inl (at, under) ↦ elim (cases_lt first m) [
-            inl lower ↦ let inside : first ≤ high = below m high lower under k in inl (inside, omega arith)
-          | inr same ↦ let e2 : m ≡ first = omega arith in let e3 : parent ≡ high = same_Some _ _ (sym own ∙ (rw e2 at k)) in inr (omega arith) ]
-      | inr above ↦ inr (omega arith) ])
+    let less : high < m = parent_lt rows tree m high k in
+    elim (climb rows first past parent tree below own n node m from to e) [
+      | inl (at, under) ↦ elim (cases_lt first m) [
+        | inl lower ↦ let inside : first ≤ high = below m high lower under k in inl (inside, omega arith)
+        | inr same ↦ let e2 : m ≡ first = omega arith in let e3 : parent ≡ high = same_Some _ _ (sym own ∙ (rw e2 at k)) in inr (omega arith)
+      ]
+      | inr above ↦ inr (omega arith)
+    ])
 
 -- a row's parent is above the row before it
 parent_on_way : (rows : Rows) (before parent : ℕ) → IsTree rows → parent_of rows (suc before) ≡ Some parent → IsAbove rows parent before
@@ -52,13 +54,14 @@ first_last rows node parent tree h =
 -- at first there is no child
 pub growing_none : (rows : Rows) (node : ℕ) → IsTree rows → node < length rows → IsGrowing rows node (node + 1) []
 growing_none rows node tree within = record {
-    next_is = omega arith;
-    within = omega arith;
-    numbered = tt;
-    inside = λ place child h. absurd (none-some child h);
-    placed = λ row lt. absurd (omega arith);
-    below = λ row parent from to h. absurd (omega arith);
-    last = λ parent h. first_last rows node parent tree h }
+  next_is = omega arith;
+  within = omega arith;
+  numbered = tt;
+  inside = λ place child h. absurd (none-some child h);
+  placed = λ row lt. absurd (omega arith);
+  below = λ row parent from to h. absurd (omega arith);
+  last = λ parent h. first_last rows node parent tree h;
+}
 
 put_inside : (rows : Rows) (parent : Option ℕ) (own : Rows) (start row high : ℕ)
     → slice_get rows (start + suc row) ≡ slice_get (put_under parent own) (suc row) → parent_of own (suc row) ≡ Some high → parent_of rows (start + suc row) ≡ Some high
@@ -71,7 +74,7 @@ grown_inside rows node outline grown row parent h =
     let lt : suc row < length outline.1 = parent_within outline.1 (suc row) parent h in
     let e : outline.0 ≡ node = grown.number in
     let there : parent_of rows (outline.0 + suc row) ≡ Some parent =
-        put_inside rows (parent_of rows node) outline.1 outline.0 row parent (grown.placed (suc row) lt) h in
+    put_inside rows (parent_of rows node) outline.1 outline.0 row parent (grown.placed (suc row) lt) h in
     let le : node ≤ parent = grown.below (outline.0 + suc row) parent (omega arith) (omega arith) there in
     omega arith
 
@@ -82,28 +85,31 @@ child_placed rows node next children child so_far own grown row lt =
     let counted = total-append children child in
     let long = length-rows_under node children in
     rw (rows_under-append node children child)
-      (elim (cases_lt row (total children)) [
-          inl before ↦ so_far.placed row before ∙ sym (get_append_left (rows_under node children) (put_under (Some node) child.1) row (omega arith))
-        | inr after ↦
-            let i : ℕ = row - total children in
-            let lt2 : i < length child.1 = omega arith in
-            let start : next ≡ suc node + total children = so_far.next_is in
-            let number : child.0 ≡ next = grown.number in
-            let e : suc node + row ≡ child.0 + i = omega arith in
-            let e2 : row ≡ length (rows_under node children) + i = omega arith in
-            ap (λ (k : ℕ). slice_get rows k) e ∙ grown.placed i lt2 ∙ ap (λ (p : Option ℕ). slice_get (put_under p child.1) i) own
-            ∙ sym (get_append_at (rows_under node children) (put_under (Some node) child.1) i) ∙ sym (ap (λ (k : ℕ). slice_get (rows_under node children ++ put_under (Some node) child.1) k) e2) ])
+    (elim (cases_lt row (total children)) [
+      | inl before ↦ so_far.placed row before ∙ sym (get_append_left (rows_under node children) (put_under (Some node) child.1) row (omega arith))
+      | inr after ↦
+          let i : ℕ = row - total children in
+          let lt2 : i < length child.1 = omega arith in
+          let start : next ≡ suc node + total children = so_far.next_is in
+          let number : child.0 ≡ next = grown.number in
+          let e : suc node + row ≡ child.0 + i = omega arith in
+          let e2 : row ≡ length (rows_under node children) + i = omega arith in
+          ap (λ (k : ℕ). slice_get rows k) e ∙ grown.placed i lt2 ∙ ap (λ (p : Option ℕ). slice_get (put_under p child.1) i) own
+          ∙ sym (get_append_at (rows_under node children) (put_under (Some node) child.1) i) ∙ sym (ap (λ (k : ℕ). slice_get (rows_under node children ++ put_under (Some node) child.1) k) e2)
+    ])
 
 child_below : (rows : Rows) (node next : ℕ) (children : List Under) (child : Under) → IsGrowing rows node next children
     → parent_of rows next ≡ Some node → IsGrown rows next child → (row parent : ℕ) → node < row → row < next + length child.1 → parent_of rows row ≡ Some parent → node ≤ parent
 child_below rows node next children child so_far own grown row parent from to h = elim (cases_lt row next) [
-    inl before ↦ so_far.below row parent from before h
+  | inl before ↦ so_far.below row parent from before h
   | inr after ↦ elim (cases_lt next row) [
-        inl later ↦
-          let le : next ≤ parent = grown.below row parent later to h in
-          let start : next ≡ suc node + total children = so_far.next_is in
-          omega arith
-      | inr same ↦ let e : row ≡ next = omega arith in let e2 : node ≡ parent = same_Some _ _ (sym own ∙ (rw e at h)) in omega arith ] ]
+    | inl later ↦
+        let le : next ≤ parent = grown.below row parent later to h in
+        let start : next ≡ suc node + total children = so_far.next_is in
+        omega arith
+    | inr same ↦ let e : row ≡ next = omega arith in let e2 : node ≡ parent = same_Some _ _ (sym own ∙ (rw e at h)) in omega arith
+  ]
+]
 
 child_last : (rows : Rows) (node next : ℕ) (child : Under) → IsTree rows → parent_of rows next ≡ Some node → IsGrown rows next child
     → (parent : ℕ) → parent_of rows (next + length child.1) ≡ Some parent → parent ≤ node
@@ -114,8 +120,9 @@ child_last rows node next child tree own grown parent h =
     let e : next + length child.1 ≡ suc (next + length child.1 - 1) = omega arith in
     let way : IsAbove rows parent (next + length child.1 - 1) = parent_on_way rows (next + length child.1 - 1) parent tree (rw e at h) in
     elim (climb rows next (next + length child.1) node tree grown.below own way.0 (next + length child.1 - 1) parent (omega arith) (omega arith) way.1) [
-        inl (at, under) ↦ absurd (omega arith)
-      | inr above ↦ above ]
+      | inl (at, under) ↦ absurd (omega arith)
+      | inr above ↦ above
+    ]
 
 nothing_less : (n : ℕ) → n < 0 → ⊥
 nothing_less n h = omega arith
@@ -134,7 +141,8 @@ growing_child rows node next children child tree so_far own grown =
       inside = inside-append children child so_far.inside (grown_inside rows next child grown);
       placed = child_placed rows node next children child so_far own grown;
       below = child_below rows node next children child so_far own grown;
-      last = child_last rows node next child tree own grown }
+      last = child_last rows node next child tree own grown;
+    }
 
 -- the row that follows the children has its parent above the node
 after_last : (rows : Rows) (node next : ℕ) (children : List Under) → IsGrowing rows node next children → (parent_of rows next ≡ Some node → ⊥)
@@ -142,8 +150,9 @@ after_last : (rows : Rows) (node next : ℕ) (children : List Under) → IsGrowi
 after_last rows node next children so_far other parent h =
     let le : parent ≤ node = so_far.last parent h in
     elim (cases_lt parent node) [
-        inl lower ↦ lower
-      | inr same ↦ let e : parent ≡ node = omega arith in absurd (other (rw (← e) h)) ]
+      | inl lower ↦ lower
+      | inr same ↦ let e : parent ≡ node = omega arith in absurd (other (rw (← e) h))
+    ]
 
 node_placed : (rows : Rows) (node next : ℕ) (children : List Under) (row : NodeRow) → IsGrowing rows node next children → slice_get rows node ≡ Some row
     → IsPlaced rows (parent_of rows node) (node, record { parent = None; name = row.name; weight = row.weight } ∷ rows_under node children)
@@ -171,19 +180,21 @@ growing_done rows node next children row so_far here other =
       within = omega arith;
       placed = node_placed rows node next children row so_far here;
       below = λ r p from to h. so_far.below r p from (omega arith) h;
-      last = λ p h. after_last rows node next children so_far other p (rw past at h) }
+      last = λ p h. after_last rows node next children so_far other p (rw past at h);
+    }
 
 -- no row follows those of a root's outline
 all_grown : (rows : Rows) (outline : Under) → IsTree rows → IsGrown rows 0 outline → (row : ℕ) → length outline.1 ≤ row → length rows ≤ row
 all_grown rows outline tree grown row past =
     let some : 0 < length outline.1 = grown.some in
     elim (cases_lt (length outline.1) (length rows)) [
-      inl more ↦
-        let e : length outline.1 ≡ suc (length outline.1 - 1) = omega arith in
-        let (parent, own, way) = tree.preorder (length outline.1 - 1) (omega arith) in
-        let e2 : 0 + length outline.1 ≡ suc (length outline.1 - 1) = omega arith in
-        absurd (nothing_less parent (grown.last parent (rw e2 own)))
-    | inr none ↦ omega arith ]
+      | inl more ↦
+          let e : length outline.1 ≡ suc (length outline.1 - 1) = omega arith in
+          let (parent, own, way) = tree.preorder (length outline.1 - 1) (omega arith) in
+          let e2 : 0 + length outline.1 ≡ suc (length outline.1 - 1) = omega arith in
+          absurd (nothing_less parent (grown.last parent (rw e2 own)))
+      | inr none ↦ omega arith
+    ]
 
 -- a root's outline has all the rows of the tree
 pub grown_whole : (rows : Rows) (outline : Under) → IsTree rows → IsGrown rows 0 outline → outline.1 ≡ rows
@@ -192,8 +203,9 @@ grown_whole rows outline tree grown =
     let within : 0 + length outline.1 ≤ length rows = grown.within in
     let top = tree.root in
     same_lists outline.1 rows (λ row. elim (cases_lt row (length outline.1)) [
-        inl here ↦
+      | inl here ↦
           let e : outline.0 + row ≡ row = omega arith in
           let at : slice_get rows row ≡ slice_get (put_under None outline.1) row = rw top at (rw e at (grown.placed row here)) in
           sym (rw grown.own at at)
-      | inr past ↦ slice_get_past outline.1 row past ∙ sym (slice_get_past rows row (all_grown rows outline tree grown row past)) ])
+      | inr past ↦ slice_get_past outline.1 row past ∙ sym (slice_get_past rows row (all_grown rows outline tree grown row past))
+    ])

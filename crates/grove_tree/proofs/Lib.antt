@@ -15,3 +15,4 @@ pub mod Names
 pub mod PathParts
 pub mod Found
 pub mod Paths
+pub mod Unique

@@ -24,8 +24,9 @@ pub get_append_cases : {A : Type 0} (xs ys : List A) (k : ℕ) (x : A) → slice
 get_append_cases [] ys k x h = inr (k, sym (zero-add k), h)
 get_append_cases (y ∷ xs) ys zero x h = inl h
 get_append_cases (y ∷ xs) ys (suc k) x h = elim (get_append_cases xs ys k x h) [
-    inl there ↦ inl there
-  | inr there ↦ let e : k ≡ length xs + there.0 = there.1 in inr (there.0, omega arith, there.2) ]
+  | inl there ↦ inl there
+  | inr there ↦ let e : k ≡ length xs + there.0 = there.1 in inr (there.0, omega arith, there.2)
+]
 
 -- an item put at the end
 pub get_last : {A : Type 0} (xs : List A) (x : A) → slice_get (xs ++ x ∷ []) (length xs) ≡ Some x

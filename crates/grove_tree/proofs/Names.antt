@@ -1,7 +1,7 @@
 -- The names above and at a node.
-use Rattle.std.proofs.Common.{◌≡◌, ℕ, zero, suc, ◌+◌, ◌-◌, ◌<◌, ◌≤◌, List, [], ◌∷◌, ◌++◌, length, Option, Some, None, refl, sym, ◌∙◌, ap, arith}
+use Rattle.std.proofs.Common.{◌≡◌, ℕ, zero, suc, ◌<◌, List, [], ◌∷◌, ◌++◌, length, Option, Some, None, refl, sym, ap, arith}
 use Rattle.grove_tree.specs.Trees.{Rows, parent_of, name_of, IsTree}
-use Rattle.grove_tree.specs.Paths.{name_below, names_within}
+use Rattle.grove_tree.specs.Paths.{names_within}
 use Rattle.grove_tree.proofs.Ups.{parent_lt, parent_within}
 
 abbrev pub names_of : Rows → ℕ → List ℕ

@@ -1,14 +1,13 @@
 -- Paths as names, each after a slash.
-use Rattle.std.proofs.Common.{◌≡◌, ℕ, zero, suc, ◌<◌, ◌≤◌, ◌==◌, Bool, true, false, ◌&&◌, List, [], ◌∷◌, ◌++◌, length, take, drop, Option, Some, None, refl, sym, ◌∙◌, ap, subst, inl, inr, true≢false, eqb-true, arith, bytes_eq}
+use Rattle.std.proofs.Common.{◌≡◌, ℕ, zero, suc, ◌==◌, true, false, List, [], ◌∷◌, ◌++◌, length, take, drop, Some, refl, sym, ◌∙◌, ap, subst, true≢false, eqb-true, arith, bytes_eq}
 use Rattle.std.specs.List.{list_all}
-use Rattle.std.specs.Option.{option_and_then}
 use Rattle.std.proofs.lemmas.Option.{same_Some, option_and_then_some}
 use Rattle.std.proofs.lemmas.List.{append_cancel_left, take-append-drop}
 use Rattle.std.proofs.Math.Seq.{take-append_seam}
 use Rattle.std.proofs.lemmas.Bool.{and_parts}
 use Rattle.std.proofs.lemmas.Slice.Eq.{bytes_eq-Decides}
 use Rattle.std.proofs.Common.{append_assoc, append-nil}
-use Rattle.grove_tree.specs.Trees.{Rows, parent_of, name_of, up, IsAbove, IsTree}
+use Rattle.grove_tree.specs.Trees.{Rows, parent_of, name_of, up, IsTree}
 use Rattle.grove_tree.specs.Rules.{is_name_byte, is_name}
 use Rattle.grove_tree.specs.Paths.{IsRest, GoesOn}
 use Rattle.grove_tree.proofs.Names.{names_of, names_step}
@@ -65,9 +64,11 @@ pub names_above_by : (rows : Rows) → IsTree rows → (n high low : ℕ) → up
 names_above_by rows tree zero high low h = ([], tt, ap (λ (v : ℕ). names_of rows v) (same_Some _ _ h) ∙ sym (append-nil (names_of rows high)))
 names_above_by rows tree (suc n) high low h =
     option_and_then_some (parent_of rows) (up rows n low) high h (λ (m : ℕ) way own.
-      let (rest, is_rest, is) = names_above_by rows tree n m low way in
-      (47 ∷ name_of rows m ++ rest, refl,
-        is ∙ ap (λ (bytes : List ℕ). bytes ++ rest) (names_step rows tree m high own) ∙ append_assoc (names_of rows high) (47 ∷ name_of rows m) rest))
+    let (rest, is_rest, is) = names_above_by rows tree n m low way in (
+      47 ∷ name_of rows m ++ rest,
+      refl,
+      is ∙ ap (λ (bytes : List ℕ). bytes ++ rest) (names_step rows tree m high own) ∙ append_assoc (names_of rows high) (47 ∷ name_of rows m) rest,
+    ))
 
 -- a list of bytes by its length
 pub not_nil : (bytes : List ℕ) → false ≡ (length bytes == 0) → bytes ≡ [] → ⊥

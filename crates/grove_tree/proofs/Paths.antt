@@ -1,5 +1,5 @@
 -- Paths and names, and the first node with a path.
-use Rattle.std.proofs.Common.{◌≡◌, ℕ, zero, suc, ◌+◌, ◌<◌, ◌≤◌, Bool, true, false, cond, List, [], ◌∷◌, ◌++◌, length, Option, Some, None, refl, sym, ◌∙◌, ap, subst, inl, inr, true≢false, arith, bytes_eq, length-append}
+use Rattle.std.proofs.Common.{◌≡◌, ℕ, zero, suc, ◌<◌, Bool, true, false, List, [], ◌∷◌, length, Option, Some, None, refl, sym, ◌∙◌, ap, inl, inr, arith, bytes_eq, length-append}
 use Rattle.std.specs.List.{find}
 use Rattle.std.specs.Option.{option_or, IfSome}
 use Rattle.std.proofs.lemmas.Option.{same_Some, none-some}
@@ -8,7 +8,7 @@ use Rattle.std.proofs.lemmas.Bool.{cases_lt, cases_Bool, and_parts, ltb-true}
 use Rattle.std.proofs.lemmas.Slice.Eq.{bytes_eq-Decides}
 use Rattle.grove_tree.specs.Numbers.{numbers_below}
 use Rattle.grove_tree.specs.Trees.{Rows, parent_of, name_of, IsTree}
-use Rattle.grove_tree.specs.Rules.{is_name, IsWithinLimits}
+use Rattle.grove_tree.specs.Rules.{IsWithinLimits}
 use Rattle.grove_tree.specs.Paths.{or_slash, path_of, node_at}
 use Rattle.grove_tree.proofs.Ups.{parent_within}
 use Rattle.grove_tree.proofs.Names.{names_of, names_step, names_root}
@@ -25,27 +25,30 @@ find_none (suc n) test none =
 pub find_one : (n : ℕ) (test : ℕ → Bool) (one : ℕ) → one < n → test one ≡ true → ((k : ℕ) → k < n → test k ≡ true → one ≡ k) → find test (numbers_below n) ≡ Some one
 find_one zero test one lt here only = absurd (omega arith)
 find_one (suc n) test one lt here only = elim (cases_lt one n) [
-    inl before ↦
+  | inl before ↦
       find-append test (numbers_below n) (n ∷ [])
       ∙ ap (λ (o : Option ℕ). option_or o (find test (n ∷ []))) (find_one n test one before here (λ k less passes. only k (omega arith) passes))
   | inr past ↦
       let e : one ≡ n = omega arith in
       let none = find_none n test (λ k less. elim (cases_Bool (test k)) [
-          inl passes ↦ let same : one ≡ k = only k (omega arith) passes in absurd (omega arith)
-        | inr fails ↦ fails ]) in
+        | inl passes ↦ let same : one ≡ k = only k (omega arith) passes in absurd (omega arith)
+        | inr fails ↦ fails
+      ]) in
       let last : test n ≡ true = rw e at here in
-      find-append test (numbers_below n) (n ∷ []) ∙ rw (none, last, e) refl ]
+      find-append test (numbers_below n) (n ∷ []) ∙ rw (none, last, e) refl
+]
 
 -- the node found is the first with the path, where it has it and no other node does
 pub node_found : (rows : Rows) (path : List ℕ) (result : Option ℕ) → IfSome result (λ node. (node < length rows) × (path_of rows node ≡ path))
     → ((node : ℕ) → node < length rows → path_of rows node ≡ path → result ≡ Some node) → result ≡ node_at rows path
 node_found rows path None found only =
     sym (find_none (length rows) (λ node. bytes_eq (path_of rows node) path) (λ k lt. elim (cases_Bool (bytes_eq (path_of rows k) path)) [
-        inl same ↦ absurd (none-some k (only k lt ((bytes_eq-Decides (path_of rows k) path).0 same)))
-      | inr other ↦ other ]))
+      | inl same ↦ absurd (none-some k (only k lt ((bytes_eq-Decides (path_of rows k) path).0 same)))
+      | inr other ↦ other
+    ]))
 node_found rows path (Some node) (within, is) only =
     sym (find_one (length rows) (λ node. bytes_eq (path_of rows node) path) node within ((bytes_eq-Decides (path_of rows node) path).1 is)
-      (λ k lt same. same_Some node k (only k lt ((bytes_eq-Decides (path_of rows k) path).0 same))))
+    (λ k lt same. same_Some node k (only k lt ((bytes_eq-Decides (path_of rows k) path).0 same))))
 
 -- no node's names are a slash alone
 no_slash_by : (rows : Rows) → IsTree rows → IsWithinLimits rows → (node : ℕ) (o : Option ℕ) → parent_of rows node ≡ o → names_of rows node ≡ 47 ∷ [] → ⊥

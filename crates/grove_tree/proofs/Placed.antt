@@ -1,8 +1,8 @@
 -- Outlines whose rows stand in the rows of a tree.
-use Rattle.std.proofs.Common.{◌≡◌, ℕ, zero, suc, add-zero, zero-add, ◌+◌, ◌-◌, ◌<◌, ◌≤◌, List, [], ◌∷◌, length, Option, Some, None, refl, sym, ◌∙◌, ap, subst, inl, inr, arith}
+use Rattle.std.proofs.Common.{◌≡◌, ℕ, zero, suc, add-zero, zero-add, ◌+◌, ◌-◌, ◌<◌, [], ◌∷◌, length, Option, Some, None, refl, sym, ◌∙◌, ap, arith}
 use Rattle.std.specs.List.{slice_get}
 use Rattle.std.specs.Option.{option_map, option_and_then, unwrap_or}
-use Rattle.std.proofs.lemmas.Option.{same_Some, none-some, slice_get_within}
+use Rattle.std.proofs.lemmas.Option.{slice_get_within}
 use Rattle.grove_tree.specs.Trees.{Rows, NodeRow, parent_of, name_of, weight_of, IsTree}
 use Rattle.grove_tree.specs.Outlines.{Under, put_under, IsPlaced, Covers, IsChild}
 use Rattle.grove_tree.proofs.Places.{get_some}
@@ -21,9 +21,10 @@ own_part : (rows : Rows) (parent : Option ℕ) (at : ℕ) (own : Rows) → 0 < l
     → (parent_of rows at ≡ parent) × (name_of rows at ≡ name_of own 0) × (weight_of rows at ≡ weight_of own 0)
 own_part rows parent at [] some h = absurd (omega arith)
 own_part rows parent at (first ∷ rest) some h = (
-    ap (λ (o : Option NodeRow). option_and_then (λ (r : NodeRow). r.parent) o) h,
-    ap (λ (o : Option NodeRow). unwrap_or (option_map (λ (r : NodeRow). r.name) o) []) h,
-    ap (λ (o : Option NodeRow). unwrap_or (option_map (λ (r : NodeRow). r.weight) o) 0) h)
+  ap (λ (o : Option NodeRow). option_and_then (λ (r : NodeRow). r.parent) o) h,
+  ap (λ (o : Option NodeRow). unwrap_or (option_map (λ (r : NodeRow). r.name) o) []) h,
+  ap (λ (o : Option NodeRow). unwrap_or (option_map (λ (r : NodeRow). r.weight) o) 0) h,
+)
 
 -- an outline's own row is the tree's, with the parent there
 pub placed_own : (rows : Rows) (parent : Option ℕ) (outline : Under) → IsPlaced rows parent outline → 0 < length outline.1

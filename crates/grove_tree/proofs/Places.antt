@@ -106,7 +106,7 @@ next_row number own children place child (suc at) numbered h start lt e =
     let within = slice_get_within children place child h in
     let next = before_next children place child h in
     elim (cases_lt (suc place) (length children)) [
-        inl more ↦
+      | inl more ↦
           let (after, got) = get_some children (suc place) more in
           let (begins, some) = numbered_at (number + 1) children (suc place) after numbered got in
           let e2 : at ≡ rows_before (suc place) children = omega arith in
@@ -115,7 +115,8 @@ next_row number own children place child (suc at) numbered h start lt e =
           let last : suc place ≡ length children = omega arith in
           let all = before_all children in
           let e3 : rows_before (suc place) children ≡ total children = ap (λ (n : ℕ). rows_before n children) last ∙ all in
-          absurd (omega arith) ]
+          absurd (omega arith)
+    ]
 
 -- a row whose parent is the outline's node is a child's own row
 pub children_row : (number from : ℕ) (children : List Under) (row : ℕ) → number < from → AreNumbered from children
@@ -126,7 +127,7 @@ children_row number from (first ∷ rest) row lt numbered inside h =
     let long = length-put_under (Some number) first.1 in
     let start : first.0 ≡ from = numbered.0 in
     elim (cases_lt row (length first.1)) [
-        inl here ↦
+      | inl here ↦
           let e = get_append_left (put_under (Some number) first.1) (rows_under number rest) row (omega arith) in
           let own = ap (λ (o : Option NodeRow). option_and_then (λ (r : NodeRow). r.parent) o) e in
           let named = ap (λ (o : Option NodeRow). unwrap_or (option_map (λ (r : NodeRow). r.name) o) []) e in
@@ -138,7 +139,8 @@ children_row number from (first ∷ rest) row lt numbered inside h =
           let own = ap (λ (o : Option NodeRow). option_and_then (λ (r : NodeRow). r.parent) o) e in
           let named = ap (λ (o : Option NodeRow). unwrap_or (option_map (λ (r : NodeRow). r.name) o) []) e in
           let (place, child, got, same) = children_row number (from + length first.1) rest i (omega arith) numbered.2 (λ p. inside (suc p)) (sym own ∙ h) in
-          (suc place, child, got, named ∙ same) ]
+          (suc place, child, got, named ∙ same)
+    ]
 
 -- a child of an outline's is one as the outline's rows have it
 pub is_child : (number size : ℕ) (own : NodeRow) (children : List Under) (place : ℕ) (child : Under) → IsOutline number size children → slice_get children place ≡ Some child
@@ -153,7 +155,8 @@ is_child number size own children place child outline h =
       rows = λ at row lt e. child_row number own children place child at row start h lt e;
       some = some;
       inside = outline.inside place child h;
-      next = λ at e lt. next_row number own children place child at outline.numbered h start (omega arith) e }
+      next = λ at e lt. next_row number own children place child at outline.numbered h start (omega arith) e;
+    }
 
 pub some_child : (children : List Under) → 0 < total children → 0 < length children
 some_child [] h = absurd (omega arith)

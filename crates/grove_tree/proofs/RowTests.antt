@@ -1,14 +1,14 @@
 -- The rules of one row, as tests and as facts.
-use Rattle.std.proofs.Common.{◌≡◌, ℕ, zero, suc, ◌+◌, ◌-◌, ◌<◌, ◌≤◌, ◌↔◌, Bool, true, false, ◌&&◌, ◌||◌, not, IsTrue, List, length, Option, Some, None, refl, sym, ◌∙◌, ap, subst, inl, inr, get_or, eqb-true, eq-eqb, arith, bytes_eq, string_bytes}
+use Rattle.std.proofs.Common.{◌≡◌, ℕ, zero, suc, ◌+◌, ◌-◌, ◌<◌, ◌≤◌, ◌↔◌, Bool, true, false, ◌&&◌, IsTrue, List, length, Option, Some, None, refl, sym, subst, inl, inr, get_or, arith, bytes_eq, string_bytes}
 use Rattle.std.proofs.lemmas.Option.{none-some, same_Some}
 use Rattle.std.proofs.lemmas.Bool.{cases_lt}
 use Rattle.std.specs.Option.{is_none}
 use Rattle.grove_tree.specs.Numbers.{any_below}
-use Rattle.grove_tree.specs.Trees.{Rows, parent_of, name_of, depth_of, up, IsAbove, is_at, is_above}
+use Rattle.grove_tree.specs.Trees.{Rows, parent_of, up, IsAbove, is_at, is_above}
 use Rattle.grove_tree.specs.declared.row.Row.{Row}
-use Rattle.grove_tree.specs.Rules.{row_of, rows_of, is_well_placed, is_on_the_way, share_parent, is_twin}
+use Rattle.grove_tree.specs.Rules.{rows_of, is_well_placed, is_on_the_way, share_parent, is_twin}
 use Rattle.grove_tree.proofs.Ups.{up_le_from}
-use Rattle.grove_tree.proofs.Counting.{any_from, any_true}
+use Rattle.grove_tree.proofs.Counting.{any_from}
 use Rattle.grove_tree.proofs.Tests.{is_at_from, is_above_true}
 use Rattle.grove_tree.proofs.OwnRows.{own_parent, own_name}
 
@@ -33,8 +33,8 @@ placed_test rows zero parent test some own less told = absurd (omega arith)
 placed_test rows (suc before) parent test some own less told =
     let e : suc before - 1 ≡ before = omega arith in
     rw own (same_tests test (is_above rows parent before)
-      (λ h. is_above_within rows (suc before) less parent before (omega arith) (rw e at (told.0 h)))
-      (λ h. told.1 (rw e (is_above_true rows parent before h))))
+    (λ h. is_above_within rows (suc before) less parent before (omega arith) (rw e at (told.0 h)))
+    (λ h. told.1 (rw e (is_above_true rows parent before h))))
 
 on_the_way : (rows : Rows) (before parent : ℕ) (o : Option ℕ) → o ≡ Some parent → is_on_the_way rows before o ≡ true → is_above rows parent before ≡ true
 on_the_way rows before parent None e h = absurd (none-some parent e)
@@ -61,8 +61,9 @@ placed_less rows (suc before) less h parent own =
 pub less_to : (rows : Rows) (row : ℕ) → ((v p : ℕ) → v < row → parent_of rows v ≡ Some p → p < v)
     → is_well_placed rows row ≡ true → (v p : ℕ) → v < suc row → parent_of rows v ≡ Some p → p < v
 less_to rows row less h v p lt own = elim (cases_lt v row) [
-    inl before ↦ less v p before own
-  | inr here ↦ let e : v ≡ row = omega arith in rw e (placed_less rows row less h p (rw e at own)) ]
+  | inl before ↦ less v p before own
+  | inr here ↦ let e : v ≡ row = omega arith in rw e (placed_less rows row less h p (rw e at own))
+]
 
 -- twins as the list has them
 pub twin_test : (rows : List Row) (row other : ℕ) (first second : Row) → first ≡ get_or rows row first → row < length rows

@@ -32,8 +32,9 @@ up_none rows (suc n) v h = ap (λ (o : Option ℕ). option_and_then (parent_of r
 -- a node that has a parent is a node of the tree
 pub parent_within : (rows : Rows) (v p : ℕ) → parent_of rows v ≡ Some p → v < length rows
 parent_within rows v p h = elim (cases_lt v (length rows)) [
-    inl y ↦ y
-  | inr y ↦ absurd (none-some p (sym (ap (λ (o : Option NodeRow). option_and_then (λ (row : NodeRow). row.parent) o) (slice_get_past rows v y)) ∙ h)) ]
+  | inl y ↦ y
+  | inr y ↦ absurd (none-some p (sym (ap (λ (o : Option NodeRow). option_and_then (λ (row : NodeRow). row.parent) o) (slice_get_past rows v y)) ∙ h))
+]
 
 -- the parent of a node is above it
 pub parent_above : (rows : Rows) (v p : ℕ) → parent_of rows v ≡ Some p → IsAbove rows p v
@@ -45,10 +46,10 @@ pub up_le_from : (rows : Rows) (bound : ℕ) → ((v p : ℕ) → v < bound → 
 up_le_from rows bound less zero v b lt h = let e : v ≡ b = same_Some v b h in omega arith
 up_le_from rows bound less (suc n) v b lt h =
     option_and_then_some (parent_of rows) (up rows n v) b h
-      (λ x there step.
-        let le : x + n ≤ v = up_le_from rows bound less n v x lt there in
-        let below : b < x = less x b (omega arith) step in
-        omega arith)
+    (λ x there step.
+    let le : x + n ≤ v = up_le_from rows bound less n v x lt there in
+    let below : b < x = less x b (omega arith) step in
+    omega arith)
 
 -- parents are smaller, below a bound
 pub less_parents : (rows : Rows) → IsTree rows → (bound v p : ℕ) → v < bound → parent_of rows v ≡ Some p → p < v
@@ -88,8 +89,9 @@ above_linear rows m n v a b h k le =
 -- of two nodes above a third one, one is above the other
 pub above_either : (rows : Rows) (a b v : ℕ) → IsAbove rows a v → IsAbove rows b v → IsAbove rows a b ⊎ IsAbove rows b a
 above_either rows a b v h k = elim (cases_lt h.0 k.0) [
-    inl y ↦ inr (k.0 - h.0, above_linear rows h.0 k.0 v a b h.1 k.1 (omega arith))
-  | inr y ↦ inl (h.0 - k.0, above_linear rows k.0 h.0 v b a k.1 h.1 y) ]
+  | inl y ↦ inr (k.0 - h.0, above_linear rows h.0 k.0 v a b h.1 k.1 (omega arith))
+  | inr y ↦ inl (h.0 - k.0, above_linear rows k.0 h.0 v b a k.1 h.1 y)
+]
 
 above_step_by : (rows : Rows) (a v n : ℕ) → up rows (suc n) v ≡ Some a → (o : Option ℕ) → parent_of rows v ≡ o
     → (a ≡ v) ⊎ ((p : ℕ) × (parent_of rows v ≡ Some p) × IsAbove rows a p)

@@ -1,7 +1,7 @@
 -- An outline has more rows than each of its children.
-use Rattle.std.proofs.Common.{◌≡◌, ℕ, ◌+◌, ◌<◌, ◌≤◌, List, [], ◌∷◌, ◌++◌, length, Option, Some, None, refl, sym, ◌∙◌, ap, arith, length-append}
+use Rattle.std.proofs.Common.{◌≡◌, ℕ, ◌+◌, ◌≤◌, List, [], ◌∷◌, length, Option, Some, refl, arith, length-append}
 use denote.Param.Weighed.{most}
-use Rattle.grove_tree.specs.Trees.{Rows, NodeRow}
+use Rattle.grove_tree.specs.Trees.{Rows}
 use Rattle.grove_tree.specs.Outlines.{Under, put_under, rows_under, total}
 
 pub length-put_under : (parent : Option ℕ) (rows : Rows) → length (put_under parent rows) ≡ length rows

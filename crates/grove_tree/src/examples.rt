@@ -51,7 +51,12 @@ fn fault_of(alloc: Global, rows: &[Row]) -> Option<TreeFault> {
 
 #[test]
 fn names_the_first_rule_that_rows_break(rt: HostRuntime) -> Result<(), Fail> {
-    let misplaced = [(None, "", 1), (Some(0), "a", 1), (Some(0), "b", 1), (Some(1), "c", 1)];
+    let misplaced = [
+        (None, "", 1),
+        (Some(0), "a", 1),
+        (Some(0), "b", 1),
+        (Some(1), "c", 1),
+    ];
     let misnamed = [(None, "", 1), (Some(0), "A", 1)];
     let twins = [(None, "", 1), (Some(0), "a", 1), (Some(0), "a", 1)];
     let too_light = [(None, "", 0)];
@@ -93,7 +98,11 @@ fn small_tree(alloc: Global) -> Result<Tree, Fail>
         (Some(2), "x", 3),
     ];
     let tree = Tree::build(alloc, &rows_of(alloc, &rows)?)?;
-    if tree.len() == 4 { Ok(tree) } else { Err(AllocError.into()) }
+    if tree.len() == 4 {
+        Ok(tree)
+    } else {
+        Err(AllocError.into())
+    }
 }
 
 #[test]
@@ -114,7 +123,12 @@ fn finds_a_node_by_its_path_alone(rt: HostRuntime) -> Result<(), Fail> {
 #[test]
 fn tells_parents_depths_and_weights(rt: HostRuntime) -> Result<(), Fail> {
     let tree = small_tree(rt.alloc())?;
-    let table = [(0, None, 0, 9), (1, Some(0), 1, 1), (2, Some(0), 1, 1), (3, Some(2), 2, 3)];
+    let table = [
+        (0, None, 0, 9),
+        (1, Some(0), 1, 1),
+        (2, Some(0), 1, 1),
+        (3, Some(2), 2, 3),
+    ];
     assert_eq!(rt; tree.root().number(), 0);
     assert_eq!(rt; tree.len(), 4);
     for (number, parent, depth, weight) in table {
@@ -139,7 +153,11 @@ fn a_node_is_above_itself_and_what_is_below_it(rt: HostRuntime) -> Result<(), Fa
     for high in 0..4 {
         for low in 0..4 {
             let above = tree.is_above(Node::new(high), Node::new(low));
-            assert_eq!(rt; above, table[high as usize][low as usize], "{high} above {low}");
+            assert_eq!(rt;
+                above,
+                table[high as usize][low as usize],
+                "{high} above {low}"
+            );
         }
     }
     Ok(())

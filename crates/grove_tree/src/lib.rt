@@ -7,6 +7,8 @@ pub use outline::Outline;
 pub use row::Row;
 pub use tree::Tree;
 
+#[cfg(test)]
+mod examples;
 mod fault;
 mod finding;
 mod growing;
@@ -14,6 +16,4 @@ mod node;
 mod outline;
 mod row;
 mod rules;
-#[cfg(test)]
-mod examples;
 mod tree;

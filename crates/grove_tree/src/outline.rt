@@ -26,17 +26,13 @@ impl Model for Outline {
 
     ghost Value = { Under };
 
-    ghost view = {
-        λ a. (a.number, record { parent = None; name = string_bytes a.name; weight = a.weight } ∷ rows_under a.number a.children.items)
-    };
+    ghost view = { λ a. (a.number, record { parent = None; name = string_bytes a.name; weight = a.weight } ∷ rows_under a.number a.children.items) };
 
     ghost invariant = { λ a. IsOutline a.number a.size a.children.items };
 
     ghost size = { λ value. length value.1 };
 
-    ghost size_decreases = {
-        λ a h. omega (arith, most_le-total a.children.items, length-rows_under a.number a.children.items)
-    };
+    ghost size_decreases = { λ a h. omega (arith, most_le-total a.children.items, length-rows_under a.number a.children.items) };
 }
 
 impl Outline {
@@ -64,11 +60,9 @@ impl Outline {
 
     /// The child whose name comes next in the path below the node, with what the path goes on with.
     pub(crate) fn child_on<'a, 'b>(&'a self, path: &'b [u8]) -> Option<(&'a Outline, &'b [u8])>
-        ensures {
-            MatchOption result
-                ((row : ℕ) (rest : List ℕ) → parent_of self.now.1 row ≡ Some self.now.0 → ¬ GoesOn path.now (name_of self.now.1 row) rest)
-                (λ found. IsChild self.now found.0.now × GoesOn path.now (name_of found.0.now.1 0) found.1.now)
-        }
+        ensures { MatchOption result
+            ((row : ℕ) (rest : List ℕ) → parent_of self.now.1 row ≡ Some self.now.0 → ¬ GoesOn path.now (name_of self.now.1 row) rest)
+            (λ found. IsChild self.now found.0.now × GoesOn path.now (name_of found.0.now.1 0) found.1.now) }
     {
         for child in &self.children {
             if let Some(rest) = after_name(path, child.name.as_bytes()) {

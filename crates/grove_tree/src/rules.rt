@@ -3,14 +3,27 @@ ghost use Rattle.std.specs.List.{list_all};
 ghost use Rattle.grove_tree.specs.Numbers.{any_below};
 ghost use Rattle.grove_tree.specs.Trees.{IsAbove, parent_of, weight_of, depth_of};
 ghost use Rattle.grove_tree.specs.Rules.{
-    rows_of, is_name_byte, is_name, is_well_placed, is_well_named, share_parent, is_twin, is_weight, row_fault, rows_fault, tree_fault_of
+  rows_of,
+  is_name_byte,
+  is_name,
+  is_well_placed,
+  is_well_named,
+  share_parent,
+  is_twin,
+  is_weight,
+  row_fault,
+  rows_fault,
+  tree_fault_of,
 };
 
 use crate::{Row, TreeFault};
 
 const MOST_ROWS: usize = 4096;
+
 const DEEPEST: u32 = 32;
+
 const LONGEST_NAME: usize = 32;
+
 const HEAVIEST: u32 = 1000;
 
 fn parent_of_row(rows: &[Row], row: u32) -> Option<u32>
@@ -89,14 +102,16 @@ fn is_row_well_named(rows: &[Row], row: u32) -> bool
     ensures { result ≡ is_well_named (rows_of rows.now) row }
 {
     let name = rows[row as usize].name.as_str();
-    if row == 0 { name.is_empty() } else { is_name_of_node(name) }
+    if row == 0 {
+        name.is_empty()
+    } else {
+        is_name_of_node(name)
+    }
 }
 
 /// Have both rows one parent and one name?
 fn are_twins(row: &Row, other: &Row) -> bool
-    ensures {
-        result ≡ (share_parent row.now.parent other.now.parent && bytes_eq (string_bytes other.now.name) (string_bytes row.now.name))
-    }
+    ensures { result ≡ (share_parent row.now.parent other.now.parent && bytes_eq (string_bytes other.now.name) (string_bytes row.now.name)) }
 {
     row.parent.is_some() && row.parent == other.parent && other.name == row.name
 }

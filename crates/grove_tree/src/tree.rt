@@ -1,11 +1,11 @@
-ghost use Rattle.std.specs.Prelude.{◌≡◌, ◌≢◌, ℕ, ◌<◌, ◌↔◌, length, IsTrue, IfOk, IfErr, IfSome, Some, None, string_bytes};
+ghost use Rattle.std.specs.Prelude.{◌≡◌, ◌≢◌, ℕ, ◌<◌, ◌↔◌, length, IsTrue, IfOk, OnOk, IfErr, IfSome, Some, None, string_bytes};
 ghost use Rattle.grove_tree.specs.Trees.{IsTree, IsAbove, parent_of, weight_of, depth_of};
 ghost use Rattle.grove_tree.specs.Paths.{path_of, node_at, names_within};
 ghost use Rattle.grove_tree.specs.Rules.{rows_of, tree_fault_of, IsWithinLimits};
 
 use crate::growing::grow;
 use crate::rules::fault_of;
-use crate::{Node, NoMemory, Outline, Row, TreeFault};
+use crate::{NoMemory, Node, Outline, Row, TreeFault};
 use std::alloc::Global;
 use std::marker::Model;
 
@@ -61,12 +61,8 @@ impl Tree {
     fn find_names(&self, names: &[u8]) -> Option<Node>
         ensures tree { IsTree self.now }
         ensures limits { IsWithinLimits self.now }
-        ensures found {
-            IfSome result (λ node. (node < length self.now) × (names_within self.now (length self.now) node ≡ names.now))
-        }
-        ensures only {
-            (node : ℕ) → node < length self.now → names_within self.now (length self.now) node ≡ names.now → result ≡ Some node
-        }
+        ensures found { IfSome result (λ node. (node < length self.now) × (names_within self.now (length self.now) node ≡ names.now)) }
+        ensures only { (node : ℕ) → node < length self.now → names_within self.now (length self.now) node ≡ names.now → result ≡ Some node }
     {
         let mut at = &self.root;
         let mut rest = names;
@@ -152,7 +148,8 @@ impl Tree {
     /// The path of the node: `/`, or the names from the root down, each after a slash.
     pub fn path_of(&self, alloc: Global, node: Node) -> Result<String, NoMemory>
         requires { node < length self.now }
-        ensures { IfOk result (λ path. string_bytes path ≡ path_of self.now node) }
+        ensures path { IfOk result (λ path. string_bytes path ≡ path_of self.now node) }
+        ensures found { OnOk result (node_at self.now (path_of self.now node) ≡ Some node) }
     {
         let mut path = String::new(alloc);
         let mut at = &self.root;

@@ -1,5 +1,5 @@
 -- A marked node is put at the end, and another isn't.
-use Rattle.std.proofs.Common.{◌≡◌, ℕ, ◌<◌, sym, ◌∙◌, arith}
+use Rattle.std.proofs.Common.{sym, ◌∙◌, arith}
 use Rattle.grove_access.specs.Lists.{nodes_of}
 use Rattle.grove_access.specs.Spanned.{is_spanned}
 use Rattle.grove_proof.proofs.Marks.{mark_says, span_hit, passing_miss}
@@ -8,10 +8,11 @@ use Rattle.grove_proof.proofs.span.forced_nodes.Goals.{then-index+in_ok-push, el
 
 pub loop-number-preserved : goal.loop-number-preserved
 loop-number-preserved c = elim c.if-index.branch [
-    then-index+in_ok-push w ↦ rw w.span-is
+  | then-index+in_ok-push w ↦ rw w.span-is
       (span_hit c.loop-number.number w.new.result (is_spanned c.args.tree.now (nodes_of c.args.list.now)) c.loop-number.span.items w.push.new.self.items c.loop-number.invariant
-        w.in_ok-push.ensures.items w.new.ensures
-        (mark_says c.args.tree.now (nodes_of c.args.list.now) c.in_ok-marks.marks.items c.loop-number.number c.index.result.now c.in_ok-marks.ensures (omega arith) c.index.ensures ∙ w.if-index.true))
+      w.in_ok-push.ensures.items w.new.ensures
+      (mark_says c.args.tree.now (nodes_of c.args.list.now) c.in_ok-marks.marks.items c.loop-number.number c.index.result.now c.in_ok-marks.ensures (omega arith) c.index.ensures ∙ w.if-index.true))
   | else-index w ↦ rw w.span-is
       (c.loop-number.invariant ∙ sym (passing_miss c.loop-number.number (is_spanned c.args.tree.now (nodes_of c.args.list.now))
-        (mark_says c.args.tree.now (nodes_of c.args.list.now) c.in_ok-marks.marks.items c.loop-number.number c.index.result.now c.in_ok-marks.ensures (omega arith) c.index.ensures ∙ w.if-index.false))) ]
+      (mark_says c.args.tree.now (nodes_of c.args.list.now) c.in_ok-marks.marks.items c.loop-number.number c.index.result.now c.in_ok-marks.ensures (omega arith) c.index.ensures ∙ w.if-index.false)))
+]

@@ -1,5 +1,5 @@
 -- The spanned nodes so far.
-use Rattle.std.proofs.Common.{◌≡◌, ℕ, length}
+use Rattle.std.proofs.Common.{◌≡◌}
 use Rattle.grove_tree.specs.Numbers.{passing_below}
 use Rattle.grove_access.specs.Lists.{nodes_of}
 use Rattle.grove_access.specs.Spanned.{is_spanned}

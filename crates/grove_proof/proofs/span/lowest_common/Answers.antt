@@ -13,4 +13,4 @@ meet-lowest-requires-clause-second c = c.requires.fits c.loop-access.access c.ge
 pub loop-access-preserved : goal.loop-access-preserved
 loop-access-preserved c =
     lowest_step c.args.tree.now (nodes_of c.args.list.now) c.loop-access.access c.loop-access.lowest c.get.result.node c.meet-lowest.result c.requires.tree c.loop-access.invariant
-      (node_at c.args.list.now c.loop-access.access c.get.result c.get.ensures) c.meet-lowest.ensures
+    (node_at c.args.list.now c.loop-access.access c.get.result c.get.ensures) c.meet-lowest.ensures

@@ -1,7 +1,5 @@
 -- The lowest node above the nodes of the accesses so far.
-use Rattle.std.proofs.Common.{◌≡◌, ℕ, ◌<◌, length}
 use Rattle.grove_access.specs.Lists.{nodes_of}
-use Rattle.grove_proof.specs.Tables.{IsLowest}
 use Rattle.grove_proof.proofs.Meets.{IsLowestIn}
 use Rattle.grove_proof.proofs.span.lowest_common.Given as goal
 

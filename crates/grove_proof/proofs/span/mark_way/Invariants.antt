@@ -1,5 +1,4 @@
 -- The way below the node that is at hand is marked.
-use Rattle.std.proofs.Common.{ℕ, length}
 use Rattle.grove_proof.proofs.Marks.{IsOnWay}
 use Rattle.grove_proof.proofs.span.mark_way.Given as goal
 

@@ -1,6 +1,5 @@
 -- Each goal is a step of the lemmas on the accesses' ways.
-use Rattle.std.proofs.Common.{◌≡◌, ℕ, ◌<◌, ◌≤◌, length, Some, sym, ◌∙◌, ap, subst, arith}
-use Rattle.std.specs.List.{slice_get}
+use Rattle.std.proofs.Common.{◌≡◌, ℕ, length, sym, ◌∙◌, subst, arith}
 use Rattle.grove_access.specs.Lists.{nodes_of}
 use Rattle.grove_access.proofs.Lists.{node_at, nodes_length}
 use Rattle.grove_proof.specs.Tables.{IsLowest}
@@ -17,12 +16,12 @@ mark_way-requires-clause-above c =
 pub loop-access-preserved : goal.loop-access-preserved
 loop-access-preserved c =
     ways_step c.args.tree.now (nodes_of c.args.list.now) c.args.top c.loop-access.access c.get.result.node c.loop-access.marks c.mark_way.new.marks
-      (subst (λ (n : ℕ). IsLowest c.args.tree.now (nodes_of c.args.list.now) n c.args.top) (sym (nodes_length c.args.list.now)) c.requires.lowest)
-      c.loop-access.invariant (node_at c.args.list.now c.loop-access.access c.get.result c.get.ensures) c.mark_way.ensures
-      (c.mark_way.auto.marks ∙ c.loop-access.invariant.size)
+    (subst (λ (n : ℕ). IsLowest c.args.tree.now (nodes_of c.args.list.now) n c.args.top) (sym (nodes_length c.args.list.now)) c.requires.lowest)
+    c.loop-access.invariant (node_at c.args.list.now c.loop-access.access c.get.result c.get.ensures) c.mark_way.ensures
+    (c.mark_way.auto.marks ∙ c.loop-access.invariant.size)
 
 pub returns-clause-complete : goal.returns-clause-complete
 returns-clause-complete c =
     ways_end c.args.tree.now (nodes_of c.args.list.now) c.args.top c.loop-access.access c.loop-access.marks
-      (subst (λ (n : ℕ). IsLowest c.args.tree.now (nodes_of c.args.list.now) n c.args.top) (sym (nodes_length c.args.list.now)) c.requires.lowest)
-      c.loop-access.invariant (let e : length (nodes_of c.args.list.now) ≡ length c.args.list.now = nodes_length c.args.list.now in omega arith)
+    (subst (λ (n : ℕ). IsLowest c.args.tree.now (nodes_of c.args.list.now) n c.args.top) (sym (nodes_length c.args.list.now)) c.requires.lowest)
+    c.loop-access.invariant (let e : length (nodes_of c.args.list.now) ≡ length c.args.list.now = nodes_length c.args.list.now in omega arith)

@@ -1,5 +1,4 @@
 -- What is marked is spanned, and the ways of the accesses so far are marked.
-use Rattle.std.proofs.Common.{ℕ, length}
 use Rattle.grove_access.specs.Lists.{nodes_of}
 use Rattle.grove_proof.proofs.Marks.{AreWays}
 use Rattle.grove_proof.proofs.span.mark_ways.Given as goal

@@ -1,6 +1,5 @@
 -- What is above both nodes stays the same.
-use Rattle.std.proofs.Common.{ℕ, ◌+◌, ◌<◌, length}
-use Rattle.grove_tree.specs.Trees.{IsAbove}
+use Rattle.std.proofs.Common.{◌+◌}
 use Rattle.grove_proof.proofs.Meets.{IsSameMeet}
 use Rattle.grove_proof.proofs.span.meet.Given as goal
 

@@ -1,5 +1,4 @@
 -- The sums of the rows so far.
-use Rattle.std.proofs.Common.{◌≡◌, ℕ, length, take}
 use Rattle.grove_proof.proofs.ByNode.{AreSumsSoFar}
 use Rattle.grove_proof.proofs.tables.sums_by_node.Given as goal
 

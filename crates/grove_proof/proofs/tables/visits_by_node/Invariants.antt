@@ -1,5 +1,4 @@
 -- The visits among the accesses so far.
-use Rattle.std.proofs.Common.{◌≡◌, ℕ, length}
 use Rattle.grove_access.specs.Lists.{nodes_of}
 use Rattle.grove_proof.proofs.ByNode.{AreVisitsSoFar}
 use Rattle.grove_proof.proofs.tables.visits_by_node.Given as goal

@@ -6,9 +6,9 @@ use Rattle.grove_proof.proofs.theory.laws.Goals as goal
 
 pub returns : goal.returns
 returns c = record {
-    forced = forced_are_spanned;
-    span = forced_list_is_span;
-    constraints = legal_meets_five;
-    bound = weak_duality;
-    least = certified_is_least
-  }
+  forced = forced_are_spanned;
+  span = forced_list_is_span;
+  constraints = legal_meets_five;
+  bound = weak_duality;
+  least = certified_is_least;
+}

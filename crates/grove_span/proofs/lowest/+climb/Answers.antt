@@ -16,7 +16,7 @@ pub unreachable-requires : goal.unreachable-requires
 unreachable-requires t c =
     let none : parent_of c.args.tree.now c.args.from ≡ None = sym c.parent.ensures ∙ c.in-None.is in
     both_ways c.is_above.result c.if-is_above.false
-      (c.is_above.ensures.1 (top_above c.args.tree.now c.requires.tree c.args.from c.args.target c.requires.from c.requires.target none))
+    (c.is_above.ensures.1 (top_above c.args.tree.now c.requires.tree c.args.from c.args.target c.requires.from c.requires.target none))
 
 pub returns-clause-from : goal.returns-clause-from
 returns-clause-from t c =
@@ -25,7 +25,7 @@ returns-clause-from t c =
 pub returns-clause-lowest : goal.returns-clause-lowest
 returns-clause-lowest t c = λ node over_from over_target.
     c.climb.ensures.lowest node
-      (above_parent c.args.tree.now node c.args.from c.in-Some.parent (sym c.parent.ensures ∙ c.in-Some.is) over_from
-        (λ same. both_ways c.is_above.result c.if-is_above.false
-          (c.is_above.ensures.1 (subst (λ (n : ℕ). IsAbove c.args.tree.now n c.args.target) same over_target))))
-      over_target
+    (above_parent c.args.tree.now node c.args.from c.in-Some.parent (sym c.parent.ensures ∙ c.in-Some.is) over_from
+    (λ same. both_ways c.is_above.result c.if-is_above.false
+    (c.is_above.ensures.1 (subst (λ (n : ℕ). IsAbove c.args.tree.now n c.args.target) same over_target))))
+    over_target

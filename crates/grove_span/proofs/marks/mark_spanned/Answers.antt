@@ -18,11 +18,11 @@ mark_way-requires-clause-within c = access_within c.args.tree.now c.args.list.no
 pub loop-access-preserved : goal.loop-access-preserved
 loop-access-preserved c = rw add-one
     (marks_next c.args.tree.now (nodes_of c.args.list.now) c.args.top c.loop-access.access c.get.result.node c.loop-access.marks c.mark_way.new.marks
-      (node_at c.args.list.now c.loop-access.access c.get.result c.get.ensures) (omega arith) c.mark_way.ensures c.loop-access.invariant)
+    (node_at c.args.list.now c.loop-access.access c.get.result c.get.ensures) (omega arith) c.mark_way.ensures c.loop-access.invariant)
 
 pub returns : goal.returns
 returns c =
     let done : c.len-access-end.result ≤ c.loop-access.access = c.loop-access-test.false in
     let size : c.len-access-end.result ≡ length c.args.list.now = c.len-access-end.ensures.number in
     marks_last c.args.tree.now (nodes_of c.args.list.now) c.args.top c.loop-access.access c.loop-access.marks c.requires.top
-      (omega (arith, nodes_length c.args.list.now)) c.loop-access.invariant
+    (omega (arith, nodes_length c.args.list.now)) c.loop-access.invariant

@@ -13,26 +13,26 @@ pub loop-number-preserved-then-not-marks-number : goal.loop-number-preserved-the
 loop-number-preserved-then-not-marks-number c =
     let lt : c.loop-number.number < length c.args.tree.now = omega arith in
     rw add-one (list_miss c.args.tree.now (nodes_of c.args.list.now) c.loop-number.number c.loop-number.place c.loop-number.places.items c.loop-number.rows.items
-      (mark_tells c.args.tree.now (nodes_of c.args.list.now) c.args.marks.now c.len-number-end.ensures.tree c.requires.fits c.requires.marks c.requires.marked c.loop-number.number lt
-        ∙ c.if-not-marks-number.true)
-      c.loop-number.invariant)
+    (mark_tells c.args.tree.now (nodes_of c.args.list.now) c.args.marks.now c.len-number-end.ensures.tree c.requires.fits c.requires.marks c.requires.marked c.loop-number.number lt
+    ∙ c.if-not-marks-number.true)
+    c.loop-number.invariant)
 
 pub loop-number-preserved : goal.loop-number-preserved
 loop-number-preserved c =
     let lt : c.loop-number.number < length c.args.tree.now = omega arith in
     let hit : is_spanned c.args.tree.now (nodes_of c.args.list.now) c.loop-number.number ≡ true =
-        mark_tells c.args.tree.now (nodes_of c.args.list.now) c.args.marks.now c.len-number-end.ensures.tree c.requires.fits c.requires.marks c.requires.marked c.loop-number.number lt
-        ∙ c.if-not-marks-number.false in
+    mark_tells c.args.tree.now (nodes_of c.args.list.now) c.args.marks.now c.len-number-end.ensures.tree c.requires.fits c.requires.marks c.requires.marked c.loop-number.number lt
+    ∙ c.if-not-marks-number.false in
     let none : Visits = record { first = None; last = None } in
     let told : TellsOf (nodes_of c.args.list.now) (length (nodes_of c.args.list.now)) c.loop-number.number (get_or c.args.table.now c.loop-number.number none) =
-        c.requires.visits c.loop-number.number (get_or c.args.table.now c.loop-number.number none) (slice_get-get_or c.args.table.now c.loop-number.number none (let size : length c.args.table.now ≡ length c.args.tree.now = c.requires.table in omega arith)) in
+    c.requires.visits c.loop-number.number (get_or c.args.table.now c.loop-number.number none) (slice_get-get_or c.args.table.now c.loop-number.number none (let size : length c.args.table.now ≡ length c.args.tree.now = c.requires.table in omega arith)) in
     rw (add-one, add-one, c.in_ok-push.ensures.items)
-      (list_hit c.args.tree.now (nodes_of c.args.list.now) c.loop-number.number c.loop-number.place c.loop-number.places.items c.loop-number.rows.items _
-        c.len-number-end.ensures.tree lt hit c.new-node.ensures
-        (c.parent_place-parent.ensures
-          ∙ ap (λ (xs : List (Option ℕ)). option_and_then (λ p. unwrap_or (slice_get xs p) None) (parent_of c.args.tree.now c.new-node.result)) c.deref.ensures.value
-          ∙ ap (λ (v : ℕ). option_and_then (λ p. unwrap_or (slice_get c.loop-number.places.items p) None) (parent_of c.args.tree.now v)) c.new-node.ensures
-          ∙ placed c.args.tree.now (nodes_of c.args.list.now) c.loop-number.number c.loop-number.place c.loop-number.places.items c.loop-number.rows.items
-              c.len-number-end.ensures.tree lt c.loop-number.invariant (parent_of c.args.tree.now c.loop-number.number) refl)
-        (visited (nodes_of c.args.list.now) (get_or c.args.table.now c.loop-number.number none) _ refl refl (subst (λ (v : ℕ). TellsOf (nodes_of c.args.list.now) (length (nodes_of c.args.list.now)) v (get_or c.args.table.now c.loop-number.number none)) (sym c.new-node.ensures) told))
-        c.loop-number.invariant)
+    (list_hit c.args.tree.now (nodes_of c.args.list.now) c.loop-number.number c.loop-number.place c.loop-number.places.items c.loop-number.rows.items _
+    c.len-number-end.ensures.tree lt hit c.new-node.ensures
+    (c.parent_place-parent.ensures
+    ∙ ap (λ (xs : List (Option ℕ)). option_and_then (λ p. unwrap_or (slice_get xs p) None) (parent_of c.args.tree.now c.new-node.result)) c.deref.ensures.value
+    ∙ ap (λ (v : ℕ). option_and_then (λ p. unwrap_or (slice_get c.loop-number.places.items p) None) (parent_of c.args.tree.now v)) c.new-node.ensures
+    ∙ placed c.args.tree.now (nodes_of c.args.list.now) c.loop-number.number c.loop-number.place c.loop-number.places.items c.loop-number.rows.items
+    c.len-number-end.ensures.tree lt c.loop-number.invariant (parent_of c.args.tree.now c.loop-number.number) refl)
+    (visited (nodes_of c.args.list.now) (get_or c.args.table.now c.loop-number.number none) _ refl refl (subst (λ (v : ℕ). TellsOf (nodes_of c.args.list.now) (length (nodes_of c.args.list.now)) v (get_or c.args.table.now c.loop-number.number none)) (sym c.new-node.ensures) told))
+    c.loop-number.invariant)

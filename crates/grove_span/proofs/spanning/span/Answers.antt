@@ -21,4 +21,4 @@ mark_spanned-requires-clause-unmarked c = λ node h.
 pub note_visits-requires-clause-empty : goal.note_visits-requires-clause-empty
 note_visits-requires-clause-empty c =
     tell_none (nodes_of c.args.list.now) c.len-size.result c.deref_mut-2.result.now (record { first = None; last = None }) refl refl
-      (c.deref_mut-2.ensures.value ∙ c.in_ok-table.ensures.items_if_clones_equal (λ y e. e))
+    (c.deref_mut-2.ensures.value ∙ c.in_ok-table.ensures.items_if_clones_equal (λ y e. e))

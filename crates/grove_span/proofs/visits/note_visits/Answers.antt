@@ -24,11 +24,12 @@ pub loop-access-preserved : goal.loop-access-preserved
 loop-access-preserved c =
     let lt : c.get.result.node < length c.args.tree.now = access_within c.args.tree.now c.args.list.now c.loop-access.access c.get.result c.requires.fits c.get.ensures in
     let size : length c.loop-access.table ≡ length c.args.tree.now = c.loop-access.invariant.0 in
-    let at : c.number-number.result ≡ c.get.result.node = c.number-number.ensures.is_it in
-    ( length-set c.loop-access.table c.number-number.result c.with.result ∙ size
-    , rw add-one (tell_next (nodes_of c.args.list.now) c.loop-access.access c.number-number.result c.loop-access.table _ c.with.result
-        (node_at c.args.list.now c.loop-access.access c.get.result c.get.ensures ∙ ap (λ (n : ℕ). Some n) (sym at))
-        (slice_get-get_or c.loop-access.table c.number-number.result _ (omega arith)) c.with.ensures.first c.with.ensures.last c.loop-access.invariant.1) )
+    let at : c.number-number.result ≡ c.get.result.node = c.number-number.ensures.is_it in (
+      length-set c.loop-access.table c.number-number.result c.with.result ∙ size,
+      rw add-one (tell_next (nodes_of c.args.list.now) c.loop-access.access c.number-number.result c.loop-access.table _ c.with.result
+          (node_at c.args.list.now c.loop-access.access c.get.result c.get.ensures ∙ ap (λ (n : ℕ). Some n) (sym at))
+          (slice_get-get_or c.loop-access.table c.number-number.result _ (omega arith)) c.with.ensures.first c.with.ensures.last c.loop-access.invariant.1),
+    )
 
 pub returns : goal.returns
 returns c =

@@ -1,4 +1,4 @@
-use Rattle.std.proofs.Common.{◌≡◌, ℕ, ◌<◌, ◌≤◌, ◌+◌, ◌∙◌, ap, List, Option, Some, true≢false, get_or, refl, sym, length, rules, arith}
+use Rattle.std.proofs.Common.{◌≡◌, ℕ, ◌<◌, ◌∙◌, ap, List, Option, Some, true≢false, get_or, refl, sym, length, arith}
 use Rattle.grove_tree.proofs.Grown.{growing_none, growing_child, growing_done}
 use Rattle.grove_tree.proofs.Children.{outline_size}
 use Rattle.grove_tree.proofs.Ups.{parent_within}
@@ -34,7 +34,7 @@ pub loop-alloc-preserved : goal.loop-alloc-preserved
 loop-alloc-preserved t c =
     let size = outline_size _ _ _ _ _ c.child.invariant c.child.view_is in
     rw (c.in_ok-push.ensures.items, size)
-      (growing_child _ _ _ _ _ c.requires.tree c.loop-alloc.invariant (c.loop-alloc-test.ensures.0 refl) c.in_ok-child.ensures)
+    (growing_child _ _ _ _ _ c.requires.tree c.loop-alloc.invariant (c.loop-alloc-test.ensures.0 refl) c.in_ok-child.ensures)
 
 -- the row of the node, as the tree has it
 own_row : (rows : List Row) (node : ℕ) (row : Row) → row ≡ get_or rows node row → node < length rows → slice_get (rows_of rows) node ≡ Some (row_of row)
@@ -45,4 +45,4 @@ pub returns : goal.returns
 returns t c =
     let here = own_row c.args.rows.now c.args.node c.index-rows-node.result c.index-rows-node.is c.requires.within in
     rw c.in_ok-name.ensures.cases
-      (growing_done _ _ _ _ (row_of c.index-rows-node.result) c.loop-alloc.invariant here (λ h. true≢false (sym (c.loop-alloc-test.ensures.1 h))))
+    (growing_done _ _ _ _ (row_of c.index-rows-node.result) c.loop-alloc.invariant here (λ h. true≢false (sym (c.loop-alloc-test.ensures.1 h))))

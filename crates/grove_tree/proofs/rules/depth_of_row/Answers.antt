@@ -1,4 +1,4 @@
-use Rattle.std.proofs.Common.{◌≡◌, ℕ, suc, ◌+◌, ◌<◌, ◌≤◌, sym, arith}
+use Rattle.std.proofs.Common.{suc, ◌<◌, sym, arith}
 use Rattle.grove_tree.proofs.Depths.{depth_step}
 use Rattle.grove_tree.proofs.rules.depth_of_row.Goals as goal
 

@@ -1,4 +1,4 @@
-use Rattle.std.proofs.Common.{◌≡◌, ℕ, suc, ◌<◌, ◌≤◌, sym, arith}
+use Rattle.std.proofs.Common.{sym, arith}
 use Rattle.grove_tree.proofs.RowTests.{less_to}
 use Rattle.grove_tree.proofs.rules.fault_of_row.Goals as goal
 

@@ -1,4 +1,4 @@
-use Rattle.std.proofs.Common.{◌≡◌, ℕ, ◌<◌, length, sym, ◌∙◌, add-one, arith}
+use Rattle.std.proofs.Common.{sym, ◌∙◌, add-one, arith}
 use Rattle.grove_tree.specs.Rules.{rows_of, is_twin}
 use Rattle.grove_tree.proofs.Counting.{any_from}
 use Rattle.grove_tree.proofs.RowTests.{twin_test, any_more}

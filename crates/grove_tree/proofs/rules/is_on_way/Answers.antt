@@ -1,5 +1,5 @@
-use Rattle.std.proofs.Common.{◌≡◌, ℕ, suc, ◌+◌, ◌<◌, ◌≤◌, Some, refl, sym, subst, arith, eq-eqb, eqb-true}
-use Rattle.grove_tree.specs.Trees.{parent_of, IsAbove}
+use Rattle.std.proofs.Common.{◌≡◌, ℕ, suc, ◌+◌, ◌<◌, ◌≤◌, sym, subst, arith, eq-eqb, eqb-true}
+use Rattle.grove_tree.specs.Trees.{IsAbove}
 use Rattle.grove_tree.specs.Rules.{rows_of}
 use Rattle.grove_tree.proofs.Ups.{up_le_from, above_child, above_self}
 use Rattle.grove_tree.proofs.Ways.{above_parent, above_top}
@@ -13,25 +13,30 @@ loop-at-smaller c =
 pub loop-at-preserved : goal.loop-at-preserved
 loop-at-preserved c =
     let own = sym c.in-Some.ensures in
-    let less : c.in-Some.parent < c.loop-at.at = c.requires.rising c.loop-at.at c.in-Some.parent c.loop-at.invariant.0 own in
-    (omega arith, (
-      (λ way. above_parent _ _ _ _ own (λ e. omega arith) (c.loop-at.invariant.1.0 way)),
-      (λ way. c.loop-at.invariant.1.1 (above_child _ _ _ _ own way))))
+    let less : c.in-Some.parent < c.loop-at.at = c.requires.rising c.loop-at.at c.in-Some.parent c.loop-at.invariant.0 own in (
+      omega arith,
+      (
+        (λ way. above_parent _ _ _ _ own (λ e. omega arith) (c.loop-at.invariant.1.0 way)),
+        (λ way. c.loop-at.invariant.1.1 (above_child _ _ _ _ own way)),
+      ),
+    )
 
 pub returns-in-None : goal.returns-in-None
 returns-in-None c = (
-    (λ e. absurd (cc)),
-    (λ way.
+  (λ e. absurd (cc)),
+  (λ way.
       let same : c.args.high ≡ c.loop-at.at = above_top _ _ _ (sym c.in-None.ensures) (c.loop-at.invariant.1.0 way) in
-      absurd (omega arith)))
+      absurd (omega arith)),
+)
 
 pub returns : goal.returns
 returns c = (
-    (λ e.
+  (λ e.
       let same : c.loop-at.at ≡ c.args.high = eqb-true _ _ e in
       c.loop-at.invariant.1.1 (subst (λ (v : ℕ). IsAbove (rows_of c.args.rows.now) v c.loop-at.at) same (above_self _ c.loop-at.at))),
-    (λ way.
+  (λ way.
       let at_way : IsAbove (rows_of c.args.rows.now) c.args.high c.loop-at.at = c.loop-at.invariant.1.0 way in
       let le : c.args.high + at_way.0 ≤ c.loop-at.at =
-          up_le_from _ (suc c.args.low) (λ v p lt own. c.requires.rising v p (omega arith) own) at_way.0 c.loop-at.at c.args.high (omega arith) at_way.1 in
-      eq-eqb _ _ (omega arith)))
+      up_le_from _ (suc c.args.low) (λ v p lt own. c.requires.rising v p (omega arith) own) at_way.0 c.loop-at.at c.args.high (omega arith) at_way.1 in
+      eq-eqb _ _ (omega arith)),
+)

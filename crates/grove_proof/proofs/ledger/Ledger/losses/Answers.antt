@@ -1,19 +1,17 @@
 -- What the ledger says of the row at hand.
-use Rattle.std.proofs.Common.{◌≡◌, ℕ, ◌+◌, ◌*◌, ◌^◌, ◌<◌, ◌≤◌, Bool, true, false, length, get_or, List, Some, refl, sym, ◌∙◌, ap, subst, arith}
+use Rattle.std.proofs.Common.{◌≡◌, ◌<◌, length, Some, arith}
 use Rattle.std.specs.List.{slice_get}
-use Rattle.std.proofs.lemmas.Option.{slice_get-get_or, get_or_from_slice_get, slice_get_within}
 use Rattle.grove_access.specs.Lists.{nodes_of}
-use Rattle.grove_proof.specs.declared.flow.FlowRow.{FlowRow}
-use Rattle.grove_proof.specs.Tables.{test_of, AreVisits}
+use Rattle.grove_proof.specs.Tables.{AreVisits}
 use Rattle.grove_proof.proofs.ByNode.{item_at}
-use Rattle.grove_proof.proofs.Totals.{IsInTables, node_in, visits_read, lock_made, release_made, sign_made, gain_step, loss_step, rows_in_tree, bad_here}
+use Rattle.grove_proof.proofs.Totals.{IsInTables, node_in, visits_read, loss_step, rows_in_tree}
 use Rattle.grove_proof.proofs.ledger.Ledger.losses.Goals as goal
 
 pub index-requires : goal.index-requires
 index-requires c =
     let there : slice_get c.args.self.now.rows.now c.loop-row.row-index ≡ Some c.row-item.result = item_at c.args.self.now.rows.now c.loop-row.row-index c.row-item.result (omega arith) c.row-item.is in
     let is : IsInTables c.args.self.now.tree.now c.args.self.now.visits.items c.args.self.now.above.items c.args.self.now.held.items c.row-item.result.node =
-      node_in c.args.self.now.tree.now (nodes_of c.args.self.now.list.now) c.args.self.now.rows.now c.args.self.now.visits.items c.args.self.now.above.items c.args.self.now.held.items c.loop-row.row-index c.row-item.result c.requires.right there in
+    node_in c.args.self.now.tree.now (nodes_of c.args.self.now.list.now) c.args.self.now.rows.now c.args.self.now.visits.items c.args.self.now.above.items c.args.self.now.held.items c.loop-row.row-index c.row-item.result c.requires.right there in
     let inside : c.row-item.result.node < length c.args.self.now.visits.items = is.in_visits in
     omega arith
 
@@ -21,8 +19,8 @@ pub loop-row-preserved : goal.loop-row-preserved
 loop-row-preserved c =
     let there : slice_get c.args.self.now.rows.now c.loop-row.row-index ≡ Some c.row-item.result = item_at c.args.self.now.rows.now c.loop-row.row-index c.row-item.result (omega arith) c.row-item.is in
     let are : AreVisits (nodes_of c.args.self.now.list.now) (length (nodes_of c.args.self.now.list.now)) c.row-item.result.node c.index.result.now =
-      visits_read (nodes_of c.args.self.now.list.now) c.args.self.now.tree.now c.args.self.now.visits.items c.row-item.result.node c.number.result c.index.result.now c.requires.right.visits_right
-        (rows_in_tree c.args.self.now.tree.now (nodes_of c.args.self.now.list.now) c.args.self.now.rows.now c.requires.right.listed c.loop-row.row-index c.row-item.result there)
-        c.number.ensures.is_it c.index.ensures in
+    visits_read (nodes_of c.args.self.now.list.now) c.args.self.now.tree.now c.args.self.now.visits.items c.row-item.result.node c.number.result c.index.result.now c.requires.right.visits_right
+    (rows_in_tree c.args.self.now.tree.now (nodes_of c.args.self.now.list.now) c.args.self.now.rows.now c.requires.right.listed c.loop-row.row-index c.row-item.result there)
+    c.number.ensures.is_it c.index.ensures in
     loss_step c.args.self.now.tree.now (nodes_of c.args.self.now.list.now) c.args.self.now.rows.now c.loop-row.row-index c.loop-row.total c.row-item.result c.index.result.now c.loop-row.invariant there
-      (c.requires.signs c.loop-row.row-index c.row-item.result there) are c.requires.right.short (omega arith)
+    (c.requires.signs c.loop-row.row-index c.row-item.result there) are c.requires.right.short (omega arith)

@@ -1,6 +1,4 @@
 -- The sum of the rows so far.
-use Rattle.std.proofs.Common.{◌≡◌, ℕ, ◌*◌, ◌^◌, ◌≤◌, take}
-use Rattle.std.specs.List.{sum_by}
 use Rattle.grove_access.specs.Lists.{nodes_of}
 use Rattle.grove_proof.proofs.Totals.{IsTotal, loss_of}
 use Rattle.grove_proof.proofs.ledger.Ledger.losses.Given as goal

@@ -1,9 +1,9 @@
-use Rattle.std.proofs.Common.{◌≡◌, ◌≢◌, ℕ, suc, ◌+◌, ◌-◌, ◌*◌, ◌/◌, ◌%◌, ◌<◌, ◌≤◌, length, ap, ◌∙◌, refl, sym, subst, arith, Some}
+use Rattle.std.proofs.Common.{◌≡◌, suc, ◌+◌, ◌-◌, ◌/◌, length, ap, ◌∙◌, refl, subst, arith, Some}
 use Rattle.std.specs.List.{slice_get}
 use Rattle.std.proofs.lemmas.Option.{slice_get_read}
-use Rattle.grove_tree.specs.Outlines.{Under, rows_under, total, IsChild, Covers}
+use Rattle.grove_tree.specs.Outlines.{Under, rows_under, IsChild}
 use Rattle.grove_tree.specs.OutlineFalls.{length-rows_under}
-use Rattle.grove_tree.proofs.Places.{rows_before, before_all, before_next, numbered_at, is_child, some_child}
+use Rattle.grove_tree.proofs.Places.{before_all, before_next, numbered_at, is_child, some_child}
 use Rattle.grove_tree.proofs.outline.Outline.towards.Goals as goal
 
 pub loop-high-init : goal.loop-high-init
@@ -22,7 +22,7 @@ pub loop-high-preserved-then-child-node : goal.loop-high-preserved-then-child-no
 loop-high-preserved-then-child-node c =
     let (low, high, from, to) = c.loop-high.invariant in
     let at : slice_get c.self.inside.children.items (c.loop-high.low + (c.loop-high.high - c.loop-high.low) / 2) ≡ Some c.index-child.result.now =
-        slice_get_read c.self.inside.children.items _ _ c.index-child.result.now refl (omega arith) c.index-child.ensures in
+    slice_get_read c.self.inside.children.items _ _ c.index-child.result.now refl (omega arith) c.index-child.ensures in
     let (start, some) = numbered_at (c.self.inside.number + 1) c.self.inside.children.items _ c.index-child.result.now c.self.invariant.numbered at in
     let number : c.child.inside.number ≡ c.index-child.result.now.0 = ap (λ (v : Under). v.0) c.child.view_is in
     (omega arith, omega arith, omega arith, omega arith)
@@ -31,7 +31,7 @@ pub loop-high-preserved : goal.loop-high-preserved
 loop-high-preserved c =
     let (low, high, from, to) = c.loop-high.invariant in
     let at : slice_get c.self.inside.children.items (c.loop-high.low + (c.loop-high.high - c.loop-high.low) / 2) ≡ Some c.index-child.result.now =
-        slice_get_read c.self.inside.children.items _ _ c.index-child.result.now refl (omega arith) c.index-child.ensures in
+    slice_get_read c.self.inside.children.items _ _ c.index-child.result.now refl (omega arith) c.index-child.ensures in
     let (start, some) = numbered_at (c.self.inside.number + 1) c.self.inside.children.items _ c.index-child.result.now c.self.invariant.numbered at in
     let number : c.child.inside.number ≡ c.index-child.result.now.0 = ap (λ (v : Under). v.0) c.child.view_is in
     (omega arith, omega arith, omega arith, omega arith)
@@ -40,7 +40,7 @@ pub returns : goal.returns
 returns c =
     let (low, high, from, to) = c.loop-high.invariant in
     let at : slice_get c.self.inside.children.items c.loop-high.low ≡ Some c.index.result.now =
-        slice_get_read c.self.inside.children.items _ _ c.index.result.now refl (omega arith) c.index.ensures in
+    slice_get_read c.self.inside.children.items _ _ c.index.result.now refl (omega arith) c.index.ensures in
     let (start, some) = numbered_at (c.self.inside.number + 1) c.self.inside.children.items _ c.index.result.now c.self.invariant.numbered at in
     let next = before_next c.self.inside.children.items _ c.index.result.now at in
     let end : c.loop-high.high ≡ suc c.loop-high.low = omega arith in

@@ -12,10 +12,11 @@ pub invariant_of-result : goal.invariant_of-result
 invariant_of-result c =
     let none = sym c.in-None.ensures.fault in
     let tree = faultless_tree (rows_of c.args.rows.now) none in
-    let whole = grown_whole (rows_of c.args.rows.now) c.in_ok-root-in-None.root tree c.in_ok-root-in-None.ensures in
-    (c.in_ok-root-in-None.ensures.number,
+    let whole = grown_whole (rows_of c.args.rows.now) c.in_ok-root-in-None.root tree c.in_ok-root-in-None.ensures in (
+      c.in_ok-root-in-None.ensures.number,
       subst (λ (rows : Rows). IsTree rows) (sym whole) tree,
-      subst (λ (rows : Rows). IsWithinLimits rows) (sym whole) (faultless_within (rows_of c.args.rows.now) none))
+      subst (λ (rows : Rows). IsWithinLimits rows) (sym whole) (faultless_within (rows_of c.args.rows.now) none),
+    )
 
 pub returns-in_ok-root-in-None-clause-rows : goal.returns-in_ok-root-in-None-clause-rows
 returns-in_ok-root-in-None-clause-rows c =

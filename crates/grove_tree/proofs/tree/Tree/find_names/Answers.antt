@@ -1,4 +1,4 @@
-use Rattle.std.proofs.Common.{◌≡◌, ℕ, ◌<◌, ◌≤◌, List, [], length, Some, None, refl, sym, ◌∙◌, ap, subst}
+use Rattle.std.proofs.Common.{◌≡◌, ℕ, List, [], Some, ◌∙◌, ap, subst}
 use Rattle.grove_tree.specs.Trees.{Rows, IsTree}
 use Rattle.grove_tree.specs.Rules.{IsWithinLimits}
 use Rattle.grove_tree.specs.Outlines.{Under}
@@ -16,14 +16,14 @@ pub returns-in_err-child-clause-only : goal.returns-in_err-child-clause-only
 returns-in_err-child-clause-only c =
     let tree = subst (λ (rows : Rows). IsTree rows) c.self.view_is c.self.invariant.1 in
     λ node within is. absurd (finding_stuck c.args.self.now c.args.names.now c.loop-rest.rest.now c.loop-rest.at.now tree c.loop-rest.invariant
-      (not_nil c.loop-rest.rest.now c.loop-rest-test.ensures) c.in_err-child.ensures node within is)
+    (not_nil c.loop-rest.rest.now c.loop-rest-test.ensures) c.in_err-child.ensures node within is)
 
 pub loop-rest-preserved : goal.loop-rest-preserved
 loop-rest-preserved c =
     let tree = subst (λ (rows : Rows). IsTree rows) c.self.view_is c.self.invariant.1 in
     let limits = subst (λ (rows : Rows). IsWithinLimits rows) c.self.view_is c.self.invariant.2 in
     finding_child c.args.self.now c.args.names.now c.loop-rest.rest.now c.in_ok-child.below.now c.loop-rest.at.now c.in_ok-child.child.now tree limits c.loop-rest.invariant
-      (not_nil c.loop-rest.rest.now c.loop-rest-test.ensures) c.in_ok-child.ensures.0 c.in_ok-child.ensures.1
+    (not_nil c.loop-rest.rest.now c.loop-rest-test.ensures) c.in_ok-child.ensures.0 c.in_ok-child.ensures.1
 
 pub returns-clause-only : goal.returns-clause-only
 returns-clause-only c =

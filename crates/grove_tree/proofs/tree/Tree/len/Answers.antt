@@ -1,4 +1,4 @@
-use Rattle.std.proofs.Common.{◌≡◌, ◌∙◌, ap, length}
+use Rattle.std.proofs.Common.{◌∙◌, ap, length}
 use Rattle.grove_tree.specs.Trees.{Rows}
 use Rattle.grove_tree.proofs.Children.{outline_size}
 use Rattle.grove_tree.proofs.tree.Tree.len.Goals as goal

@@ -1,13 +1,7 @@
-use Rattle.std.proofs.Common.{◌≡◌, ℕ, suc, ◌+◌, ◌<◌, ◌≤◌, ◌++◌, ◌∷◌, List, [], length, Option, Some, None, IsTrue, refl, sym, ◌∙◌, ap, subst, add-one, arith, eqb-true, eq-eqb, string_bytes}
-use Rattle.grove_tree.specs.Trees.{Rows, IsTree, IsAbove, parent_of, name_of, weight_of, depth_of}
-use Rattle.grove_tree.specs.Rules.{IsWithinLimits}
-use Rattle.grove_tree.specs.Paths.{path_of, or_slash}
+use Rattle.std.proofs.Common.{◌≡◌, ℕ, Some, None, sym, ◌∙◌, ap, subst}
+use Rattle.grove_tree.specs.Trees.{Rows, IsTree, parent_of}
 use Rattle.grove_tree.specs.Outlines.{Under}
-use Rattle.grove_tree.proofs.Ups.{parent_lt, above_child, above_self}
-use Rattle.grove_tree.proofs.Ways.{above_parent, above_top}
-use Rattle.grove_tree.proofs.Depths.{depth_step, depth_root}
-use Rattle.grove_tree.proofs.Names.{names_of, names_step, names_root}
-use Rattle.grove_tree.proofs.Placed.{reached_root, reached_child, placed_own}
+use Rattle.grove_tree.proofs.Placed.{reached_root, reached_child}
 use Rattle.grove_tree.proofs.tree.Tree.parent.Goals as goal
 
 pub loop-child-init : goal.loop-child-init

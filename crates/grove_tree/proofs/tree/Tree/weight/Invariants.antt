@@ -1,7 +1,4 @@
-use Rattle.std.proofs.Common.{◌≡◌, ◌+◌, ◌↔◌, IsTrue, string_bytes}
-use Rattle.grove_tree.specs.Trees.{parent_of, depth_of, IsAbove}
 use Rattle.grove_tree.proofs.Placed.{IsReached}
-use Rattle.grove_tree.proofs.Names.{names_of}
 use Rattle.grove_tree.proofs.tree.Tree.weight.Given as goal
 
 abbrev pub invariant-loop-child : goal.invariant-loop-child

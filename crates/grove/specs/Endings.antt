@@ -1,0 +1,47 @@
+-- What the program prints, and the status that it ends with.
+use Rattle.std.specs.Prelude.{◌≡◌, ℕ, ◌≤◌, codes, List, [], ◌∷◌, ◌++◌, string_bytes, Option, Result, Ok, Err, false, Bool, ◌⊎◌}
+use Rattle.std.specs.Io.KnownBytes.{Appends}
+use Rattle.grove.specs.declared.answer.Answer.{Answer}
+use Rattle.grove.specs.declared.answer.Answer.TheVariants.{Done, Refused, Usage}
+use Rattle.grove.specs.declared.answer.Stop.{Stop}
+use Rattle.grove.specs.declared.answer.Stop.TheVariants.{Device, Memory}
+
+-- the status that an answer has, once it is printed
+abbrev pub status_of : Answer → ℕ
+status_of (Done text) = 0
+status_of (Refused text) = 1
+status_of (Usage text) = 2
+
+-- what an answer puts on standard output, and on standard error
+abbrev pub printed : Answer → List ℕ
+printed (Done text) = string_bytes text
+printed (Refused text) = string_bytes text
+printed (Usage text) = []
+
+abbrev pub complained : Answer → List ℕ
+complained (Done text) = []
+complained (Refused text) = []
+complained (Usage text) = string_bytes text
+
+-- the line for a command that has no answer
+abbrev pub stop_line : Stop → List ℕ
+stop_line Device = codes "device" ++ 10 ∷ []
+stop_line Memory = codes "memory" ++ 10 ∷ []
+
+-- standard error got the line of some stop
+abbrev pub SaysStop : Option (List ℕ) → Option (List ℕ) → Type 0
+SaysStop old new = Appends old new (stop_line Device) ⊎ Appends old new (stop_line Memory)
+
+-- the line of a refusal, whose text is that of a fault
+abbrev pub refusal_line : List ℕ → List ℕ
+refusal_line fault = codes "refused " ++ fault ++ 10 ∷ []
+
+-- standard output got the line of some refusal
+abbrev pub SaysRefusal : Option (List ℕ) → Option (List ℕ) → Type 0
+SaysRefusal old new = (fault : List ℕ) × Appends old new (refusal_line fault)
+
+-- an answer that refuses does so by such a line
+abbrev pub IsRefusalLine : Answer → Type 0
+IsRefusalLine (Done text) = Unit {0}
+IsRefusalLine (Refused text) = (fault : List ℕ) × (string_bytes text ≡ refusal_line fault)
+IsRefusalLine (Usage text) = Unit {0}

@@ -1,0 +1,120 @@
+ghost use Rattle.std.specs.Prelude.{◌≡◌, ◌≤◌, ◌⊎◌, true, false, IfOk, IsOkAnd, OnErr};
+ghost use Rattle.std.specs.Io.KnownBytes.{Appends, Keeps};
+ghost use Rattle.grove.specs.Endings.{status_of, printed, complained, stop_line, IsRefusalLine, SaysRefusal, SaysStop};
+
+use crate::devices::write_whole;
+use grove_store::{DeviceFault, Sink};
+use std::alloc::{AllocError, AllocFailed};
+use std::io;
+
+/// What a command prints, made whole before any of it is printed.
+#[derive(Debug, Drop)]
+pub enum Answer {
+    /// The command is done: lines for standard output, status 0.
+    Done(String),
+    /// The document is refused: a line for standard output, status 1.
+    Refused(String),
+    /// The words of the command line are at fault: lines for standard error, status 2.
+    Usage(String),
+}
+
+/// Why a command has no answer, or can't print it: a line for standard error, status 3.
+#[derive(Clone, Copy, Debug, PartialEq, Eq)]
+pub enum Stop {
+    /// Something couldn't be read or written.
+    Device,
+    /// A growth was refused.
+    Memory,
+}
+
+/// Prints the answer, or why there is none, and gives the status of the process.
+pub fn end<O: Sink, E: Sink>(answer: Result<Answer, Stop>, out: &mut O, err: &mut E) -> u8
+    ensures status { result ≤ 3 }
+    ensures answered { result ≤ 2 → IsOkAnd answer (λ answer. (result ≡ status_of answer)
+        × Appends (O.contents out.old) (O.contents out.new) (printed answer)
+        × Appends (E.contents err.old) (E.contents err.new) (complained answer)) }
+    ensures refused { IfOk answer IsRefusalLine → result ≡ 1 → SaysRefusal (O.contents out.old) (O.contents out.new) }
+    ensures quiet_output { result ≡ 2 → Keeps (O.contents out.old) (O.contents out.new) }
+    ensures quiet_errors { result ≤ 1 → Keeps (E.contents err.old) (E.contents err.new) }
+    ensures sound_output { result ≤ 2 → O.has_failed out.new ≡ O.has_failed out.old }
+    ensures sound_errors { result ≤ 2 → E.has_failed err.new ≡ E.has_failed err.old }
+    ensures told { result ≡ 3 → E.has_failed err.new ≡ false → SaysStop (E.contents err.old) (E.contents err.new) }
+    ensures unprinted { OnErr answer (Keeps (O.contents out.old) (O.contents out.new)) }
+{
+    match answer {
+        Ok(Answer::Done(text)) => tell(&text, 0, out, err),
+        Ok(Answer::Refused(text)) => tell(&text, 1, out, err),
+        Ok(Answer::Usage(text)) => complain(&text, err),
+        Err(why) => report(why, err),
+    }
+}
+
+/// Prints the text on standard output, and gives the status if that is done.
+fn tell<O: Sink, E: Sink>(text: &str, status: u8, out: &mut O, err: &mut E) -> u8
+    requires { status ≤ 2 }
+    ensures status { (result ≡ status) ⊎ (result ≡ 3) }
+    ensures output { result ≤ 2 → Appends (O.contents out.old) (O.contents out.new) text.now }
+    ensures errors { result ≤ 2 → err.new ≡ err.old }
+    ensures sound { result ≤ 2 → O.has_failed out.new ≡ O.has_failed out.old }
+    ensures told { result ≡ 3 → E.has_failed err.new ≡ false → SaysStop (E.contents err.old) (E.contents err.new) }
+{
+    match write_whole(out, text.as_bytes()) {
+        Ok(()) => status,
+        Err(DeviceFault) => report(Stop::Device, err),
+    }
+}
+
+/// Prints the text on standard error.
+fn complain<E: Sink>(text: &str, err: &mut E) -> u8
+    ensures status { (result ≡ 2) ⊎ (result ≡ 3) }
+    ensures errors { result ≤ 2 → Appends (E.contents err.old) (E.contents err.new) text.now }
+    ensures sound { result ≤ 2 → E.has_failed err.new ≡ E.has_failed err.old }
+    ensures failed { result ≡ 3 → E.has_failed err.new ≡ true }
+{
+    match write_whole(err, text.as_bytes()) {
+        Ok(()) => 2,
+        Err(DeviceFault) => report(Stop::Device, err),
+    }
+}
+
+/// Says on standard error why there is no answer.
+fn report<E: Sink>(why: Stop, err: &mut E) -> u8
+    ensures status { result ≡ 3 }
+    ensures told { E.has_failed err.new ≡ false → Appends (E.contents err.old) (E.contents err.new) (stop_line why) }
+    ensures failed { E.has_failed err.old ≡ true → E.has_failed err.new ≡ true }
+{
+    let line = match why {
+        Stop::Device => "device\n",
+        Stop::Memory => "memory\n",
+    };
+    // Where standard error fails too, the status alone is left to tell of it.
+    let _told = write_whole(err, line.as_bytes());
+    3
+}
+
+impl From<DeviceFault> for Stop {
+    fn from(_fault: DeviceFault) -> Stop {
+        Stop::Device
+    }
+}
+
+impl From<AllocError> for Stop {
+    fn from(_error: AllocError) -> Stop {
+        Stop::Memory
+    }
+}
+
+impl<T: Drop> From<AllocFailed<T>> for Stop {
+    fn from(_error: AllocFailed<T>) -> Stop {
+        Stop::Memory
+    }
+}
+
+impl From<io::Error> for Stop {
+    fn from(error: io::Error) -> Stop {
+        match error.kind() {
+            io::ErrorKind::OutOfMemory => Stop::Memory,
+            _ => Stop::Device,
+        }
+    }
+}

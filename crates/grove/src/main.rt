@@ -1,0 +1,37 @@
+//! The program: reads a command line and a document, does the command, and prints what comes of it.
+#![tactic(auto)]
+
+use answer::{Stop, end};
+use command::{refused_words, run_command};
+use grove_store::{ReaderSource, WriterSink};
+use std::env;
+use std::io::ErrorKind;
+use std::process::ExitCode;
+
+mod answer;
+mod checking;
+mod command;
+mod command_line;
+mod devices;
+mod judging;
+mod planning;
+mod refusal;
+#[cfg(test)]
+mod tests;
+
+fn main(rt: HostRuntime) -> ExitCode {
+    let mut input = ReaderSource::new(rt.stdin());
+    let mut out = WriterSink::new(rt.stdout());
+    let mut err = WriterSink::new(rt.stderr());
+    let status = match env::args(&rt) {
+        Ok(words) => match words.skip(1).collect::<Vec<String>>(rt.alloc()) {
+            Ok(words) => run_command(&rt, &words, &mut input, &mut out, &mut err),
+            Err(_) => end(Err(Stop::Memory), &mut out, &mut err),
+        },
+        Err(error) if error.kind() == ErrorKind::OutOfMemory => {
+            end(Err(Stop::Memory), &mut out, &mut err)
+        }
+        Err(_) => end(refused_words(rt.alloc()), &mut out, &mut err),
+    };
+    ExitCode::from(status)
+}

@@ -1,0 +1,121 @@
+-- A legal plan that costs no more than the bound is tight along the flow.
+use Rattle.std.proofs.Common.{◌≡◌, ℕ, zero, suc, ◌+◌, ◌*◌, ◌<◌, ◌≤◌, List, [], ◌∷◌, Some, refl, sym, ◌∙◌, subst, inl, inr, arith, mul-le-mul_left, mul-suc}
+use Rattle.std.specs.Prelude.{map}
+use Rattle.std.specs.List.{slice_get, sum_by}
+use Rattle.std.proofs.lemmas.Option.{none-some, same_Some}
+use Rattle.std.proofs.lemmas.Bool.{cases_order}
+use Rattle.std.proofs.lemmas.List.Sums.{sum_by-cons}
+use Rattle.grove_tree.specs.Trees.{Rows, weight_of, IsTree}
+use Rattle.grove_access.specs.Lists.{AreNodes}
+use Rattle.grove_access.specs.Spanned.{first_access, last_end, spanned_nodes}
+use Rattle.grove_plan.specs.declared.step.Step.{Step}
+use Rattle.grove_plan.specs.Plans.{holding, cost, IsLegal}
+use Rattle.grove_plan.specs.Slots.{lock_slot, release_slot}
+use Rattle.grove_proof.specs.declared.flow.FlowRow.{FlowRow}
+use Rattle.grove_proof.specs.Five.{MeetsFive}
+use Rattle.grove_proof.specs.Flows.{node_of, child_sum, gains, losses, Balances}
+use Rattle.grove_proof.proofs.Sums.{sums_le}
+use Rattle.grove_proof.proofs.Listed.{forced_list_is_span}
+use Rattle.grove_proof.proofs.Constraints.{meets_five}
+use Rattle.grove_proof.proofs.Duality.{priced, parent_value, priced_locks, priced_releases, child_swap, AreSpanRows, span_rows, at_parent, above_term, held_term, first_term, last_term, own_term, holding_sums, span_cost_le}
+use Rattle.grove_build.proofs.Fitting.{AreTight}
+
+-- where each term is at most another and the sums are the other way round, the terms are the same
+sum_tight : {X : Type 0} (f g : X → ℕ) (xs : List X) → ((i : ℕ) (x : X) → slice_get xs i ≡ Some x → f x ≤ g x) → sum_by g xs ≤ sum_by f xs
+    → (i : ℕ) (x : X) → slice_get xs i ≡ Some x → f x ≡ g x
+sum_tight f g [] le less i x h = absurd (none-some x h)
+sum_tight {X} f g (y ∷ xs) le less zero x h =
+    let here : f y ≤ g y = le 0 y refl in
+    let there : sum_by f xs ≤ sum_by g xs = sums_le f g xs (λ i z k. le (suc i) z k) in
+    let e : f y ≡ g y = omega (arith, sum_by-cons f y xs, sum_by-cons g y xs) in
+    let P : X → Type 0 = λ z. f z ≡ g z in
+    subst P (same_Some y x h) e
+sum_tight f g (y ∷ xs) le less (suc i) x h =
+    let here : f y ≤ g y = le 0 y refl in
+    sum_tight f g xs (λ j z k. le (suc j) z k) (omega (arith, sum_by-cons f y xs, sum_by-cons g y xs)) i x h
+
+-- what is priced the same by a positive amount is the same
+cancel_less : (a x y : ℕ) → 0 < a → a * x ≡ a * y → x < y → ⊥
+cancel_less a x y some e lt =
+    let le : a * suc x ≤ a * y = mul-le-mul_left a lt in
+    let more : a * suc x ≡ a * x + a = times a x in
+    omega arith
+  where
+    times : (a x : ℕ) → a * suc x ≡ a * x + a
+    times a x = omega (arith, mul-suc a x)
+
+cancel : (a x y : ℕ) → 0 < a → a * x ≡ a * y → x ≡ y
+cancel a x y some e = elim (cases_order x y) [
+  | inl same ↦ same
+  | inr o ↦ elim o [
+    | inl lt ↦ absurd (cancel_less a x y some e lt)
+    | inr gt ↦ absurd (cancel_less a y x some (sym e) gt)
+  ]
+]
+
+-- ten sums that leave no slack
+slack_sums : (above locks child_above held first own child_held last last_ends releases firsts own_release hold cost : ℕ)
+    → above + locks ≡ ((child_above + held) + first) + own → (child_held + last) + own_release ≡ releases → releases ≡ locks + hold
+    → child_above ≤ above → held ≤ child_held → first ≤ firsts → last_ends ≤ last → own ≤ own_release → hold ≤ cost
+    → cost + firsts ≤ last_ends
+    → (above ≤ child_above) × (child_held ≤ held) × (firsts ≤ first) × (last ≤ last_ends) × (own_release ≤ own)
+slack_sums above locks child_above held first own child_held last last_ends releases firsts own_release hold cost h1 h2 h3 h4 h5 h6 h7 h8 h9 h10 =
+    (omega arith, omega arith, omega arith, omega arith, omega arith)
+
+pub cheap_is_tight : (rows : Rows) (nodes : List ℕ) (flow : List FlowRow) (plan : List Step) → IsTree rows → AreNodes rows nodes → Balances rows nodes flow → IsLegal rows nodes plan
+    → cost rows plan + losses nodes flow ≤ gains nodes flow → AreTight rows nodes flow (lock_slot plan) (release_slot plan)
+cheap_is_tight rows nodes flow plan tree fits balances legal cheap =
+    let are : AreSpanRows rows nodes flow = span_rows rows nodes flow tree fits balances.forced in
+    let five : MeetsFive rows nodes plan = meets_five rows nodes plan tree legal in
+    let listed : map node_of flow ≡ spanned_nodes rows nodes = (forced_list_is_span rows nodes (map node_of flow) tree fits).0 balances.forced in
+    let above = above_term rows nodes flow plan are balances.signs five in
+    let held = held_term rows nodes flow plan are balances.signs five in
+    let first = first_term rows nodes flow plan are balances.signs five in
+    let last = last_term rows nodes flow plan are balances.signs five in
+    let own = own_term rows nodes flow plan are balances.signs five in
+    let parents : ℕ = sum_by (λ child. child.above * parent_value rows flow (lock_slot plan) child) flow in
+    let overs : ℕ = sum_by (λ child. child.held * parent_value rows flow (release_slot plan) child) flow in
+    let slack = slack_sums
+    (priced flow (λ row. row.above) (lock_slot plan))
+    (priced flow (λ row. weight_of rows row.node) (lock_slot plan))
+    (priced flow (child_sum rows (λ child. child.above) flow) (lock_slot plan))
+    (priced flow (λ row. row.held) (lock_slot plan))
+    (priced flow (λ row. row.first) (lock_slot plan))
+    (priced flow (λ row. row.own) (lock_slot plan))
+    (priced flow (child_sum rows (λ child. child.held) flow) (release_slot plan))
+    (priced flow (λ row. row.last) (release_slot plan))
+    (gains nodes flow)
+    (priced flow (λ row. weight_of rows row.node) (release_slot plan))
+    (losses nodes flow)
+    (priced flow (λ row. row.own) (release_slot plan))
+    (priced flow (λ row. weight_of rows row.node) (holding plan))
+    (cost rows plan)
+    (priced_locks rows flow (lock_slot plan) balances.locks)
+    (priced_releases rows flow (release_slot plan) balances.releases)
+    (holding_sums rows nodes flow plan are balances.signs five)
+    (rw (child_swap rows flow (λ child. child.above) (lock_slot plan)) (sums_le (λ child. child.above * parent_value rows flow (lock_slot plan) child) (λ row. row.above * lock_slot plan row.node) flow above))
+    (rw (child_swap rows flow (λ child. child.held) (release_slot plan)) (sums_le (λ row. row.held * lock_slot plan row.node) (λ child. child.held * parent_value rows flow (release_slot plan) child) flow held))
+    (sums_le (λ row. row.first * lock_slot plan row.node) (λ row. row.first * first_access nodes row.node) flow first)
+    (sums_le (λ row. row.last * last_end nodes row.node) (λ row. row.last * release_slot plan row.node) flow last)
+    (sums_le (λ row. row.own * lock_slot plan row.node) (λ row. row.own * release_slot plan row.node) flow own)
+    (span_cost_le rows nodes flow plan listed)
+    cheap in
+    record {
+      above = λ i j row parent a b child some.
+          let e = sum_tight (λ c. c.above * parent_value rows flow (lock_slot plan) c) (λ r. r.above * lock_slot plan r.node) flow above
+          (let s = child_swap rows flow (λ c. c.above) (lock_slot plan) in let t = slack.0 in omega arith) i row a in
+          sym (at_parent rows nodes flow (lock_slot plan) are row parent j b child) ∙ cancel row.above (parent_value rows flow (lock_slot plan) row) (lock_slot plan row.node) some e;
+      held = λ i j row parent a b child some.
+          let e = sum_tight (λ r. r.held * lock_slot plan r.node) (λ c. c.held * parent_value rows flow (release_slot plan) c) flow held
+          (let s = child_swap rows flow (λ c. c.held) (release_slot plan) in let t = slack.1 in omega arith) i row a in
+          cancel row.held (lock_slot plan row.node) (parent_value rows flow (release_slot plan) row) some e ∙ at_parent rows nodes flow (release_slot plan) are row parent j b child;
+      first = λ i row a accessed some.
+          cancel row.first (lock_slot plan row.node) (first_access nodes row.node) some
+          (sum_tight (λ r. r.first * lock_slot plan r.node) (λ r. r.first * first_access nodes r.node) flow first slack.2 i row a);
+      last = λ i row a accessed some.
+          cancel row.last (last_end nodes row.node) (release_slot plan row.node) some
+          (sum_tight (λ r. r.last * last_end nodes r.node) (λ r. r.last * release_slot plan r.node) flow last slack.3 i row a);
+      own = λ i row a some.
+          cancel row.own (lock_slot plan row.node) (release_slot plan row.node) some
+          (sum_tight (λ r. r.own * lock_slot plan r.node) (λ r. r.own * release_slot plan r.node) flow own slack.4 i row a);
+    }

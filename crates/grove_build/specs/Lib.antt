@@ -1,0 +1,4 @@
+pub mod Layout
+pub mod Settled
+pub mod Networks
+pub mod Stays

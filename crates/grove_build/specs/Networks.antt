@@ -1,0 +1,104 @@
+-- The network of a list's nodes: arcs and needs in the rows' order, and the flow's rows read back from amounts in that order.
+use Rattle.std.specs.Prelude.{◌≡◌, ℕ, ◌<◌, ◌≤◌, length, slice_get, map, ◌+◌, ◌*◌, suc, List, [], ◌∷◌, ◌++◌, slice_index, Option, Some, None, ℤ, pos, neg_ℤ, int_lt, if◌then◌else◌}
+use borrow.Author.Differences.{up}
+use Rattle.grove_tree.specs.Trees.{Rows, weight_of, IsTree}
+use Rattle.grove_access.specs.Lists.{AreNodes}
+use Rattle.grove_access.specs.Spanned.{spanned_nodes}
+use Rattle.grove_proof.specs.declared.flow.FlowRow.{FlowRow}
+use Rattle.grove_span.specs.declared.row.SpanRow.{SpanRow}
+use Rattle.grove_span.specs.SpanRows.{node_of_row, HaveParents, HaveAccesses}
+use Rattle.grove_flow.specs.declared.network.Arc.{Arc}
+use Rattle.grove_flow.specs.Networks.{IsLatest}
+use Rattle.grove_flow.specs.Flows.{IsSolution}
+
+abbrev pub arc : ℕ → ℕ → ℤ → Arc
+arc from to least = record { from = from; to = to; least = least }
+
+-- the parent is locked no later than the node, and not released before the node is locked
+abbrev pub parent_arcs : ℕ → Option ℕ → List Arc
+parent_arcs k None = []
+parent_arcs k (Some parent) = arc (2 * parent) (2 * k) (pos 0) ∷ (arc (2 * k) (2 * parent + 1) (pos 0) ∷ [])
+
+-- the node is locked before its first access
+abbrev pub first_arcs : ℕ → ℕ → Option ℕ → List Arc
+first_arcs base k None = []
+first_arcs base k (Some first) = arc (2 * k) base (neg_ℤ (pos first)) ∷ []
+
+-- the node isn't released before its last access is done
+abbrev pub last_arcs : ℕ → ℕ → Option ℕ → List Arc
+last_arcs base k None = []
+last_arcs base k (Some last) = arc base (2 * k + 1) (pos (last + 1)) ∷ []
+
+-- the arcs of the row at place k
+abbrev pub row_arcs : ℕ → ℕ → SpanRow → List Arc
+row_arcs base k row =
+    parent_arcs k row.parent ++ (first_arcs base k row.first ++ (last_arcs base k row.last ++ arc (2 * k) (2 * k + 1) (pos 0) ∷ []))
+
+-- the arcs of the rows from place k on
+abbrev pub arcs_from : ℕ → ℕ → List SpanRow → List Arc
+arcs_from base k [] = []
+arcs_from base k (row ∷ rows) = row_arcs base k row ++ arcs_from base (suc k) rows
+
+-- what each variable needs: each row's lock gives its weight, its release takes it, and the base does neither
+abbrev pub needs_of : Rows → List SpanRow → List ℤ
+needs_of tree [] = pos 0 ∷ []
+needs_of tree (row ∷ rows) = neg_ℤ (pos (weight_of tree row.node)) ∷ (pos (weight_of tree row.node) ∷ needs_of tree rows)
+
+-- the places to begin from: every lock at 0, every release after all accesses
+abbrev pub start_of : ℕ → List SpanRow → List ℤ
+start_of m [] = pos 0 ∷ []
+start_of m (row ∷ rows) = pos 0 ∷ (pos m ∷ start_of m rows)
+
+-- a place, or the top where that is less
+abbrev pub lowered : ℤ → ℤ → ℤ
+lowered top place = if int_lt top place then top else place
+
+-- the number of arcs that something which may be missing has
+abbrev pub width : Option ℕ → ℕ
+width None = 0
+width (Some x) = 1
+
+abbrev pub row_width : SpanRow → ℕ
+row_width row = width row.parent + width row.parent + width row.first + width row.last + 1
+
+-- the amount at a place, where there is the arc
+abbrev pub amount_if : Option ℕ → List ℕ → ℕ → ℕ
+amount_if None amounts at = 0
+amount_if (Some x) amounts at = slice_index amounts at
+
+-- the amounts of one row, which stand from a place on
+abbrev pub read_row : SpanRow → List ℕ → ℕ → FlowRow
+read_row row amounts at = record {
+  node = row.node;
+  above = amount_if row.parent amounts at;
+  held = amount_if row.parent amounts (at + 1);
+  first = amount_if row.first amounts (at + width row.parent + width row.parent);
+  last = amount_if row.last amounts (at + width row.parent + width row.parent + width row.first);
+  own = slice_index amounts (at + width row.parent + width row.parent + width row.first + width row.last);
+}
+
+abbrev pub read_rows : List SpanRow → List ℕ → ℕ → List FlowRow
+read_rows [] amounts at = []
+read_rows (row ∷ rows) amounts at = read_row row amounts at ∷ read_rows rows amounts (at + row_width row)
+
+-- The rows of a list over a tree: not too many, of nodes of the tree, with parents among themselves.
+pub record AreRowsOf (tree : Rows) (rows : List SpanRow) : Type 0 where
+  pub few : length rows ≤ 4096
+  pub nodes : (i : ℕ) (row : SpanRow) → slice_get rows i ≡ Some row → row.node < length tree
+  pub parents : (i j : ℕ) (row : SpanRow) → slice_get rows i ≡ Some row → row.parent ≡ Some j → j < length rows
+
+-- the span of a list over a tree
+pub record IsSpan (tree : Rows) (nodes : List ℕ) (rows : List SpanRow) : Type 0 where
+  pub is_tree : IsTree tree
+  pub are_nodes : AreNodes tree nodes
+  pub named : map node_of_row rows ≡ spanned_nodes tree nodes
+  pub parents : HaveParents tree nodes rows
+  pub accesses : HaveAccesses nodes rows
+
+-- Amounts that meet the needs of the rows' network, and its latest places along them, as gaps.
+pub record IsSolved (tree : Rows) (m : ℕ) (rows : List SpanRow) (amounts gaps : List ℕ) : Type 0 where
+  pub solved : List ℤ
+  pub solution : IsSolution (needs_of tree rows) (arcs_from (2 * length rows) 0 rows) amounts solved
+  pub places : List ℤ
+  pub latest : IsLatest (2 * length rows + 1) (arcs_from (2 * length rows) 0 rows) amounts (pos m) places
+  pub are_gaps : gaps ≡ map up places

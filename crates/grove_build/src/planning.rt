@@ -1,0 +1,71 @@
+ghost use Rattle.std.specs.Prelude.{◌≡◌, length, IfOk};
+ghost use Rattle.grove_access.specs.Lists.{nodes_of, AreNodes};
+ghost use Rattle.grove_plan.specs.Plans.{IsLeast, cost};
+ghost use Rattle.grove_proof.specs.Flows.{IsCertificate};
+ghost use Rattle.grove_build.specs.Settled.{IsSettled};
+ghost use Rattle.grove_build.specs.Networks.{IsSpan, IsSolved};
+
+use crate::flow_rows::flow_rows;
+use crate::solving::{Solved, solve_rows};
+use crate::stays::{cost_of, needed_of, stays_of};
+use crate::steps::lay_out;
+use grove_access::AccessList;
+use grove_plan::Plan;
+use grove_proof::Flow;
+use grove_span::{SpanRow, span};
+use grove_tree::{NoMemory, Tree};
+use std::alloc::Global;
+
+/// What the planner answers for a list.
+#[derive(Debug, Drop)]
+pub struct Planned {
+    pub plan: Plan,
+    /// What the plan costs, in weight times slots.
+    pub cost: u64,
+    /// The certificate of the cost.
+    pub flow: Flow,
+}
+
+/// The settled plan of the list. The only refusal is for want of memory.
+pub fn plan(alloc: Global, tree: &Tree, list: &AccessList) -> Result<Planned, NoMemory>
+    requires fits { AreNodes tree.now (nodes_of list.now) }
+    ensures settled { IfOk result (λ planned. IsSettled tree.now (nodes_of list.now) planned.plan) }
+    ensures least { IfOk result (λ planned. IsLeast tree.now (nodes_of list.now) planned.plan) }
+    ensures cost { IfOk result (λ planned. planned.cost ≡ cost tree.now planned.plan) }
+    ensures certificate { IfOk result (λ planned. IsCertificate tree.now (nodes_of list.now) planned.flow (cost tree.now planned.plan)) }
+{
+    // That the rows are a tree's is told with their number.
+    let _nodes = tree.len();
+    let rows = span(alloc, tree, list)?;
+    let solved = solve_rows(alloc, tree, list, &rows)?;
+    settle(alloc, tree, list, &rows, &solved)
+}
+
+/// The settled plan from the solved network.
+fn settle(
+    alloc: Global,
+    tree: &Tree,
+    list: &AccessList,
+    rows: &[SpanRow],
+    solved: &Solved,
+) -> Result<Planned, NoMemory>
+    requires span { IsSpan tree.now (nodes_of list.now) rows.now }
+    requires solved { IsSolved tree.now (length (nodes_of list.now)) rows.now solved.now.amounts.items solved.now.gaps.items }
+    ensures settled { IfOk result (λ planned. IsSettled tree.now (nodes_of list.now) planned.plan) }
+    ensures cost { IfOk result (λ planned. planned.cost ≡ cost tree.now planned.plan) }
+    ensures certificate { IfOk result (λ planned. IsCertificate tree.now (nodes_of list.now) planned.flow (cost tree.now planned.plan)) }
+{
+    // The limits that hold of every tree and every list are told with their lengths.
+    let _nodes = tree.len();
+    let accesses = list.len();
+    let needed = needed_of(alloc, tree, rows, &solved.gaps)?;
+    let stays = stays_of(alloc, rows, &solved.gaps, &needed)?;
+    let steps = lay_out(alloc, &stays, accesses)?;
+    let flow = flow_rows(alloc, rows, &solved.amounts)?;
+    let cost = cost_of(tree, &stays);
+    Ok(Planned {
+        plan: Plan::new(steps),
+        cost,
+        flow: Flow::new(flow),
+    })
+}

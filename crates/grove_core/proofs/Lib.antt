@@ -1,0 +1,16 @@
+pub mod Swapping
+pub mod Dealing
+pub mod Timing
+pub mod Depths
+pub mod Lifting
+pub mod Placing
+pub mod EachOnce
+pub mod Times
+pub mod Doing
+pub mod SerialRuns
+pub mod GoingOn
+pub mod Counts
+pub mod Keeping
+pub mod Started
+pub mod Filling
+pub mod WorkedRows

@@ -1,0 +1,101 @@
+-- The loops that open a core, a job further.
+use Rattle.std.proofs.Common.{◌≡◌, ℕ, zero, suc, ◌+◌, ◌*◌, ◌^◌, ◌<◌, ◌≤◌, Bool, ◌⊎◌, ℤ, List, [], ◌∷◌, ◌++◌, length, reverse, replicate, get_or, Option, Some, None, refl, sym, ◌∙◌, ap, subst, inl, inr, arith, add-one}
+use Rattle.std.specs.Bool.{⊤}
+use Rattle.std.specs.List.{slice_get}
+use Rattle.std.specs.Vec.{vec_capacity}
+use Rattle.std.proofs.lemmas.Option.{none-some, same_Some, slice_get_within}
+use Rattle.std.proofs.lemmas.List.{length-replicate}
+use Rattle.grove_tree.specs.Numbers.{sum_below}
+use Rattle.grove_tree.specs.Trees.{Rows, IsTree}
+use Rattle.grove_tree.proofs.Counting.{count_le}
+use Rattle.grove_tree.proofs.Lists.{get_append_cases}
+use Rattle.grove_plan.specs.declared.step.Step.{Step}
+use Rattle.grove_plan.specs.Plans.{is_lock, held}
+use Rattle.grove_core.specs.declared.job.Job.{Job}
+use Rattle.grove_core.specs.declared.event.Event.{Event}
+use Rattle.grove_core.specs.declared.progress.Progress.{Progress}
+use Rattle.grove_core.specs.declared.fault.OpenFault.{OpenFault}
+use Rattle.grove_core.specs.declared.fault.OpenFault.TheVariants.{BadPlan, Memory}
+use Rattle.grove_core.specs.Runs.{list_of, plan_of, AllLegal, lock_steps}
+use Rattle.grove_core.specs.Kept.{HasProgress, Owns, IsCore}
+use Rattle.grove_core.specs.Openings.{fault_of, job_fault, IsFaultOf, IsFirstFault, HasStarted}
+use Rattle.grove_core.proofs.Keeping.{list_of_at, plan_of_at}
+
+-- a plan's steps and lock steps are at most twice its steps
+pub room_more : (jobs : List Job) (n room steps : ℕ) (job : Job) → slice_get jobs n ≡ Some job → steps ≡ length job.plan
+    → sum_below n (λ t. length (plan_of jobs t) + lock_steps (plan_of jobs t)) ≤ room
+    → sum_below (n + 1) (λ t. length (plan_of jobs t) + lock_steps (plan_of jobs t)) ≤ room + 2 * steps
+room_more jobs n room steps job at size le =
+    let e : length (plan_of jobs n) ≡ length job.plan = ap (λ (p : List Step). length p) (plan_of_at jobs n job at) in
+    let few : lock_steps (plan_of jobs n) ≤ length (plan_of jobs n) = count_le (length (plan_of jobs n)) (λ i. is_lock (slice_get (plan_of jobs n) i)) in
+    rw add-one (omega arith)
+
+pub job_fault_at : (rows : Rows) (jobs : List Job) (t : ℕ) (job : Job) → slice_get jobs t ≡ Some job → job_fault rows jobs t ≡ fault_of rows job
+job_fault_at rows [] t job at = absurd (none-some job at)
+job_fault_at rows (x ∷ jobs) zero job at = ap (fault_of rows) (same_Some x job at)
+job_fault_at rows (x ∷ jobs) (suc t) job at = job_fault_at rows jobs t job at
+
+-- a fault of a job after faultless ones is the first fault
+pub first_fault : (rows : Rows) (jobs : List Job) (t : ℕ) (job : Job) → slice_get jobs t ≡ Some job → ((u : ℕ) → u < t → job_fault rows jobs u ≡ None)
+    → (fault : OpenFault) → IsFaultOf (fault_of rows job) t fault → IsFirstFault rows jobs fault
+first_fault rows jobs t job at before (BadPlan u fault) h =
+    subst (λ (k : ℕ). (k < length jobs) × (job_fault rows jobs k ≡ Some fault) × ((w : ℕ) → w < k → job_fault rows jobs w ≡ None)) (sym h.0)
+    (slice_get_within jobs t job at, job_fault_at rows jobs t job at ∙ h.1, before)
+first_fault rows jobs t job at before Memory h = tt
+
+started_last : (nodes n : ℕ) (jobs : List Job) (p : Progress) (t : ℕ) (q : Progress) (i : ℕ) → slice_get (p ∷ []) i ≡ Some q → t ≡ n + i
+    → HasStarted nodes (length (list_of jobs n)) p → HasStarted nodes (length (list_of jobs t)) q
+started_last nodes n jobs p t q zero at e here =
+    let f : t ≡ n = omega arith in
+    rw f (subst (λ (x : Progress). HasStarted nodes (length (list_of jobs n)) x) (same_Some p q at) here)
+started_last nodes n jobs p t q (suc i) at e here = absurd (none-some q at)
+
+-- one job started more
+pub started_more : (nodes n : ℕ) (jobs : List Job) (all more : List Progress) (p : Progress) → length all ≡ n → more ≡ all ++ p ∷ []
+    → ((t : ℕ) (q : Progress) → slice_get all t ≡ Some q → HasStarted nodes (length (list_of jobs t)) q) → HasStarted nodes (length (list_of jobs n)) p
+    → (t : ℕ) (q : Progress) → slice_get more t ≡ Some q → HasStarted nodes (length (list_of jobs t)) q
+started_more nodes n jobs all more p size e so_far here t q at =
+    elim (get_append_cases all (p ∷ []) t q (ap (λ ps. slice_get ps t) (sym e) ∙ at)) [
+      | inl old ↦ so_far t q old
+      | inr new ↦ started_last nodes n jobs p t q new.0 new.2 (let a : t ≡ length all + new.0 = new.1 in omega arith) here
+    ]
+
+-- an item of a list of one value
+pub same_items : {A : Type 0} (n i : ℕ) (x y : A) → slice_get (replicate n x) i ≡ Some y → x ≡ y
+same_items zero i x y at = absurd (none-some y at)
+same_items (suc n) zero x y at = same_Some x y at
+same_items (suc n) (suc i) x y at = same_items n i x y at
+
+pub items_same : {A : Type 0} (n i : ℕ) (x : A) → i < n → slice_get (replicate n x) i ≡ Some x
+items_same zero i x lt = absurd (omega arith)
+items_same (suc n) zero x lt = refl
+items_same (suc n) (suc i) x lt = items_same n i x (omega arith)
+
+-- the core before the first event
+pub opened : (rows : Rows) (jobs : List Job) (opening records : List ℤ) (progress : List Progress) (owners : List (Option ℕ)) (waits : List ℕ) (n : ℕ)
+    → IsTree rows → length jobs ≤ 256 → AllLegal rows jobs → ((t : ℕ) → t < length jobs → length (plan_of jobs t) < 2 ^ 32) → length opening ≡ length rows → n ≡ length rows
+    → records ≡ opening → length progress ≡ length jobs → ((t : ℕ) (p : Progress) → slice_get progress t ≡ Some p → HasStarted n (length (list_of jobs t)) p)
+    → owners ≡ replicate n None → waits ≡ replicate n 0
+    → IsCore rows jobs opening [] records progress owners waits
+opened rows jobs opening records progress owners waits n tree few legal short size nodes same all started free none = record {
+  tree = tree;
+  few = few;
+  legal = legal;
+  short = short;
+  opened = size;
+  run = tt;
+  recorded = same;
+  all_jobs = all;
+  come = λ t p at. let h : HasStarted n (length (list_of jobs t)) p = started t p at in record {
+    at = h.at;
+    marks = h.unmarked;
+    answers = h.silent;
+    room = h.room;
+    nodes = ap length h.unlocked ∙ length-replicate n None ∙ nodes;
+    times = λ node lt. ap (λ (os : List (Option ℕ)). slice_get os node) h.unlocked ∙ items_same n node None (omega arith);
+  };
+  all_owners = ap length free ∙ length-replicate n None ∙ nodes;
+  owned = λ node owner at. subst (λ (o : Option ℕ). Owns jobs [] node o) (same_items n node None owner (ap (λ (os : List (Option ℕ)). slice_get os node) (sym free) ∙ at)) (λ t. refl);
+  all_waits = ap length none ∙ length-replicate n 0 ∙ nodes;
+  waited = λ node count at. sym (same_items n node 0 count (ap (λ (ws : List ℕ). slice_get ws node) (sym none) ∙ at));
+}

@@ -1,0 +1,92 @@
+use Rattle.std.proofs.Common.{◌≡◌, ◌≢◌, ℕ, ◌+◌, ◌^◌, ◌<◌, ◌≤◌, Bool, true, false, ltb, List, [], ◌∷◌, ◌++◌, length, reverse, set, get_or, Option, Some, None, Fits, w32, refl, sym, ◌∙◌, ap, subst, arith}
+use Rattle.std.specs.List.{slice_get, slice_index_or}
+use Rattle.grove_core.specs.declared.job.Job.{Job}
+use Rattle.grove_core.specs.declared.progress.Progress.{Progress}
+use Rattle.std.specs.Vec.{vec_len, vec_capacity}
+use Rattle.std.proofs.lemmas.List.{length-reverse}
+use Rattle.std.proofs.lemmas.Bool.{ltb-true}
+use Rattle.grove_plan.specs.declared.step.Step.TheVariants.{Lock, Unlock, Access}
+use Rattle.grove_core.specs.declared.event.Event.TheVariants.{Take, Mark}
+use Rattle.grove_core.specs.Runs.{list_of, next_step, MayHappen, IsFree, IsHeldBy, is_marked}
+use Rattle.grove_core.specs.Kept.{past_of, Owns}
+use Rattle.grove_core.proofs.Keeping.{read_at, closed, job_there, progress_there, place_small, locked_within, unlocked_within, accessed_within, access_listed, event_room, reply_room, wait_room, owner_there, wait_there, time_there, next_read, may_lock, core_locked, core_unlocked, core_accessed, core_marked, marks_read, answers_read, owner_read, may_unlock, may_access, item_there, list_of_at, plan_of_at}
+use Rattle.grove_core.proofs.machine.Core.access.Goals as goal
+
+pub bounds-self-inside-txn : goal.bounds-self-inside-txn
+bounds-self-inside-txn c =
+    let next = rw (← c.self.view_is) at c.requires in
+    job_there _ _ _ _ _ _ _ _ c.self.invariant.0 c.args.txn (Access c.args.access) next
+
+pub get-access-requires : goal.get-access-requires
+get-access-requires c =
+    let next = rw (← c.self.view_is) at c.requires in
+    let job : slice_get c.self.inside.jobs.now c.args.txn ≡ Some c.index-self-txn.result =
+    read_at c.self.inside.jobs.now c.args.txn c.index-self-txn.result (job_there _ _ _ _ _ _ _ _ c.self.invariant.0 c.args.txn (Access c.args.access) next) c.index-self-txn.is in
+    let same : slice_index_or c.self.inside.jobs.now c.args.txn c.index-self-txn.result ≡ c.index-self-txn.result = sym c.index-self-txn.is in
+    let list : list_of c.self.inside.jobs.now c.args.txn ≡ c.index-self-txn.result.list = list_of_at c.self.inside.jobs.now c.args.txn c.index-self-txn.result job in
+    let lt : c.args.access < length (list_of c.self.inside.jobs.now c.args.txn) = access_listed _ _ _ _ _ _ _ _ c.self.invariant.0 c.args.txn c.args.access next in
+    subst (λ l. c.args.access < length l) (list ∙ ap (λ (j : Job). j.list) (sym same)) lt
+
+pub apply-reply-requires : goal.apply-reply-requires
+apply-reply-requires c =
+    let next = rw (← c.self.view_is) at c.requires in
+    let job : slice_get c.self.inside.jobs.now c.args.txn ≡ Some c.index-self-txn.result =
+    read_at c.self.inside.jobs.now c.args.txn c.index-self-txn.result (job_there _ _ _ _ _ _ _ _ c.self.invariant.0 c.args.txn (Access c.args.access) next) c.index-self-txn.is in
+    let same : slice_index_or c.self.inside.jobs.now c.args.txn c.index-self-txn.result ≡ c.index-self-txn.result = sym c.index-self-txn.is in
+    let list : list_of c.self.inside.jobs.now c.args.txn ≡ c.index-self-txn.result.list = list_of_at c.self.inside.jobs.now c.args.txn c.index-self-txn.result job in
+    let listed : slice_get (list_of c.self.inside.jobs.now c.args.txn) c.args.access ≡ Some c.get-access.result =
+    ap (λ l. slice_get l c.args.access) (list ∙ ap (λ (j : Job). j.list) (sym same)) ∙ c.get-access.ensures in
+    accessed_within _ _ _ _ _ _ _ _ c.self.invariant.0 c.args.txn c.args.access c.get-access.result next listed
+
+pub index_mut-progress-requires : goal.index_mut-progress-requires
+index_mut-progress-requires c =
+    let next = rw (← c.self.view_is) at c.requires in
+    let lt : c.args.txn < length c.self.inside.progress.items = progress_there _ _ _ _ _ _ _ _ c.self.invariant.0 c.args.txn (Access c.args.access) next in
+    let e : vec_len c.self.inside.progress ≡ length c.self.inside.progress.items = c.self.inside.progress.ok.0 in
+    omega arith
+
+pub answer-requires-clause-few : goal.answer-requires-clause-few
+answer-requires-clause-few c =
+    let next = rw (← c.self.view_is) at c.requires in
+    let lt : c.args.txn < length c.self.inside.progress.items = progress_there _ _ _ _ _ _ _ _ c.self.invariant.0 c.args.txn (Access c.args.access) next in
+    let e : vec_len c.self.inside.progress ≡ length c.self.inside.progress.items = c.self.inside.progress.ok.0 in
+    let at : slice_get c.self.inside.progress.items c.args.txn ≡ Some c.index_mut-progress.result.now = read_at c.self.inside.progress.items c.args.txn c.index_mut-progress.result.now lt c.index_mut-progress.ensures.value in
+    place_small _ _ _ _ _ _ _ _ c.self.invariant.0 c.args.txn (Access c.args.access) next c.index_mut-progress.result.now at
+
+pub answer-requires-clause-room : goal.answer-requires-clause-room
+answer-requires-clause-room c =
+    let next = rw (← c.self.view_is) at c.requires in
+    let lt : c.args.txn < length c.self.inside.progress.items = progress_there _ _ _ _ _ _ _ _ c.self.invariant.0 c.args.txn (Access c.args.access) next in
+    let e : vec_len c.self.inside.progress ≡ length c.self.inside.progress.items = c.self.inside.progress.ok.0 in
+    let at : slice_get c.self.inside.progress.items c.args.txn ≡ Some c.index_mut-progress.result.now = read_at c.self.inside.progress.items c.args.txn c.index_mut-progress.result.now lt c.index_mut-progress.ensures.value in
+    let room : length c.index_mut-progress.result.now.replies.items < vec_capacity c.index_mut-progress.result.now.replies =
+    reply_room _ _ _ _ _ _ _ _ c.self.invariant.0 c.args.txn c.args.access next c.index_mut-progress.result.now at in
+    let f : vec_len c.index_mut-progress.result.now.replies ≡ length c.index_mut-progress.result.now.replies.items = c.index_mut-progress.result.now.replies.ok.0 in
+    omega arith
+
+pub push_reserved-requires : goal.push_reserved-requires
+push_reserved-requires c =
+    let next = rw (← c.self.view_is) at c.requires in
+    let room : length (reverse c.self.inside.history.items) < vec_capacity c.self.inside.history = event_room _ _ _ _ _ _ _ _ c.self.invariant.0 (Take c.args.txn) (may_access _ _ _ _ _ _ _ _ c.self.invariant.0 c.args.txn c.args.access next) (vec_capacity c.self.inside.history) c.self.invariant.1 in
+    let f : vec_len c.self.inside.history ≡ length c.self.inside.history.items = c.self.inside.history.ok.0 in
+    omega (arith, length-reverse c.self.inside.history.items)
+
+pub invariant_of-self : goal.invariant_of-self
+invariant_of-self c =
+    let next = rw (← c.self.view_is) at c.requires in
+    let lt : c.args.txn < length c.self.inside.progress.items = progress_there _ _ _ _ _ _ _ _ c.self.invariant.0 c.args.txn (Access c.args.access) next in
+    let e : vec_len c.self.inside.progress ≡ length c.self.inside.progress.items = c.self.inside.progress.ok.0 in
+    let at : slice_get c.self.inside.progress.items c.args.txn ≡ Some c.index_mut-progress.result.now = read_at c.self.inside.progress.items c.args.txn c.index_mut-progress.result.now lt c.index_mut-progress.ensures.value in
+    let job : slice_get c.self.inside.jobs.now c.args.txn ≡ Some c.index-self-txn.result =
+    read_at c.self.inside.jobs.now c.args.txn c.index-self-txn.result (job_there _ _ _ _ _ _ _ _ c.self.invariant.0 c.args.txn (Access c.args.access) next) c.index-self-txn.is in
+    let same : slice_index_or c.self.inside.jobs.now c.args.txn c.index-self-txn.result ≡ c.index-self-txn.result = sym c.index-self-txn.is in
+    let list : list_of c.self.inside.jobs.now c.args.txn ≡ c.index-self-txn.result.list = list_of_at c.self.inside.jobs.now c.args.txn c.index-self-txn.result job in
+    let listed : slice_get (list_of c.self.inside.jobs.now c.args.txn) c.args.access ≡ Some c.get-access.result =
+    ap (λ l. slice_get l c.args.access) (list ∙ ap (λ (j : Job). j.list) (sym same)) ∙ c.get-access.ensures in
+    rw c.apply-reply.ensures.records
+    (closed _ _ _ c.self.inside.history.items c.push_reserved.new.self.items (Take c.args.txn) (vec_capacity c.self.inside.history) (vec_capacity c.push_reserved.new.self) _ _ _ _
+    c.push_reserved.ensures.items c.push_reserved.ensures.capacity c.self.invariant.1
+    (core_accessed _ _ _ _ _ _ _ _ c.self.invariant.0 c.args.txn c.args.access c.get-access.result next listed c.index_mut-progress.result.now c.answer.new.self at
+    c.answer.ensures.place c.answer.ensures.marked
+    (c.answer.ensures.replies ∙ ap (λ r. c.index_mut-progress.result.now.replies.items ++ r ∷ []) c.apply-reply.ensures.reply)
+    c.answer.ensures.room c.answer.ensures.lock_times))

@@ -1,0 +1,28 @@
+use Rattle.std.proofs.Common.{◌≡◌, ℕ, ◌+◌, ◌*◌, ◌^◌, ◌<◌, ◌≤◌, List, ◌∷◌, [], ◌++◌, length, Option, Some, None, refl, sym, ◌∙◌, ap, subst, arith, below_more, length-append}
+use Rattle.std.specs.List.{slice_get, slice_index_or}
+use Rattle.grove_access.specs.Lists.{nodes_of, AreNodes}
+use Rattle.grove_plan.specs.Plans.{IsLegal}
+use Rattle.grove_plan.specs.declared.step.Step.{Step}
+use Rattle.grove_access.specs.declared.access.Access.{Access}
+use Rattle.grove_core.specs.declared.job.Job.{Job}
+use Rattle.grove_core.specs.declared.progress.Progress.{Progress}
+use Rattle.grove_core.specs.Runs.{list_of, plan_of}
+use Rattle.grove_core.specs.Openings.{job_fault, fault_of, HasStarted}
+use Rattle.grove_core.proofs.Keeping.{read_at, list_of_at, plan_of_at}
+use Rattle.grove_core.proofs.Started.{room_more, first_fault, job_fault_at, started_more}
+use Rattle.grove_core.proofs.opening.room.Goals as goal
+
+pub loop-txn-preserved : goal.loop-txn-preserved
+loop-txn-preserved c =
+    let job : slice_get c.args.jobs.now c.loop-txn.txn ≡ Some c.index-jobs-txn.result =
+    read_at c.args.jobs.now c.loop-txn.txn c.index-jobs-txn.result c.loop-txn-test.true c.index-jobs-txn.is in
+    let same : slice_index_or c.args.jobs.now c.loop-txn.txn c.index-jobs-txn.result ≡ c.index-jobs-txn.result = sym c.index-jobs-txn.is in
+    let size : length c.steps.result.now ≡ length c.index-jobs-txn.result.plan = ap length c.steps.ensures.steps ∙ ap (λ (j : Job). length j.plan) same in
+    let few : length c.index-jobs-txn.result.plan < 2 ^ 32 = subst (λ (j : Job). length j.plan < 2 ^ 32) same c.steps.ensures.few in
+    let small : c.loop-txn.room ≤ c.loop-txn.txn * 2 ^ 33 = c.loop-txn.invariant.small in
+    record {
+      enough = room_more c.args.jobs.now c.loop-txn.txn c.loop-txn.room (length c.steps.result.now) c.index-jobs-txn.result job size c.loop-txn.invariant.enough;
+      small = omega arith;
+      short = below_more (λ t. length (plan_of c.args.jobs.now t) < 2 ^ 32) c.loop-txn.txn c.loop-txn.invariant.short
+          (subst (λ (p : List Step). length p < 2 ^ 32) (sym (plan_of_at c.args.jobs.now c.loop-txn.txn c.index-jobs-txn.result job)) few);
+    }

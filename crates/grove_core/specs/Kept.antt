@@ -1,0 +1,49 @@
+-- What a core keeps: the state that its history leads to.
+use Rattle.std.specs.Prelude.{◌≡◌, ◌≢◌, ℕ, ◌^◌, ◌<◌, ◌≤◌, ℤ, true, false, List, length, reverse, slice_get, Option, Some, None, vec_capacity}
+use Rattle.grove_tree.specs.Trees.{Rows, IsTree}
+use Rattle.grove_core.specs.declared.job.Job.{Job}
+use Rattle.grove_core.specs.declared.event.Event.{Event}
+use Rattle.grove_core.specs.declared.progress.Progress.{Progress}
+use Rattle.grove_core.specs.Runs.{list_of, plan_of, place, holds, is_marked, AllLegal, IsRun, run_records, run_replies, waits_of}
+use Rattle.grove_core.specs.Orders.{lock_time}
+
+-- a core, as its callers see it: what it was opened with, and the events since then
+pub record State : Type 0 where
+  pub tree : Rows
+  pub jobs : List Job
+  pub opening : List ℤ
+  pub history : List Event
+
+-- the events, from the latest back
+abbrev pub past_of : State → List Event
+past_of core = reverse core.history
+
+-- how far a job has come
+pub record HasProgress (rows : Rows) (jobs : List Job) (opening : List ℤ) (past : List Event) (t : ℕ) (progress : Progress) : Type 0 where
+  pub at : progress.place ≡ place past t
+  pub marks : progress.marked ≡ is_marked past t
+  pub answers : progress.replies.items ≡ run_replies jobs opening past t
+  pub room : length (list_of jobs t) ≤ vec_capacity progress.replies
+  pub nodes : length progress.lock_times.items ≡ length rows
+  pub times : (node : ℕ) → node < length rows → slice_get progress.lock_times.items node ≡ Some (lock_time jobs past t node)
+
+-- who holds a node
+abbrev pub Owns : List Job → List Event → ℕ → Option ℕ → Type 0
+Owns jobs past node None = (t : ℕ) → holds jobs past t node ≡ false
+Owns jobs past node (Some t) = (holds jobs past t node ≡ true) × ((u : ℕ) → u ≢ t → holds jobs past u node ≡ false)
+
+pub record IsCore (rows : Rows) (jobs : List Job) (opening : List ℤ) (past : List Event) (records : List ℤ) (progress : List Progress)
+    (owners : List (Option ℕ)) (waits : List ℕ) : Type 0 where
+  pub tree : IsTree rows
+  pub few : length jobs ≤ 256
+  pub legal : AllLegal rows jobs
+  pub short : (t : ℕ) → t < length jobs → length (plan_of jobs t) < 2 ^ 32
+  pub opened : length opening ≡ length rows
+  pub run : IsRun jobs past
+  pub recorded : records ≡ run_records jobs opening past
+  pub all_jobs : length progress ≡ length jobs
+  pub come : (t : ℕ) (p : Progress) → slice_get progress t ≡ Some p → HasProgress rows jobs opening past t p
+  pub all_owners : length owners ≡ length rows
+  pub owned : (node : ℕ) (owner : Option ℕ) → slice_get owners node ≡ Some owner → Owns jobs past node owner
+  pub all_waits : length waits ≡ length rows
+  pub waited : (node count : ℕ) → slice_get waits node ≡ Some count → count ≡ waits_of jobs past node

@@ -1,0 +1,21 @@
+//! The core: a pure state machine that runs transactions over their lock plans, and the serial order of a finished run.
+#![tactic(auto)]
+
+pub use event::Event;
+pub use fault::{OpenFault, StepFault};
+pub use job::Job;
+pub use laws::run_laws;
+pub use machine::Core;
+pub use ordering::{serial_order, serial_order_into};
+
+mod event;
+mod fault;
+mod job;
+mod laws;
+mod locking;
+mod machine;
+mod opening;
+mod ordering;
+mod progress;
+#[cfg(test)]
+mod tests;

@@ -1,0 +1,79 @@
+ghost use Rattle.std.specs.Prelude.{◌≡◌, ℕ, ◌^◌, ◌<◌, ◌≤◌, length, slice_get, None, Some, IfOk, OnOk, IfErr, slice_index_or};
+ghost use Rattle.grove_access.specs.Lists.{nodes_of, AreNodes};
+ghost use Rattle.grove_plan.specs.Plans.{IsLegal};
+ghost use Rattle.grove_core.specs.declared.progress.Progress.{Progress};
+ghost use Rattle.grove_core.specs.Runs.{list_of, plan_of, AllLegal, most_events};
+ghost use Rattle.grove_core.specs.Openings.{AllFit, fault_of, IsFaultOf, IsFirstFault, HasStarted};
+
+use crate::progress::Progress;
+use crate::{Job, OpenFault};
+use grove_plan::{PlanFault, judge};
+use grove_tree::Tree;
+use std::alloc::{AllocError, Global};
+
+/// Judges the plans, the lowest job's first.
+pub fn judge_all(alloc: Global, tree: &Tree, jobs: &[Job]) -> Result<(), OpenFault>
+    requires fits { AllFit tree.now jobs.now }
+    requires few { length jobs.now ≤ 256 }
+    ensures legal { OnOk result (AllLegal tree.now jobs.now) }
+    ensures fault { IfErr result (λ fault. IsFirstFault tree.now jobs.now fault) }
+{
+    for txn in 0..jobs.len() {
+        if let Err(fault) = judge_job(alloc, tree, txn as u32, &jobs[txn]) {
+            return Err(fault);
+        }
+    }
+    Ok(())
+}
+
+fn judge_job(alloc: Global, tree: &Tree, txn: u32, job: &Job) -> Result<(), OpenFault>
+    requires { AreNodes tree.now (nodes_of job.now.list) }
+    ensures legal { OnOk result (IsLegal tree.now (nodes_of job.now.list) job.now.plan) }
+    ensures faultless { OnOk result (fault_of tree.now job.now ≡ None) }
+    ensures fault { IfErr result (λ fault. IsFaultOf (fault_of tree.now job.now) txn fault) }
+{
+    match judge(alloc, tree, &job.list, &job.plan) {
+        Ok(_) => Ok(()),
+        Err(PlanFault::Memory) => Err(OpenFault::Memory),
+        Err(fault) => Err(OpenFault::BadPlan(txn, fault)),
+    }
+}
+
+/// Room for every event that can happen: each step is done once, and marked at most once before.
+pub fn room(jobs: &[Job]) -> usize
+    requires { length jobs.now ≤ 256 }
+    ensures enough { most_events jobs.now ≤ result }
+    ensures short { (t : ℕ) → t < length jobs.now → length (plan_of jobs.now t) < 2 ^ 32 }
+{
+    let mut room = 0;
+    for txn in 0..jobs.len() {
+        room += 2 * jobs[txn].plan.steps().len();
+    }
+    room
+}
+
+/// The jobs' progress before the first event.
+pub fn start_all(alloc: Global, nodes: usize, jobs: &[Job]) -> Result<Vec<Progress>, AllocError>
+    ensures number { IfOk result (λ progress. length progress.items ≡ length jobs.now) }
+    ensures started { IfOk result (λ all. (t : ℕ) (progress : Progress) → slice_get all.items t ≡ Some progress → HasStarted nodes (length (list_of jobs.now t)) progress) }
+{
+    let mut progress = Vec::with_capacity(alloc, jobs.len())?;
+    for txn in 0..jobs.len() {
+        let started = start(alloc, nodes, jobs[txn].list.len() as usize)?;
+        progress.push(started)?;
+    }
+    Ok(progress)
+}
+
+fn start(alloc: Global, nodes: usize, accesses: usize) -> Result<Progress, AllocError>
+    ensures { IfOk result (λ progress. HasStarted nodes accesses progress) }
+{
+    let replies = Vec::with_capacity(alloc, accesses)?;
+    let lock_times = vec![in alloc; None; nodes]?;
+    Ok(Progress {
+        place: 0,
+        marked: false,
+        replies,
+        lock_times,
+    })
+}

@@ -1,0 +1,9 @@
+pub mod Cuts
+pub mod Bands
+pub mod Lowering
+pub mod Steps
+pub mod Raising
+pub mod Reaching
+pub mod Walks
+pub mod Sending
+pub mod Starting

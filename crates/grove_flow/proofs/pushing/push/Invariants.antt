@@ -1,0 +1,9 @@
+use Rattle.std.proofs.Common.{slice_index}
+use Rattle.grove_flow.proofs.Walks.{IsMoving}
+use Rattle.grove_flow.proofs.pushing.push.Given as goal
+
+abbrev pub invariant-loop-v : goal.invariant-loop-v
+invariant-loop-v l = IsMoving l.arcs l.ranks l.vias l.rooms l.initial.amounts l.amounts l.source l.target l.by l.v
+
+abbrev pub decreases-loop-v : goal.decreases-loop-v
+decreases-loop-v l = slice_index l.ranks l.v

@@ -1,0 +1,5 @@
+pub mod Networks
+pub mod Flows
+pub mod States
+pub mod Floors
+pub mod Searches

@@ -1,0 +1,12 @@
+//! The minimum-cost flow of a network of difference constraints, and the latest places along it.
+#![tactic(auto)]
+
+pub use network::{Arc, Network, Solution};
+pub use settling::latest;
+pub use solving::solve;
+
+mod network;
+mod pushing;
+mod searching;
+mod settling;
+mod solving;

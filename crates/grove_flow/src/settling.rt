@@ -1,0 +1,274 @@
+ghost use Rattle.std.specs.Prelude.{◌≡◌, ◌<◌, ℕ, ◌-◌, ◌+ℤ◌, ◌-ℤ◌, ◌≤ℤ◌, pos, negsuc, length, slice_set, true, false, IfOk};
+ghost use Rattle.grove_flow.specs.Networks.{AreArcsOf, AreLawful, IsArcOf, IsCandidate, IsLatest, IsLawful, IsModest, place};
+ghost use Rattle.grove_flow.specs.Floors.{AreCapped, AreHeld, AreHighest, AreKept, HasFloor, HaveFloor, IsKept, IsLoweredAt, heights};
+
+use crate::{Arc, Network, Solution};
+use grove_tree::NoMemory;
+use std::alloc::Global;
+
+/// The latest places that meet every arc, are tight on every arc with an amount, and are nowhere above `top`.
+/// The base stays at 0.
+///
+/// The only refusal is for want of memory.
+pub fn latest(
+    alloc: Global,
+    network: &Network,
+    solution: &Solution,
+    top: i64,
+) -> Result<Vec<i64>, NoMemory>
+    requires arcs { AreArcsOf network.now.arcs.items (length network.now.needs.items) }
+    requires amounts { length solution.now.amounts.items ≡ length network.now.arcs.items }
+    requires solved { IsCandidate (length network.now.needs.items) network.now.arcs.items solution.now.amounts.items top solution.now.places.items }
+    requires modest { IsModest top }
+    ensures latest { IfOk result (λ places. IsLatest (length network.now.needs.items) network.now.arcs.items solution.now.amounts.items top places.items) }
+{
+    let mut places = highest(alloc, &solution.places, top)?;
+    settle(&network.arcs, &solution.amounts, &mut places);
+    Ok(places)
+}
+
+// Every place raised to the top, but for that of the base.
+fn highest(alloc: Global, places: &[i64], top: i64) -> Result<Vec<i64>, NoMemory>
+    requires capped { (v : ℕ) → v < length places.now → place places.now v ≤ℤ top }
+    ensures highest { IfOk result (λ highest. AreHighest (length places.now) top highest.items) }
+    ensures held { IfOk result (λ highest. AreHeld places.now) }
+{
+    let mut highest = Vec::from_slice(alloc, places)?;
+    raise_to(top, &mut highest);
+    put_base(&mut highest);
+    Ok(highest)
+}
+
+fn raise_to(top: i64, places: &mut [i64])
+    requires capped { (v : ℕ) → v < length places.old → place places.old v ≤ℤ top }
+    ensures top { (v : ℕ) → v < length places.old → place places.new v ≡ top }
+    ensures held { AreHeld places.old }
+{
+    for place in places.iter_mut() {
+        if *place < top {
+            *place = top;
+        }
+    }
+}
+
+fn put_base(places: &mut [i64])
+    ensures { places.new ≡ slice_set places.old (length places.old - 1) (pos 0) }
+{
+    let count = places.len();
+    if count > 0 {
+        places[count - 1] = 0;
+    }
+}
+
+// Lowers the places until every arc is lawful.
+fn settle(arcs: &[Arc], amounts: &[u64], places: &mut [i64])
+    requires arcs { AreArcsOf arcs.now (length places.old) }
+    requires amounts { length amounts.now ≡ length arcs.now }
+    requires floor { HaveFloor arcs.now amounts.now places.old }
+    requires capped { AreCapped places.old }
+    ensures lawful { AreLawful arcs.now amounts.now places.new }
+    ensures kept { AreKept arcs.now amounts.now places.old places.new }
+{
+    while sweep(arcs, amounts, places) {}
+}
+
+// Lowers what a look at each arc in turn lowers, and says whether that was anything.
+fn sweep(arcs: &[Arc], amounts: &[u64], places: &mut [i64]) -> bool
+    requires arcs { AreArcsOf arcs.now (length places.old) }
+    requires amounts { length amounts.now ≡ length arcs.now }
+    requires floor { HaveFloor arcs.now amounts.now places.old }
+    requires capped { AreCapped places.old }
+    ensures kept { AreKept arcs.now amounts.now places.old places.new }
+    ensures lowered { result ≡ true → heights places.new < heights places.old }
+    ensures lawful { result ≡ false → AreLawful arcs.now amounts.now places.new }
+{
+    let mut lowered = false;
+    for (i, arc) in arcs.iter().enumerate() {
+        if lower(*arc, amounts[i], places) {
+            lowered = true;
+        }
+    }
+    lowered
+}
+
+// Lowers one end of an arc that isn't lawful.
+fn lower(arc: Arc, amount: u64, places: &mut [i64]) -> bool
+    requires arc { IsArcOf (length places.old) arc }
+    requires floor { HasFloor arc amount places.old }
+    requires capped { AreCapped places.old }
+    ensures kept { IsKept arc amount places.old places.new }
+    ensures lowered { result ≡ true → heights places.new < heights places.old }
+    ensures still { result ≡ false → places.new ≡ places.old }
+    ensures lawful { result ≡ false → IsLawful arc amount places.old }
+{
+    lower_from(arc, places) || (amount > 0 && lower_to(arc, places))
+}
+
+// Lowers the place that an arc begins at, where the arc isn't met.
+fn lower_from(arc: Arc, places: &mut [i64]) -> bool
+    requires arc { IsArcOf (length places.old) arc }
+    requires held { negsuc 9223372036854775807 ≤ℤ (place places.old arc.to -ℤ arc.least) }
+    requires capped { place places.old arc.to ≤ℤ pos 1048576 }
+    ensures lowered { result ≡ true → IsLoweredAt arc.from (place places.old arc.to -ℤ arc.least) places.old places.new }
+    ensures still { result ≡ false → places.new ≡ places.old }
+    ensures met { result ≡ false → place places.old arc.from ≤ℤ (place places.old arc.to -ℤ arc.least) }
+{
+    let most = places[arc.to as usize] - arc.least;
+    let lowers = most < places[arc.from as usize];
+    if lowers {
+        places[arc.from as usize] = most;
+    }
+    lowers
+}
+
+// Lowers the place that an arc ends at, where the arc isn't tight.
+fn lower_to(arc: Arc, places: &mut [i64]) -> bool
+    requires arc { IsArcOf (length places.old) arc }
+    requires held { negsuc 9223372036854775807 ≤ℤ (place places.old arc.from +ℤ arc.least) }
+    requires capped { place places.old arc.from ≤ℤ pos 1048576 }
+    ensures lowered { result ≡ true → IsLoweredAt arc.to (place places.old arc.from +ℤ arc.least) places.old places.new }
+    ensures still { result ≡ false → places.new ≡ places.old }
+    ensures met { result ≡ false → place places.old arc.to ≤ℤ (place places.old arc.from +ℤ arc.least) }
+{
+    let most = places[arc.from as usize] + arc.least;
+    let lowers = most < places[arc.to as usize];
+    if lowers {
+        places[arc.to as usize] = most;
+    }
+    lowers
+}
+
+#[cfg(test)]
+mod tests {
+    use super::*;
+    use std::test::Fail;
+
+    #[test]
+    fn stays_where_nothing_may_move(rt: HostRuntime) -> Result<(), Fail> {
+        let alloc = rt.alloc();
+        let arcs = vec![in alloc;
+            Arc {
+                from: 0,
+                to: 2,
+                least: 0
+            },
+            Arc {
+                from: 2,
+                to: 1,
+                least: 1
+            },
+            Arc {
+                from: 0,
+                to: 1,
+                least: 0
+            },
+        ]?;
+        let network = Network {
+            arcs,
+            needs: vec![in alloc; -1, 1, 0]?,
+        };
+        let solution = Solution {
+            amounts: vec![in alloc; 1, 1, 0]?,
+            places: vec![in alloc; 0, 1, 0]?,
+        };
+        let places = latest(alloc, &network, &solution, 1)?;
+        assert_eq!(rt; places.as_slice(), [0, 1, 0].as_slice());
+        Ok(())
+    }
+
+    #[test]
+    fn leaves_the_base_alone(rt: HostRuntime) -> Result<(), Fail> {
+        let alloc = rt.alloc();
+        let network = Network {
+            arcs: vec![in alloc]?,
+            needs: vec![in alloc; 0]?,
+        };
+        let solution = Solution {
+            amounts: vec![in alloc]?,
+            places: vec![in alloc; 0]?,
+        };
+        let places = latest(alloc, &network, &solution, 0)?;
+        assert_eq!(rt; places.as_slice(), [0].as_slice());
+        Ok(())
+    }
+
+    // A root and two leaves, where one leaf is accessed, then the other.
+    #[test]
+    fn holds_a_light_root_late_and_a_heavy_one_short(rt: HostRuntime) -> Result<(), Fail> {
+        let alloc = rt.alloc();
+        let arcs = vec![in alloc;
+            Arc {
+                from: 0,
+                to: 1,
+                least: 0
+            },
+            Arc {
+                from: 0,
+                to: 2,
+                least: 0
+            },
+            Arc {
+                from: 2,
+                to: 1,
+                least: 0
+            },
+            Arc {
+                from: 2,
+                to: 6,
+                least: 0
+            },
+            Arc {
+                from: 6,
+                to: 3,
+                least: 1
+            },
+            Arc {
+                from: 2,
+                to: 3,
+                least: 0
+            },
+            Arc {
+                from: 0,
+                to: 4,
+                least: 0
+            },
+            Arc {
+                from: 4,
+                to: 1,
+                least: 0
+            },
+            Arc {
+                from: 4,
+                to: 6,
+                least: -1
+            },
+            Arc {
+                from: 6,
+                to: 5,
+                least: 2
+            },
+            Arc {
+                from: 4,
+                to: 5,
+                least: 0
+            },
+        ]?;
+        let network = Network {
+            arcs,
+            needs: vec![in alloc; -1, 1, -1, 1, -1, 1, 0]?,
+        };
+        let light = Solution {
+            amounts: vec![in alloc; 0, 1, 0, 2, 1, 0, 0, 1, 0, 1, 0]?,
+            places: vec![in alloc; 0, 0, 0, 1, 0, 2, 0]?,
+        };
+        let places = latest(alloc, &network, &light, 2)?;
+        assert_eq!(rt; places.as_slice(), [0, 1, 0, 1, 1, 2, 0].as_slice());
+        let heavy = Solution {
+            amounts: vec![in alloc; 4, 1, 0, 2, 1, 0, 0, 1, 0, 1, 0]?,
+            places: vec![in alloc; 0, 0, 0, 1, 0, 2, 0]?,
+        };
+        let places = latest(alloc, &network, &heavy, 2)?;
+        assert_eq!(rt; places.as_slice(), [0, 0, 0, 1, 0, 2, 0].as_slice());
+        Ok(())
+    }
+}
