@@ -1,3 +1,5 @@
+ghost use Rattle.std.specs.Prelude.{◌≡◌};
+
 ghost use Rattle.std.specs.Prelude.{◌≡◌, length, IfOk};
 
 use crate::{Access, AccessList, ListFault, Op, Records, Reply, run_alone};
@@ -26,7 +28,9 @@ fn small_tree(alloc: Global) -> Result<Tree, Fail>
     Ok(Tree::build(alloc, &rows)?)
 }
 
-fn access(node: u32, op: Op) -> Access {
+fn access(node: u32, op: Op) -> Access
+    ensures { result.node ≡ node }
+{
     let node = Node::new(node);
     Access { node, op }
 }
@@ -69,7 +73,9 @@ fn accesses_change_their_own_record_alone(rt: HostRuntime) -> Result<(), Fail> {
     assert_eq!(rt; records.len(), 3);
     assert!(rt; records.fits(&tree));
     assert_eq!(rt; records.apply(&access(1, Op::Get)), Reply::Value(10));
+    assert_eq!(rt; records.len(), 3);
     assert_eq!(rt; records.apply(&access(1, Op::Add(-12))), Reply::Value(-2));
+    assert_eq!(rt; records.len(), 3);
     assert_eq!(rt; records.apply(&access(2, Op::Set(7))), Reply::Done);
     for (node, before, after) in [(0, 0, 0), (1, 10, -2), (2, 20, 7)] {
         assert!(rt; node < opening.len() && node < records.len());
