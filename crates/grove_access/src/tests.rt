@@ -1,5 +1,4 @@
 ghost use Rattle.std.specs.Prelude.{◌≡◌};
-
 ghost use Rattle.std.specs.Prelude.{◌≡◌, length, IfOk};
 
 use crate::{Access, AccessList, ListFault, Op, Records, Reply, run_alone};
