@@ -12,4 +12,6 @@ mod flow;
 mod ledger;
 mod span;
 mod tables;
+#[cfg(test)]
+mod tests;
 mod theory;
