@@ -118,16 +118,6 @@ pub record AreSumsSoFar (rows : Rows) (amount : Amount) (flow : List FlowRow) (n
   pub sums : SumsByNode rows amount (take n flow) table
   pub bounded : (v sum : ℕ) → slice_get table v ≡ Some sum → sum ≤ n * 2 ^ 64
 
-pub sums_start : (rows : Rows) (amount : Amount) (flow : List FlowRow) → AreSumsSoFar rows amount flow 0 (replicate (length rows) 0)
-sums_start rows amount flow = record {
-  size = length-replicate {A = ℕ} (length rows) 0;
-  sums = λ v lt. get_replicate (length rows) 0 v lt;
-  bounded = λ v sum is.
-      let lt : v < length {A = ℕ} (replicate (length rows) 0) = slice_get_within {A = ℕ} (replicate (length rows) 0) v sum is in
-      let e : 0 ≡ sum = same_Some 0 sum (sym (get_replicate (length rows) 0 v (let size : length {A = ℕ} (replicate (length rows) 0) ≡ length rows = length-replicate {A = ℕ} (length rows) 0 in omega arith)) ∙ is) in
-      omega arith;
-}
-
 -- one more row: the child of a node, or not
 sum_child : (rows : Rows) (amount : Amount) (flow : List FlowRow) (n v : ℕ) (row : FlowRow) → slice_get flow n ≡ Some row → is_at v (parent_of rows row.node) ≡ true
     → sum_at rows amount v (take (n + 1) flow) ≡ sum_at rows amount v (take n flow) + amount_of amount row

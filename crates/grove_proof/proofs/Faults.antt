@@ -1,5 +1,5 @@
 -- Faults and certificates exclude each other, and what the parts of the checker answer is its verdict.
-use Rattle.std.proofs.Common.{◌≡◌, ◌≢◌, ℕ, ◌+◌, pos, ◌-ℤ◌, Bool, List, Some, Result, Ok, Err, refl, sym, ◌∙◌, ap, subst, arith}
+use Rattle.std.proofs.Common.{◌≡◌, ◌≢◌, ℕ, ◌+◌, pos, ◌-ℤ◌, Bool, List, Result, Ok, Err, refl, sym, ◌∙◌, ap, subst, arith}
 use Rattle.std.specs.Prelude.{map, MatchResult, IfOk, OnOk, IfErr}
 use Rattle.std.specs.List.{slice_get}
 use Rattle.std.proofs.lemmas.Bool.{both_ways}
@@ -10,16 +10,14 @@ use Rattle.grove_access.specs.Lists.{AreNodes, nodes_of}
 use Rattle.grove_access.specs.Spanned.{spanned_nodes}
 use Rattle.grove_plan.specs.declared.step.Step.{Step}
 use Rattle.grove_plan.specs.declared.fault.PlanFault.{PlanFault}
-use Rattle.grove_plan.specs.declared.fault.PlanFault.TheVariants as plan_fault
 use Rattle.grove_plan.specs.Plans.{IsLegal, IsLeast, cost}
-use Rattle.grove_plan.specs.Faults.{plan_fault_of}
 use Rattle.grove_proof.specs.declared.flow.FlowRow.{FlowRow}
 use Rattle.grove_proof.specs.declared.fault.ProofFault.{ProofFault}
 use Rattle.grove_proof.specs.declared.fault.ProofFault.TheVariants as fault
 use Rattle.grove_proof.specs.Forced.{IsForcedList}
 use Rattle.grove_proof.specs.Flows.{node_of, AllRows, gains, losses, IsCertificate}
 use Rattle.grove_proof.specs.Faults.{IsFirstDifference, IsFirstStranger, IsFirstBad, bound, IsFault}
-use Rattle.grove_proof.specs.Tables.{PassAll, IsRowsFault, as_proof_fault, IsVerdict}
+use Rattle.grove_proof.specs.Tables.{PassAll, IsRowsFault, IsVerdict}
 use Rattle.grove_proof.proofs.Listed.{span_is_forced_list, forced_lists_same}
 use Rattle.grove_proof.proofs.Duality.{certified_is_least}
 
@@ -50,30 +48,6 @@ fault_refutes rows nodes plan flow (fault.LockBalance i) none ne is legal certif
 fault_refutes rows nodes plan flow (fault.ReleaseBalance i) none ne is legal certificate = bad_refutes _ flow i is.1 certificate.balances.releases
 fault_refutes rows nodes plan flow (fault.Value c b) none ne is legal certificate = is.3 (difference_from (gains nodes flow) (losses nodes flow) (cost rows plan) certificate.value)
 fault_refutes rows nodes plan flow fault.Memory none ne is legal certificate = ne refl
-
--- a plan's own fault is the checker's
-plan_is_fault : (rows : Rows) (nodes : List ℕ) (plan : List Step) (flow : List FlowRow) (f : PlanFault) → f ≢ plan_fault.Memory → plan_fault_of rows nodes plan ≡ Some f
-    → IsFault rows nodes plan flow (as_proof_fault f)
-plan_is_fault rows nodes plan flow (plan_fault.Strange s) ne h = h
-plan_is_fault rows nodes plan flow (plan_fault.Relock s) ne h = h
-plan_is_fault rows nodes plan flow (plan_fault.ParentNotHeld s) ne h = h
-plan_is_fault rows nodes plan flow (plan_fault.NotHeld s) ne h = h
-plan_is_fault rows nodes plan flow (plan_fault.WrongAccess s) ne h = h
-plan_is_fault rows nodes plan flow (plan_fault.AccessNotHeld s) ne h = h
-plan_is_fault rows nodes plan flow (plan_fault.AccessMissing i) ne h = h
-plan_is_fault rows nodes plan flow (plan_fault.StillHeld v) ne h = h
-plan_is_fault rows nodes plan flow plan_fault.Memory ne h = absurd (ne refl)
-
--- the verdict on a plan that isn't legal
-pub plan_verdict : (rows : Rows) (nodes : List ℕ) (plan : List Step) (flow : List FlowRow) (f : PlanFault) (e : ProofFault) → e ≡ as_proof_fault f
-    → (f ≢ plan_fault.Memory → plan_fault_of rows nodes plan ≡ Some f) → (f ≢ plan_fault.Memory → IsLegal rows nodes plan → ⊥) → IsVerdict rows nodes plan flow (Err e)
-plan_verdict rows nodes plan flow f e is first illegal = λ ne.
-    let other : f ≢ plan_fault.Memory = λ z. ne (is ∙ ap as_proof_fault z) in
-    (subst (λ (x : ProofFault). IsFault rows nodes plan flow x) (sym is) (plan_is_fault rows nodes plan flow f other (first other)), λ legal certificate. illegal other legal)
-
--- want of memory
-pub memory_verdict : (rows : Rows) (nodes : List ℕ) (plan : List Step) (flow : List FlowRow) (e : ProofFault) → e ≡ fault.Memory → IsVerdict rows nodes plan flow (Err e)
-memory_verdict rows nodes plan flow e is = λ ne. absurd (ne is)
 
 -- rows with a stranger among them
 pub rows_verdict : (rows : Rows) (nodes : List ℕ) (plan : List Step) (flow : List FlowRow) (span : List ℕ) (i : ℕ) → IsTree rows → AreNodes rows nodes → IsLegal rows nodes plan → span ≡ spanned_nodes rows nodes

@@ -1,21 +1,17 @@
 -- Loop steps of the marks of the spanned nodes.
-use Rattle.std.proofs.Common.{◌≡◌, ℕ, suc, ◌+◌, ◌<◌, Bool, true, false, ◌⊎◌, List, [], ◌∷◌, ◌++◌, length, get_or, Some, None, refl, sym, ◌∙◌, ap, subst, inl, inr, arith, length-set, append-nil, min}
+use Rattle.std.proofs.Common.{◌≡◌, ℕ, suc, ◌+◌, ◌<◌, Bool, true, false, ◌⊎◌, List, [], ◌∷◌, ◌++◌, length, get_or, Some, None, refl, sym, ◌∙◌, ap, subst, inl, inr, arith, length-set, append-nil}
 use Rattle.std.proofs.lemmas.List.{length-replicate}
 use Rattle.std.proofs.Math.ListN.{set, replicate}
-use Rattle.std.specs.Prelude.{map}
 use Rattle.std.specs.List.{slice_get}
 use Rattle.std.proofs.lemmas.Option.{none-some, same_Some, slice_get_within, slice_get-get_or, slice_get_past}
 use Rattle.std.proofs.lemmas.Bool.{cases_lt, cases_eq, cases_Bool, both_ways, false_from_ne_true}
 use Rattle.grove_tree.specs.Numbers.{passing_below, alone}
 use Rattle.grove_tree.specs.Trees.{Rows, parent_of, IsAbove, IsTree}
-use Rattle.grove_tree.proofs.Lists.{get_set_same, get_set_other, get_replicate, get_map, map_length, same_lists}
+use Rattle.grove_tree.proofs.Lists.{get_set_same, get_set_other, get_replicate}
 use Rattle.grove_tree.proofs.Ups.{above_trans, above_step, above_self, above_same, above_either, parent_above, parent_lt}
 use Rattle.grove_access.specs.Lists.{AreNodes}
 use Rattle.grove_access.specs.Spanned.{IsSpanned, is_spanned}
 use Rattle.grove_access.proofs.Spans.{spanned_get, spanned_got}
-use Rattle.grove_proof.specs.declared.flow.FlowRow.{FlowRow}
-use Rattle.grove_proof.specs.Flows.{node_of}
-use Rattle.grove_proof.specs.Faults.{IsFirstDifference}
 use Rattle.grove_proof.specs.Tables.{IsLowest, IsMarked, MarksWay, MarksSpan}
 
 -- the way up from a node is marked below a node on it
@@ -105,13 +101,6 @@ pub record AreWays (rows : Rows) (nodes : List ℕ) (top n : ℕ) (marks : List 
   pub sound : (v : ℕ) → IsMarked marks v → IsSpanned rows nodes v
   pub done : (access target v : ℕ) → access < n → slice_get nodes access ≡ Some target → IsAbove rows v target → IsAbove rows top v → IsMarked marks v
 
-pub ways_start : (rows : Rows) (nodes : List ℕ) (top : ℕ) (marks : List Bool) → length marks ≡ length rows → ((v : ℕ) → IsMarked marks v → ⊥) → AreWays rows nodes top 0 marks
-ways_start rows nodes top marks size none = record {
-  size = size;
-  sound = λ v is. absurd (none v is);
-  done = λ access target v lt names up_v down. absurd (omega arith);
-}
-
 -- the lowest common node is above every node between
 pub ways_step : (rows : Rows) (nodes : List ℕ) (top n target : ℕ) (old new : List Bool) → IsLowest rows nodes (length nodes) top → AreWays rows nodes top n old
     → slice_get nodes n ≡ Some target → MarksWay rows top target old new → length new ≡ length rows → AreWays rows nodes top (n + 1) new
@@ -174,45 +163,6 @@ pub passing_miss : (n : ℕ) (test : ℕ → Bool) → test n ≡ false → pass
 passing_miss n test h =
     let e : n + 1 ≡ suc n = omega arith in
     rw e (ap (λ (b : Bool). passing_below n test ++ alone b n) h ∙ append-nil (passing_below n test))
-
--- Where the rows' nodes and a list differ
-
-pub differ_at : (flow : List FlowRow) (list : List ℕ) (place : ℕ) (row : FlowRow) (v : ℕ) → ((j : ℕ) → j < place → slice_get (map node_of flow) j ≡ slice_get list j)
-    → slice_get flow place ≡ Some row → slice_get list place ≡ Some v → (row.node ≡ v → ⊥) → IsFirstDifference (map node_of flow) list place
-differ_at flow list place row v before here there ne = record {
-  differ = λ e. ne (same_Some row.node v (sym (get_map node_of flow place row here) ∙ (e ∙ there)));
-  before = before;
-}
-
-pub agree_more : (flow : List FlowRow) (list : List ℕ) (place : ℕ) (row : FlowRow) → ((j : ℕ) → j < place → slice_get (map node_of flow) j ≡ slice_get list j)
-    → slice_get flow place ≡ Some row → slice_get list place ≡ Some row.node → (j : ℕ) → j < place + 1 → slice_get (map node_of flow) j ≡ slice_get list j
-agree_more flow list place row before here there j lt = elim (cases_eq j place) [
-  | inl e ↦ rw e (get_map node_of flow place row here ∙ sym there)
-  | inr ne ↦ before j (omega arith)
-]
-
-pub agree_all : (flow : List FlowRow) (list : List ℕ) → length flow ≡ length list → ((j : ℕ) → j < length flow → slice_get (map node_of flow) j ≡ slice_get list j) → map node_of flow ≡ list
-agree_all flow list size same = same_lists (map node_of flow) list (λ j. elim (cases_lt j (length flow)) [
-  | inl lt ↦ same j lt
-  | inr ge ↦ slice_get_past (map node_of flow) j (rw (map_length node_of flow) ge) ∙ sym (slice_get_past list j (omega arith))
-])
-
--- one list ends before the other
-pub differ_end : (flow : List FlowRow) (list : List ℕ) (place : ℕ) → ((j : ℕ) → j < place → slice_get (map node_of flow) j ≡ slice_get list j)
-    → (length flow ≡ length list → ⊥) → place ≡ min (length list) (length flow) → IsFirstDifference (map node_of flow) list place
-differ_end flow list place before ne e = record {
-  differ = elim (cases_lt (length flow) (length list)) [
-    | inl shorter ↦ let at : place ≡ length flow = omega arith in
-        λ same. none-some (get_or list place 0) (sym (slice_get_past (map node_of flow) place (rw (map_length node_of flow) (omega arith))) ∙ (same ∙ slice_get-get_or list place 0 (omega arith)))
-    | inr longer ↦ elim (cases_eq (length flow) (length list)) [
-      | inl same ↦ absurd (ne same)
-      | inr other ↦ let at : place ≡ length list = omega arith in
-          let within : place < length (map node_of flow) = rw (map_length node_of flow) (omega arith) in
-          λ same. none-some (get_or (map node_of flow) place 0) (sym (slice_get_past list place (omega arith)) ∙ (sym same ∙ slice_get-get_or (map node_of flow) place 0 within))
-    ]
-  ];
-  before = before;
-}
 
 -- what a mark that was read says
 pub mark_says : (rows : Rows) (nodes : List ℕ) (marks : List Bool) (v : ℕ) (b : Bool) → MarksSpan rows nodes marks → v < length rows → b ≡ get_or marks v b → is_spanned rows nodes v ≡ b

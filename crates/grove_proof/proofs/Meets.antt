@@ -38,9 +38,6 @@ pub record IsSameMeet (rows : Rows) (first second left right : ℕ) : Type 0 whe
   pub right_above : IsAbove rows right second
   pub down : (c : ℕ) → IsAbove rows c first → IsAbove rows c second → IsAbove rows c left × IsAbove rows c right
 
-pub meet_start : (rows : Rows) (first second : ℕ) → first < length rows → second < length rows → IsSameMeet rows first second first second
-meet_start rows first second h k = record { left_within = h; right_within = k; left_above = above_self rows first; right_above = above_self rows second; down = λ c a b. (a, b) }
-
 -- what is above two nodes is above the parent of the greater one
 over_parent : (rows : Rows) (c low high p : ℕ) → IsTree rows → low < high → parent_of rows high ≡ Some p → IsAbove rows c low → IsAbove rows c high → IsAbove rows c p
 over_parent rows c low high p tree lt e a b = elim (above_step rows c high b) [

@@ -119,12 +119,6 @@ first_is_top rows nodes flow i row tree fits listed there =
 
 -- What the visits say
 
-pub row_visits : (rows : Rows) (nodes : List ℕ) (v : ℕ) (table : List Visits) (visits : Visits) → VisitsByNode rows nodes (length nodes) table → v < length rows → slice_get table v ≡ Some visits
-    → AreVisits nodes (length nodes) v visits
-row_visits rows nodes v table visits right within there =
-    let found : (w : Visits) × (slice_get table v ≡ Some w) × AreVisits nodes (length nodes) v w = right v within in
-    subst (λ (w : Visits). AreVisits nodes (length nodes) v w) (same_Some found.0 visits (sym found.1 ∙ there)) found.2
-
 -- the end of the last visit is small
 pub end_few : (nodes : List ℕ) (n v : ℕ) (visits : Visits) → AreVisits nodes n v visits → visits.end ≤ n
 end_few nodes n v visits are = elim (cases_Bool (any_below n (names_at nodes v))) [
