@@ -17,3 +17,5 @@ mod machine;
 mod opening;
 mod ordering;
 mod progress;
+#[cfg(test)]
+mod tests;
