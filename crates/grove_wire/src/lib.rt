@@ -23,3 +23,5 @@ mod place;
 mod plan_values;
 mod plans;
 mod replies;
+#[cfg(test)]
+mod tests;
