@@ -16,6 +16,8 @@ mod devices;
 mod judging;
 mod planning;
 mod refusal;
+#[cfg(test)]
+mod tests;
 
 fn main(rt: HostRuntime) -> ExitCode {
     let mut input = ReaderSource::new(rt.stdin());
