@@ -58,6 +58,9 @@ fn two_leaves_at_different_depths_span_the_ways_up_to_the_root(
         row(3, Some(2), Some(1), Some(1)),
     ];
     assert_eq!(rt; found.as_slice(), wanted.as_slice());
+    assert_eq!(rt; tree.len(), 4);
+    let path = tree.path_of(rt.alloc(), Node::new(3))?;
+    assert_eq!(rt; path.as_str(), "/p/x");
     Ok(())
 }
 
