@@ -6,23 +6,27 @@ use Rattle.grove_plan.specs.declared.step.Step.TheVariants.{Lock, Unlock, Access
 use Rattle.grove_build.specs.Layout.{has_child_in, is_early, gap_steps, steps_below, laid_out}
 use Rattle.grove_build.proofs.Runs.{Has}
 
-filter_alike : {A : Type 0} (p q : A → Bool) (xs : List A) → ((x : A) → Has xs x → p x ≡ q x) → filter p xs ≡ filter q xs
+filter_alike : {A : Type 0} (p q : A → Bool) (xs : List A) → ((x : A) → Has xs x → p x ≡ q x)
+    → filter p xs ≡ filter q xs
 filter_alike p q [] h = refl
 filter_alike p q (x ∷ xs) h =
     let e : p x ≡ q x = h x (0, refl) in
     let f : filter p xs ≡ filter q xs = filter_alike p q xs (λ y k. h y (suc k.0, k.1)) in
     ap (λ b. cond b (x ∷ filter p xs) (filter p xs)) e ∙ ap (λ l. cond (q x) (x ∷ l) l) f
 
-any_alike : {A : Type 0} (p q : A → Bool) (xs : List A) → ((x : A) → Has xs x → p x ≡ q x) → list_any p xs ≡ list_any q xs
+any_alike : {A : Type 0} (p q : A → Bool) (xs : List A) → ((x : A) → Has xs x → p x ≡ q x)
+    → list_any p xs ≡ list_any q xs
 any_alike p q [] h = refl
 any_alike p q (x ∷ xs) h = ap₂ (λ a b. a || b) (h x (0, refl)) (any_alike p q xs (λ y k. h y (suc k.0, k.1)))
 
 module _ (rows : Rows) (span : List ℕ) (lock release lock2 release2 : ℕ → ℕ)
-    (same_lock : (v : ℕ) → Has span v → lock v ≡ lock2 v) (same_release : (v : ℕ) → Has span v → release v ≡ release2 v) where
+    (same_lock : (v : ℕ) → Has span v → lock v ≡ lock2 v)
+    (same_release : (v : ℕ) → Has span v → release v ≡ release2 v) where
   early_alike : (v : ℕ) → Has span v → is_early rows span lock release v ≡ is_early rows span lock2 release2 v
   early_alike v h =
       let c : has_child_in rows span lock (release v) v ≡ has_child_in rows span lock2 (release v) v =
-      any_alike (λ u. is_at v (parent_of rows u) && eqb (lock u) (release v)) (λ u. is_at v (parent_of rows u) && eqb (lock2 u) (release v)) span
+      any_alike (λ u. is_at v (parent_of rows u) && eqb (lock u) (release v))
+      (λ u. is_at v (parent_of rows u) && eqb (lock2 u) (release v)) span
       (λ u k. ap (λ (l : ℕ). is_at v (parent_of rows u) && eqb l (release v)) (same_lock u k)) in
       ap (λ b. ltb (lock v) (release v) && not b) c
       ∙ (ap (λ (l : ℕ). ltb l (release v) && not (has_child_in rows span lock2 (release v) v)) (same_lock v h)
@@ -31,11 +35,14 @@ module _ (rows : Rows) (span : List ℕ) (lock release lock2 release2 : ℕ → 
   gap_alike : (g : ℕ) → gap_steps rows span lock release g ≡ gap_steps rows span lock2 release2 g
   gap_alike g =
       ap₂ (λ a b. a ++ b)
-      (ap (λ l. map Unlock l) (filter_alike (λ v. eqb (release v) g && is_early rows span lock release v) (λ v. eqb (release2 v) g && is_early rows span lock2 release2 v) span
+      (ap (λ l. map Unlock l) (filter_alike (λ v. eqb (release v) g && is_early rows span lock release v)
+      (λ v. eqb (release2 v) g && is_early rows span lock2 release2 v) span
       (λ v h. ap₂ (λ (r : ℕ) b. eqb r g && b) (same_release v h) (early_alike v h))))
       (ap₂ (λ a b. a ++ b)
-      (ap (λ l. map Lock l) (filter_alike (λ v. eqb (lock v) g) (λ v. eqb (lock2 v) g) span (λ v h. ap (λ (l : ℕ). eqb l g) (same_lock v h))))
-      (ap (λ l. map Unlock l) (filter_alike (λ v. eqb (release v) g && not (is_early rows span lock release v)) (λ v. eqb (release2 v) g && not (is_early rows span lock2 release2 v)) span
+      (ap (λ l. map Lock l) (filter_alike (λ v. eqb (lock v) g) (λ v. eqb (lock2 v) g) span
+      (λ v h. ap (λ (l : ℕ). eqb l g) (same_lock v h))))
+      (ap (λ l. map Unlock l) (filter_alike (λ v. eqb (release v) g && not (is_early rows span lock release v))
+      (λ v. eqb (release2 v) g && not (is_early rows span lock2 release2 v)) span
       (λ v h. ap₂ (λ (r : ℕ) b. eqb r g && not b) (same_release v h) (early_alike v h)))))
 
   steps_alike : (m : ℕ) → steps_below rows span lock release m ≡ steps_below rows span lock2 release2 m

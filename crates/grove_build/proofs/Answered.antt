@@ -52,23 +52,29 @@ any_had test (y ∷ xs) h = elim (or_cases (test y) (list_any test xs) h) [
   | inr there ↦ let r = any_had test xs there in (r.0, (suc (r.1).0, (r.1).1), r.2)
 ]
 
-pick : (b : Bool) (f : ℕ → Step) (v : ℕ) (zs : List ℕ) (rest : List Step) → rest ≡ map f zs → cons_option (cond b (Some (f v)) None) rest ≡ map f (cond b (v ∷ zs) zs)
+pick : (b : Bool) (f : ℕ → Step) (v : ℕ) (zs : List ℕ) (rest : List Step) → rest ≡ map f zs
+    → cons_option (cond b (Some (f v)) None) rest ≡ map f (cond b (v ∷ zs) zs)
 pick true f v zs rest e = ap (λ l. f v ∷ l) e
 pick false f v zs rest e = e
 
 -- the steps of a group are those of the nodes that pass a test
-group_same : (f : ℕ → Step) (h : Stay → Option Step) (b p : ℕ → Bool) (gaps : List ℕ) (needed : List Bool) → ((k : ℕ) (row : SpanRow) → h (stay_of gaps needed k row) ≡ cond (b k) (Some (f row.node)) None)
+group_same : (f : ℕ → Step) (h : Stay → Option Step) (b p : ℕ → Bool) (gaps : List ℕ) (needed : List Bool)
+    → ((k : ℕ) (row : SpanRow) → h (stay_of gaps needed k row) ≡ cond (b k) (Some (f row.node)) None)
     → (k : ℕ) (rows : List SpanRow) → ((i : ℕ) (row : SpanRow) → slice_get rows i ≡ Some row → b (k + i) ≡ p row.node)
     → filter_map h (stays_from gaps needed k rows) ≡ map f (filter p (map node_of_row rows))
 group_same f h b p gaps needed e k [] same = refl
 group_same f h b p gaps needed e k (row ∷ rows) same =
     let rest : filter_map h (stays_from gaps needed (suc k) rows) ≡ map f (filter p (map node_of_row rows)) =
-    group_same f h b p gaps needed e (suc k) rows (λ i r g. ap b (let s : suc k + i ≡ k + suc i = omega arith in s) ∙ same (suc i) r g) in
+    group_same f h b p gaps needed e (suc k) rows
+    (λ i r g. ap b (let s : suc k + i ≡ k + suc i = omega arith in s) ∙ same (suc i) r g) in
     ap (λ o. cons_option o (filter_map h (stays_from gaps needed (suc k) rows))) (e k row)
-    ∙ (ap (λ t. cons_option (cond t (Some (f row.node)) None) (filter_map h (stays_from gaps needed (suc k) rows))) (ap b (let s : k ≡ k + 0 = omega arith in s) ∙ same 0 row refl)
-    ∙ pick (p row.node) f row.node (filter p (map node_of_row rows)) (filter_map h (stays_from gaps needed (suc k) rows)) rest)
+    ∙ (ap (λ t. cons_option (cond t (Some (f row.node)) None) (filter_map h (stays_from gaps needed (suc k) rows)))
+    (ap b (let s : k ≡ k + 0 = omega arith in s) ∙ same 0 row refl)
+    ∙ pick (p row.node) f row.node (filter p (map node_of_row rows))
+    (filter_map h (stays_from gaps needed (suc k) rows)) rest)
 
-module _ (tree : Rows) (nodes : List ℕ) (rows : List SpanRow) (amounts gaps : List ℕ) (is_span : IsSpan tree nodes rows) (solved : IsSolved tree (length nodes) rows amounts gaps) where
+module _ (tree : Rows) (nodes : List ℕ) (rows : List SpanRow) (amounts gaps : List ℕ)
+    (is_span : IsSpan tree nodes rows) (solved : IsSolved tree (length nodes) rows amounts gaps) where
   abbrev span : List ℕ
   span = spanned_nodes tree nodes
 
@@ -82,63 +88,87 @@ module _ (tree : Rows) (nodes : List ℕ) (rows : List SpanRow) (amounts gaps : 
   release v = slice_index gaps (2 * at v + 1)
 
   there : (k : ℕ) (row : SpanRow) → slice_get rows k ≡ Some row → slice_get span k ≡ Some row.node
-  there k row g = let P : List ℕ → Type 0 = λ xs. slice_get xs k ≡ Some row.node in subst P is_span.named (get_map node_of_row rows k row g)
+  there k row g = let P : List ℕ → Type 0 = λ xs. slice_get xs k ≡ Some row.node in
+      subst P is_span.named (get_map node_of_row rows k row g)
 
   at_is : (k : ℕ) (row : SpanRow) → slice_get rows k ≡ Some row → at row.node ≡ k
   at_is k row g =
       let t = place_there row.node span k (there k row g) in
-      let one : t.0 ≡ k = passing_once (length tree) (is_spanned tree nodes) t.0 k row.node (place_found row.node span t.0 t.1) (there k row g) in
+      let one : t.0 ≡ k = passing_once (length tree) (is_spanned tree nodes) t.0 k row.node
+      (place_found row.node span t.0 t.1) (there k row g) in
       ap (λ o. unwrap_or o 0) t.1 ∙ one
 
   pub lock_is : (k : ℕ) (row : SpanRow) → slice_get rows k ≡ Some row → lock row.node ≡ slice_index gaps (2 * k)
   lock_is k row g = ap (λ n. slice_index gaps (2 * n)) (at_is k row g)
 
-  pub release_is : (k : ℕ) (row : SpanRow) → slice_get rows k ≡ Some row → release row.node ≡ slice_index gaps (2 * k + 1)
+  pub release_is : (k : ℕ) (row : SpanRow) → slice_get rows k ≡ Some row
+      → release row.node ≡ slice_index gaps (2 * k + 1)
   release_is k row g = ap (λ n. slice_index gaps (2 * n + 1)) (at_is k row g)
 
   gap_is : (v : ℕ) → pos (slice_index gaps v) ≡ place solved.places v
   gap_is v =
       ap (λ l. pos (slice_index l v)) solved.are_gaps
-      ∙ (ap (λ n. pos n) (ups solved.places v) ∙ up_of (place solved.places v) (latest_rise tree nodes rows amounts is_span solved.places solved.latest v))
+      ∙ (ap (λ n. pos n) (ups solved.places v)
+      ∙ up_of (place solved.places v) (latest_rise tree nodes rows amounts is_span solved.places solved.latest v))
 
   pub locks : (k : ℕ) (row : SpanRow) → slice_get rows k ≡ Some row → pos (lock row.node) ≡ place solved.places (2 * k)
   locks k row g = ap (λ n. pos n) (lock_is k row g) ∙ gap_is (2 * k)
 
-  pub releases : (k : ℕ) (row : SpanRow) → slice_get rows k ≡ Some row → pos (release row.node) ≡ place solved.places (2 * k + 1)
+  pub releases : (k : ℕ) (row : SpanRow) → slice_get rows k ≡ Some row
+      → pos (release row.node) ≡ place solved.places (2 * k + 1)
   releases k row g = ap (λ n. pos n) (release_is k row g) ∙ gap_is (2 * k + 1)
 
   -- a child that is locked in the gap of its parent's unlock
-  child_same : (k : ℕ) (row : SpanRow) → slice_get rows k ≡ Some row → has_child_in tree span lock (release row.node) row.node ≡ is_needed rows gaps (length rows) k
-  child_same k row g = same_tests (has_child_in tree span lock (release row.node) row.node) (is_needed rows gaps (length rows) k)
+  child_same : (k : ℕ) (row : SpanRow) → slice_get rows k ≡ Some row
+      → has_child_in tree span lock (release row.node) row.node ≡ is_needed rows gaps (length rows) k
+  child_same k row g =
+      same_tests (has_child_in tree span lock (release row.node) row.node) (is_needed rows gaps (length rows) k)
       (λ h.
       let a = any_had (λ child. is_at row.node (parent_of tree child) && eqb (lock child) (release row.node)) span h in
       let P : List ℕ → Type 0 = λ xs. slice_get xs (a.1).0 ≡ Some a.0 in
       let m = get_map_inv node_of_row rows (a.1).0 a.0 (subst P (sym is_span.named) (a.1).1) in
       let parts = and_parts (is_at row.node (parent_of tree a.0)) (eqb (lock a.0) (release row.node)) a.2 in
-      let up_here : is_at k (m.0).parent ≡ true = parent_here k row g (a.1).0 m.0 m.1 ∙ (ap (λ v. is_at row.node (parent_of tree v)) m.2 ∙ parts.0) in
+      let up_here : is_at k (m.0).parent ≡ true =
+      parent_here k row g (a.1).0 m.0 m.1 ∙ (ap (λ v. is_at row.node (parent_of tree v)) m.2 ∙ parts.0) in
       let same : slice_index gaps (2 * (a.1).0) ≡ slice_index gaps (2 * k + 1) =
-      sym (lock_is (a.1).0 m.0 m.1) ∙ (ap (λ v. lock v) m.2 ∙ (eqb-true (lock a.0) (release row.node) parts.1 ∙ release_is k row g)) in
-      any_from (length rows) (λ i. has_parent_at rows k i && eqb (slice_index gaps (2 * i)) (slice_index gaps (2 * k + 1))) (a.1).0 (slice_get_within rows (a.1).0 m.0 m.1)
+      sym (lock_is (a.1).0 m.0 m.1)
+      ∙ (ap (λ v. lock v) m.2 ∙ (eqb-true (lock a.0) (release row.node) parts.1 ∙ release_is k row g)) in
+      any_from (length rows) (λ i. has_parent_at rows k i
+      && eqb (slice_index gaps (2 * i)) (slice_index gaps (2 * k + 1))) (a.1).0
+      (slice_get_within rows (a.1).0 m.0 m.1)
       (and_from (has_parent_at rows k (a.1).0) (eqb (slice_index gaps (2 * (a.1).0)) (slice_index gaps (2 * k + 1)))
       (ap (λ o. is_at k (option_and_then (λ (r : SpanRow). r.parent) o)) m.1 ∙ up_here) (eq-eqb _ _ same)))
       (λ h.
-      let a = any_true (length rows) (λ i. has_parent_at rows k i && eqb (slice_index gaps (2 * i)) (slice_index gaps (2 * k + 1))) h in
+      let a = any_true (length rows) (λ i. has_parent_at rows k i
+      && eqb (slice_index gaps (2 * i)) (slice_index gaps (2 * k + 1))) h in
       let r = get_within rows a.0 a.1 in
-      let parts = and_parts (has_parent_at rows k a.0) (eqb (slice_index gaps (2 * a.0)) (slice_index gaps (2 * k + 1))) a.2 in
-      let up_here : is_at k (r.0).parent ≡ true = ap (λ o. is_at k (option_and_then (λ (x : SpanRow). x.parent) o)) (sym r.1) ∙ parts.0 in
-      let same : lock (r.0).node ≡ release row.node = lock_is a.0 r.0 r.1 ∙ (eqb-true (slice_index gaps (2 * a.0)) (slice_index gaps (2 * k + 1)) parts.1 ∙ sym (release_is k row g)) in
-      any_has (λ child. is_at row.node (parent_of tree child) && eqb (lock child) (release row.node)) span (r.0).node (a.0, there a.0 r.0 r.1)
-      (and_from (is_at row.node (parent_of tree (r.0).node)) (eqb (lock (r.0).node) (release row.node)) (sym (parent_here k row g a.0 r.0 r.1) ∙ up_here) (eq-eqb _ _ same)))
+      let parts = and_parts (has_parent_at rows k a.0)
+      (eqb (slice_index gaps (2 * a.0)) (slice_index gaps (2 * k + 1))) a.2 in
+      let up_here : is_at k (r.0).parent ≡ true =
+      ap (λ o. is_at k (option_and_then (λ (x : SpanRow). x.parent) o)) (sym r.1) ∙ parts.0 in
+      let same : lock (r.0).node ≡ release row.node =
+      lock_is a.0 r.0 r.1 ∙ (eqb-true (slice_index gaps (2 * a.0)) (slice_index gaps (2 * k + 1)) parts.1
+      ∙ sym (release_is k row g)) in
+      any_has (λ child. is_at row.node (parent_of tree child) && eqb (lock child) (release row.node)) span (r.0).node
+      (a.0, there a.0 r.0 r.1)
+      (and_from (is_at row.node (parent_of tree (r.0).node)) (eqb (lock (r.0).node) (release row.node))
+      (sym (parent_here k row g a.0 r.0 r.1) ∙ up_here) (eq-eqb _ _ same)))
     where
-      parent_here : (j : ℕ) (over : SpanRow) → slice_get rows j ≡ Some over → (i : ℕ) (r : SpanRow) → slice_get rows i ≡ Some r → is_at j r.parent ≡ is_at over.node (parent_of tree r.node)
+      parent_here : (j : ℕ) (over : SpanRow) → slice_get rows j ≡ Some over → (i : ℕ) (r : SpanRow)
+          → slice_get rows i ≡ Some r → is_at j r.parent ≡ is_at over.node (parent_of tree r.node)
       parent_here = parent_at tree nodes rows amounts solved.solved is_span solved.solution
 
-  module _ (needed : List Bool) (marked : (j : ℕ) → j < length rows → get_or needed j false ≡ is_needed rows gaps (length rows) j) where
-    early_same : (k : ℕ) (row : SpanRow) → slice_get rows k ≡ Some row → is_early_at gaps needed k ≡ is_early tree span lock release row.node
+  module _ (needed : List Bool) (marked : (j : ℕ) → j < length rows
+      → get_or needed j false ≡ is_needed rows gaps (length rows) j) where
+    early_same : (k : ℕ) (row : SpanRow) → slice_get rows k ≡ Some row
+        → is_early_at gaps needed k ≡ is_early tree span lock release row.node
     early_same k row g =
-        ap (λ b. ltb (slice_index gaps (2 * k)) (slice_index gaps (2 * k + 1)) && not b) (marked k (slice_get_within rows k row g) ∙ sym (child_same k row g))
-        ∙ (ap (λ (n : ℕ). ltb n (slice_index gaps (2 * k + 1)) && not (has_child_in tree span lock (release row.node) row.node)) (sym (lock_is k row g))
-        ∙ ap (λ (n : ℕ). ltb (lock row.node) n && not (has_child_in tree span lock (release row.node) row.node)) (sym (release_is k row g)))
+        ap (λ b. ltb (slice_index gaps (2 * k)) (slice_index gaps (2 * k + 1)) && not b)
+        (marked k (slice_get_within rows k row g) ∙ sym (child_same k row g))
+        ∙ (ap (λ (n : ℕ). ltb n (slice_index gaps (2 * k + 1))
+        && not (has_child_in tree span lock (release row.node) row.node)) (sym (lock_is k row g))
+        ∙ ap (λ (n : ℕ). ltb (lock row.node) n && not (has_child_in tree span lock (release row.node) row.node))
+        (sym (release_is k row g)))
 
     zero_plus : (i : ℕ) → 0 + i ≡ i
     zero_plus i = omega arith
@@ -146,56 +176,80 @@ module _ (tree : Rows) (nodes : List ℕ) (rows : List SpanRow) (amounts gaps : 
     gap_same : (g : ℕ) → stay_steps (stays_from gaps needed 0 rows) g ≡ gap_steps tree span lock release g
     gap_same g =
         ap₂ (λ a b. a ++ b)
-        (group_same Unlock (step_in g Early) (λ k. eqb (slice_index gaps (2 * k + 1)) g && is_early_at gaps needed k) (λ v. eqb (release v) g && is_early tree span lock release v) gaps needed (λ k row. refl) 0 rows
+        (group_same Unlock (step_in g Early) (λ k. eqb (slice_index gaps (2 * k + 1)) g && is_early_at gaps needed k)
+        (λ v. eqb (release v) g && is_early tree span lock release v) gaps needed (λ k row. refl) 0 rows
         (λ i row h. ap (λ n. eqb (slice_index gaps (2 * n + 1)) g && is_early_at gaps needed n) (zero_plus i)
         ∙ ap₂ (λ (n : ℕ) b. eqb n g && b) (sym (release_is i row h)) (early_same i row h))
         ∙ ap (λ l. map Unlock (filter (λ v. eqb (release v) g && is_early tree span lock release v) l)) is_span.named)
         (ap₂ (λ a b. a ++ b)
-        (group_same Lock (step_in g Locks) (λ k. eqb (slice_index gaps (2 * k)) g) (λ v. eqb (lock v) g) gaps needed (λ k row. refl) 0 rows
-        (λ i row h. ap (λ n. eqb (slice_index gaps (2 * n)) g) (zero_plus i) ∙ ap (λ (n : ℕ). eqb n g) (sym (lock_is i row h)))
+        (group_same Lock (step_in g Locks) (λ k. eqb (slice_index gaps (2 * k)) g) (λ v. eqb (lock v) g) gaps needed
+        (λ k row. refl) 0 rows
+        (λ i row h. ap (λ n. eqb (slice_index gaps (2 * n)) g) (zero_plus i)
+        ∙ ap (λ (n : ℕ). eqb n g) (sym (lock_is i row h)))
         ∙ ap (λ l. map Lock (filter (λ v. eqb (lock v) g) l)) is_span.named)
-        (group_same Unlock (step_in g Late) (λ k. eqb (slice_index gaps (2 * k + 1)) g && not (is_early_at gaps needed k)) (λ v. eqb (release v) g && not (is_early tree span lock release v)) gaps needed (λ k row. refl) 0 rows
+        (group_same Unlock (step_in g Late) (λ k. eqb (slice_index gaps (2 * k + 1)) g
+        && not (is_early_at gaps needed k)) (λ v. eqb (release v) g && not (is_early tree span lock release v))
+        gaps needed (λ k row. refl) 0 rows
         (λ i row h. ap (λ n. eqb (slice_index gaps (2 * n + 1)) g && not (is_early_at gaps needed n)) (zero_plus i)
         ∙ ap₂ (λ (n : ℕ) b. eqb n g && not b) (sym (release_is i row h)) (early_same i row h))
-        ∙ ap (λ l. map Unlock (filter (λ v. eqb (release v) g && not (is_early tree span lock release v)) l)) is_span.named))
+        ∙ ap (λ l. map Unlock (filter (λ v. eqb (release v) g && not (is_early tree span lock release v)) l))
+        is_span.named))
 
     below_same : (m : ℕ) → stay_steps_below (stays_from gaps needed 0 rows) m ≡ steps_below tree span lock release m
     below_same zero = refl
     below_same (suc m) = ap₂ (λ a b. a ++ (b ++ Access m ∷ [])) (below_same m) (gap_same m)
 
-    pub laid_same : (m : ℕ) → stay_steps_below (stays_from gaps needed 0 rows) m ++ stay_steps (stays_from gaps needed 0 rows) m ≡ laid_out tree span lock release m
+    pub laid_same : (m : ℕ) → stay_steps_below (stays_from gaps needed 0 rows) m
+        ++ stay_steps (stays_from gaps needed 0 rows) m ≡ laid_out tree span lock release m
     laid_same m = ap₂ (λ a b. a ++ b) (below_same m) (gap_same m)
 
-  cost_same : (needed : List Bool) (k : ℕ) (rs : List SpanRow) → ((i : ℕ) (row : SpanRow) → slice_get rs i ≡ Some row → (slice_index gaps (2 * (k + i)) ≡ lock row.node) × (slice_index gaps (2 * (k + i) + 1) ≡ release row.node))
-      → stays_cost tree (stays_from gaps needed k rs) ≡ sum_by (λ row. weight_of tree row.node * (release row.node - lock row.node)) rs
+  cost_same : (needed : List Bool) (k : ℕ) (rs : List SpanRow)
+      → ((i : ℕ) (row : SpanRow) → slice_get rs i ≡ Some row → (slice_index gaps (2 * (k + i)) ≡ lock row.node)
+      × (slice_index gaps (2 * (k + i) + 1) ≡ release row.node))
+      → stays_cost tree (stays_from gaps needed k rs)
+      ≡ sum_by (λ row. weight_of tree row.node * (release row.node - lock row.node)) rs
   cost_same needed k [] h = refl
   cost_same needed k (row ∷ rs) h =
       let e : k ≡ k + 0 = omega arith in
       let here = h 0 row refl in
       let l : slice_index gaps (2 * k) ≡ lock row.node = ap (λ n. slice_index gaps (2 * n)) e ∙ here.0 in
       let r : slice_index gaps (2 * k + 1) ≡ release row.node = ap (λ n. slice_index gaps (2 * n + 1)) e ∙ here.1 in
-      let t : weight_of tree row.node * (slice_index gaps (2 * k + 1) - slice_index gaps (2 * k)) ≡ weight_of tree row.node * (release row.node - lock row.node) = ap₂ (λ a b. weight_of tree row.node * (a - b)) r l in
-      sum_by-cons (λ stay. weight_of tree stay.node * (stay.release - stay.lock)) (stay_of gaps needed k row) (stays_from gaps needed (suc k) rs)
+      let t : weight_of tree row.node * (slice_index gaps (2 * k + 1) - slice_index gaps (2 * k))
+      ≡ weight_of tree row.node * (release row.node - lock row.node) =
+      ap₂ (λ a b. weight_of tree row.node * (a - b)) r l in
+      sum_by-cons (λ stay. weight_of tree stay.node * (stay.release - stay.lock)) (stay_of gaps needed k row)
+      (stays_from gaps needed (suc k) rs)
       ∙ (ap₂ (λ a b. a + b) t (cost_same needed (suc k) rs (λ i x g.
-      let P : ℕ → Type 0 = λ n. (slice_index gaps (2 * n) ≡ lock x.node) × (slice_index gaps (2 * n + 1) ≡ release x.node) in
+      let P : ℕ → Type 0 =
+      λ n. (slice_index gaps (2 * n) ≡ lock x.node) × (slice_index gaps (2 * n + 1) ≡ release x.node) in
       let s : k + suc i ≡ suc k + i = omega arith in subst P s (h (suc i) x g)))
       ∙ sym (sum_by-cons (λ (x : SpanRow). weight_of tree x.node * (release x.node - lock x.node)) row rs))
 
-  pub costs_same : (needed : List Bool) → stays_cost tree (stays_from gaps needed 0 rows) ≡ sum_by (λ row. weight_of tree row.node * (release row.node - lock row.node)) rows
+  pub costs_same : (needed : List Bool)
+      → stays_cost tree (stays_from gaps needed 0 rows)
+      ≡ sum_by (λ row. weight_of tree row.node * (release row.node - lock row.node)) rows
   costs_same needed = cost_same needed 0 rows (λ i row g.
-      let P : ℕ → Type 0 = λ n. (slice_index gaps (2 * n) ≡ lock row.node) × (slice_index gaps (2 * n + 1) ≡ release row.node) in
+      let P : ℕ → Type 0 =
+      λ n. (slice_index gaps (2 * n) ≡ lock row.node) × (slice_index gaps (2 * n + 1) ≡ release row.node) in
       let s : i ≡ 0 + i = omega arith in subst P s (sym (lock_is i row g), sym (release_is i row g)))
 
 -- a stay at a place, and the row it is of
-pub stay_at : (gaps : List ℕ) (needed : List Bool) (k i : ℕ) (rows : List SpanRow) (stay : Stay) → slice_get (stays_from gaps needed k rows) i ≡ Some stay
+pub stay_at : (gaps : List ℕ) (needed : List Bool) (k i : ℕ) (rows : List SpanRow) (stay : Stay)
+    → slice_get (stays_from gaps needed k rows) i ≡ Some stay
     → (row : SpanRow) × (slice_get rows i ≡ Some row) × (stay ≡ stay_of gaps needed (k + i) row)
 stay_at gaps needed k i [] stay h = absurd (none-some stay h)
-stay_at gaps needed k zero (row ∷ rows) stay h = (row, refl, sym (same_Some (stay_of gaps needed k row) stay h) ∙ ap (λ n. stay_of gaps needed n row) (let s : k ≡ k + 0 = omega arith in s))
+stay_at gaps needed k zero (row ∷ rows) stay h = (
+  row,
+  refl,
+  sym (same_Some (stay_of gaps needed k row) stay h)
+      ∙ ap (λ n. stay_of gaps needed n row) (let s : k ≡ k + 0 = omega arith in s),
+)
 stay_at gaps needed k (suc i) (row ∷ rows) stay h =
     let r = stay_at gaps needed (suc k) i rows stay h in
     (r.0, r.1, r.2 ∙ ap (λ n. stay_of gaps needed n r.0) (let s : suc k + i ≡ k + suc i = omega arith in s))
 
-pub stays_length : (gaps : List ℕ) (needed : List Bool) (k : ℕ) (rows : List SpanRow) → length (stays_from gaps needed k rows) ≡ length rows
+pub stays_length : (gaps : List ℕ) (needed : List Bool) (k : ℕ) (rows : List SpanRow)
+    → length (stays_from gaps needed k rows) ≡ length rows
 stays_length gaps needed k [] = refl
 stays_length gaps needed k (row ∷ rows) = ap suc (stays_length gaps needed (suc k) rows)
 
@@ -203,7 +257,8 @@ few_kept : (h : Stay → Option Step) (stays : List Stay) → length (filter_map
 few_kept h [] = omega arith
 few_kept h (stay ∷ stays) = kept (h stay) (few_kept h stays)
   where
-    kept : (o : Option Step) → length (filter_map h stays) ≤ length stays → length (cons_option o (filter_map h stays)) ≤ suc (length stays)
+    kept : (o : Option Step) → length (filter_map h stays) ≤ length stays
+        → length (cons_option o (filter_map h stays)) ≤ suc (length stays)
     kept None le = omega arith
     kept (Some x) le = omega arith
 
@@ -214,7 +269,8 @@ gap_few stays g few =
     let c : length (filter_map (step_in g Late) stays) ≤ length stays = few_kept (step_in g Late) stays in
     omega (
       arith,
-      length-append (filter_map (step_in g Early) stays) (filter_map (step_in g Locks) stays ++ filter_map (step_in g Late) stays),
+      length-append (filter_map (step_in g Early) stays)
+          (filter_map (step_in g Locks) stays ++ filter_map (step_in g Late) stays),
       length-append (filter_map (step_in g Locks) stays) (filter_map (step_in g Late) stays),
     )
 
@@ -223,9 +279,15 @@ below_few stays zero few = omega arith
 below_few stays (suc m) few =
     let a : length (stay_steps_below stays m) ≤ 12289 * m = below_few stays m few in
     let b : length (stay_steps stays m) ≤ 12288 = gap_few stays m few in
-    omega (arith, length-append (stay_steps_below stays m) (stay_steps stays m ++ Access m ∷ []), length-append (stay_steps stays m) (Access m ∷ []))
+    omega (
+      arith,
+      length-append (stay_steps_below stays m) (stay_steps stays m ++ Access m ∷ []),
+      length-append
+          (stay_steps stays m) (Access m ∷ []),
+    )
 
-pub steps_few : (stays : List Stay) (m : ℕ) → length stays ≤ 4096 → m ≤ 64 → length (stay_steps_below stays m ++ stay_steps stays m) ≤ 1000000
+pub steps_few : (stays : List Stay) (m : ℕ) → length stays ≤ 4096 → m ≤ 64
+    → length (stay_steps_below stays m ++ stay_steps stays m) ≤ 1000000
 steps_few stays m few short =
     let a : length (stay_steps_below stays m) ≤ 12289 * m = below_few stays m few in
     let b : length (stay_steps stays m) ≤ 12288 = gap_few stays m few in
@@ -235,46 +297,68 @@ pub read_length : (rows : List SpanRow) (amounts : List ℕ) (at : ℕ) → leng
 read_length [] amounts at = refl
 read_length (row ∷ rows) amounts at = ap suc (read_length rows amounts (at + row_width row))
 
-module _ (tree : Rows) (nodes : List ℕ) (rows : List SpanRow) (amounts gaps : List ℕ) (is_span : IsSpan tree nodes rows) (solved : IsSolved tree (length nodes) rows amounts gaps) (short : length nodes ≤ 64) where
+module _ (tree : Rows) (nodes : List ℕ) (rows : List SpanRow) (amounts gaps : List ℕ)
+    (is_span : IsSpan tree nodes rows) (solved : IsSolved tree (length nodes) rows amounts gaps)
+    (short : length nodes ≤ 64) where
   pub gaps_size : length gaps ≡ 2 * length rows + 1
   gaps_size = ap length solved.are_gaps ∙ (map_length up solved.places ∙ solved.latest.candidate.size)
 
-  pub stay_fits : (needed : List Bool) (i : ℕ) (stay : Stay) → slice_get (stays_from gaps needed 0 rows) i ≡ Some stay → (stay.node < length tree) × (stay.lock ≤ stay.release) × (stay.release ≤ 64)
+  pub stay_fits : (needed : List Bool) (i : ℕ) (stay : Stay) → slice_get (stays_from gaps needed 0 rows) i ≡ Some stay
+      → (stay.node < length tree) × (stay.lock ≤ stay.release) × (stay.release ≤ 64)
   stay_fits needed i stay h =
       let r = stay_at gaps needed 0 i rows stay h in
-      let fits = latest_fits tree nodes rows amounts is_span solved.places solved.latest (lock tree nodes rows amounts gaps is_span solved) (release tree nodes rows amounts gaps is_span solved)
+      let fits = latest_fits tree nodes rows amounts is_span solved.places solved.latest
+      (lock tree nodes rows amounts gaps is_span solved) (release tree nodes rows amounts gaps is_span solved)
       (locks tree nodes rows amounts gaps is_span solved) (releases tree nodes rows amounts gaps is_span solved) in
       let sv = row_spanned tree nodes rows is_span i r.0 r.1 in
-      let own : lock tree nodes rows amounts gaps is_span solved (r.0).node ≤ release tree nodes rows amounts gaps is_span solved (r.0).node = fits.own (r.0).node sv in
-      let top : release tree nodes rows amounts gaps is_span solved (r.0).node ≤ length nodes = fits.top (r.0).node sv in
-      let a : lock tree nodes rows amounts gaps is_span solved (r.0).node ≡ slice_index gaps (2 * i) = lock_is tree nodes rows amounts gaps is_span solved i r.0 r.1 in
-      let b : release tree nodes rows amounts gaps is_span solved (r.0).node ≡ slice_index gaps (2 * i + 1) = release_is tree nodes rows amounts gaps is_span solved i r.0 r.1 in
-      let e : stay ≡ stay_of gaps needed i r.0 = r.2 ∙ ap (λ n. stay_of gaps needed n r.0) (let z : 0 + i ≡ i = omega arith in z) in
+      let own : lock tree nodes rows amounts gaps is_span solved (r.0).node
+      ≤ release tree nodes rows amounts gaps is_span solved (r.0).node = fits.own (r.0).node sv in
+      let top : release tree nodes rows amounts gaps is_span solved (r.0).node ≤ length nodes =
+      fits.top (r.0).node sv in
+      let a : lock tree nodes rows amounts gaps is_span solved (r.0).node ≡ slice_index gaps (2 * i) =
+      lock_is tree nodes rows amounts gaps is_span solved i r.0 r.1 in
+      let b : release tree nodes rows amounts gaps is_span solved (r.0).node ≡ slice_index gaps (2 * i + 1) =
+      release_is tree nodes rows amounts gaps is_span solved i r.0 r.1 in
+      let e : stay ≡ stay_of gaps needed i r.0 =
+      r.2 ∙ ap (λ n. stay_of gaps needed n r.0) (let z : 0 + i ≡ i = omega arith in z) in
       let P : Stay → Type 0 = λ x. (x.node < length tree) × (x.lock ≤ x.release) × (x.release ≤ 64) in
-      subst P (sym e) (spanned_within tree nodes (r.0).node is_span.is_tree is_span.are_nodes sv, omega arith, omega arith)
+      subst P (sym e) (
+        spanned_within tree nodes (r.0).node is_span.is_tree is_span.are_nodes sv,
+        omega arith,
+        omega
+            arith,
+      )
 
-  module _ (limits : IsWithinLimits tree) (needed : List Bool) (marked : (j : ℕ) → j < length rows → get_or needed j false ≡ is_needed rows gaps (length rows) j) where
+  module _ (limits : IsWithinLimits tree) (needed : List Bool)
+      (marked : (j : ℕ) → j < length rows → get_or needed j false ≡ is_needed rows gaps (length rows) j) where
     abbrev pub steps : List Step
-    steps = stay_steps_below (stays_from gaps needed 0 rows) (length nodes) ++ stay_steps (stays_from gaps needed 0 rows) (length nodes)
+    steps = stay_steps_below (stays_from gaps needed 0 rows) (length nodes)
+        ++ stay_steps (stays_from gaps needed 0 rows) (length nodes)
 
-    laid : steps ≡ laid_out tree (spanned_nodes tree nodes) (lock tree nodes rows amounts gaps is_span solved) (release tree nodes rows amounts gaps is_span solved) (length nodes)
+    laid : steps ≡ laid_out tree (spanned_nodes tree nodes) (lock tree nodes rows amounts gaps is_span solved)
+        (release tree nodes rows amounts gaps is_span solved) (length nodes)
     laid = laid_same tree nodes rows amounts gaps is_span solved needed marked (length nodes)
 
     pub steps_settle : IsSettled tree nodes steps
     steps_settle =
         let P : List Step → Type 0 = λ p. IsSettled tree nodes p in
-        subst P (sym laid) (settles tree nodes rows amounts solved.solved is_span limits solved.solution solved.places solved.latest
-        (lock tree nodes rows amounts gaps is_span solved) (release tree nodes rows amounts gaps is_span solved) (locks tree nodes rows amounts gaps is_span solved) (releases tree nodes rows amounts gaps is_span solved))
+        subst P (sym laid) (settles tree nodes rows amounts solved.solved is_span limits solved.solution solved.places
+        solved.latest
+        (lock tree nodes rows amounts gaps is_span solved) (release tree nodes rows amounts gaps is_span solved)
+        (locks tree nodes rows amounts gaps is_span solved) (releases tree nodes rows amounts gaps is_span solved))
 
     pub steps_certified : IsCertificate tree nodes (read_rows rows amounts 0) (cost tree steps)
     steps_certified =
         let P : List Step → Type 0 = λ p. IsCertificate tree nodes (read_rows rows amounts 0) (cost tree p) in
-        subst P (sym laid) (certifies tree nodes rows amounts solved.solved is_span limits solved.solution solved.places solved.latest
-        (lock tree nodes rows amounts gaps is_span solved) (release tree nodes rows amounts gaps is_span solved) (locks tree nodes rows amounts gaps is_span solved) (releases tree nodes rows amounts gaps is_span solved))
+        subst P (sym laid) (certifies tree nodes rows amounts solved.solved is_span limits solved.solution
+        solved.places solved.latest
+        (lock tree nodes rows amounts gaps is_span solved) (release tree nodes rows amounts gaps is_span solved)
+        (locks tree nodes rows amounts gaps is_span solved) (releases tree nodes rows amounts gaps is_span solved))
 
     pub steps_cost : stays_cost tree (stays_from gaps needed 0 rows) ≡ cost tree steps
     steps_cost =
         costs_same tree nodes rows amounts gaps is_span solved needed
         ∙ (sym (costs tree nodes rows amounts solved.solved is_span limits solved.solution solved.places solved.latest
-        (lock tree nodes rows amounts gaps is_span solved) (release tree nodes rows amounts gaps is_span solved) (locks tree nodes rows amounts gaps is_span solved) (releases tree nodes rows amounts gaps is_span solved))
+        (lock tree nodes rows amounts gaps is_span solved) (release tree nodes rows amounts gaps is_span solved)
+        (locks tree nodes rows amounts gaps is_span solved) (releases tree nodes rows amounts gaps is_span solved))
         ∙ ap (λ p. cost tree p) (sym laid))

@@ -58,51 +58,69 @@ pub record IsRowWithin (n : ℕ) (row : SpanRow) : Type 0 where
   pub first : (f : ℕ) → row.first ≡ Some f → f ≤ 64
   pub last : (l : ℕ) → row.last ≡ Some l → l + 1 ≤ 64
 
-parent_each : (n k : ℕ) (o : Option ℕ) → k < n → ((j : ℕ) → o ≡ Some j → j < n) → Each (IsArcOf (2 * n + 1)) (parent_arcs k o)
+parent_each : (n k : ℕ) (o : Option ℕ) → k < n → ((j : ℕ) → o ≡ Some j → j < n)
+    → Each (IsArcOf (2 * n + 1)) (parent_arcs k o)
 parent_each n k None lt h = tt
 parent_each n k (Some j) lt h =
-    let less : j < n = h j refl in
-    (record { from = omega arith; to = omega arith; modest = modest_zero }, (record { from = omega arith; to = omega arith; modest = modest_zero }, tt))
+    let less : j < n = h j refl in (
+      record { from = omega arith; to = omega arith; modest = modest_zero },
+      (record { from = omega arith; to = omega arith; modest = modest_zero }, tt),
+    )
 
-first_each : (n k : ℕ) (o : Option ℕ) → k < n → ((f : ℕ) → o ≡ Some f → f ≤ 64) → Each (IsArcOf (2 * n + 1)) (first_arcs (2 * n) k o)
+first_each : (n k : ℕ) (o : Option ℕ) → k < n → ((f : ℕ) → o ≡ Some f → f ≤ 64)
+    → Each (IsArcOf (2 * n + 1)) (first_arcs (2 * n) k o)
 first_each n k None lt h = tt
 first_each n k (Some f) lt h = (record { from = omega arith; to = omega arith; modest = modest_neg f (h f refl) }, tt)
 
-last_each : (n k : ℕ) (o : Option ℕ) → k < n → ((l : ℕ) → o ≡ Some l → l + 1 ≤ 64) → Each (IsArcOf (2 * n + 1)) (last_arcs (2 * n) k o)
+last_each : (n k : ℕ) (o : Option ℕ) → k < n → ((l : ℕ) → o ≡ Some l → l + 1 ≤ 64)
+    → Each (IsArcOf (2 * n + 1)) (last_arcs (2 * n) k o)
 last_each n k None lt h = tt
-last_each n k (Some l) lt h = (record { from = omega arith; to = omega arith; modest = modest_pos (l + 1) (h l refl) }, tt)
+last_each n k (Some l) lt h =
+    (record { from = omega arith; to = omega arith; modest = modest_pos (l + 1) (h l refl) }, tt)
 
-rows_each : (n k : ℕ) (rows : List SpanRow) → k + length rows ≤ n → ((i : ℕ) (row : SpanRow) → slice_get rows i ≡ Some row → IsRowWithin n row) → Each (IsArcOf (2 * n + 1)) (arcs_from (2 * n) k rows)
+rows_each : (n k : ℕ) (rows : List SpanRow) → k + length rows ≤ n
+    → ((i : ℕ) (row : SpanRow) → slice_get rows i ≡ Some row → IsRowWithin n row)
+    → Each (IsArcOf (2 * n + 1)) (arcs_from (2 * n) k rows)
 rows_each n k [] le h = tt
 rows_each n k (row ∷ rows) le h =
     let lt : k < n = omega arith in
     let w : IsRowWithin n row = h 0 row refl in
     each_joined (IsArcOf (2 * n + 1)) (row_arcs (2 * n) k row) (arcs_from (2 * n) (suc k) rows)
-    (each_joined (IsArcOf (2 * n + 1)) (parent_arcs k row.parent) (first_arcs (2 * n) k row.first ++ (last_arcs (2 * n) k row.last ++ arc (2 * k) (2 * k + 1) (pos 0) ∷ [])) (parent_each n k row.parent lt w.parent)
-    (each_joined (IsArcOf (2 * n + 1)) (first_arcs (2 * n) k row.first) (last_arcs (2 * n) k row.last ++ arc (2 * k) (2 * k + 1) (pos 0) ∷ []) (first_each n k row.first lt w.first)
-    (each_joined (IsArcOf (2 * n + 1)) (last_arcs (2 * n) k row.last) (arc (2 * k) (2 * k + 1) (pos 0) ∷ []) (last_each n k row.last lt w.last)
+    (each_joined (IsArcOf (2 * n + 1)) (parent_arcs k row.parent)
+    (first_arcs (2 * n) k row.first ++ (last_arcs (2 * n) k row.last ++ arc (2 * k) (2 * k + 1) (pos 0) ∷ []))
+    (parent_each n k row.parent lt w.parent)
+    (each_joined (IsArcOf (2 * n + 1)) (first_arcs (2 * n) k row.first)
+    (last_arcs (2 * n) k row.last ++ arc (2 * k) (2 * k + 1) (pos 0) ∷ []) (first_each n k row.first lt w.first)
+    (each_joined (IsArcOf (2 * n + 1)) (last_arcs (2 * n) k row.last) (arc (2 * k) (2 * k + 1) (pos 0) ∷ [])
+    (last_each n k row.last lt w.last)
     (record { from = omega arith; to = omega arith; modest = modest_zero }, tt))))
     (rows_each n (suc k) rows (omega arith) (λ i r g. h (suc i) r g))
 
-own_there : (base k i : ℕ) (rows : List SpanRow) → i < length rows → Has (arcs_from base k rows) (arc (2 * (k + i)) (2 * (k + i) + 1) (pos 0))
+own_there : (base k i : ℕ) (rows : List SpanRow) → i < length rows
+    → Has (arcs_from base k rows) (arc (2 * (k + i)) (2 * (k + i) + 1) (pos 0))
 own_there base k i [] lt = absurd (omega arith)
 own_there base k zero (row ∷ rows) lt =
     let P : ℕ → Type 0 = λ n. Has (arcs_from base k (row ∷ rows)) (arc (2 * n) (2 * n + 1) (pos 0)) in
     let e : k ≡ k + 0 = omega arith in
     let own : Arc = arc (2 * k) (2 * k + 1) (pos 0) in
     subst P e (has_left (row_arcs base k row) (arcs_from base (suc k) rows) (arc (2 * k) (2 * k + 1) (pos 0))
-    (has_right (parent_arcs k row.parent) (first_arcs base k row.first ++ (last_arcs base k row.last ++ arc (2 * k) (2 * k + 1) (pos 0) ∷ [])) (arc (2 * k) (2 * k + 1) (pos 0))
-    (has_right (first_arcs base k row.first) (last_arcs base k row.last ++ arc (2 * k) (2 * k + 1) (pos 0) ∷ []) (arc (2 * k) (2 * k + 1) (pos 0))
-    (has_right (last_arcs base k row.last) (arc (2 * k) (2 * k + 1) (pos 0) ∷ []) (arc (2 * k) (2 * k + 1) (pos 0)) (0, refl)))))
+    (has_right (parent_arcs k row.parent) (first_arcs base k row.first
+    ++ (last_arcs base k row.last ++ arc (2 * k) (2 * k + 1) (pos 0) ∷ [])) (arc (2 * k) (2 * k + 1) (pos 0))
+    (has_right (first_arcs base k row.first) (last_arcs base k row.last ++ arc (2 * k) (2 * k + 1) (pos 0) ∷ [])
+    (arc (2 * k) (2 * k + 1) (pos 0))
+    (has_right (last_arcs base k row.last) (arc (2 * k) (2 * k + 1) (pos 0) ∷ []) (arc (2 * k) (2 * k + 1) (pos 0))
+    (0, refl)))))
 own_there base k (suc i) (row ∷ rows) lt =
     let P : ℕ → Type 0 = λ n. Has (arcs_from base k (row ∷ rows)) (arc (2 * n) (2 * n + 1) (pos 0)) in
     let e : suc k + i ≡ k + suc i = omega arith in
-    subst P e (has_right (row_arcs base k row) (arcs_from base (suc k) rows) (arc (2 * (suc k + i)) (2 * (suc k + i) + 1) (pos 0)) (own_there base (suc k) i rows (omega arith)))
+    subst P e (has_right (row_arcs base k row) (arcs_from base (suc k) rows)
+    (arc (2 * (suc k + i)) (2 * (suc k + i) + 1) (pos 0)) (own_there base (suc k) i rows (omega arith)))
 
 own_arcs : (base : ℕ) (rows : List SpanRow) → HasOwnArcs (length rows) (arcs_from base 0 rows)
 own_arcs base rows k lt =
     let h = own_there base 0 k rows lt in
-    let at : arc_at (arcs_from base 0 rows) h.0 ≡ arc (2 * (0 + k)) (2 * (0 + k) + 1) (pos 0) = get_or_from_slice_get (arcs_from base 0 rows) h.0 (arc (2 * (0 + k)) (2 * (0 + k) + 1) (pos 0)) no_arc h.1 in (
+    let at : arc_at (arcs_from base 0 rows) h.0 ≡ arc (2 * (0 + k)) (2 * (0 + k) + 1) (pos 0) =
+    get_or_from_slice_get (arcs_from base 0 rows) h.0 (arc (2 * (0 + k)) (2 * (0 + k) + 1) (pos 0)) no_arc h.1 in (
       h.0,
       slice_get_within (arcs_from base 0 rows) h.0 (arc (2 * (0 + k)) (2 * (0 + k) + 1) (pos 0)) h.1,
       ap (λ (a : Arc). a.from) at ∙ omega arith,
@@ -115,9 +133,11 @@ need_base tree (r ∷ rows) =
     let e : 2 * suc (length rows) ≡ suc (suc (2 * length rows)) = omega arith in
     ap (λ (n : ℕ). place (needs_of tree (r ∷ rows)) n) e ∙ need_base tree rows
 
-weight_parts : (w : ℕ) (z y : ℤ) → 1 ≤ w → w ≤ 1000 → z ≡ neg_ℤ (pos w) → y ≡ pos w → (v : ℕ) × (v < 1000) × (z ≡ negsuc v) × (y ≡ pos (v + 1))
+weight_parts : (w : ℕ) (z y : ℤ) → 1 ≤ w → w ≤ 1000 → z ≡ neg_ℤ (pos w) → y ≡ pos w → (v : ℕ) × (v < 1000)
+    × (z ≡ negsuc v) × (y ≡ pos (v + 1))
 weight_parts zero z y low high e f = absurd (omega arith)
-weight_parts (suc w) z y low high e f = let s : suc w ≡ w + 1 = omega arith in (w, omega arith, e, f ∙ ap (λ n. pos n) s)
+weight_parts (suc w) z y low high e f = let s : suc w ≡ w + 1 = omega arith in
+    (w, omega arith, e, f ∙ ap (λ n. pos n) s)
 
 start_is : (m : ℕ) (rows : List SpanRow) → places_of (λ v. 0) (λ v. m) rows ≡ start_of m rows
 start_is m [] = refl
@@ -145,7 +165,8 @@ low_enough z m le h = omega (arith, ints)
 zero_enough : (z : ℤ) → z ≡ pos 0 → z ≤ℤ pos 64
 zero_enough z e = omega (arith, ints)
 
-module _ (tree : Rows) (nodes : List ℕ) (rows : List SpanRow) (is_span : IsSpan tree nodes rows) (limits : IsWithinLimits tree) (short : length nodes ≤ 64) where
+module _ (tree : Rows) (nodes : List ℕ) (rows : List SpanRow) (is_span : IsSpan tree nodes rows)
+    (limits : IsWithinLimits tree) (short : length nodes ≤ 64) where
   abbrev m : ℕ
   m = length nodes
 
@@ -155,8 +176,10 @@ module _ (tree : Rows) (nodes : List ℕ) (rows : List SpanRow) (is_span : IsSpa
   pub rows_of_span : AreRowsOf tree rows
   rows_of_span = record {
     few = let a : length rows ≤ length tree = few in let b : length tree ≤ 4096 = limits.few in omega arith;
-    nodes = λ i row h. spanned_within tree nodes row.node is_span.is_tree is_span.are_nodes (row_spanned tree nodes rows is_span i row h);
-    parents = λ i j row h e. let p = parent_known tree nodes rows is_span i j row h e in slice_get_within rows j p.0 p.1;
+    nodes = λ i row h. spanned_within tree nodes row.node is_span.is_tree is_span.are_nodes
+        (row_spanned tree nodes rows is_span i row h);
+    parents = λ i j row h e. let p = parent_known tree nodes rows is_span i j row h e in
+        slice_get_within rows j p.0 p.1;
   }
 
   rows_within : (i : ℕ) (row : SpanRow) → slice_get rows i ≡ Some row → IsRowWithin (length rows) row
@@ -172,12 +195,15 @@ module _ (tree : Rows) (nodes : List ℕ) (rows : List SpanRow) (is_span : IsSpa
     size = needs_size tree rows;
     weights = λ k lt.
         let r = get_within rows k lt in
-        weight_parts (weight_of tree (r.0).node) (place (needs_of tree rows) (2 * k)) (place (needs_of tree rows) (2 * k + 1))
-        (limits.weighty (r.0).node (rows_of_span.nodes k r.0 r.1)) (limits.light (r.0).node) (need_lock tree rows k r.0 r.1) (need_release tree rows k r.0 r.1);
+        weight_parts (weight_of tree (r.0).node) (place (needs_of tree rows) (2 * k))
+        (place (needs_of tree rows) (2 * k + 1))
+        (limits.weighty (r.0).node (rows_of_span.nodes k r.0 r.1)) (limits.light (r.0).node)
+        (need_lock tree rows k r.0 r.1) (need_release tree rows k r.0 r.1);
     base = need_base tree rows;
     arcs_of =
         let P : ℕ → Type 0 = λ n. AreArcsOf (arcs_from (2 * length rows) 0 rows) n in
-        subst P (sym (needs_size tree rows)) (λ i lt. each_at (IsArcOf (2 * length rows + 1)) (arcs_from (2 * length rows) 0 rows)
+        subst P (sym (needs_size tree rows))
+        (λ i lt. each_at (IsArcOf (2 * length rows + 1)) (arcs_from (2 * length rows) 0 rows)
         (rows_each (length rows) 0 rows (omega arith) rows_within) i lt);
     own = own_arcs (2 * length rows) rows;
   }
@@ -194,17 +220,23 @@ module _ (tree : Rows) (nodes : List ℕ) (rows : List SpanRow) (is_span : IsSpa
 
   start_tight : AreTight tree nodes (read_rows rows [] 0) (λ v. 0) (λ v. length nodes)
   start_tight = record {
-    above = λ i j f g a b child some. let r = read_at rows [] 0 i f a in let e = ap (λ (x : FlowRow). x.above) r.3 ∙ nothing_read (r.0).parent r.1 in absurd (omega arith);
-    held = λ i j f g a b child some. let r = read_at rows [] 0 i f a in let e = ap (λ (x : FlowRow). x.held) r.3 ∙ nothing_read (r.0).parent (r.1 + 1) in absurd (omega arith);
-    first = λ i f a some_access some. let r = read_at rows [] 0 i f a in let e = ap (λ (x : FlowRow). x.first) r.3 ∙ nothing_read (r.0).first _ in absurd (omega arith);
-    last = λ i f a some_access some. let r = read_at rows [] 0 i f a in let e = ap (λ (x : FlowRow). x.last) r.3 ∙ nothing_read (r.0).last _ in absurd (omega arith);
-    own = λ i f a some. let r = read_at rows [] 0 i f a in let e = ap (λ (x : FlowRow). x.own) r.3 in absurd (omega arith);
+    above = λ i j f g a b child some. let r = read_at rows [] 0 i f a in
+        let e = ap (λ (x : FlowRow). x.above) r.3 ∙ nothing_read (r.0).parent r.1 in absurd (omega arith);
+    held = λ i j f g a b child some. let r = read_at rows [] 0 i f a in
+        let e = ap (λ (x : FlowRow). x.held) r.3 ∙ nothing_read (r.0).parent (r.1 + 1) in absurd (omega arith);
+    first = λ i f a some_access some. let r = read_at rows [] 0 i f a in
+        let e = ap (λ (x : FlowRow). x.first) r.3 ∙ nothing_read (r.0).first _ in absurd (omega arith);
+    last = λ i f a some_access some. let r = read_at rows [] 0 i f a in
+        let e = ap (λ (x : FlowRow). x.last) r.3 ∙ nothing_read (r.0).last _ in absurd (omega arith);
+    own = λ i f a some. let r = read_at rows [] 0 i f a in let e = ap (λ (x : FlowRow). x.own) r.3 in
+        absurd (omega arith);
   }
 
   pub is_start : IsStart (needs_of tree rows) (arcs_from (2 * length rows) 0 rows) (start_of (length nodes) rows)
   is_start =
       let c = other_candidate tree nodes rows [] is_span (λ v. 0) (λ v. length nodes) start_fits start_tight in
-      let P : List ℤ → Type 0 = λ l. IsCandidate (2 * length rows + 1) (arcs_from (2 * length rows) 0 rows) [] (pos (length nodes)) l in
+      let P : List ℤ → Type 0 =
+      λ l. IsCandidate (2 * length rows + 1) (arcs_from (2 * length rows) 0 rows) [] (pos (length nodes)) l in
       let d = subst P (start_is (length nodes) rows) c in
       record {
         size = d.size ∙ sym (needs_size tree rows);
@@ -212,19 +244,27 @@ module _ (tree : Rows) (nodes : List ℕ) (rows : List SpanRow) (is_span : IsSpa
         modest = λ v lt. start_modest (length nodes) rows short v;
       }
 
-  pub lowered_candidate : (amounts : List ℕ) (solved : List ℤ) → IsSolution (needs_of tree rows) (arcs_from (2 * length rows) 0 rows) amounts solved
-      → IsCandidate (length (needs_of tree rows)) (arcs_from (2 * length rows) 0 rows) amounts (pos (length nodes)) (map (lowered (pos (length nodes))) solved)
+  pub lowered_candidate : (amounts : List ℕ) (solved : List ℤ)
+      → IsSolution (needs_of tree rows) (arcs_from (2 * length rows) 0 rows) amounts solved
+      → IsCandidate (length (needs_of tree rows)) (arcs_from (2 * length rows) 0 rows) amounts (pos (length nodes))
+      (map (lowered (pos (length nodes))) solved)
   lowered_candidate amounts solved solution =
-      let P : ℕ → Type 0 = λ n. IsCandidate n (arcs_from (2 * length rows) 0 rows) amounts (pos (length nodes)) (map (lowered (pos (length nodes))) solved) in
+      let P : ℕ → Type 0 = λ n. IsCandidate n (arcs_from (2 * length rows) 0 rows) amounts (pos (length nodes))
+      (map (lowered (pos (length nodes))) solved) in
       let size : length (needs_of tree rows) ≡ 2 * length rows + 1 = needs_size tree rows in
       let e : length (needs_of tree rows) - 1 ≡ 2 * length rows = omega arith in
-      subst P (sym size) (cut_candidate tree nodes rows amounts is_span (lowered (pos (length nodes))) (lowered_rises (length nodes)) (lowered_keeps (length nodes)) solved
-      (solution.places_size ∙ size) solution.lawful (ap (λ v. place solved v) (sym e) ∙ solution.base) (λ v lt. lowered_most (length nodes) (place solved v)))
+      subst P (sym size) (cut_candidate tree nodes rows amounts is_span (lowered (pos (length nodes)))
+      (lowered_rises (length nodes)) (lowered_keeps (length nodes)) solved
+      (solution.places_size ∙ size) solution.lawful (ap (λ v. place solved v) (sym e) ∙ solution.base)
+      (λ v lt. lowered_most (length nodes) (place solved v)))
 
-  pub latest_low : (amounts : List ℕ) (places : List ℤ) → IsLatest (2 * length rows + 1) (arcs_from (2 * length rows) 0 rows) amounts (pos (length nodes)) places → (v : ℕ) → place places v ≤ℤ pos 64
+  pub latest_low : (amounts : List ℕ) (places : List ℤ)
+      → IsLatest (2 * length rows + 1) (arcs_from (2 * length rows) 0 rows) amounts (pos (length nodes)) places
+      → (v : ℕ) → place places v ≤ℤ pos 64
   latest_low amounts places latest v = elim (cases_lt v (2 * length rows + 1)) [
     | inl lt ↦ low_enough (place places v) (length nodes) short (latest.candidate.capped v lt)
-    | inr ge ↦ zero_enough (place places v) (past_end places v (let s : length places ≡ 2 * length rows + 1 = latest.candidate.size in omega arith))
+    | inr ge ↦ zero_enough (place places v)
+        (past_end places v (let s : length places ≡ 2 * length rows + 1 = latest.candidate.size in omega arith))
   ]
 
 -- the nodes of a list are as many as its accesses

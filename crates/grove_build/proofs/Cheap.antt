@@ -21,7 +21,8 @@ use Rattle.grove_proof.proofs.Duality.{priced, parent_value, priced_locks, price
 use Rattle.grove_build.proofs.Fitting.{AreTight}
 
 -- where each term is at most another and the sums are the other way round, the terms are the same
-sum_tight : {X : Type 0} (f g : X → ℕ) (xs : List X) → ((i : ℕ) (x : X) → slice_get xs i ≡ Some x → f x ≤ g x) → sum_by g xs ≤ sum_by f xs
+sum_tight : {X : Type 0} (f g : X → ℕ) (xs : List X) → ((i : ℕ) (x : X) → slice_get xs i ≡ Some x → f x ≤ g x)
+    → sum_by g xs ≤ sum_by f xs
     → (i : ℕ) (x : X) → slice_get xs i ≡ Some x → f x ≡ g x
 sum_tight f g [] le less i x h = absurd (none-some x h)
 sum_tight {X} f g (y ∷ xs) le less zero x h =
@@ -54,20 +55,26 @@ cancel a x y some e = elim (cases_order x y) [
 ]
 
 -- ten sums that leave no slack
-slack_sums : (above locks child_above held first own child_held last last_ends releases firsts own_release hold cost : ℕ)
-    → above + locks ≡ ((child_above + held) + first) + own → (child_held + last) + own_release ≡ releases → releases ≡ locks + hold
+slack_sums : (above locks child_above held first own child_held last last_ends releases firsts own_release hold
+    cost : ℕ)
+    → above + locks ≡ ((child_above + held) + first) + own → (child_held + last) + own_release ≡ releases
+    → releases ≡ locks + hold
     → child_above ≤ above → held ≤ child_held → first ≤ firsts → last_ends ≤ last → own ≤ own_release → hold ≤ cost
     → cost + firsts ≤ last_ends
     → (above ≤ child_above) × (child_held ≤ held) × (firsts ≤ first) × (last ≤ last_ends) × (own_release ≤ own)
-slack_sums above locks child_above held first own child_held last last_ends releases firsts own_release hold cost h1 h2 h3 h4 h5 h6 h7 h8 h9 h10 =
+slack_sums above locks child_above held first own child_held last last_ends releases firsts own_release hold cost h1
+    h2 h3 h4 h5 h6 h7 h8 h9 h10 =
     (omega arith, omega arith, omega arith, omega arith, omega arith)
 
-pub cheap_is_tight : (rows : Rows) (nodes : List ℕ) (flow : List FlowRow) (plan : List Step) → IsTree rows → AreNodes rows nodes → Balances rows nodes flow → IsLegal rows nodes plan
-    → cost rows plan + losses nodes flow ≤ gains nodes flow → AreTight rows nodes flow (lock_slot plan) (release_slot plan)
+pub cheap_is_tight : (rows : Rows) (nodes : List ℕ) (flow : List FlowRow) (plan : List Step) → IsTree rows
+    → AreNodes rows nodes → Balances rows nodes flow → IsLegal rows nodes plan
+    → cost rows plan + losses nodes flow ≤ gains nodes flow
+    → AreTight rows nodes flow (lock_slot plan) (release_slot plan)
 cheap_is_tight rows nodes flow plan tree fits balances legal cheap =
     let are : AreSpanRows rows nodes flow = span_rows rows nodes flow tree fits balances.forced in
     let five : MeetsFive rows nodes plan = meets_five rows nodes plan tree legal in
-    let listed : map node_of flow ≡ spanned_nodes rows nodes = (forced_list_is_span rows nodes (map node_of flow) tree fits).0 balances.forced in
+    let listed : map node_of flow ≡ spanned_nodes rows nodes =
+    (forced_list_is_span rows nodes (map node_of flow) tree fits).0 balances.forced in
     let above = above_term rows nodes flow plan are balances.signs five in
     let held = held_term rows nodes flow plan are balances.signs five in
     let first = first_term rows nodes flow plan are balances.signs five in
@@ -93,8 +100,12 @@ cheap_is_tight rows nodes flow plan tree fits balances legal cheap =
     (priced_locks rows flow (lock_slot plan) balances.locks)
     (priced_releases rows flow (release_slot plan) balances.releases)
     (holding_sums rows nodes flow plan are balances.signs five)
-    (rw (child_swap rows flow (λ child. child.above) (lock_slot plan)) (sums_le (λ child. child.above * parent_value rows flow (lock_slot plan) child) (λ row. row.above * lock_slot plan row.node) flow above))
-    (rw (child_swap rows flow (λ child. child.held) (release_slot plan)) (sums_le (λ row. row.held * lock_slot plan row.node) (λ child. child.held * parent_value rows flow (release_slot plan) child) flow held))
+    (rw (child_swap rows flow (λ child. child.above) (lock_slot plan))
+    (sums_le (λ child. child.above * parent_value rows flow (lock_slot plan) child)
+    (λ row. row.above * lock_slot plan row.node) flow above))
+    (rw (child_swap rows flow (λ child. child.held) (release_slot plan))
+    (sums_le (λ row. row.held * lock_slot plan row.node)
+    (λ child. child.held * parent_value rows flow (release_slot plan) child) flow held))
     (sums_le (λ row. row.first * lock_slot plan row.node) (λ row. row.first * first_access nodes row.node) flow first)
     (sums_le (λ row. row.last * last_end nodes row.node) (λ row. row.last * release_slot plan row.node) flow last)
     (sums_le (λ row. row.own * lock_slot plan row.node) (λ row. row.own * release_slot plan row.node) flow own)
@@ -102,20 +113,27 @@ cheap_is_tight rows nodes flow plan tree fits balances legal cheap =
     cheap in
     record {
       above = λ i j row parent a b child some.
-          let e = sum_tight (λ c. c.above * parent_value rows flow (lock_slot plan) c) (λ r. r.above * lock_slot plan r.node) flow above
+          let e = sum_tight (λ c. c.above * parent_value rows flow (lock_slot plan) c)
+          (λ r. r.above * lock_slot plan r.node) flow above
           (let s = child_swap rows flow (λ c. c.above) (lock_slot plan) in let t = slack.0 in omega arith) i row a in
-          sym (at_parent rows nodes flow (lock_slot plan) are row parent j b child) ∙ cancel row.above (parent_value rows flow (lock_slot plan) row) (lock_slot plan row.node) some e;
+          sym (at_parent rows nodes flow (lock_slot plan) are row parent j b child)
+          ∙ cancel row.above (parent_value rows flow (lock_slot plan) row) (lock_slot plan row.node) some e;
       held = λ i j row parent a b child some.
-          let e = sum_tight (λ r. r.held * lock_slot plan r.node) (λ c. c.held * parent_value rows flow (release_slot plan) c) flow held
+          let e = sum_tight (λ r. r.held * lock_slot plan r.node)
+          (λ c. c.held * parent_value rows flow (release_slot plan) c) flow held
           (let s = child_swap rows flow (λ c. c.held) (release_slot plan) in let t = slack.1 in omega arith) i row a in
-          cancel row.held (lock_slot plan row.node) (parent_value rows flow (release_slot plan) row) some e ∙ at_parent rows nodes flow (release_slot plan) are row parent j b child;
+          cancel row.held (lock_slot plan row.node) (parent_value rows flow (release_slot plan) row) some e
+          ∙ at_parent rows nodes flow (release_slot plan) are row parent j b child;
       first = λ i row a accessed some.
           cancel row.first (lock_slot plan row.node) (first_access nodes row.node) some
-          (sum_tight (λ r. r.first * lock_slot plan r.node) (λ r. r.first * first_access nodes r.node) flow first slack.2 i row a);
+          (sum_tight (λ r. r.first * lock_slot plan r.node) (λ r. r.first * first_access nodes r.node) flow first
+          slack.2 i row a);
       last = λ i row a accessed some.
           cancel row.last (last_end nodes row.node) (release_slot plan row.node) some
-          (sum_tight (λ r. r.last * last_end nodes r.node) (λ r. r.last * release_slot plan r.node) flow last slack.3 i row a);
+          (sum_tight (λ r. r.last * last_end nodes r.node) (λ r. r.last * release_slot plan r.node) flow last slack.3
+          i row a);
       own = λ i row a some.
           cancel row.own (lock_slot plan row.node) (release_slot plan row.node) some
-          (sum_tight (λ r. r.own * lock_slot plan r.node) (λ r. r.own * release_slot plan r.node) flow own slack.4 i row a);
+          (sum_tight (λ r. r.own * lock_slot plan r.node) (λ r. r.own * release_slot plan r.node) flow own slack.4 i
+          row a);
     }

@@ -58,15 +58,19 @@ after_from b y y2 l e a h = omega (arith, ints)
 after_back : (b y y2 : ℤ) (l : ℕ) → b ≡ pos 0 → y2 ≡ y → pos l ≡ y → b +ℤ pos l ≡ y2
 after_back b y y2 l e a h = omega (arith, ints)
 
-module _ (f : ℤ → ℤ) (top : ℕ) (rising : (a b : ℤ) → a ≤ℤ b → f a ≤ℤ f b) (keeps : (a : ℕ) → a ≤ top → f (pos a) ≡ pos a) (places : List ℤ) where
+module _ (f : ℤ → ℤ) (top : ℕ) (rising : (a b : ℤ) → a ≤ℤ b → f a ≤ℤ f b)
+    (keeps : (a : ℕ) → a ≤ top → f (pos a) ≡ pos a) (places : List ℤ) where
   at : (v : ℕ) → place (map f places) v ≡ f (place places v)
   at v = place_map f places v (keeps 0 (omega arith))
 
-  level : (from to amount : ℕ) → IsLawful (arc from to (pos 0)) amount places → IsLawful (arc from to (pos 0)) amount (map f places)
+  level : (from to amount : ℕ) → IsLawful (arc from to (pos 0)) amount places
+      → IsLawful (arc from to (pos 0)) amount (map f places)
   level from to amount h = record {
-    met = level_from (f (place places from)) (f (place places to)) (place (map f places) from) (place (map f places) to) (at from) (at to)
+    met = level_from (f (place places from)) (f (place places to)) (place (map f places) from)
+        (place (map f places) to) (at from) (at to)
         (rising (place places from) (place places to) (level_met (place places from) (place places to) h.met));
-    tight = λ some. level_back (f (place places from)) (f (place places to)) (place (map f places) from) (place (map f places) to) (at from) (at to)
+    tight = λ some. level_back (f (place places from)) (f (place places to)) (place (map f places) from)
+        (place (map f places) to) (at from) (at to)
         (ap f (level_tight (place places from) (place places to) (h.tight some)));
   }
 
@@ -74,30 +78,38 @@ module _ (f : ℤ → ℤ) (top : ℕ) (rising : (a b : ℤ) → a ≤ℤ b → 
     pub base_stays : place (map f places) base ≡ pos 0
     base_stays = at base ∙ (ap f at_base ∙ keeps 0 (omega arith))
 
-    before : (from amount x : ℕ) → x ≤ top → IsLawful (arc from base (neg_ℤ (pos x))) amount places → IsLawful (arc from base (neg_ℤ (pos x))) amount (map f places)
+    before : (from amount x : ℕ) → x ≤ top → IsLawful (arc from base (neg_ℤ (pos x))) amount places
+        → IsLawful (arc from base (neg_ℤ (pos x))) amount (map f places)
     before from amount x le h = record {
       met =
-          let r : f (place places from) ≤ℤ f (pos x) = rising (place places from) (pos x) (before_met (place places from) (place places base) x at_base h.met) in
+          let r : f (place places from) ≤ℤ f (pos x) =
+          rising (place places from) (pos x) (before_met (place places from) (place places base) x at_base h.met) in
           let P : ℤ → Type 0 = λ z. f (place places from) ≤ℤ z in
-          before_from (f (place places from)) (place (map f places) from) (place (map f places) base) x (at from) base_stays (subst P (keeps x le) r);
+          before_from (f (place places from)) (place (map f places) from) (place (map f places) base) x (at from)
+          base_stays (subst P (keeps x le) r);
       tight = λ some.
-          before_back (f (place places from)) (place (map f places) from) (place (map f places) base) x (at from) base_stays
+          before_back (f (place places from)) (place (map f places) from) (place (map f places) base) x (at from)
+          base_stays
           (ap f (before_tight (place places from) (place places base) x at_base (h.tight some)) ∙ keeps x le);
     }
 
-    after : (to amount x : ℕ) → x ≤ top → IsLawful (arc base to (pos x)) amount places → IsLawful (arc base to (pos x)) amount (map f places)
+    after : (to amount x : ℕ) → x ≤ top → IsLawful (arc base to (pos x)) amount places
+        → IsLawful (arc base to (pos x)) amount (map f places)
     after to amount x le h = record {
       met =
-          let r : f (pos x) ≤ℤ f (place places to) = rising (pos x) (place places to) (after_met (place places base) (place places to) x at_base h.met) in
+          let r : f (pos x) ≤ℤ f (place places to) =
+          rising (pos x) (place places to) (after_met (place places base) (place places to) x at_base h.met) in
           let P : ℤ → Type 0 = λ z. z ≤ℤ f (place places to) in
-          after_from (place (map f places) base) (f (place places to)) (place (map f places) to) x base_stays (at to) (subst P (keeps x le) r);
+          after_from (place (map f places) base) (f (place places to)) (place (map f places) to) x base_stays (at to)
+          (subst P (keeps x le) r);
       tight = λ some.
           after_back (place (map f places) base) (f (place places to)) (place (map f places) to) x base_stays (at to)
           (sym (keeps x le) ∙ ap f (after_tight (place places base) (place places to) x at_base (h.tight some)));
     }
 
     -- the rows stay lawful
-    pub rows_cut : (rows : List SpanRow) (flow : List FlowRow) → AreRowsBelow top rows → AreRowsLawful base 0 rows flow places → AreRowsLawful base 0 rows flow (map f places)
+    pub rows_cut : (rows : List SpanRow) (flow : List FlowRow) → AreRowsBelow top rows
+        → AreRowsLawful base 0 rows flow places → AreRowsLawful base 0 rows flow (map f places)
     rows_cut rows flow low h i row amounts g1 g2 =
         let r = h i row amounts g1 g2 in
         record {
@@ -124,7 +136,8 @@ pub raised_least : (a : ℤ) → pos 0 ≤ℤ raised a
 raised_least (pos a) = omega (arith, ints)
 raised_least (negsuc a) = omega (arith, ints)
 
-lower_case : (top : ℕ) (z : ℤ) → ((int_lt (pos top) z ≡ true) × (pos (suc top) ≤ℤ z) × (lowered (pos top) z ≡ pos top)) ⊎ ((int_lt (pos top) z ≡ false) × (z ≤ℤ pos top) × (lowered (pos top) z ≡ z))
+lower_case : (top : ℕ) (z : ℤ) → ((int_lt (pos top) z ≡ true) × (pos (suc top) ≤ℤ z)
+    × (lowered (pos top) z ≡ pos top)) ⊎ ((int_lt (pos top) z ≡ false) × (z ≤ℤ pos top) × (lowered (pos top) z ≡ z))
 lower_case top z = elim (cases_Bool (int_lt (pos top) z)) [
   | inl e ↦ inl (e, grind (arith, ints), cond-true (int_lt (pos top) z) (pos top) z e)
   | inr e ↦ inr (e, grind (arith, ints), cond-false (int_lt (pos top) z) (pos top) z e)

@@ -17,7 +17,8 @@ use Rattle.grove_build.specs.Networks.{IsSpan, row_width, read_row, read_rows}
 
 -- finding a place
 
-place_step : (b : Bool) (x v j : ℕ) (xs : List ℕ) (o : Option ℕ) → (b ≡ true → x ≡ v) → ((i : ℕ) → o ≡ Some i → slice_get xs i ≡ Some v)
+place_step : (b : Bool) (x v j : ℕ) (xs : List ℕ) (o : Option ℕ) → (b ≡ true → x ≡ v)
+    → ((i : ℕ) → o ≡ Some i → slice_get xs i ≡ Some v)
     → cond b (Some 0) (option_map suc o) ≡ Some j → slice_get (x ∷ xs) j ≡ Some v
 place_step true x v zero xs o same there e = ap (λ (n : ℕ). Some n) (same refl)
 place_step true x v (suc j) xs o same there e = absurd (omega (arith, same_Some 0 (suc j) e))
@@ -31,13 +32,15 @@ pub place_found : (v : ℕ) (xs : List ℕ) (j : ℕ) → find_place v xs ≡ So
 place_found v [] j e = absurd (none-some j e)
 place_found v (x ∷ xs) j e = place_step (eqb x v) x v j xs (find_place v xs) (eqb-true x v) (place_found v xs) e
 
-place_here : (b : Bool) (o : Option ℕ) → ((b ≡ false) → (j : ℕ) × (o ≡ Some j)) → (j : ℕ) × (cond b (Some 0) (option_map suc o) ≡ Some j)
+place_here : (b : Bool) (o : Option ℕ) → ((b ≡ false) → (j : ℕ) × (o ≡ Some j)) → (j : ℕ)
+    × (cond b (Some 0) (option_map suc o) ≡ Some j)
 place_here true o h = (0, refl)
 place_here false o h = let r = h refl in (suc r.0, ap (λ x. option_map suc x) r.1)
 
 pub place_there : (v : ℕ) (xs : List ℕ) (i : ℕ) → slice_get xs i ≡ Some v → (j : ℕ) × (find_place v xs ≡ Some j)
 place_there v [] i h = absurd (none-some v h)
-place_there v (x ∷ xs) zero h = place_here (eqb x v) (find_place v xs) (λ e. absurd (both_ways (eqb x v) e (eq-eqb x v (same_Some x v h))))
+place_there v (x ∷ xs) zero h =
+    place_here (eqb x v) (find_place v xs) (λ e. absurd (both_ways (eqb x v) e (eq-eqb x v (same_Some x v h))))
 place_there v (x ∷ xs) (suc i) h = place_here (eqb x v) (find_place v xs) (λ e. place_there v xs i h)
 
 -- what stands at a place of a flow read back
@@ -49,15 +52,18 @@ flow_at [] amounts at k row h = absurd (none-some row h)
 flow_at (r ∷ rows) amounts at zero row h = (read_row r amounts at, refl, ap node_of_row (same_Some r row h))
 flow_at (r ∷ rows) amounts at (suc k) row h = flow_at rows amounts (at + row_width r) k row h
 
-pub row_at : (rows : List SpanRow) (amounts : List ℕ) (at k : ℕ) (f : FlowRow) → slice_get (read_rows rows amounts at) k ≡ Some f
+pub row_at : (rows : List SpanRow) (amounts : List ℕ) (at k : ℕ) (f : FlowRow)
+    → slice_get (read_rows rows amounts at) k ≡ Some f
     → (row : SpanRow) × (slice_get rows k ≡ Some row) × (f.node ≡ row.node)
 row_at [] amounts at k f h = absurd (none-some f h)
-row_at (r ∷ rows) amounts at zero f h = (r, refl, ap (λ (x : FlowRow). x.node) (sym (same_Some (read_row r amounts at) f h)))
+row_at (r ∷ rows) amounts at zero f h =
+    (r, refl, ap (λ (x : FlowRow). x.node) (sym (same_Some (read_row r amounts at) f h)))
 row_at (r ∷ rows) amounts at (suc k) f h = row_at rows amounts (at + row_width r) k f h
 
 -- a node's own accesses
 
-pub first_is_least : (nodes : List ℕ) (v a : ℕ) → slice_get nodes a ≡ Some v → (is_accessed nodes v ≡ true) × (first_access nodes v ≤ a) × (suc a ≤ last_end nodes v)
+pub first_is_least : (nodes : List ℕ) (v a : ℕ) → slice_get nodes a ≡ Some v → (is_accessed nodes v ≡ true)
+    × (first_access nodes v ≤ a) × (suc a ≤ last_end nodes v)
 first_is_least nodes v a h =
     let hit : names_at nodes v a ≡ true = is_at_from v (slice_get nodes a) h in
     let lt : a < length nodes = slice_get_within nodes a v h in
@@ -71,7 +77,8 @@ first_is_least nodes v a h =
       last_above (length nodes) (names_at nodes v) a lt hit,
     )
 
-pub first_known : (nodes : List ℕ) (v x : ℕ) → first_of nodes v ≡ Some x → (is_accessed nodes v ≡ true) × (first_access nodes v ≡ x) × (x < length nodes)
+pub first_known : (nodes : List ℕ) (v x : ℕ) → first_of nodes v ≡ Some x → (is_accessed nodes v ≡ true)
+    × (first_access nodes v ≡ x) × (x < length nodes)
 first_known nodes v x e =
     let c = cond_some (is_accessed nodes v) (first_access nodes v) x e in
     let l = least_is (length nodes) (names_at nodes v) c.0 in
@@ -79,7 +86,8 @@ first_known nodes v x e =
     let same : first_access nodes v ≡ x = c.1 in
     (c.0, c.1, omega arith)
 
-pub last_known : (nodes : List ℕ) (v x : ℕ) → last_of nodes v ≡ Some x → (is_accessed nodes v ≡ true) × (last_end nodes v ≡ x + 1) × (x + 1 ≤ length nodes)
+pub last_known : (nodes : List ℕ) (v x : ℕ) → last_of nodes v ≡ Some x → (is_accessed nodes v ≡ true)
+    × (last_end nodes v ≡ x + 1) × (x + 1 ≤ length nodes)
 last_known nodes v x e =
     let c = cond_some (is_accessed nodes v) (last_end nodes v - 1) x e in
     let l = last_is (length nodes) (names_at nodes v) c.0 in
@@ -90,14 +98,16 @@ last_known nodes v x e =
 
 module _ (tree : Rows) (nodes : List ℕ) (rows : List SpanRow) (is_span : IsSpan tree nodes rows) where
   -- each spanned node has a row
-  pub row_of_node : (v : ℕ) → IsSpanned tree nodes v → (k : ℕ) × (row : SpanRow) × (slice_get rows k ≡ Some row) × (row.node ≡ v)
+  pub row_of_node : (v : ℕ) → IsSpanned tree nodes v → (k : ℕ) × (row : SpanRow) × (slice_get rows k ≡ Some row)
+      × (row.node ≡ v)
   row_of_node v s =
       let l = spanned_listed tree nodes v is_span.is_tree is_span.are_nodes s in
       let P : List ℕ → Type 0 = λ xs. slice_get xs l.0 ≡ Some v in
       let m = get_map_inv node_of_row rows l.0 v (subst P (sym is_span.named) l.1) in
       (l.0, m.0, m.1, m.2)
 
-  row_of_place : (j p : ℕ) → slice_get (spanned_nodes tree nodes) j ≡ Some p → (row : SpanRow) × (slice_get rows j ≡ Some row) × (row.node ≡ p)
+  row_of_place : (j p : ℕ) → slice_get (spanned_nodes tree nodes) j ≡ Some p → (row : SpanRow)
+      × (slice_get rows j ≡ Some row) × (row.node ≡ p)
   row_of_place j p h =
       let P : List ℕ → Type 0 = λ xs. slice_get xs j ≡ Some p in
       get_map_inv node_of_row rows j p (subst P (sym is_span.named) h)
@@ -106,10 +116,12 @@ module _ (tree : Rows) (nodes : List ℕ) (rows : List SpanRow) (is_span : IsSpa
   pub row_spanned : (k : ℕ) (row : SpanRow) → slice_get rows k ≡ Some row → IsSpanned tree nodes row.node
   row_spanned k row h =
       let P : List ℕ → Type 0 = λ xs. slice_get xs k ≡ Some row.node in
-      listed_spanned tree nodes k row.node is_span.is_tree is_span.are_nodes (subst P is_span.named (get_map node_of_row rows k row h))
+      listed_spanned tree nodes k row.node is_span.is_tree is_span.are_nodes
+      (subst P is_span.named (get_map node_of_row rows k row h))
 
   -- the row of a node's parent
-  pub parent_found : (k p : ℕ) (row : SpanRow) → slice_get rows k ≡ Some row → parent_of tree row.node ≡ Some p → IsSpanned tree nodes p
+  pub parent_found : (k p : ℕ) (row : SpanRow) → slice_get rows k ≡ Some row → parent_of tree row.node ≡ Some p
+      → IsSpanned tree nodes p
       → (j : ℕ) × (other : SpanRow) × (row.parent ≡ Some j) × (slice_get rows j ≡ Some other) × (other.node ≡ p)
   parent_found k p row h up s =
       let l = spanned_listed tree nodes p is_span.is_tree is_span.are_nodes s in
@@ -122,8 +134,10 @@ module _ (tree : Rows) (nodes : List ℕ) (rows : List SpanRow) (is_span : IsSpa
   pub parent_known : (k j : ℕ) (row : SpanRow) → slice_get rows k ≡ Some row → row.parent ≡ Some j
       → (other : SpanRow) × (slice_get rows j ≡ Some other) × (parent_of tree row.node ≡ Some other.node)
   parent_known k j row h e =
-      let Found : Type 0 = (other : SpanRow) × (slice_get rows j ≡ Some other) × (parent_of tree row.node ≡ Some other.node) in
-      option_and_then_some {P = Found} (λ q. find_place q (spanned_nodes tree nodes)) (parent_of tree row.node) j (sym (is_span.parents k row h) ∙ e)
+      let Found : Type 0 =
+      (other : SpanRow) × (slice_get rows j ≡ Some other) × (parent_of tree row.node ≡ Some other.node) in
+      option_and_then_some {P = Found} (λ q. find_place q (spanned_nodes tree nodes)) (parent_of tree row.node) j
+      (sym (is_span.parents k row h) ∙ e)
       (λ p up found.
       let r = row_of_place j p (place_found p (spanned_nodes tree nodes) j found) in
       (r.0, r.1, up ∙ ap (λ (n : ℕ). Some n) (sym r.2)))

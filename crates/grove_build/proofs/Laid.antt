@@ -84,7 +84,8 @@ module _ (rows : Rows) (span : List ℕ) (lock release : ℕ → ℕ) where
 
   pub gap_lock : (v : ℕ) → Has span v → Has (gap (lock v)) (Lock v)
   gap_lock v h =
-      has_right _ _ (Lock v) (has_left _ _ (Lock v) (has_map Lock _ v (has_filter (λ u. eqb (lock u) (lock v)) span v h (eq-eqb (lock v) (lock v) refl))))
+      has_right _ _ (Lock v) (has_left _ _ (Lock v) (has_map Lock _ v
+      (has_filter (λ u. eqb (lock u) (lock v)) span v h (eq-eqb (lock v) (lock v) refl))))
 
   gap_unlock_early : (v : ℕ) → Has span v → early v ≡ true → Has (gap (release v)) (Unlock v)
   gap_unlock_early v h e =
@@ -93,13 +94,17 @@ module _ (rows : Rows) (span : List ℕ) (lock release : ℕ → ℕ) where
 
   gap_unlock_late : (v : ℕ) → Has span v → early v ≡ false → Has (gap (release v)) (Unlock v)
   gap_unlock_late v h e =
-      has_right (earlies (release v)) (locked (release v) ++ lates (release v)) (Unlock v) (has_right (locked (release v)) (lates (release v)) (Unlock v) (has_map Unlock _ v (has_filter (λ u. eqb (release u) (release v) && not (early u)) span v h
-      (and_from (eqb (release v) (release v)) (not (early v)) (eq-eqb (release v) (release v) refl) (not_from_false (early v) e)))))
+      has_right (earlies (release v)) (locked (release v) ++ lates (release v)) (Unlock v)
+      (has_right (locked (release v)) (lates (release v)) (Unlock v)
+      (has_map Unlock _ v (has_filter (λ u. eqb (release u) (release v) && not (early u)) span v h
+      (and_from (eqb (release v) (release v)) (not (early v)) (eq-eqb (release v) (release v) refl)
+      (not_from_false (early v) e)))))
 
   pub gap_unlock : (v : ℕ) → Has span v → Has (gap (release v)) (Unlock v)
   gap_unlock v h = elim (cases_Bool (early v)) [ inl e ↦ gap_unlock_early v h e | inr e ↦ gap_unlock_late v h e ]
 
-  mapped_stands : (m : ℕ) (p : ℕ → Bool) (f : ℕ → Step) (s : Step) → ((v : ℕ) → Has span v → Stands span m (f v)) → Has (map f (filter p span)) s → Stands span m s
+  mapped_stands : (m : ℕ) (p : ℕ → Bool) (f : ℕ → Step) (s : Step) → ((v : ℕ) → Has span v → Stands span m (f v))
+      → Has (map f (filter p span)) s → Stands span m s
   mapped_stands m p f s each h =
       let r = has_map_from f (filter p span) s h in
       let k = has_filter_from p span r.0 r.1 in
@@ -154,7 +159,8 @@ module _ (rows : Rows) (span : List ℕ) (lock release : ℕ → ℕ) where
   stands_more m (Access g) h = omega arith
 
   access_stands : (m : ℕ) (s : Step) → Has (Access m ∷ []) s → Stands span (suc m) s
-  access_stands m s (zero, h) = let P : Step → Type 0 = λ t. Stands span (suc m) t in subst P (same_Some (Access m) s h) (let r : m < suc m = omega arith in r)
+  access_stands m s (zero, h) = let P : Step → Type 0 = λ t. Stands span (suc m) t in
+      subst P (same_Some (Access m) s h) (let r : m < suc m = omega arith in r)
   access_stands m s (suc k, h) = absurd (none-some s h)
 
   pub below_stands : (m : ℕ) (s : Step) → Has (below m) s → Stands span m s
@@ -168,13 +174,15 @@ module _ (rows : Rows) (span : List ℕ) (lock release : ℕ → ℕ) where
   ]
 
   pub laid_stands : (m : ℕ) (s : Step) → Has (laid m) s → Stands span m s
-  laid_stands m s h = elim (has_either (below m) (gap m) s h) [ inl a ↦ below_stands m s a | inr b ↦ gap_stands m m s b ]
+  laid_stands m s h = elim (has_either (below m) (gap m) s h)
+      [ inl a ↦ below_stands m s a | inr b ↦ gap_stands m m s b ]
 
   -- The accesses.
 
   gap_accesses : (g : ℕ) → accesses_of (gap g) ≡ []
   gap_accesses g =
-      no_accesses (earlies g) (locked g ++ lates g) (no_accesses_unlock (filter (λ node. eqb (release node) g && early node) span))
+      no_accesses (earlies g) (locked g ++ lates g)
+      (no_accesses_unlock (filter (λ node. eqb (release node) g && early node) span))
       (no_accesses (locked g) (lates g) (no_accesses_lock (filter (λ node. eqb (lock node) g) span))
       (no_accesses_unlock (filter (λ node. eqb (release node) g && not (early node)) span)))
 
@@ -183,11 +191,14 @@ module _ (rows : Rows) (span : List ℕ) (lock release : ℕ → ℕ) where
   below_accesses (suc m) =
       accesses_append (below m) (gap m ++ Access m ∷ [])
       ∙ (ap (λ l. l ++ accesses_of (gap m ++ Access m ∷ [])) (below_accesses m)
-      ∙ ap (λ l. numbers_below m ++ l) (accesses_append (gap m) (Access m ∷ []) ∙ ap (λ l. l ++ m ∷ []) (gap_accesses m)))
+      ∙ ap (λ l. numbers_below m ++ l) (accesses_append (gap m) (Access m ∷ [])
+      ∙ ap (λ l. l ++ m ∷ []) (gap_accesses m)))
 
   pub laid_accesses : (m : ℕ) → accesses_of (laid m) ≡ numbers_below m
   laid_accesses m =
-      accesses_append (below m) (gap m) ∙ (ap (λ l. l ++ accesses_of (gap m)) (below_accesses m) ∙ (ap (λ l. numbers_below m ++ l) (gap_accesses m) ∙ append-nil (numbers_below m)))
+      accesses_append (below m) (gap m)
+      ∙ (ap (λ l. l ++ accesses_of (gap m)) (below_accesses m)
+      ∙ (ap (λ l. numbers_below m ++ l) (gap_accesses m) ∙ append-nil (numbers_below m)))
 
   -- The order.
 
@@ -232,13 +243,15 @@ module _ (rows : Rows) (span : List ℕ) (lock release : ℕ → ℕ) where
         (rises_mapped key Lock (λ v. eqb (lock v) g) (g * w + n) 0 n span (at_lock g) rising)))
         (rises_lower key ((g * w + (n + n)) + 0) (g * w + (n + n)) (g * w + (n + n + n)) _ (omega arith)
         (rises_higher key ((g * w + (n + n)) + 0) ((g * w + (n + n)) + n) (g * w + (n + n + n)) _ (omega arith)
-        (rises_mapped key Unlock (λ v. eqb (release v) g && not (early v)) (g * w + (n + n)) 0 n span (at_late g) rising))))
+        (rises_mapped key Unlock (λ v. eqb (release v) g && not (early v)) (g * w + (n + n)) 0 n span (at_late g)
+        rising))))
 
     below_rises : (m : ℕ) → Rises key 0 (m * w) (below m)
     below_rises zero = omega arith
     below_rises (suc m) =
         rises_append key 0 (m * w) (suc m * w) (below m) _ (below_rises m)
-        (rises_append key (m * w) (m * w + (n + n + n)) (suc m * w) (gap m) (Access m ∷ []) (gap_rises m) (omega arith, omega (arith, suc-mul m w)))
+        (rises_append key (m * w) (m * w + (n + n + n)) (suc m * w) (gap m) (Access m ∷ []) (gap_rises m)
+        (omega arith, omega (arith, suc-mul m w)))
 
     pub laid_rises : (m : ℕ) → Rises key 0 (m * w + (n + n + n)) (laid m)
     laid_rises m = rises_append key 0 (m * w) (m * w + (n + n + n)) (below m) (gap m) (below_rises m) (gap_rises m)

@@ -19,14 +19,19 @@ pub record IsRowLawful (base k : ℕ) (row : SpanRow) (amounts : FlowRow) (place
 
 -- the same for each row from place k on
 abbrev pub AreRowsLawful : ℕ → ℕ → List SpanRow → List FlowRow → List ℤ → Type 0
-AreRowsLawful base k rows flow places = (i : ℕ) (row : SpanRow) (amounts : FlowRow) → slice_get rows i ≡ Some row → slice_get flow i ≡ Some amounts → IsRowLawful base (k + i) row amounts places
+AreRowsLawful base k rows flow places =
+    (i : ℕ) (row : SpanRow) (amounts : FlowRow) → slice_get rows i ≡ Some row → slice_get flow i ≡ Some amounts
+    → IsRowLawful base (k + i) row amounts places
 
 -- arcs whose amounts stand from a place on
 abbrev pub LawfulFrom : ℕ → List Arc → List ℕ → List ℤ → Type 0
 LawfulFrom at [] amounts places = Unit {0}
-LawfulFrom at (a ∷ arcs) amounts places = IsLawful a (slice_index amounts at) places × LawfulFrom (suc at) arcs amounts places
+LawfulFrom at (a ∷ arcs) amounts places =
+    IsLawful a (slice_index amounts at) places × LawfulFrom (suc at) arcs amounts places
 
-lawful_at : (at : ℕ) (arcs : List Arc) (amounts : List ℕ) (places : List ℤ) → ((i : ℕ) → i < length arcs → IsLawful (arc_at arcs i) (slice_index amounts (at + i)) places) → LawfulFrom at arcs amounts places
+lawful_at : (at : ℕ) (arcs : List Arc) (amounts : List ℕ) (places : List ℤ)
+    → ((i : ℕ) → i < length arcs → IsLawful (arc_at arcs i) (slice_index amounts (at + i)) places)
+    → LawfulFrom at arcs amounts places
 lawful_at at [] amounts places h = tt
 lawful_at at (a ∷ arcs) amounts places h =
     let P : ℕ → Type 0 = λ n. IsLawful a (slice_index amounts n) places in
@@ -38,7 +43,8 @@ lawful_at at (a ∷ arcs) amounts places h =
           subst Q e2 (h (suc i) (omega arith))),
     )
 
-lawful_from : (at : ℕ) (arcs : List Arc) (amounts : List ℕ) (places : List ℤ) → LawfulFrom at arcs amounts places → (i : ℕ) → i < length arcs → IsLawful (arc_at arcs i) (slice_index amounts (at + i)) places
+lawful_from : (at : ℕ) (arcs : List Arc) (amounts : List ℕ) (places : List ℤ) → LawfulFrom at arcs amounts places
+    → (i : ℕ) → i < length arcs → IsLawful (arc_at arcs i) (slice_index amounts (at + i)) places
 lawful_from at [] amounts places h i lt = absurd (omega arith)
 lawful_from at (a ∷ arcs) amounts places h zero lt =
     let P : ℕ → Type 0 = λ n. IsLawful a (slice_index amounts n) places in
@@ -53,13 +59,16 @@ lawful_joined : (at next : ℕ) (xs ys : List Arc) (amounts : List ℕ) (places 
 lawful_joined at next [] ys amounts places e h k =
     let P : ℕ → Type 0 = λ n. LawfulFrom n ys amounts places in
     let e2 : next ≡ at = omega arith in subst P e2 k
-lawful_joined at next (x ∷ xs) ys amounts places e h k = (h.0, lawful_joined (suc at) next xs ys amounts places (omega arith) h.1 k)
+lawful_joined at next (x ∷ xs) ys amounts places e h k =
+    (h.0, lawful_joined (suc at) next xs ys amounts places (omega arith) h.1 k)
 
-lawful_front : (at : ℕ) (xs ys : List Arc) (amounts : List ℕ) (places : List ℤ) → LawfulFrom at (xs ++ ys) amounts places → LawfulFrom at xs amounts places
+lawful_front : (at : ℕ) (xs ys : List Arc) (amounts : List ℕ) (places : List ℤ)
+    → LawfulFrom at (xs ++ ys) amounts places → LawfulFrom at xs amounts places
 lawful_front at [] ys amounts places h = tt
 lawful_front at (x ∷ xs) ys amounts places h = (h.0, lawful_front (suc at) xs ys amounts places h.1)
 
-lawful_back : (at next : ℕ) (xs ys : List Arc) (amounts : List ℕ) (places : List ℤ) → next ≡ at + length xs → LawfulFrom at (xs ++ ys) amounts places → LawfulFrom next ys amounts places
+lawful_back : (at next : ℕ) (xs ys : List Arc) (amounts : List ℕ) (places : List ℤ) → next ≡ at + length xs
+    → LawfulFrom at (xs ++ ys) amounts places → LawfulFrom next ys amounts places
 lawful_back at next [] ys amounts places e h =
     let P : ℕ → Type 0 = λ n. LawfulFrom n ys amounts places in
     let e2 : at ≡ next = omega arith in subst P e2 h
@@ -79,15 +88,17 @@ last_size base k (Some j) = refl
 
 -- the parts of a row
 
-same_price : (a : Arc) (x y : ℕ) (places : List ℤ) → x ≡ y → IsLawful a x places → IsLawful a y places
-same_price a x y places e h = let P : ℕ → Type 0 = λ n. IsLawful a n places in subst P e h
-
-parent_above : (at k j : ℕ) (o : Option ℕ) (amounts : List ℕ) (places : List ℤ) → o ≡ Some j → LawfulFrom at (parent_arcs k o) amounts places → IsLawful (arc (2 * j) (2 * k) (pos 0)) (amount_if o amounts at) places
+parent_above : (at k j : ℕ) (o : Option ℕ) (amounts : List ℕ) (places : List ℤ) → o ≡ Some j
+    → LawfulFrom at (parent_arcs k o) amounts places
+    → IsLawful (arc (2 * j) (2 * k) (pos 0)) (amount_if o amounts at) places
 parent_above at k j None amounts places e h = absurd (none-some j e)
 parent_above at k j (Some i) amounts places e h =
-    let P : ℕ → Type 0 = λ n. IsLawful (arc (2 * n) (2 * k) (pos 0)) (slice_index amounts at) places in subst P (same_Some i j e) h.0
+    let P : ℕ → Type 0 = λ n. IsLawful (arc (2 * n) (2 * k) (pos 0)) (slice_index amounts at) places in
+    subst P (same_Some i j e) h.0
 
-parent_held : (at k j : ℕ) (o : Option ℕ) (amounts : List ℕ) (places : List ℤ) → o ≡ Some j → LawfulFrom at (parent_arcs k o) amounts places → IsLawful (arc (2 * k) (2 * j + 1) (pos 0)) (amount_if o amounts (at + 1)) places
+parent_held : (at k j : ℕ) (o : Option ℕ) (amounts : List ℕ) (places : List ℤ) → o ≡ Some j
+    → LawfulFrom at (parent_arcs k o) amounts places
+    → IsLawful (arc (2 * k) (2 * j + 1) (pos 0)) (amount_if o amounts (at + 1)) places
 parent_held at k j None amounts places e h = absurd (none-some j e)
 parent_held at k j (Some i) amounts places e h =
     let P : ℕ → Type 0 = λ n. IsLawful (arc (2 * k) (2 * n + 1) (pos 0)) (slice_index amounts (at + 1)) places in
@@ -95,15 +106,21 @@ parent_held at k j (Some i) amounts places e h =
     let e2 : suc at ≡ at + 1 = omega arith in
     subst P (same_Some i j e) (subst Q e2 (h.1).0)
 
-first_part : (at base k f : ℕ) (o : Option ℕ) (amounts : List ℕ) (places : List ℤ) → o ≡ Some f → LawfulFrom at (first_arcs base k o) amounts places → IsLawful (arc (2 * k) base (neg_ℤ (pos f))) (amount_if o amounts at) places
+first_part : (at base k f : ℕ) (o : Option ℕ) (amounts : List ℕ) (places : List ℤ) → o ≡ Some f
+    → LawfulFrom at (first_arcs base k o) amounts places
+    → IsLawful (arc (2 * k) base (neg_ℤ (pos f))) (amount_if o amounts at) places
 first_part at base k f None amounts places e h = absurd (none-some f e)
 first_part at base k f (Some i) amounts places e h =
-    let P : ℕ → Type 0 = λ n. IsLawful (arc (2 * k) base (neg_ℤ (pos n))) (slice_index amounts at) places in subst P (same_Some i f e) h.0
+    let P : ℕ → Type 0 = λ n. IsLawful (arc (2 * k) base (neg_ℤ (pos n))) (slice_index amounts at) places in
+    subst P (same_Some i f e) h.0
 
-last_part : (at base k f : ℕ) (o : Option ℕ) (amounts : List ℕ) (places : List ℤ) → o ≡ Some f → LawfulFrom at (last_arcs base k o) amounts places → IsLawful (arc base (2 * k + 1) (pos (f + 1))) (amount_if o amounts at) places
+last_part : (at base k f : ℕ) (o : Option ℕ) (amounts : List ℕ) (places : List ℤ) → o ≡ Some f
+    → LawfulFrom at (last_arcs base k o) amounts places
+    → IsLawful (arc base (2 * k + 1) (pos (f + 1))) (amount_if o amounts at) places
 last_part at base k f None amounts places e h = absurd (none-some f e)
 last_part at base k f (Some i) amounts places e h =
-    let P : ℕ → Type 0 = λ n. IsLawful (arc base (2 * k + 1) (pos (n + 1))) (slice_index amounts at) places in subst P (same_Some i f e) h.0
+    let P : ℕ → Type 0 = λ n. IsLawful (arc base (2 * k + 1) (pos (n + 1))) (slice_index amounts at) places in
+    subst P (same_Some i f e) h.0
 
 parent_from : (at k : ℕ) (o : Option ℕ) (amounts : List ℕ) (places : List ℤ)
     → ((j : ℕ) → o ≡ Some j → IsLawful (arc (2 * j) (2 * k) (pos 0)) (amount_if o amounts at) places)
@@ -116,17 +133,20 @@ parent_from at k (Some j) amounts places a b =
     (a j refl, (subst Q e2 (b j refl), tt))
 
 first_from : (at base k : ℕ) (o : Option ℕ) (amounts : List ℕ) (places : List ℤ)
-    → ((f : ℕ) → o ≡ Some f → IsLawful (arc (2 * k) base (neg_ℤ (pos f))) (amount_if o amounts at) places) → LawfulFrom at (first_arcs base k o) amounts places
+    → ((f : ℕ) → o ≡ Some f → IsLawful (arc (2 * k) base (neg_ℤ (pos f))) (amount_if o amounts at) places)
+    → LawfulFrom at (first_arcs base k o) amounts places
 first_from at base k None amounts places a = tt
 first_from at base k (Some f) amounts places a = (a f refl, tt)
 
 last_from : (at base k : ℕ) (o : Option ℕ) (amounts : List ℕ) (places : List ℤ)
-    → ((f : ℕ) → o ≡ Some f → IsLawful (arc base (2 * k + 1) (pos (f + 1))) (amount_if o amounts at) places) → LawfulFrom at (last_arcs base k o) amounts places
+    → ((f : ℕ) → o ≡ Some f → IsLawful (arc base (2 * k + 1) (pos (f + 1))) (amount_if o amounts at) places)
+    → LawfulFrom at (last_arcs base k o) amounts places
 last_from at base k None amounts places a = tt
 last_from at base k (Some f) amounts places a = (a f refl, tt)
 
 module _ (base : ℕ) (amounts : List ℕ) (places : List ℤ) where
-  row_is_lawful : (at k : ℕ) (row : SpanRow) → LawfulFrom at (row_arcs base k row) amounts places → IsRowLawful base k row (read_row row amounts at) places
+  row_is_lawful : (at k : ℕ) (row : SpanRow) → LawfulFrom at (row_arcs base k row) amounts places
+      → IsRowLawful base k row (read_row row amounts at) places
   row_is_lawful at k row h =
       let parents : List Arc = parent_arcs k row.parent in
       let firsts : List Arc = first_arcs base k row.first in
@@ -135,30 +155,48 @@ module _ (base : ℕ) (amounts : List ℕ) (places : List ℤ) where
       let size1 : length (parent_arcs k row.parent) ≡ width row.parent + width row.parent = parent_size k row.parent in
       let size2 : length (first_arcs base k row.first) ≡ width row.first = first_size base k row.first in
       let size3 : length (last_arcs base k row.last) ≡ width row.last = last_size base k row.last in
-      let a = lawful_front at (parent_arcs k row.parent) (first_arcs base k row.first ++ (last_arcs base k row.last ++ arc (2 * k) (2 * k + 1) (pos 0) ∷ [])) amounts places h in
-      let b = lawful_back at (at + width row.parent + width row.parent) (parent_arcs k row.parent) (first_arcs base k row.first ++ (last_arcs base k row.last ++ arc (2 * k) (2 * k + 1) (pos 0) ∷ [])) amounts places (omega arith) h in
-      let c = lawful_front (at + width row.parent + width row.parent) (first_arcs base k row.first) (last_arcs base k row.last ++ arc (2 * k) (2 * k + 1) (pos 0) ∷ []) amounts places b in
-      let d = lawful_back (at + width row.parent + width row.parent) (at + width row.parent + width row.parent + width row.first) (first_arcs base k row.first) (last_arcs base k row.last ++ arc (2 * k) (2 * k + 1) (pos 0) ∷ []) amounts places (omega arith) b in
-      let e = lawful_front (at + width row.parent + width row.parent + width row.first) (last_arcs base k row.last) (arc (2 * k) (2 * k + 1) (pos 0) ∷ []) amounts places d in
-      let f = lawful_back (at + width row.parent + width row.parent + width row.first) (at + width row.parent + width row.parent + width row.first + width row.last) (last_arcs base k row.last) (arc (2 * k) (2 * k + 1) (pos 0) ∷ []) amounts places (omega arith) d in
+      let a = lawful_front at (parent_arcs k row.parent)
+      (first_arcs base k row.first ++ (last_arcs base k row.last ++ arc (2 * k) (2 * k + 1) (pos 0) ∷ [])) amounts
+      places h in
+      let b = lawful_back at (at + width row.parent + width row.parent) (parent_arcs k row.parent)
+      (first_arcs base k row.first ++ (last_arcs base k row.last ++ arc (2 * k) (2 * k + 1) (pos 0) ∷ [])) amounts
+      places (omega arith) h in
+      let c = lawful_front (at + width row.parent + width row.parent) (first_arcs base k row.first)
+      (last_arcs base k row.last ++ arc (2 * k) (2 * k + 1) (pos 0) ∷ []) amounts places b in
+      let d = lawful_back (at + width row.parent + width row.parent)
+      (at + width row.parent + width row.parent + width row.first) (first_arcs base k row.first)
+      (last_arcs base k row.last ++ arc (2 * k) (2 * k + 1) (pos 0) ∷ []) amounts places (omega arith) b in
+      let e = lawful_front (at + width row.parent + width row.parent + width row.first) (last_arcs base k row.last)
+      (arc (2 * k) (2 * k + 1) (pos 0) ∷ []) amounts places d in
+      let f = lawful_back (at + width row.parent + width row.parent + width row.first)
+      (at + width row.parent + width row.parent + width row.first + width row.last) (last_arcs base k row.last)
+      (arc (2 * k) (2 * k + 1) (pos 0) ∷ []) amounts places (omega arith) d in
       record {
         above = λ j s. parent_above at k j row.parent amounts places s a;
         held = λ j s. parent_held at k j row.parent amounts places s a;
         first = λ x s. first_part (at + width row.parent + width row.parent) base k x row.first amounts places s c;
-        last = λ x s. last_part (at + width row.parent + width row.parent + width row.first) base k x row.last amounts places s e;
+        last = λ x s. last_part (at + width row.parent + width row.parent + width row.first) base k x row.last amounts
+            places s e;
         own = f.0;
       }
 
-  row_from : (at k : ℕ) (row : SpanRow) → IsRowLawful base k row (read_row row amounts at) places → LawfulFrom at (row_arcs base k row) amounts places
+  row_from : (at k : ℕ) (row : SpanRow) → IsRowLawful base k row (read_row row amounts at) places
+      → LawfulFrom at (row_arcs base k row) amounts places
   row_from at k row h =
       let size1 : length (parent_arcs k row.parent) ≡ width row.parent + width row.parent = parent_size k row.parent in
       let size2 : length (first_arcs base k row.first) ≡ width row.first = first_size base k row.first in
       let size3 : length (last_arcs base k row.last) ≡ width row.last = last_size base k row.last in
-      lawful_joined at (at + width row.parent + width row.parent) (parent_arcs k row.parent) (first_arcs base k row.first ++ (last_arcs base k row.last ++ arc (2 * k) (2 * k + 1) (pos 0) ∷ [])) amounts places (omega arith)
+      lawful_joined at (at + width row.parent + width row.parent) (parent_arcs k row.parent)
+      (first_arcs base k row.first ++ (last_arcs base k row.last ++ arc (2 * k) (2 * k + 1) (pos 0) ∷ [])) amounts
+      places (omega arith)
       (parent_from at k row.parent amounts places h.above h.held)
-      (lawful_joined (at + width row.parent + width row.parent) (at + width row.parent + width row.parent + width row.first) (first_arcs base k row.first) (last_arcs base k row.last ++ arc (2 * k) (2 * k + 1) (pos 0) ∷ []) amounts places (omega arith)
+      (lawful_joined (at + width row.parent + width row.parent)
+      (at + width row.parent + width row.parent + width row.first) (first_arcs base k row.first)
+      (last_arcs base k row.last ++ arc (2 * k) (2 * k + 1) (pos 0) ∷ []) amounts places (omega arith)
       (first_from (at + width row.parent + width row.parent) base k row.first amounts places h.first)
-      (lawful_joined (at + width row.parent + width row.parent + width row.first) (at + width row.parent + width row.parent + width row.first + width row.last) (last_arcs base k row.last) (arc (2 * k) (2 * k + 1) (pos 0) ∷ []) amounts places (omega arith)
+      (lawful_joined (at + width row.parent + width row.parent + width row.first)
+      (at + width row.parent + width row.parent + width row.first + width row.last) (last_arcs base k row.last)
+      (arc (2 * k) (2 * k + 1) (pos 0) ∷ []) amounts places (omega arith)
       (last_from (at + width row.parent + width row.parent + width row.first) base k row.last amounts places h.last)
       (h.own, tt)))
 
@@ -169,15 +207,18 @@ module _ (base : ℕ) (amounts : List ℕ) (places : List ℤ) where
       let size3 : length (last_arcs base k row.last) ≡ width row.last = last_size base k row.last in
       omega (
         arith,
-        length-append (parent_arcs k row.parent) (first_arcs base k row.first ++ (last_arcs base k row.last ++ arc (2 * k) (2 * k + 1) (pos 0) ∷ [])),
+        length-append (parent_arcs k row.parent)
+            (first_arcs base k row.first ++ (last_arcs base k row.last ++ arc (2 * k) (2 * k + 1) (pos 0) ∷ [])),
         length-append (first_arcs base k row.first) (last_arcs base k row.last ++ arc (2 * k) (2 * k + 1) (pos 0) ∷ []),
         length-append (last_arcs base k row.last) (arc (2 * k) (2 * k + 1) (pos 0) ∷ []),
       )
 
-  rows_in : (at k : ℕ) (rows : List SpanRow) → LawfulFrom at (arcs_from base k rows) amounts places → AreRowsLawful base k rows (read_rows rows amounts at) places
+  rows_in : (at k : ℕ) (rows : List SpanRow) → LawfulFrom at (arcs_from base k rows) amounts places
+      → AreRowsLawful base k rows (read_rows rows amounts at) places
   rows_in at k [] h i row f g1 g2 = absurd (none-some row g1)
   rows_in at k (r ∷ rows) h zero row f g1 g2 =
-      let a = row_is_lawful at k r (lawful_front at (row_arcs base k r) (arcs_from base (suc k) rows) amounts places h) in
+      let a = row_is_lawful at k r (lawful_front at (row_arcs base k r) (arcs_from base (suc k) rows) amounts places
+      h) in
       let P : SpanRow → Type 0 = λ x. IsRowLawful base k x (read_row r amounts at) places in
       let Q : FlowRow → Type 0 = λ x. IsRowLawful base k row x places in
       let R : ℕ → Type 0 = λ n. IsRowLawful base n row f places in
@@ -187,9 +228,12 @@ module _ (base : ℕ) (amounts : List ℕ) (places : List ℤ) where
       let size : length (row_arcs base k r) ≡ row_width r = row_size k r in
       let R : ℕ → Type 0 = λ n. IsRowLawful base n row f places in
       let e : suc k + i ≡ k + suc i = omega arith in
-      subst R e (rows_in (at + row_width r) (suc k) rows (lawful_back at (at + row_width r) (row_arcs base k r) (arcs_from base (suc k) rows) amounts places (omega arith) h) i row f g1 g2)
+      subst R e (rows_in (at + row_width r) (suc k) rows
+      (lawful_back at (at + row_width r) (row_arcs base k r) (arcs_from base (suc k) rows) amounts places
+      (omega arith) h) i row f g1 g2)
 
-  rows_out : (at k : ℕ) (rows : List SpanRow) → AreRowsLawful base k rows (read_rows rows amounts at) places → LawfulFrom at (arcs_from base k rows) amounts places
+  rows_out : (at k : ℕ) (rows : List SpanRow) → AreRowsLawful base k rows (read_rows rows amounts at) places
+      → LawfulFrom at (arcs_from base k rows) amounts places
   rows_out at k [] h = tt
   rows_out at k (r ∷ rows) h =
       let size : length (row_arcs base k r) ≡ row_width r = row_size k r in
@@ -206,13 +250,15 @@ module _ (base : ℕ) (amounts : List ℕ) (places : List ℤ) where
   zero_plus n = omega arith
 
   -- from the arcs to the rows
-  pub lawful_rows : (rows : List SpanRow) → AreLawful (arcs_from base 0 rows) amounts places → AreRowsLawful base 0 rows (read_rows rows amounts 0) places
+  pub lawful_rows : (rows : List SpanRow) → AreLawful (arcs_from base 0 rows) amounts places
+      → AreRowsLawful base 0 rows (read_rows rows amounts 0) places
   lawful_rows rows h = rows_in 0 0 rows (lawful_at 0 (arcs_from base 0 rows) amounts places (λ i lt.
       let P : ℕ → Type 0 = λ n. IsLawful (arc_at (arcs_from base 0 rows) i) (slice_index amounts n) places in
       subst P (sym (zero_plus i)) (h i lt)))
 
   -- and back
-  pub rows_lawful : (rows : List SpanRow) → AreRowsLawful base 0 rows (read_rows rows amounts 0) places → AreLawful (arcs_from base 0 rows) amounts places
+  pub rows_lawful : (rows : List SpanRow) → AreRowsLawful base 0 rows (read_rows rows amounts 0) places
+      → AreLawful (arcs_from base 0 rows) amounts places
   rows_lawful rows h i lt =
       let P : ℕ → Type 0 = λ n. IsLawful (arc_at (arcs_from base 0 rows) i) (slice_index amounts n) places in
       subst P (zero_plus i) (lawful_from 0 (arcs_from base 0 rows) amounts places (rows_out 0 0 rows h) i lt)

@@ -29,7 +29,8 @@ module _ (rows : Rows) (nodes : List ℕ) (span : List ℕ) (lock release : ℕ 
     (has : (v : ℕ) → IsSpanned rows nodes v → Has span v)
     (got : (v : ℕ) → Has span v → IsSpanned rows nodes v)
     (accessed : (access v : ℕ) → slice_get nodes access ≡ Some v → IsSpanned rows nodes v)
-    (step_up : (v : ℕ) → IsSpanned rows nodes v → IsCommon rows nodes v ⊎ ((p : ℕ) × (parent_of rows v ≡ Some p) × IsSpanned rows nodes p))
+    (step_up : (v : ℕ) → IsSpanned rows nodes v
+    → IsCommon rows nodes v ⊎ ((p : ℕ) × (parent_of rows v ≡ Some p) × IsSpanned rows nodes p))
     (parent_less : (v p : ℕ) → parent_of rows v ≡ Some p → p < v)
     (above_less : (a b : ℕ) → IsAbove rows a b → a ≤ b) where
   abbrev m : ℕ
@@ -48,7 +49,8 @@ module _ (rows : Rows) (nodes : List ℕ) (span : List ℕ) (lock release : ℕ 
   within v s = let h = has v s in (rises_within itself 0 n span h.0 v rising h.1).1
 
   -- a common spanned node locks no later than any other
-  top_first : (bound c v : ℕ) → v < bound → IsSpanned rows nodes c → IsCommon rows nodes c → IsSpanned rows nodes v → lock c ≤ lock v
+  top_first : (bound c v : ℕ) → v < bound → IsSpanned rows nodes c → IsCommon rows nodes c → IsSpanned rows nodes v
+      → lock c ≤ lock v
   top_first zero c v lt sc cc' sv = absurd (omega arith)
   top_first (suc bound) c v lt sc cc' sv = elim (step_up v sv) [
     | inl common ↦
@@ -81,19 +83,24 @@ module _ (rows : Rows) (nodes : List ℕ) (span : List ℕ) (lock release : ℕ 
         elim (cases_lt (lock v) (release v)) [
           | inl less ↦ gap_less w (lock v) (release v) (n + v) (rank_of (early v) n v) less (omega arith)
           | inr ge ↦
-              let k : key (Unlock v) ≡ release v * w + (n + n + v) = late_key rows span lock release n w wide rising v (and_left (ltb (lock v) (release v)) _ (le-ltb (lock v) (release v) ge)) in
-              let t : lock v * w + (n + v) < release v * w + (n + n + v) = gap_below (lock v) (release v) (n + v) (n + n + v) le (omega arith) in
+              let k : key (Unlock v) ≡ release v * w + (n + n + v) =
+              late_key rows span lock release n w wide rising v
+              (and_left (ltb (lock v) (release v)) _ (le-ltb (lock v) (release v) ge)) in
+              let t : lock v * w + (n + v) < release v * w + (n + n + v) =
+              gap_below (lock v) (release v) (n + v) (n + n + v) le (omega arith) in
               omega arith
         ]
 
     -- a parent is locked before its child
-    parent_key : (v p : ℕ) → IsSpanned rows nodes v → IsSpanned rows nodes p → parent_of rows v ≡ Some p → key (Lock p) < key (Lock v)
+    parent_key : (v p : ℕ) → IsSpanned rows nodes v → IsSpanned rows nodes p → parent_of rows v ≡ Some p
+        → key (Lock p) < key (Lock v)
     parent_key v p sv sp up =
         let less : p < v = parent_less v p up in
         gap_below (lock p) (lock v) (n + p) (n + v) (fits.above v p sv sp up) (omega arith)
 
     -- and unlocked after the child's lock
-    child_key : (v p : ℕ) → IsSpanned rows nodes v → IsSpanned rows nodes p → parent_of rows v ≡ Some p → key (Lock v) < key (Unlock p)
+    child_key : (v p : ℕ) → IsSpanned rows nodes v → IsSpanned rows nodes p → parent_of rows v ≡ Some p
+        → key (Lock v) < key (Unlock p)
     child_key v p sv sp up =
         let le : lock v ≤ release p = fits.held v p sv sp up in
         let vn : v < n = within v sv in
@@ -102,10 +109,13 @@ module _ (rows : Rows) (nodes : List ℕ) (span : List ℕ) (lock release : ℕ 
           | inl e ↦
               let child : has_child_in rows span lock (release p) p ≡ true =
               any_has (λ child. is_at p (parent_of rows child) && eqb (lock child) (release p)) span v (has v sv)
-              (and_from (is_at p (parent_of rows v)) (eqb (lock v) (release p)) (ap (λ o. is_at p o) up ∙ eq-eqb p p refl) (eq-eqb (lock v) (release p) e)) in
+              (and_from (is_at p (parent_of rows v)) (eqb (lock v) (release p))
+              (ap (λ o. is_at p o) up ∙ eq-eqb p p refl) (eq-eqb (lock v) (release p) e)) in
               let k : key (Unlock p) ≡ release p * w + (n + n + p) = late_key rows span lock release n w wide rising p
-              (and_right (ltb (lock p) (release p)) _ (not_from_true (has_child_in rows span lock (release p) p) child)) in
-              let t : lock v * w + (n + v) < release p * w + (n + n + p) = gap_below (lock v) (release p) (n + v) (n + n + p) le (omega arith) in
+              (and_right (ltb (lock p) (release p)) _ (not_from_true (has_child_in rows span lock (release p) p)
+              child)) in
+              let t : lock v * w + (n + v) < release p * w + (n + n + p) =
+              gap_below (lock v) (release p) (n + v) (n + n + p) le (omega arith) in
               omega arith
         ]
 
@@ -116,15 +126,18 @@ module _ (rows : Rows) (nodes : List ℕ) (span : List ℕ) (lock release : ℕ 
     access_unlock_key v a le = gap_less w a (release v) (n + n + n) (rank_of (early v) n v) le (omega arith)
 
     -- between a node's lock and unlock it is held
-    held_there : (v i : ℕ) (s : Step) → IsSpanned rows nodes v → slice_get plan i ≡ Some s → key (Lock v) < key s → key s ≤ key (Unlock v) → held plan v i ≡ true
+    held_there : (v i : ℕ) (s : Step) → IsSpanned rows nodes v → slice_get plan i ≡ Some s → key (Lock v) < key s
+        → key s ≤ key (Unlock v) → held plan v i ≡ true
     held_there v i s sv h after before =
-        let le : lock v ≤ m = let a : lock v ≤ release v = fits.own v sv in let b : release v ≤ m = fits.top v sv in omega arith in
+        let le : lock v ≤ m = let a : lock v ≤ release v = fits.own v sv in let b : release v ≤ m = fits.top v sv in
+        omega arith in
         let at = laid_lock rows span lock release m v (has v sv) le in
         held_from plan v i (record {
           at = at.0;
           before = rises_place key 0 (m * w + (n + n + n)) plan at.0 i (Lock v) s ordered at.1 h after;
           is_lock = at.1;
-          kept = λ j above below is. let t : key (Unlock v) < key s = rises_order key 0 (m * w + (n + n + n)) plan j i (Unlock v) s ordered is h below in omega arith;
+          kept = λ j above below is. let t : key (Unlock v) < key s =
+              rises_order key 0 (m * w + (n + n + n)) plan j i (Unlock v) s ordered is h below in omega arith;
         })
 
     obeys : ObeysTreeProtocol rows plan
@@ -139,8 +152,11 @@ module _ (rows : Rows) (nodes : List ℕ) (span : List ℕ) (lock release : ℕ 
             | inl common ↦
                 let le : lock v ≤ lock u = top_first (suc u) v u (omega arith) sv common su in
                 let less : v ≤ u = above_less v u (su.below v common) in
-                let t : lock v * w + (n + v) ≤ lock u * w + (n + u) = gap_le w (lock v) (lock u) (n + v) (n + u) le (omega arith) in
-                let x : key (Lock u) < key (Lock v) = rises_order key 0 (m * w + (n + n + n)) plan later.0 i (Lock u) (Lock v) ordered later.3 h later.2 in
+                let t : lock v * w + (n + v) ≤ lock u * w + (n + u) =
+                gap_le w (lock v) (lock u) (n + v) (n + u) le (omega arith) in
+                let x : key (Lock u) < key (Lock v) =
+                rises_order key 0 (m * w + (n + n + n)) plan later.0 i (Lock u) (Lock v) ordered later.3 h
+                later.2 in
                 absurd (omega arith)
             | inr up ↦ (
               up.0,
@@ -156,7 +172,8 @@ module _ (rows : Rows) (nodes : List ℕ) (span : List ℕ) (lock release : ℕ 
       ends_free = λ v. held_not plan v (length plan) (λ at.
           let sv = got v (laid_stands rows span lock release m (Lock v) (at.at, at.is_lock)) in
           let u = laid_unlock rows span lock release m v (has v sv) (fits.top v sv) in
-          at.kept u.0 (rises_place key 0 (m * w + (n + n + n)) plan at.at u.0 (Lock v) (Unlock v) ordered at.is_lock u.1 (own_key v sv))
+          at.kept u.0 (rises_place key 0 (m * w + (n + n + n)) plan at.at u.0 (Lock v) (Unlock v) ordered at.is_lock
+          u.1 (own_key v sv))
           (slice_get_within plan u.0 (Unlock v) u.1) u.1);
     }
 
@@ -185,33 +202,41 @@ module _ (rows : Rows) (nodes : List ℕ) (span : List ℕ) (lock release : ℕ 
     slot_low (suc g) i s le h low =
         let at = laid_access rows span lock release m g (omega arith) in
         let e : suc g * w ≡ w + g * w = times g in
-        let before : at.0 < i = rises_place key 0 (m * w + (n + n + n)) plan at.0 i (Access g) s ordered at.1 h (omega arith) in
+        let before : at.0 < i =
+        rises_place key 0 (m * w + (n + n + n)) plan at.0 i (Access g) s ordered at.1 h (omega arith) in
         let b : accesses_before plan at.0 ≡ g = access_before at.0 g at.1 in
-        let c : accesses_before plan (suc at.0) ≡ suc (accesses_before plan at.0) = count_hit at.0 (λ k. is_access (slice_get plan k)) (ap is_access at.1) in
-        let d : accesses_before plan (suc at.0) ≤ accesses_before plan i = count_mono (suc at.0) i (λ k. is_access (slice_get plan k)) before in
+        let c : accesses_before plan (suc at.0) ≡ suc (accesses_before plan at.0) =
+        count_hit at.0 (λ k. is_access (slice_get plan k)) (ap is_access at.1) in
+        let d : accesses_before plan (suc at.0) ≤ accesses_before plan i =
+        count_mono (suc at.0) i (λ k. is_access (slice_get plan k)) before in
         omega arith
       where
         times : (g : ℕ) → suc g * w ≡ w + g * w
         times g = omega (arith, suc-mul g w)
 
-    slot_high : (g i : ℕ) (s : Step) → g ≤ m → slice_get plan i ≡ Some s → key s < g * w + (n + n + n) → accesses_before plan i ≤ g
+    slot_high : (g i : ℕ) (s : Step) → g ≤ m → slice_get plan i ≡ Some s → key s < g * w + (n + n + n)
+        → accesses_before plan i ≤ g
     slot_high g i s le h high = elim (cases_eq g m) [
       | inr ne ↦
           let at = laid_access rows span lock release m g (omega arith) in
           let after : i < at.0 = rises_place key 0 (m * w + (n + n + n)) plan i at.0 s (Access g) ordered h at.1 high in
           let b : accesses_before plan at.0 ≡ g = access_before at.0 g at.1 in
-          let d : accesses_before plan i ≤ accesses_before plan at.0 = count_mono i at.0 (λ k. is_access (slice_get plan k)) (omega arith) in
+          let d : accesses_before plan i ≤ accesses_before plan at.0 =
+          count_mono i at.0 (λ k. is_access (slice_get plan k)) (omega arith) in
           omega arith
       | inl e ↦
           let b : length (accesses_of plan) ≡ accesses_before plan (length plan) = accesses_length plan in
-          let c : length (accesses_of plan) ≡ length (numbers_below m) = ap length (laid_accesses rows span lock release m) in
+          let c : length (accesses_of plan) ≡ length (numbers_below m) =
+          ap length (laid_accesses rows span lock release m) in
           let f : length (numbers_below m) ≡ m = numbers_length m in
           let lt : i < length plan = slice_get_within plan i s h in
-          let d : accesses_before plan i ≤ accesses_before plan (length plan) = count_mono i (length plan) (λ k. is_access (slice_get plan k)) (omega arith) in
+          let d : accesses_before plan i ≤ accesses_before plan (length plan) =
+          count_mono i (length plan) (λ k. is_access (slice_get plan k)) (omega arith) in
           omega arith
     ]
 
-    slot_is : (g i : ℕ) (s : Step) → g ≤ m → slice_get plan i ≡ Some s → g * w ≤ key s → key s < g * w + (n + n + n) → accesses_before plan i ≡ g
+    slot_is : (g i : ℕ) (s : Step) → g ≤ m → slice_get plan i ≡ Some s → g * w ≤ key s → key s < g * w + (n + n + n)
+        → accesses_before plan i ≡ g
     slot_is g i s le h low high =
         let a : g ≤ accesses_before plan i = slot_low g i s le h low in
         let b : accesses_before plan i ≤ g = slot_high g i s le h high in
@@ -223,25 +248,33 @@ module _ (rows : Rows) (nodes : List ℕ) (span : List ℕ) (lock release : ℕ 
 
     pub lock_slot_is : (v : ℕ) → IsSpanned rows nodes v → lock_slot plan v ≡ lock v
     lock_slot_is v sv =
-        let le : lock v ≤ m = let a : lock v ≤ release v = fits.own v sv in let b : release v ≤ m = fits.top v sv in omega arith in
+        let le : lock v ≤ m = let a : lock v ≤ release v = fits.own v sv in let b : release v ≤ m = fits.top v sv in
+        omega arith in
         let at = laid_lock rows span lock release m v (has v sv) le in
         let test : ℕ → Bool = λ i. locks v (slice_get plan i) in
-        let l = least_is (length plan) (λ i. locks v (slice_get plan i)) (any_from (length plan) (λ i. locks v (slice_get plan i)) at.0 (slice_get_within plan at.0 (Lock v) at.1) (locks_from v (slice_get plan at.0) at.1)) in
+        let l = least_is (length plan) (λ i. locks v (slice_get plan i))
+        (any_from (length plan) (λ i. locks v (slice_get plan i)) at.0 (slice_get_within plan at.0 (Lock v) at.1)
+        (locks_from v (slice_get plan at.0) at.1)) in
         let vn : v < n = within v sv in
-        slot_is (lock v) (lock_place plan v) (Lock v) le (locks_true v (slice_get plan (lock_place plan v)) l.1) (omega arith) (omega arith)
+        slot_is (lock v) (lock_place plan v) (Lock v) le (locks_true v (slice_get plan (lock_place plan v)) l.1)
+        (omega arith) (omega arith)
 
     pub release_slot_is : (v : ℕ) → IsSpanned rows nodes v → release_slot plan v ≡ release v
     release_slot_is v sv =
         let le : release v ≤ m = fits.top v sv in
         let at = laid_unlock rows span lock release m v (has v sv) le in
-        let l = least_is (length plan) (λ i. unlocks v (slice_get plan i)) (any_from (length plan) (λ i. unlocks v (slice_get plan i)) at.0 (slice_get_within plan at.0 (Unlock v) at.1) (unlocks_from v (slice_get plan at.0) at.1)) in
+        let l = least_is (length plan) (λ i. unlocks v (slice_get plan i))
+        (any_from (length plan) (λ i. unlocks v (slice_get plan i)) at.0
+        (slice_get_within plan at.0 (Unlock v) at.1) (unlocks_from v (slice_get plan at.0) at.1)) in
         let r : rank_of (early v) n v < n + n + n = rank_low (early v) v (within v sv) in
-        slot_is (release v) (release_place plan v) (Unlock v) le (unlocks_true v (slice_get plan (release_place plan v)) l.1) (omega arith) (omega arith)
+        slot_is (release v) (release_place plan v) (Unlock v) le
+        (unlocks_true v (slice_get plan (release_place plan v)) l.1) (omega arith) (omega arith)
 
     pub locks_span : (v : ℕ) → IsLockedBy plan v → IsSpanned rows nodes v
     locks_span v h = got v (laid_stands rows span lock release m (Lock v) (h.0, h.1))
 
     pub span_locked : (v : ℕ) → IsSpanned rows nodes v → IsLockedBy plan v
     span_locked v sv =
-        let le : lock v ≤ m = let a : lock v ≤ release v = fits.own v sv in let b : release v ≤ m = fits.top v sv in omega arith in
+        let le : lock v ≤ m = let a : lock v ≤ release v = fits.own v sv in let b : release v ≤ m = fits.top v sv in
+        omega arith in
         laid_lock rows span lock release m v (has v sv) le

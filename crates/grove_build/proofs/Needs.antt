@@ -34,30 +34,39 @@ cond_zero false = refl
 
 sent_none : (test : Arc → Bool) (at : ℕ) (arcs : List Arc) → sent_at test at arcs [] ≡ 0
 sent_none test at [] = refl
-sent_none test at (a ∷ arcs) = let e : ◌≡◌ {A = ℕ} (cond (test a) 0 0) 0 = cond_zero (test a) in let f : sent_at test (suc at) arcs [] ≡ 0 = sent_none test (suc at) arcs in omega arith
+sent_none test at (a ∷ arcs) = let e : ◌≡◌ {A = ℕ} (cond (test a) 0 0) 0 = cond_zero (test a) in
+    let f : sent_at test (suc at) arcs [] ≡ 0 = sent_none test (suc at) arcs in omega arith
 
-sent_shift : (test : Arc → Bool) (at x : ℕ) (arcs : List Arc) (amounts : List ℕ) → sent_at test (suc at) arcs (x ∷ amounts) ≡ sent_at test at arcs amounts
+sent_shift : (test : Arc → Bool) (at x : ℕ) (arcs : List Arc) (amounts : List ℕ)
+    → sent_at test (suc at) arcs (x ∷ amounts) ≡ sent_at test at arcs amounts
 sent_shift test at x [] amounts = refl
-sent_shift test at x (a ∷ arcs) amounts = ap (λ (s : ℕ). cond (test a) (slice_index amounts at) 0 + s) (sent_shift test (suc at) x arcs amounts)
+sent_shift test at x (a ∷ arcs) amounts =
+    ap (λ (s : ℕ). cond (test a) (slice_index amounts at) 0 + s) (sent_shift test (suc at) x arcs amounts)
 
-sent_is : (test : Arc → Bool) (arcs : List Arc) (amounts : List ℕ) → sent test arcs amounts ≡ sent_at test 0 arcs amounts
+sent_is : (test : Arc → Bool) (arcs : List Arc) (amounts : List ℕ)
+    → sent test arcs amounts ≡ sent_at test 0 arcs amounts
 sent_is test [] amounts = refl
 sent_is test (a ∷ arcs) [] = sym (sent_none test 0 (a ∷ arcs))
-sent_is test (a ∷ arcs) (x ∷ amounts) = ap (λ (s : ℕ). cond (test a) x 0 + s) (sent_is test arcs amounts ∙ sym (sent_shift test 0 x arcs amounts))
+sent_is test (a ∷ arcs) (x ∷ amounts) =
+    ap (λ (s : ℕ). cond (test a) x 0 + s) (sent_is test arcs amounts ∙ sym (sent_shift test 0 x arcs amounts))
 
-sent_joined : (test : Arc → Bool) (at next : ℕ) (xs ys : List Arc) (amounts : List ℕ) → next ≡ at + length xs → sent_at test at (xs ++ ys) amounts ≡ sent_at test at xs amounts + sent_at test next ys amounts
+sent_joined : (test : Arc → Bool) (at next : ℕ) (xs ys : List Arc) (amounts : List ℕ) → next ≡ at + length xs
+    → sent_at test at (xs ++ ys) amounts ≡ sent_at test at xs amounts + sent_at test next ys amounts
 sent_joined test at next [] ys amounts e =
     let f : at ≡ next = omega arith in
-    let g : sent_at test at ys amounts ≡ sent_at test next ys amounts = ap (λ n. sent_at test n ys amounts) f in omega arith
+    let g : sent_at test at ys amounts ≡ sent_at test next ys amounts = ap (λ n. sent_at test n ys amounts) f in
+    omega arith
 sent_joined test at next (x ∷ xs) ys amounts e =
-    let g : sent_at test (suc at) (xs ++ ys) amounts ≡ sent_at test (suc at) xs amounts + sent_at test next ys amounts = sent_joined test (suc at) next xs ys amounts (omega arith) in
+    let g : sent_at test (suc at) (xs ++ ys) amounts ≡ sent_at test (suc at) xs amounts
+    + sent_at test next ys amounts = sent_joined test (suc at) next xs ys amounts (omega arith) in
     omega arith
 
 -- what one row sends
 
 abbrev pub parent_sent : (Arc → Bool) → ℕ → Option ℕ → ℕ → ℕ → ℕ
 parent_sent test k None above held = 0
-parent_sent test k (Some j) above held = cond (test (arc (2 * j) (2 * k) (pos 0))) above 0 + cond (test (arc (2 * k) (2 * j + 1) (pos 0))) held 0
+parent_sent test k (Some j) above held =
+    cond (test (arc (2 * j) (2 * k) (pos 0))) above 0 + cond (test (arc (2 * k) (2 * j + 1) (pos 0))) held 0
 
 abbrev pub first_sent : (Arc → Bool) → ℕ → ℕ → Option ℕ → ℕ → ℕ
 first_sent test base k None first = 0
@@ -69,36 +78,52 @@ last_sent test base k (Some l) last = cond (test (arc base (2 * k + 1) (pos (l +
 
 abbrev pub row_sent : (Arc → Bool) → ℕ → ℕ → SpanRow → FlowRow → ℕ
 row_sent test base k row f =
-    parent_sent test k row.parent f.above f.held + (first_sent test base k row.first f.first + (last_sent test base k row.last f.last + cond (test (arc (2 * k) (2 * k + 1) (pos 0))) f.own 0))
+    parent_sent test k row.parent f.above f.held
+    + (first_sent test base k row.first f.first
+    + (last_sent test base k row.last f.last + cond (test (arc (2 * k) (2 * k + 1) (pos 0))) f.own 0))
 
-parent_part : (test : Arc → Bool) (at k : ℕ) (o : Option ℕ) (amounts : List ℕ) → sent_at test at (parent_arcs k o) amounts ≡ parent_sent test k o (amount_if o amounts at) (amount_if o amounts (at + 1))
+parent_part : (test : Arc → Bool) (at k : ℕ) (o : Option ℕ) (amounts : List ℕ)
+    → sent_at test at (parent_arcs k o) amounts
+    ≡ parent_sent test k o (amount_if o amounts at) (amount_if o amounts (at + 1))
 parent_part test at k None amounts = refl
 parent_part test at k (Some j) amounts =
     let e : suc at ≡ at + 1 = omega arith in
-    let f : cond (test (arc (2 * k) (2 * j + 1) (pos 0))) (slice_index amounts (suc at)) 0 ≡ cond (test (arc (2 * k) (2 * j + 1) (pos 0))) (slice_index amounts (at + 1)) 0 =
+    let f : cond (test (arc (2 * k) (2 * j + 1) (pos 0))) (slice_index amounts (suc at)) 0
+    ≡ cond (test (arc (2 * k) (2 * j + 1) (pos 0))) (slice_index amounts (at + 1)) 0 =
     ap (λ n. cond (test (arc (2 * k) (2 * j + 1) (pos 0))) (slice_index amounts n) 0) e in
     omega arith
 
-first_part : (test : Arc → Bool) (at base k : ℕ) (o : Option ℕ) (amounts : List ℕ) → sent_at test at (first_arcs base k o) amounts ≡ first_sent test base k o (amount_if o amounts at)
+first_part : (test : Arc → Bool) (at base k : ℕ) (o : Option ℕ) (amounts : List ℕ)
+    → sent_at test at (first_arcs base k o) amounts ≡ first_sent test base k o (amount_if o amounts at)
 first_part test at base k None amounts = refl
 first_part test at base k (Some f) amounts = omega arith
 
-last_part : (test : Arc → Bool) (at base k : ℕ) (o : Option ℕ) (amounts : List ℕ) → sent_at test at (last_arcs base k o) amounts ≡ last_sent test base k o (amount_if o amounts at)
+last_part : (test : Arc → Bool) (at base k : ℕ) (o : Option ℕ) (amounts : List ℕ)
+    → sent_at test at (last_arcs base k o) amounts ≡ last_sent test base k o (amount_if o amounts at)
 last_part test at base k None amounts = refl
 last_part test at base k (Some f) amounts = omega arith
 
-row_part : (test : Arc → Bool) (at base k : ℕ) (row : SpanRow) (amounts : List ℕ) → sent_at test at (row_arcs base k row) amounts ≡ row_sent test base k row (read_row row amounts at)
+row_part : (test : Arc → Bool) (at base k : ℕ) (row : SpanRow) (amounts : List ℕ)
+    → sent_at test at (row_arcs base k row) amounts ≡ row_sent test base k row (read_row row amounts at)
 row_part test at base k row amounts =
     let own : List Arc = arc (2 * k) (2 * k + 1) (pos 0) ∷ [] in
     let size1 : length (parent_arcs k row.parent) ≡ width row.parent + width row.parent = parent_size k row.parent in
     let size2 : length (first_arcs base k row.first) ≡ width row.first = first_size base k row.first in
     let size3 : length (last_arcs base k row.last) ≡ width row.last = last_size base k row.last in
-    sent_joined test at (at + width row.parent + width row.parent) (parent_arcs k row.parent) (first_arcs base k row.first ++ (last_arcs base k row.last ++ arc (2 * k) (2 * k + 1) (pos 0) ∷ [])) amounts (omega arith)
+    sent_joined test at (at + width row.parent + width row.parent) (parent_arcs k row.parent)
+    (first_arcs base k row.first ++ (last_arcs base k row.last ++ arc (2 * k) (2 * k + 1) (pos 0) ∷ [])) amounts
+    (omega arith)
     ∙ ap₂ (λ a b. a + b) (parent_part test at k row.parent amounts)
-    (sent_joined test (at + width row.parent + width row.parent) (at + width row.parent + width row.parent + width row.first) (first_arcs base k row.first) (last_arcs base k row.last ++ arc (2 * k) (2 * k + 1) (pos 0) ∷ []) amounts (omega arith)
+    (sent_joined test (at + width row.parent + width row.parent)
+    (at + width row.parent + width row.parent + width row.first) (first_arcs base k row.first)
+    (last_arcs base k row.last ++ arc (2 * k) (2 * k + 1) (pos 0) ∷ []) amounts (omega arith)
     ∙ ap₂ (λ a b. a + b) (first_part test (at + width row.parent + width row.parent) base k row.first amounts)
-    (sent_joined test (at + width row.parent + width row.parent + width row.first) (at + width row.parent + width row.parent + width row.first + width row.last) (last_arcs base k row.last) (arc (2 * k) (2 * k + 1) (pos 0) ∷ []) amounts (omega arith)
-    ∙ ap₂ (λ a b. a + b) (last_part test (at + width row.parent + width row.parent + width row.first) base k row.last amounts) (last_one (cond (test (arc (2 * k) (2 * k + 1) (pos 0))) (slice_index amounts (at + width row.parent + width row.parent + width row.first + width row.last)) 0))))
+    (sent_joined test (at + width row.parent + width row.parent + width row.first)
+    (at + width row.parent + width row.parent + width row.first + width row.last) (last_arcs base k row.last)
+    (arc (2 * k) (2 * k + 1) (pos 0) ∷ []) amounts (omega arith)
+    ∙ ap₂ (λ a b. a + b) (last_part test (at + width row.parent + width row.parent + width row.first) base k row.last
+    amounts) (last_one (cond (test (arc (2 * k) (2 * k + 1) (pos 0)))
+    (slice_index amounts (at + width row.parent + width row.parent + width row.first + width row.last)) 0))))
   where
     last_one : (x : ℕ) → x + 0 ≡ x
     last_one x = omega arith
@@ -107,70 +132,94 @@ row_part test at base k row amounts =
 
 abbrev pub pair_sum : (ℕ → SpanRow → FlowRow → ℕ) → ℕ → List SpanRow → List ℕ → ℕ → ℕ
 pair_sum g k [] amounts at = 0
-pair_sum g k (row ∷ rows) amounts at = g k row (read_row row amounts at) + pair_sum g (suc k) rows amounts (at + row_width row)
+pair_sum g k (row ∷ rows) amounts at =
+    g k row (read_row row amounts at) + pair_sum g (suc k) rows amounts (at + row_width row)
 
-rows_part : (test : Arc → Bool) (base : ℕ) (amounts : List ℕ) (at k : ℕ) (rows : List SpanRow) → sent_at test at (arcs_from base k rows) amounts ≡ pair_sum (row_sent test base) k rows amounts at
+rows_part : (test : Arc → Bool) (base : ℕ) (amounts : List ℕ) (at k : ℕ) (rows : List SpanRow)
+    → sent_at test at (arcs_from base k rows) amounts ≡ pair_sum (row_sent test base) k rows amounts at
 rows_part test base amounts at k [] = refl
 rows_part test base amounts at k (row ∷ rows) =
     let size : length (row_arcs base k row) ≡ row_width row = row_size base amounts [] k row in
     sent_joined test at (at + row_width row) (row_arcs base k row) (arcs_from base (suc k) rows) amounts (omega arith)
-    ∙ ap₂ (λ a b. a + b) (row_part test at base k row amounts) (rows_part test base amounts (at + row_width row) (suc k) rows)
+    ∙ ap₂ (λ a b. a + b) (row_part test at base k row amounts)
+    (rows_part test base amounts (at + row_width row) (suc k) rows)
 
-pair_same : (g h : ℕ → SpanRow → FlowRow → ℕ) (amounts : List ℕ) → ((k at : ℕ) (row : SpanRow) → g k row (read_row row amounts at) ≡ h k row (read_row row amounts at))
+pair_same : (g h : ℕ → SpanRow → FlowRow → ℕ) (amounts : List ℕ)
+    → ((k at : ℕ) (row : SpanRow) → g k row (read_row row amounts at) ≡ h k row (read_row row amounts at))
     → (k : ℕ) (rows : List SpanRow) (at : ℕ) → pair_sum g k rows amounts at ≡ pair_sum h k rows amounts at
 pair_same g h amounts e k [] at = refl
-pair_same g h amounts e k (row ∷ rows) at = ap₂ (λ a b. a + b) (e k at row) (pair_same g h amounts e (suc k) rows (at + row_width row))
+pair_same g h amounts e k (row ∷ rows) at =
+    ap₂ (λ a b. a + b) (e k at row) (pair_same g h amounts e (suc k) rows (at + row_width row))
 
 pair_add : (g h : ℕ → SpanRow → FlowRow → ℕ) (amounts : List ℕ) (k : ℕ) (rows : List SpanRow) (at : ℕ)
-    → pair_sum (λ i row f. g i row f + h i row f) k rows amounts at ≡ pair_sum g k rows amounts at + pair_sum h k rows amounts at
+    → pair_sum (λ i row f. g i row f + h i row f) k rows amounts at ≡ pair_sum g k rows amounts at
+    + pair_sum h k rows amounts at
 pair_add g h amounts k [] at = refl
 pair_add g h amounts k (row ∷ rows) at =
-    let e : pair_sum (λ i row f. g i row f + h i row f) (suc k) rows amounts (at + row_width row) ≡ pair_sum g (suc k) rows amounts (at + row_width row) + pair_sum h (suc k) rows amounts (at + row_width row) =
+    let e : pair_sum (λ i row f. g i row f + h i row f) (suc k) rows amounts (at + row_width row)
+    ≡ pair_sum g (suc k) rows amounts (at + row_width row) + pair_sum h (suc k) rows amounts (at + row_width row) =
     pair_add g h amounts (suc k) rows (at + row_width row) in
     omega arith
 
 pair_zero : (amounts : List ℕ) (k : ℕ) (rows : List SpanRow) (at : ℕ) → pair_sum (λ i row f. 0) k rows amounts at ≡ 0
 pair_zero amounts k [] at = refl
-pair_zero amounts k (row ∷ rows) at = let e : pair_sum (λ i row f. 0) (suc k) rows amounts (at + row_width row) ≡ 0 = pair_zero amounts (suc k) rows (at + row_width row) in omega arith
+pair_zero amounts k (row ∷ rows) at = let e : pair_sum (λ i row f. 0) (suc k) rows amounts (at + row_width row) ≡ 0 =
+    pair_zero amounts (suc k) rows (at + row_width row) in omega arith
 
 -- the amount of the row at one place
 abbrev pub at_place : ℕ → (FlowRow → ℕ) → ℕ → SpanRow → FlowRow → ℕ
 at_place j amount k row f = cond (eqb k j) (amount f) 0
 
-pair_past : (j : ℕ) (amount : FlowRow → ℕ) (amounts : List ℕ) (k : ℕ) (rows : List SpanRow) (at : ℕ) → j < k → pair_sum (at_place j amount) k rows amounts at ≡ 0
+pair_past : (j : ℕ) (amount : FlowRow → ℕ) (amounts : List ℕ) (k : ℕ) (rows : List SpanRow) (at : ℕ) → j < k
+    → pair_sum (at_place j amount) k rows amounts at ≡ 0
 pair_past j amount amounts k [] at lt = refl
 pair_past j amount amounts k (row ∷ rows) at lt =
-    let e : pair_sum (at_place j amount) (suc k) rows amounts (at + row_width row) ≡ 0 = pair_past j amount amounts (suc k) rows (at + row_width row) (omega arith) in
-    let f : cond (eqb k j) (amount (read_row row amounts at)) 0 ≡ cond false (amount (read_row row amounts at)) 0 = ap (λ b. cond b (amount (read_row row amounts at)) 0) (ne_eqb k j (λ s. omega arith)) in
+    let e : pair_sum (at_place j amount) (suc k) rows amounts (at + row_width row) ≡ 0 =
+    pair_past j amount amounts (suc k) rows (at + row_width row) (omega arith) in
+    let f : cond (eqb k j) (amount (read_row row amounts at)) 0 ≡ cond false (amount (read_row row amounts at)) 0 =
+    ap (λ b. cond b (amount (read_row row amounts at)) 0) (ne_eqb k j (λ s. omega arith)) in
     omega arith
 
-pair_one : (amount : FlowRow → ℕ) (amounts : List ℕ) (j k i : ℕ) (rows : List SpanRow) (at : ℕ) (f : FlowRow) → j ≡ k + i → slice_get (read_rows rows amounts at) i ≡ Some f
+pair_one : (amount : FlowRow → ℕ) (amounts : List ℕ) (j k i : ℕ) (rows : List SpanRow) (at : ℕ) (f : FlowRow)
+    → j ≡ k + i → slice_get (read_rows rows amounts at) i ≡ Some f
     → pair_sum (at_place j amount) k rows amounts at ≡ amount f
 pair_one amount amounts j k i [] at f e h = absurd (none-some f h)
 pair_one amount amounts j k zero (row ∷ rows) at f e h =
-    let a : cond (eqb k j) (amount (read_row row amounts at)) 0 ≡ cond true (amount (read_row row amounts at)) 0 = ap (λ b. cond b (amount (read_row row amounts at)) 0) (eq-eqb k j (omega arith)) in
+    let a : cond (eqb k j) (amount (read_row row amounts at)) 0 ≡ cond true (amount (read_row row amounts at)) 0 =
+    ap (λ b. cond b (amount (read_row row amounts at)) 0) (eq-eqb k j (omega arith)) in
     let b : amount (read_row row amounts at) ≡ amount f = ap amount (same_Some (read_row row amounts at) f h) in
-    let c : pair_sum (at_place j amount) (suc k) rows amounts (at + row_width row) ≡ 0 = pair_past j amount amounts (suc k) rows (at + row_width row) (omega arith) in
+    let c : pair_sum (at_place j amount) (suc k) rows amounts (at + row_width row) ≡ 0 =
+    pair_past j amount amounts (suc k) rows (at + row_width row) (omega arith) in
     omega arith
 pair_one amount amounts j k (suc i) (row ∷ rows) at f e h =
-    let a : cond (eqb k j) (amount (read_row row amounts at)) 0 ≡ cond false (amount (read_row row amounts at)) 0 = ap (λ b. cond b (amount (read_row row amounts at)) 0) (ne_eqb k j (λ s. omega arith)) in
-    let c : pair_sum (at_place j amount) (suc k) rows amounts (at + row_width row) ≡ amount f = pair_one amount amounts j (suc k) i rows (at + row_width row) f (omega arith) h in
+    let a : cond (eqb k j) (amount (read_row row amounts at)) 0 ≡ cond false (amount (read_row row amounts at)) 0 =
+    ap (λ b. cond b (amount (read_row row amounts at)) 0) (ne_eqb k j (λ s. omega arith)) in
+    let c : pair_sum (at_place j amount) (suc k) rows amounts (at + row_width row) ≡ amount f =
+    pair_one amount amounts j (suc k) i rows (at + row_width row) f (omega arith) h in
     omega arith
 
 -- the amounts of the rows whose parent is at one place
 abbrev pub of_children : ℕ → (FlowRow → ℕ) → ℕ → SpanRow → FlowRow → ℕ
 of_children j amount k row f = cond (is_at j row.parent) (amount f) 0
 
-pair_children : (tree : Rows) (j : ℕ) (over : FlowRow) (amount : FlowRow → ℕ) (amounts : List ℕ) (k : ℕ) (rows : List SpanRow) (at : ℕ)
-    → ((i : ℕ) (row : SpanRow) → slice_get rows i ≡ Some row → is_at j row.parent ≡ is_at over.node (parent_of tree row.node))
+pair_children : (tree : Rows) (j : ℕ) (over : FlowRow) (amount : FlowRow → ℕ) (amounts : List ℕ) (k : ℕ)
+    (rows : List SpanRow) (at : ℕ)
+    → ((i : ℕ) (row : SpanRow) → slice_get rows i ≡ Some row
+    → is_at j row.parent ≡ is_at over.node (parent_of tree row.node))
     → pair_sum (of_children j amount) k rows amounts at ≡ child_sum tree amount (read_rows rows amounts at) over
 pair_children tree j over amount amounts k [] at h = refl
 pair_children tree j over amount amounts k (row ∷ rows) at h =
-    let a : cond (is_at j row.parent) (amount (read_row row amounts at)) 0 ≡ cond (is_at over.node (parent_of tree row.node)) (amount (read_row row amounts at)) 0 =
+    let a : cond (is_at j row.parent) (amount (read_row row amounts at)) 0
+    ≡ cond (is_at over.node (parent_of tree row.node)) (amount (read_row row amounts at)) 0 =
     ap (λ b. cond b (amount (read_row row amounts at)) 0) (h 0 row refl) in
-    let b : pair_sum (of_children j amount) (suc k) rows amounts (at + row_width row) ≡ child_sum tree amount (read_rows rows amounts (at + row_width row)) over =
+    let b : pair_sum (of_children j amount) (suc k) rows amounts (at + row_width row)
+    ≡ child_sum tree amount (read_rows rows amounts (at + row_width row)) over =
     pair_children tree j over amount amounts (suc k) rows (at + row_width row) (λ i r g. h (suc i) r g) in
-    omega (arith, sum_by-cons (λ child. cond (is_child tree child over) (amount child) 0) (read_row row amounts at) (read_rows rows amounts (at + row_width row)))
+    omega (
+      arith,
+      sum_by-cons (λ child. cond (is_child tree child over) (amount child) 0) (read_row row amounts at)
+          (read_rows rows amounts (at + row_width row)),
+    )
 
 -- Even and odd variables.
 
@@ -199,11 +248,15 @@ told b c x e = ap (λ t. cond t x 0) e
 -- what each row sends into and out of the lock and the release at place j
 
 module _ (n j : ℕ) (lt : j < n) (amounts : List ℕ) where
-  in_lock_parent : (k : ℕ) (o : Option ℕ) (above held : ℕ) → (o ≡ None → above ≡ 0) → parent_sent (λ a. eqb a.to (2 * j)) k o above held ≡ cond (eqb k j) above 0
-  in_lock_parent k None above held none = let e : above ≡ 0 = none refl in sym (ap (λ x. cond (eqb k j) x 0) e ∙ cond_zero (eqb k j))
+  in_lock_parent : (k : ℕ) (o : Option ℕ) (above held : ℕ) → (o ≡ None → above ≡ 0)
+      → parent_sent (λ a. eqb a.to (2 * j)) k o above held ≡ cond (eqb k j) above 0
+  in_lock_parent k None above held none = let e : above ≡ 0 = none refl in
+      sym (ap (λ x. cond (eqb k j) x 0) e ∙ cond_zero (eqb k j))
   in_lock_parent k (Some p) above held none =
-      let a : cond (eqb (2 * k) (2 * j)) above 0 ≡ cond (eqb k j) above 0 = told (eqb (2 * k) (2 * j)) (eqb k j) above (even_test k j) in
-      let b : cond (eqb (2 * p + 1) (2 * j)) held 0 ≡ cond false held 0 = told (eqb (2 * p + 1) (2 * j)) false held (odd_even p j) in
+      let a : cond (eqb (2 * k) (2 * j)) above 0 ≡ cond (eqb k j) above 0 =
+      told (eqb (2 * k) (2 * j)) (eqb k j) above (even_test k j) in
+      let b : cond (eqb (2 * p + 1) (2 * j)) held 0 ≡ cond false held 0 =
+      told (eqb (2 * p + 1) (2 * j)) false held (odd_even p j) in
       omega arith
 
   in_lock_first : (k : ℕ) (o : Option ℕ) (x : ℕ) → first_sent (λ a. eqb a.to (2 * j)) (2 * n) k o x ≡ 0
@@ -218,26 +271,36 @@ module _ (n j : ℕ) (lt : j < n) (amounts : List ℕ) where
   absent None at e = refl
   absent (Some x) at e = absurd (none-some x (sym e))
 
-  in_lock_row : (k at : ℕ) (row : SpanRow) → row_sent (λ a. eqb a.to (2 * j)) (2 * n) k row (read_row row amounts at) ≡ at_place j (λ f. f.above) k row (read_row row amounts at)
+  in_lock_row : (k at : ℕ) (row : SpanRow)
+      → row_sent (λ a. eqb a.to (2 * j)) (2 * n) k row (read_row row amounts at)
+      ≡ at_place j (λ f. f.above) k row (read_row row amounts at)
   in_lock_row k at row =
       let f : FlowRow = read_row row amounts at in
-      let a = in_lock_parent k row.parent (amount_if row.parent amounts at) (amount_if row.parent amounts (at + 1)) (absent row.parent at) in
+      let a = in_lock_parent k row.parent (amount_if row.parent amounts at) (amount_if row.parent amounts (at + 1))
+      (absent row.parent at) in
       let b = in_lock_first k row.first (amount_if row.first amounts (at + width row.parent + width row.parent)) in
-      let c = in_lock_last k row.last (amount_if row.last amounts (at + width row.parent + width row.parent + width row.first)) in
+      let c = in_lock_last k row.last (amount_if row.last amounts
+      (at + width row.parent + width row.parent + width row.first)) in
       let own : ℕ = slice_index amounts (at + width row.parent + width row.parent + width row.first + width row.last) in
-      let d = told (eqb (2 * k + 1) (2 * j)) false (slice_index amounts (at + width row.parent + width row.parent + width row.first + width row.last)) (odd_even k j) in
+      let d = told (eqb (2 * k + 1) (2 * j)) false
+      (slice_index amounts (at + width row.parent + width row.parent + width row.first + width row.last))
+      (odd_even k j) in
       omega arith
 
-  out_lock_parent : (k : ℕ) (o : Option ℕ) (above held : ℕ) → (o ≡ None → held ≡ 0) → parent_sent (λ a. eqb a.from (2 * j)) k o above held ≡ cond (is_at j o) above 0 + cond (eqb k j) held 0
+  out_lock_parent : (k : ℕ) (o : Option ℕ) (above held : ℕ) → (o ≡ None → held ≡ 0)
+      → parent_sent (λ a. eqb a.from (2 * j)) k o above held ≡ cond (is_at j o) above 0 + cond (eqb k j) held 0
   out_lock_parent k None above held none =
       let e : held ≡ 0 = none refl in
       let z : cond (eqb k j) held 0 ≡ 0 = ap (λ x. cond (eqb k j) x 0) e ∙ cond_zero (eqb k j) in omega arith
   out_lock_parent k (Some p) above held none =
-      let a : cond (eqb (2 * p) (2 * j)) above 0 ≡ cond (eqb p j) above 0 = told (eqb (2 * p) (2 * j)) (eqb p j) above (even_test p j) in
-      let b : cond (eqb (2 * k) (2 * j)) held 0 ≡ cond (eqb k j) held 0 = told (eqb (2 * k) (2 * j)) (eqb k j) held (even_test k j) in
+      let a : cond (eqb (2 * p) (2 * j)) above 0 ≡ cond (eqb p j) above 0 =
+      told (eqb (2 * p) (2 * j)) (eqb p j) above (even_test p j) in
+      let b : cond (eqb (2 * k) (2 * j)) held 0 ≡ cond (eqb k j) held 0 =
+      told (eqb (2 * k) (2 * j)) (eqb k j) held (even_test k j) in
       omega arith
 
-  out_lock_first : (k : ℕ) (o : Option ℕ) (x : ℕ) → (o ≡ None → x ≡ 0) → first_sent (λ a. eqb a.from (2 * j)) (2 * n) k o x ≡ cond (eqb k j) x 0
+  out_lock_first : (k : ℕ) (o : Option ℕ) (x : ℕ) → (o ≡ None → x ≡ 0)
+      → first_sent (λ a. eqb a.from (2 * j)) (2 * n) k o x ≡ cond (eqb k j) x 0
   out_lock_first k None x none = sym (ap (λ y. cond (eqb k j) y 0) (none refl) ∙ cond_zero (eqb k j))
   out_lock_first k (Some f) x none = told (eqb (2 * k) (2 * j)) (eqb k j) x (even_test k j)
 
@@ -246,47 +309,70 @@ module _ (n j : ℕ) (lt : j < n) (amounts : List ℕ) where
   out_lock_last k (Some f) x = told (eqb (2 * n) (2 * j)) false x (even_less n j lt)
 
   abbrev out_lock_sum : ℕ → SpanRow → FlowRow → ℕ
-  out_lock_sum k row f = ((of_children j (λ g. g.above) k row f + at_place j (λ g. g.held) k row f) + at_place j (λ g. g.first) k row f) + at_place j (λ g. g.own) k row f
+  out_lock_sum k row f = ((of_children j (λ g. g.above) k row f + at_place j (λ g. g.held) k row f)
+      + at_place j (λ g. g.first) k row f) + at_place j (λ g. g.own) k row f
 
-  out_lock_row : (k at : ℕ) (row : SpanRow) → row_sent (λ a. eqb a.from (2 * j)) (2 * n) k row (read_row row amounts at) ≡ out_lock_sum k row (read_row row amounts at)
+  out_lock_row : (k at : ℕ) (row : SpanRow)
+      → row_sent (λ a. eqb a.from (2 * j)) (2 * n) k row (read_row row amounts at)
+      ≡ out_lock_sum k row (read_row row amounts at)
   out_lock_row k at row =
-      let a = out_lock_parent k row.parent (amount_if row.parent amounts at) (amount_if row.parent amounts (at + 1)) (absent row.parent (at + 1)) in
-      let b = out_lock_first k row.first (amount_if row.first amounts (at + width row.parent + width row.parent)) (absent row.first (at + width row.parent + width row.parent)) in
-      let c = out_lock_last k row.last (amount_if row.last amounts (at + width row.parent + width row.parent + width row.first)) in
-      let d = told (eqb (2 * k) (2 * j)) (eqb k j) (slice_index amounts (at + width row.parent + width row.parent + width row.first + width row.last)) (even_test k j) in
+      let a = out_lock_parent k row.parent (amount_if row.parent amounts at) (amount_if row.parent amounts (at + 1))
+      (absent row.parent (at + 1)) in
+      let b = out_lock_first k row.first (amount_if row.first amounts (at + width row.parent + width row.parent))
+      (absent row.first (at + width row.parent + width row.parent)) in
+      let c = out_lock_last k row.last
+      (amount_if row.last amounts (at + width row.parent + width row.parent + width row.first)) in
+      let d = told (eqb (2 * k) (2 * j)) (eqb k j)
+      (slice_index amounts (at + width row.parent + width row.parent + width row.first + width row.last))
+      (even_test k j) in
       omega arith
 
-  in_release_parent : (k : ℕ) (o : Option ℕ) (above held : ℕ) → parent_sent (λ a. eqb a.to (2 * j + 1)) k o above held ≡ cond (is_at j o) held 0
+  in_release_parent : (k : ℕ) (o : Option ℕ) (above held : ℕ)
+      → parent_sent (λ a. eqb a.to (2 * j + 1)) k o above held ≡ cond (is_at j o) held 0
   in_release_parent k None above held = refl
   in_release_parent k (Some p) above held =
-      let a : cond (eqb (2 * k) (2 * j + 1)) above 0 ≡ cond false above 0 = told (eqb (2 * k) (2 * j + 1)) false above (even_odd k j) in
-      let b : cond (eqb (2 * p + 1) (2 * j + 1)) held 0 ≡ cond (eqb p j) held 0 = told (eqb (2 * p + 1) (2 * j + 1)) (eqb p j) held (odd_test p j) in
+      let a : cond (eqb (2 * k) (2 * j + 1)) above 0 ≡ cond false above 0 =
+      told (eqb (2 * k) (2 * j + 1)) false above (even_odd k j) in
+      let b : cond (eqb (2 * p + 1) (2 * j + 1)) held 0 ≡ cond (eqb p j) held 0 =
+      told (eqb (2 * p + 1) (2 * j + 1)) (eqb p j) held (odd_test p j) in
       omega arith
 
   in_release_first : (k : ℕ) (o : Option ℕ) (x : ℕ) → first_sent (λ a. eqb a.to (2 * j + 1)) (2 * n) k o x ≡ 0
   in_release_first k None x = refl
   in_release_first k (Some f) x = told (eqb (2 * n) (2 * j + 1)) false x (even_odd n j)
 
-  in_release_last : (k : ℕ) (o : Option ℕ) (x : ℕ) → (o ≡ None → x ≡ 0) → last_sent (λ a. eqb a.to (2 * j + 1)) (2 * n) k o x ≡ cond (eqb k j) x 0
+  in_release_last : (k : ℕ) (o : Option ℕ) (x : ℕ) → (o ≡ None → x ≡ 0)
+      → last_sent (λ a. eqb a.to (2 * j + 1)) (2 * n) k o x ≡ cond (eqb k j) x 0
   in_release_last k None x none = sym (ap (λ y. cond (eqb k j) y 0) (none refl) ∙ cond_zero (eqb k j))
   in_release_last k (Some f) x none = told (eqb (2 * k + 1) (2 * j + 1)) (eqb k j) x (odd_test k j)
 
   abbrev in_release_sum : ℕ → SpanRow → FlowRow → ℕ
-  in_release_sum k row f = (of_children j (λ g. g.held) k row f + at_place j (λ g. g.last) k row f) + at_place j (λ g. g.own) k row f
+  in_release_sum k row f =
+      (of_children j (λ g. g.held) k row f + at_place j (λ g. g.last) k row f) + at_place j (λ g. g.own) k row f
 
-  in_release_row : (k at : ℕ) (row : SpanRow) → row_sent (λ a. eqb a.to (2 * j + 1)) (2 * n) k row (read_row row amounts at) ≡ in_release_sum k row (read_row row amounts at)
+  in_release_row : (k at : ℕ) (row : SpanRow)
+      → row_sent (λ a. eqb a.to (2 * j + 1)) (2 * n) k row (read_row row amounts at)
+      ≡ in_release_sum k row (read_row row amounts at)
   in_release_row k at row =
-      let a = in_release_parent k row.parent (amount_if row.parent amounts at) (amount_if row.parent amounts (at + 1)) in
+      let a = in_release_parent k row.parent (amount_if row.parent amounts at)
+      (amount_if row.parent amounts (at + 1)) in
       let b = in_release_first k row.first (amount_if row.first amounts (at + width row.parent + width row.parent)) in
-      let c = in_release_last k row.last (amount_if row.last amounts (at + width row.parent + width row.parent + width row.first)) (absent row.last (at + width row.parent + width row.parent + width row.first)) in
-      let d = told (eqb (2 * k + 1) (2 * j + 1)) (eqb k j) (slice_index amounts (at + width row.parent + width row.parent + width row.first + width row.last)) (odd_test k j) in
+      let c = in_release_last k row.last
+      (amount_if row.last amounts (at + width row.parent + width row.parent + width row.first))
+      (absent row.last (at + width row.parent + width row.parent + width row.first)) in
+      let d = told (eqb (2 * k + 1) (2 * j + 1)) (eqb k j)
+      (slice_index amounts (at + width row.parent + width row.parent + width row.first + width row.last))
+      (odd_test k j) in
       omega arith
 
-  out_release_parent : (k : ℕ) (o : Option ℕ) (above held : ℕ) → parent_sent (λ a. eqb a.from (2 * j + 1)) k o above held ≡ 0
+  out_release_parent : (k : ℕ) (o : Option ℕ) (above held : ℕ)
+      → parent_sent (λ a. eqb a.from (2 * j + 1)) k o above held ≡ 0
   out_release_parent k None above held = refl
   out_release_parent k (Some p) above held =
-      let a : cond (eqb (2 * p) (2 * j + 1)) above 0 ≡ cond false above 0 = told (eqb (2 * p) (2 * j + 1)) false above (even_odd p j) in
-      let b : cond (eqb (2 * k) (2 * j + 1)) held 0 ≡ cond false held 0 = told (eqb (2 * k) (2 * j + 1)) false held (even_odd k j) in
+      let a : cond (eqb (2 * p) (2 * j + 1)) above 0 ≡ cond false above 0 =
+      told (eqb (2 * p) (2 * j + 1)) false above (even_odd p j) in
+      let b : cond (eqb (2 * k) (2 * j + 1)) held 0 ≡ cond false held 0 =
+      told (eqb (2 * k) (2 * j + 1)) false held (even_odd k j) in
       omega arith
 
   out_release_first : (k : ℕ) (o : Option ℕ) (x : ℕ) → first_sent (λ a. eqb a.from (2 * j + 1)) (2 * n) k o x ≡ 0
@@ -297,12 +383,17 @@ module _ (n j : ℕ) (lt : j < n) (amounts : List ℕ) where
   out_release_last k None x = refl
   out_release_last k (Some f) x = told (eqb (2 * n) (2 * j + 1)) false x (even_odd n j)
 
-  out_release_row : (k at : ℕ) (row : SpanRow) → row_sent (λ a. eqb a.from (2 * j + 1)) (2 * n) k row (read_row row amounts at) ≡ 0
+  out_release_row : (k at : ℕ) (row : SpanRow)
+      → row_sent (λ a. eqb a.from (2 * j + 1)) (2 * n) k row (read_row row amounts at) ≡ 0
   out_release_row k at row =
-      let a = out_release_parent k row.parent (amount_if row.parent amounts at) (amount_if row.parent amounts (at + 1)) in
+      let a = out_release_parent k row.parent (amount_if row.parent amounts at)
+      (amount_if row.parent amounts (at + 1)) in
       let b = out_release_first k row.first (amount_if row.first amounts (at + width row.parent + width row.parent)) in
-      let c = out_release_last k row.last (amount_if row.last amounts (at + width row.parent + width row.parent + width row.first)) in
-      let d = told (eqb (2 * k) (2 * j + 1)) false (slice_index amounts (at + width row.parent + width row.parent + width row.first + width row.last)) (even_odd k j) in
+      let c = out_release_last k row.last
+      (amount_if row.last amounts (at + width row.parent + width row.parent + width row.first)) in
+      let d = told (eqb (2 * k) (2 * j + 1)) false
+      (slice_index amounts (at + width row.parent + width row.parent + width row.first + width row.last))
+      (even_odd k j) in
       omega arith
 
 -- The needs by place.
@@ -313,19 +404,24 @@ two_more k = omega arith
 odd_more : (k : ℕ) → 2 * suc k + 1 ≡ suc (suc (2 * k + 1))
 odd_more k = omega arith
 
-pub need_lock : (tree : Rows) (rows : List SpanRow) (k : ℕ) (row : SpanRow) → slice_get rows k ≡ Some row → place (needs_of tree rows) (2 * k) ≡ neg_ℤ (pos (weight_of tree row.node))
+pub need_lock : (tree : Rows) (rows : List SpanRow) (k : ℕ) (row : SpanRow) → slice_get rows k ≡ Some row
+    → place (needs_of tree rows) (2 * k) ≡ neg_ℤ (pos (weight_of tree row.node))
 need_lock tree [] k row h = absurd (none-some row h)
 need_lock tree (r ∷ rows) zero row h = ap (λ (x : SpanRow). neg_ℤ (pos (weight_of tree x.node))) (same_Some r row h)
-need_lock tree (r ∷ rows) (suc k) row h = ap (λ (i : ℕ). place (needs_of tree (r ∷ rows)) i) (two_more k) ∙ need_lock tree rows k row h
+need_lock tree (r ∷ rows) (suc k) row h =
+    ap (λ (i : ℕ). place (needs_of tree (r ∷ rows)) i) (two_more k) ∙ need_lock tree rows k row h
 
-pub need_release : (tree : Rows) (rows : List SpanRow) (k : ℕ) (row : SpanRow) → slice_get rows k ≡ Some row → place (needs_of tree rows) (2 * k + 1) ≡ pos (weight_of tree row.node)
+pub need_release : (tree : Rows) (rows : List SpanRow) (k : ℕ) (row : SpanRow) → slice_get rows k ≡ Some row
+    → place (needs_of tree rows) (2 * k + 1) ≡ pos (weight_of tree row.node)
 need_release tree [] k row h = absurd (none-some row h)
 need_release tree (r ∷ rows) zero row h = ap (λ (x : SpanRow). pos (weight_of tree x.node)) (same_Some r row h)
-need_release tree (r ∷ rows) (suc k) row h = ap (λ (i : ℕ). place (needs_of tree (r ∷ rows)) i) (odd_more k) ∙ need_release tree rows k row h
+need_release tree (r ∷ rows) (suc k) row h =
+    ap (λ (i : ℕ). place (needs_of tree (r ∷ rows)) i) (odd_more k) ∙ need_release tree rows k row h
 
 pub needs_size : (tree : Rows) (rows : List SpanRow) → length (needs_of tree rows) ≡ 2 * length rows + 1
 needs_size tree [] = refl
-needs_size tree (r ∷ rows) = let e : length (needs_of tree rows) ≡ 2 * length rows + 1 = needs_size tree rows in omega arith
+needs_size tree (r ∷ rows) = let e : length (needs_of tree rows) ≡ 2 * length rows + 1 = needs_size tree rows in
+    omega arith
 
 lock_meets : (i o w : ℕ) (z : ℤ) → z ≡ neg_ℤ (pos w) → pos i ≡ pos o +ℤ z → i + w ≡ o
 lock_meets i o w z e h = omega (arith, ints)
@@ -335,7 +431,8 @@ release_meets i o w z e h zero_out = omega (arith, ints)
 
 -- The balances.
 
-module _ (tree : Rows) (nodes : List ℕ) (rows : List SpanRow) (amounts : List ℕ) (places : List ℤ) (is_span : IsSpan tree nodes rows)
+module _ (tree : Rows) (nodes : List ℕ) (rows : List SpanRow) (amounts : List ℕ) (places : List ℤ)
+    (is_span : IsSpan tree nodes rows)
     (solution : IsSolution (needs_of tree rows) (arcs_from (2 * length rows) 0 rows) amounts places) where
   abbrev n : ℕ
   n = length rows
@@ -347,7 +444,8 @@ module _ (tree : Rows) (nodes : List ℕ) (rows : List SpanRow) (amounts : List 
   flow = read_rows rows amounts 0
 
   -- a row's parent is at a place exactly where it is the node there
-  pub parent_at : (j : ℕ) (over : SpanRow) → slice_get rows j ≡ Some over → (i : ℕ) (row : SpanRow) → slice_get rows i ≡ Some row
+  pub parent_at : (j : ℕ) (over : SpanRow) → slice_get rows j ≡ Some over → (i : ℕ) (row : SpanRow)
+      → slice_get rows i ≡ Some row
       → is_at j row.parent ≡ is_at over.node (parent_of tree row.node)
   parent_at j over g i row h = same_tests (is_at j row.parent) (is_at over.node (parent_of tree row.node))
       (λ e.
@@ -355,7 +453,8 @@ module _ (tree : Rows) (nodes : List ℕ) (rows : List SpanRow) (amounts : List 
       let same : k.0 ≡ over = same_Some k.0 over (sym k.1 ∙ g) in
       is_at_from over.node (parent_of tree row.node) (k.2 ∙ ap (λ (x : SpanRow). Some x.node) same))
       (λ e.
-      let p = parent_found tree nodes rows is_span i over.node row h (is_at_true over.node (parent_of tree row.node) e) (row_spanned tree nodes rows is_span j over g) in
+      let p = parent_found tree nodes rows is_span i over.node row h
+      (is_at_true over.node (parent_of tree row.node) e) (row_spanned tree nodes rows is_span j over g) in
       let P : List ℕ → Type 0 = λ xs. slice_get xs j ≡ Some over.node in
       let Q : List ℕ → Type 0 = λ xs. slice_get xs p.0 ≡ Some over.node in
       let one : p.0 ≡ j = passing_once (length tree) (is_spanned tree nodes) p.0 j over.node
@@ -363,7 +462,8 @@ module _ (tree : Rows) (nodes : List ℕ) (rows : List SpanRow) (amounts : List 
       (subst P is_span.named (get_map node_of_row rows j over g)) in
       is_at_from j row.parent (p.2 ∙ ap (λ (v : ℕ). Some v) one))
 
-  module _ (j : ℕ) (row : SpanRow) (f : FlowRow) (there : slice_get rows j ≡ Some row) (beside : slice_get flow j ≡ Some f) (same : f.node ≡ row.node) where
+  module _ (j : ℕ) (row : SpanRow) (f : FlowRow) (there : slice_get rows j ≡ Some row)
+      (beside : slice_get flow j ≡ Some f) (same : f.node ≡ row.node) where
     lt : j < length rows
     lt = slice_get_within rows j row there
 
@@ -374,39 +474,49 @@ module _ (tree : Rows) (nodes : List ℕ) (rows : List SpanRow) (amounts : List 
     here amount = pair_one amount amounts j 0 j rows 0 f zero_plus beside
 
     children : (amount : FlowRow → ℕ) → pair_sum (of_children j amount) 0 rows amounts 0 ≡ child_sum tree amount flow f
-    children amount = pair_children tree j f amount amounts 0 rows 0 (λ i r h. parent_at j row there i r h ∙ ap (λ v. is_at v (parent_of tree r.node)) (sym same))
+    children amount = pair_children tree j f amount amounts 0 rows 0
+        (λ i r h. parent_at j row there i r h ∙ ap (λ v. is_at v (parent_of tree r.node)) (sym same))
 
     in_lock : amount_in arcs amounts (2 * j) ≡ f.above
     in_lock = sent_is (λ a. eqb a.to (2 * j)) arcs amounts
         ∙ (rows_part (λ a. eqb a.to (2 * j)) (2 * length rows) amounts 0 0 rows
-        ∙ (pair_same (row_sent (λ a. eqb a.to (2 * j)) (2 * length rows)) (at_place j (λ g. g.above)) amounts (in_lock_row (length rows) j lt amounts) 0 rows 0
+        ∙ (pair_same (row_sent (λ a. eqb a.to (2 * j)) (2 * length rows)) (at_place j (λ g. g.above)) amounts
+        (in_lock_row (length rows) j lt amounts) 0 rows 0
         ∙ here (λ g. g.above)))
 
     out_lock : amount_out arcs amounts (2 * j) ≡ ((child_sum tree (λ g. g.above) flow f + f.held) + f.first) + f.own
     out_lock = sent_is (λ a. eqb a.from (2 * j)) arcs amounts
         ∙ (rows_part (λ a. eqb a.from (2 * j)) (2 * length rows) amounts 0 0 rows
-        ∙ (pair_same (row_sent (λ a. eqb a.from (2 * j)) (2 * length rows)) (out_lock_sum (length rows) j lt amounts) amounts (out_lock_row (length rows) j lt amounts) 0 rows 0
-        ∙ (pair_add (λ k r g. (of_children j (λ x. x.above) k r g + at_place j (λ x. x.held) k r g) + at_place j (λ x. x.first) k r g) (at_place j (λ x. x.own)) amounts 0 rows 0
+        ∙ (pair_same (row_sent (λ a. eqb a.from (2 * j)) (2 * length rows)) (out_lock_sum (length rows) j lt amounts)
+        amounts (out_lock_row (length rows) j lt amounts) 0 rows 0
+        ∙ (pair_add (λ k r g. (of_children j (λ x. x.above) k r g + at_place j (λ x. x.held) k r g)
+        + at_place j (λ x. x.first) k r g) (at_place j (λ x. x.own)) amounts 0 rows 0
         ∙ ap₂ (λ a b. a + b)
-        (pair_add (λ k r g. of_children j (λ x. x.above) k r g + at_place j (λ x. x.held) k r g) (at_place j (λ x. x.first)) amounts 0 rows 0
+        (pair_add (λ k r g. of_children j (λ x. x.above) k r g + at_place j (λ x. x.held) k r g)
+        (at_place j (λ x. x.first)) amounts 0 rows 0
         ∙ ap₂ (λ a b. a + b)
-        (pair_add (of_children j (λ x. x.above)) (at_place j (λ x. x.held)) amounts 0 rows 0 ∙ ap₂ (λ a b. a + b) (children (λ x. x.above)) (here (λ x. x.held)))
+        (pair_add (of_children j (λ x. x.above)) (at_place j (λ x. x.held)) amounts 0 rows 0
+        ∙ ap₂ (λ a b. a + b) (children (λ x. x.above)) (here (λ x. x.held)))
         (here (λ x. x.first)))
         (here (λ x. x.own)))))
 
     in_release : amount_in arcs amounts (2 * j + 1) ≡ (child_sum tree (λ g. g.held) flow f + f.last) + f.own
     in_release = sent_is (λ a. eqb a.to (2 * j + 1)) arcs amounts
         ∙ (rows_part (λ a. eqb a.to (2 * j + 1)) (2 * length rows) amounts 0 0 rows
-        ∙ (pair_same (row_sent (λ a. eqb a.to (2 * j + 1)) (2 * length rows)) (in_release_sum (length rows) j lt amounts) amounts (in_release_row (length rows) j lt amounts) 0 rows 0
-        ∙ (pair_add (λ k r g. of_children j (λ x. x.held) k r g + at_place j (λ x. x.last) k r g) (at_place j (λ x. x.own)) amounts 0 rows 0
+        ∙ (pair_same (row_sent (λ a. eqb a.to (2 * j + 1)) (2 * length rows))
+        (in_release_sum (length rows) j lt amounts) amounts (in_release_row (length rows) j lt amounts) 0 rows 0
+        ∙ (pair_add (λ k r g. of_children j (λ x. x.held) k r g + at_place j (λ x. x.last) k r g)
+        (at_place j (λ x. x.own)) amounts 0 rows 0
         ∙ ap₂ (λ a b. a + b)
-        (pair_add (of_children j (λ x. x.held)) (at_place j (λ x. x.last)) amounts 0 rows 0 ∙ ap₂ (λ a b. a + b) (children (λ x. x.held)) (here (λ x. x.last)))
+        (pair_add (of_children j (λ x. x.held)) (at_place j (λ x. x.last)) amounts 0 rows 0
+        ∙ ap₂ (λ a b. a + b) (children (λ x. x.held)) (here (λ x. x.last)))
         (here (λ x. x.own)))))
 
     out_release : amount_out arcs amounts (2 * j + 1) ≡ 0
     out_release = sent_is (λ a. eqb a.from (2 * j + 1)) arcs amounts
         ∙ (rows_part (λ a. eqb a.from (2 * j + 1)) (2 * length rows) amounts 0 0 rows
-        ∙ (pair_same (row_sent (λ a. eqb a.from (2 * j + 1)) (2 * length rows)) (λ k r g. 0) amounts (out_release_row (length rows) j lt amounts) 0 rows 0
+        ∙ (pair_same (row_sent (λ a. eqb a.from (2 * j + 1)) (2 * length rows)) (λ k r g. 0) amounts
+        (out_release_row (length rows) j lt amounts) 0 rows 0
         ∙ pair_zero amounts 0 rows 0))
 
     weight_same : weight_of tree f.node ≡ weight_of tree row.node
@@ -420,8 +530,11 @@ module _ (tree : Rows) (nodes : List ℕ) (rows : List SpanRow) (amounts : List 
         let o = out_lock in
         let w = weight_same in
         let e : amount_in arcs amounts (2 * j) + weight_of tree row.node ≡ amount_out arcs amounts (2 * j) =
-        lock_meets (amount_in arcs amounts (2 * j)) (amount_out arcs amounts (2 * j)) (weight_of tree row.node) (place (needs_of tree rows) (2 * j)) (need_lock tree rows j row there) (solution.balanced (2 * j) (omega arith)) in
-        eq-eqb (f.above + weight_of tree f.node) (child_sum tree (λ child. child.above) flow f + f.held + f.first + f.own) (omega arith)
+        lock_meets (amount_in arcs amounts (2 * j)) (amount_out arcs amounts (2 * j)) (weight_of tree row.node)
+        (place (needs_of tree rows) (2 * j)) (need_lock tree rows j row there)
+        (solution.balanced (2 * j) (omega arith)) in
+        eq-eqb (f.above + weight_of tree f.node)
+        (child_sum tree (λ child. child.above) flow f + f.held + f.first + f.own) (omega arith)
 
     pub release_balanced : is_release_balanced tree flow f ≡ true
     release_balanced =
@@ -430,5 +543,7 @@ module _ (tree : Rows) (nodes : List ℕ) (rows : List SpanRow) (amounts : List 
         let i = in_release in
         let w = weight_same in
         let e : amount_in arcs amounts (2 * j + 1) ≡ weight_of tree row.node =
-        release_meets (amount_in arcs amounts (2 * j + 1)) (amount_out arcs amounts (2 * j + 1)) (weight_of tree row.node) (place (needs_of tree rows) (2 * j + 1)) (need_release tree rows j row there) (solution.balanced (2 * j + 1) (omega arith)) out_release in
+        release_meets (amount_in arcs amounts (2 * j + 1)) (amount_out arcs amounts (2 * j + 1))
+        (weight_of tree row.node) (place (needs_of tree rows) (2 * j + 1)) (need_release tree rows j row there)
+        (solution.balanced (2 * j + 1) (omega arith)) out_release in
         eq-eqb (child_sum tree (λ child. child.held) flow f + f.last + f.own) (weight_of tree f.node) (omega arith)

@@ -20,6 +20,7 @@ settled_one rows nodes plan other h k =
     let p : release_slot plan v ≤ release_slot other v = k.release_latest plan h.least v f in
     let q : release_slot other v ≤ release_slot plan v = h.release_latest other k.least v f in omega arith in
     h.laid
-    ∙ (laid_alike rows h.list (lock_slot plan) (release_slot plan) (lock_slot other) (release_slot other) locks releases (length nodes)
+    ∙ (laid_alike rows h.list (lock_slot plan) (release_slot plan) (lock_slot other) (release_slot other) locks
+    releases (length nodes)
     ∙ (ap (λ l. laid_out rows l (lock_slot other) (release_slot other) (length nodes)) (sym e)
     ∙ sym k.laid))

@@ -49,7 +49,8 @@ has_filter {A} p (y ∷ xs) x (zero, h) e =
     subst P same (has_head (p y) y (filter p xs) (ap p same ∙ e))
 has_filter p (y ∷ xs) x (suc k, h) e = has_kept (p y) y (filter p xs) x (has_filter p xs x (k, h) e)
 
-filter_step : {A R : Type 0} (b : Bool) (y x : A) (zs : List A) → (b ≡ true → y ≡ x → R) → (Has zs x → R) → Has (cond b (y ∷ zs) zs) x → R
+filter_step : {A R : Type 0} (b : Bool) (y x : A) (zs : List A) → (b ≡ true → y ≡ x → R) → (Has zs x → R)
+    → Has (cond b (y ∷ zs) zs) x → R
 filter_step true y x zs here there (zero, h) = here refl (same_Some y x h)
 filter_step true y x zs here there (suc k, h) = there (k, h)
 filter_step false y x zs here there h = there h
@@ -69,36 +70,44 @@ abbrev pub Rises : {A : Type 0} → (A → ℕ) → ℕ → ℕ → List A → T
 Rises key low high [] = low ≤ high
 Rises key low high (x ∷ xs) = (low ≤ key x) × Rises key (suc (key x)) high xs
 
-pub rises_lower : {A : Type 0} (key : A → ℕ) (low lower high : ℕ) (xs : List A) → lower ≤ low → Rises key low high xs → Rises key lower high xs
+pub rises_lower : {A : Type 0} (key : A → ℕ) (low lower high : ℕ) (xs : List A) → lower ≤ low → Rises key low high xs
+    → Rises key lower high xs
 rises_lower key low lower high [] le h = le_trans le h
 rises_lower key low lower high (x ∷ xs) le h = (le_trans le h.0, h.1)
 
-pub rises_higher : {A : Type 0} (key : A → ℕ) (low high higher : ℕ) (xs : List A) → high ≤ higher → Rises key low high xs → Rises key low higher xs
+pub rises_higher : {A : Type 0} (key : A → ℕ) (low high higher : ℕ) (xs : List A) → high ≤ higher
+    → Rises key low high xs → Rises key low higher xs
 rises_higher key low high higher [] le h = le_trans h le
 rises_higher key low high higher (x ∷ xs) le h = (h.0, rises_higher key (suc (key x)) high higher xs le h.1)
 
-pub rises_append : {A : Type 0} (key : A → ℕ) (low mid high : ℕ) (xs ys : List A) → Rises key low mid xs → Rises key mid high ys → Rises key low high (xs ++ ys)
+pub rises_append : {A : Type 0} (key : A → ℕ) (low mid high : ℕ) (xs ys : List A) → Rises key low mid xs
+    → Rises key mid high ys → Rises key low high (xs ++ ys)
 rises_append key low mid high [] ys h k = rises_lower key mid low high ys h k
 rises_append key low mid high (x ∷ xs) ys h k = (h.0, rises_append key (suc (key x)) mid high xs ys h.1 k)
 
 abbrev pub itself : ℕ → ℕ
 itself n = n
 
-rises_keep : {S : Type 0} (key : S → ℕ) (f : ℕ → S) (base low high x : ℕ) (zs : List ℕ) (b : Bool) → (b ≡ true → key (f x) ≡ base + x) → low ≤ x
-    → Rises key (base + suc x) (base + high) (map f zs) → Rises key (base + low) (base + high) (map f (cond b (x ∷ zs) zs))
+rises_keep : {S : Type 0} (key : S → ℕ) (f : ℕ → S) (base low high x : ℕ) (zs : List ℕ) (b : Bool)
+    → (b ≡ true → key (f x) ≡ base + x) → low ≤ x
+    → Rises key (base + suc x) (base + high) (map f zs)
+    → Rises key (base + low) (base + high) (map f (cond b (x ∷ zs) zs))
 rises_keep key f base low high x zs true at le h =
     let e : key (f x) ≡ base + x = at refl in
     (omega arith, rises_lower key (base + suc x) (suc (key (f x))) (base + high) (map f zs) (omega arith) h)
-rises_keep key f base low high x zs false at le h = rises_lower key (base + suc x) (base + low) (base + high) (map f zs) (omega arith) h
+rises_keep key f base low high x zs false at le h =
+    rises_lower key (base + suc x) (base + low) (base + high) (map f zs) (omega arith) h
 
 -- some of rising numbers, as items whose keys are these numbers added to a base
-pub rises_mapped : {S : Type 0} (key : S → ℕ) (f : ℕ → S) (p : ℕ → Bool) (base low high : ℕ) (xs : List ℕ) → ((v : ℕ) → p v ≡ true → key (f v) ≡ base + v)
+pub rises_mapped : {S : Type 0} (key : S → ℕ) (f : ℕ → S) (p : ℕ → Bool) (base low high : ℕ) (xs : List ℕ)
+    → ((v : ℕ) → p v ≡ true → key (f v) ≡ base + v)
     → Rises itself low high xs → Rises key (base + low) (base + high) (map f (filter p xs))
 rises_mapped key f p base low high [] at h = omega arith
 rises_mapped key f p base low high (x ∷ xs) at h =
     rises_keep key f base low high x (filter p xs) (p x) (at x) h.0 (rises_mapped key f p base (suc x) high xs at h.1)
 
-pub rises_within : {A : Type 0} (key : A → ℕ) (low high : ℕ) (xs : List A) (i : ℕ) (x : A) → Rises key low high xs → slice_get xs i ≡ Some x → (low ≤ key x) × (key x < high)
+pub rises_within : {A : Type 0} (key : A → ℕ) (low high : ℕ) (xs : List A) (i : ℕ) (x : A) → Rises key low high xs
+    → slice_get xs i ≡ Some x → (low ≤ key x) × (key x < high)
 rises_within key low high [] i x h g = absurd (none-some x g)
 rises_within key low high (y ∷ xs) zero x h g =
     let e : key y ≡ key x = ap key (same_Some y x g) in
@@ -108,14 +117,16 @@ rises_within key low high (y ∷ xs) zero x h g =
   where
     rises_ends : {A : Type 0} (key : A → ℕ) (low high : ℕ) (xs : List A) → Rises key low high xs → low ≤ high
     rises_ends key low high [] h = h
-    rises_ends key low high (x ∷ xs) h = let r : suc (key x) ≤ high = rises_ends key (suc (key x)) high xs h.1 in let l : low ≤ key x = h.0 in omega arith
+    rises_ends key low high (x ∷ xs) h = let r : suc (key x) ≤ high = rises_ends key (suc (key x)) high xs h.1 in
+        let l : low ≤ key x = h.0 in omega arith
 rises_within key low high (y ∷ xs) (suc i) x h g =
     let r = rises_within key (suc (key y)) high xs i x h.1 g in
     let lo : low ≤ key y = h.0 in
     let a : suc (key y) ≤ key x = r.0 in
     (omega arith, r.1)
 
-pub rises_order : {A : Type 0} (key : A → ℕ) (low high : ℕ) (xs : List A) (i j : ℕ) (x y : A) → Rises key low high xs → slice_get xs i ≡ Some x → slice_get xs j ≡ Some y → i < j → key x < key y
+pub rises_order : {A : Type 0} (key : A → ℕ) (low high : ℕ) (xs : List A) (i j : ℕ) (x y : A) → Rises key low high xs
+    → slice_get xs i ≡ Some x → slice_get xs j ≡ Some y → i < j → key x < key y
 rises_order key low high [] i j x y h g k lt = absurd (none-some x g)
 rises_order key low high (z ∷ xs) i zero x y h g k lt = absurd (omega arith)
 rises_order key low high (z ∷ xs) zero (suc j) x y h g k lt =
@@ -123,10 +134,12 @@ rises_order key low high (z ∷ xs) zero (suc j) x y h g k lt =
     let r = rises_within key (suc (key z)) high xs j y h.1 k in
     let a : suc (key z) ≤ key y = r.0 in
     omega arith
-rises_order key low high (z ∷ xs) (suc i) (suc j) x y h g k lt = rises_order key (suc (key z)) high xs i j x y h.1 g k (omega arith)
+rises_order key low high (z ∷ xs) (suc i) (suc j) x y h g k lt =
+    rises_order key (suc (key z)) high xs i j x y h.1 g k (omega arith)
 
 -- where keys rise, a smaller key stands earlier
-pub rises_place : {A : Type 0} (key : A → ℕ) (low high : ℕ) (xs : List A) (i j : ℕ) (x y : A) → Rises key low high xs → slice_get xs i ≡ Some x → slice_get xs j ≡ Some y → key x < key y → i < j
+pub rises_place : {A : Type 0} (key : A → ℕ) (low high : ℕ) (xs : List A) (i j : ℕ) (x y : A) → Rises key low high xs
+    → slice_get xs i ≡ Some x → slice_get xs j ≡ Some y → key x < key y → i < j
 rises_place key low high xs i j x y h g k lt = elim (cases_order i j) [
   | inl e ↦ let P : ℕ → Type 0 = λ n. slice_get xs n ≡ Some y in
       let s : x ≡ y = same_Some x y (sym g ∙ subst P (sym e) k) in
@@ -138,7 +151,8 @@ rises_place key low high xs i j x y h g k lt = elim (cases_order i j) [
 ]
 
 -- and an item stands once
-pub rises_once : {A : Type 0} (key : A → ℕ) (low high : ℕ) (xs : List A) (i j : ℕ) (x : A) → Rises key low high xs → slice_get xs i ≡ Some x → slice_get xs j ≡ Some x → i ≡ j
+pub rises_once : {A : Type 0} (key : A → ℕ) (low high : ℕ) (xs : List A) (i j : ℕ) (x : A) → Rises key low high xs
+    → slice_get xs i ≡ Some x → slice_get xs j ≡ Some x → i ≡ j
 rises_once key low high xs i j x h g k = elim (cases_order i j) [
   | inl e ↦ e
   | inr o ↦ elim o [

@@ -1,4 +1,5 @@
--- What the solver and the latest places give for the network of a list's nodes: the settled plan, its certificate and its cost.
+-- What the solver and the latest places give for the network of a list's nodes: the settled plan, its certificate and
+-- its cost.
 use Rattle.std.proofs.Common.{◌≡◌, ℕ, zero, suc, ◌+◌, ◌-◌, ◌*◌, ◌≤◌, ◌^◌, ◌⊎◌, ◌&&◌, ◌||◌, Bool, true, false, cond, eqb, leb, List, [], ◌∷◌, map, length, Option, Some, None, ℤ, pos, neg_ℤ, refl, sym, ◌∙◌, ap, subst, inl, inr, arith, eq-eqb, le-leb, le_trans, lit≤, length-append, mul-zero}
 use Rattle.std.specs.Prelude.{slice_index}
 use Rattle.std.specs.List.{slice_get, sum_by}
@@ -37,13 +38,15 @@ use Rattle.grove_build.proofs.Needs.{needs_size, lock_balanced, release_balanced
 use Rattle.grove_build.proofs.Settling as Settling
 
 -- a flow's row at a place, as it was read
-pub read_at : (rows : List SpanRow) (amounts : List ℕ) (at k : ℕ) (f : FlowRow) → slice_get (read_rows rows amounts at) k ≡ Some f
+pub read_at : (rows : List SpanRow) (amounts : List ℕ) (at k : ℕ) (f : FlowRow)
+    → slice_get (read_rows rows amounts at) k ≡ Some f
     → (row : SpanRow) × (from : ℕ) × (slice_get rows k ≡ Some row) × (f ≡ read_row row amounts from)
 read_at [] amounts at k f h = absurd (none-some f h)
 read_at (r ∷ rows) amounts at zero f h = (r, at, refl, sym (same_Some (read_row r amounts at) f h))
 read_at (r ∷ rows) amounts at (suc k) f h = read_at rows amounts (at + row_width r) k f h
 
-pub read_nodes : (rows : List SpanRow) (amounts : List ℕ) (at : ℕ) → map node_of (read_rows rows amounts at) ≡ map node_of_row rows
+pub read_nodes : (rows : List SpanRow) (amounts : List ℕ) (at : ℕ)
+    → map node_of (read_rows rows amounts at) ≡ map node_of_row rows
 read_nodes [] amounts at = refl
 read_nodes (r ∷ rows) amounts at = ap (λ l. r.node ∷ l) (read_nodes rows amounts (at + row_width r))
 
@@ -78,7 +81,8 @@ up_neg w = omega (arith, ints)
 up_pos : (w : ℕ) → w ≤ 1000 → up (pos w) ≤ 1000
 up_pos w h = omega (arith, ints)
 
-takes_few : (tree : Rows) (rows : List SpanRow) → ((v : ℕ) → weight_of tree v ≤ 1000) → (v : ℕ) → takes (needs_of tree rows) v ≤ 1000
+takes_few : (tree : Rows) (rows : List SpanRow) → ((v : ℕ) → weight_of tree v ≤ 1000) → (v : ℕ)
+    → takes (needs_of tree rows) v ≤ 1000
 takes_few tree [] light zero = up_pos 0 (omega arith)
 takes_few tree [] light (suc v) = up_pos 0 (omega arith)
 takes_few tree (r ∷ rows) light zero = up_neg (weight_of tree r.node)
@@ -88,7 +92,8 @@ takes_few tree (r ∷ rows) light (suc (suc v)) = takes_few tree rows light v
 small_enough : (a : ℕ) → a ≤ 8193000 → leb a (2 ^ 40) ≡ true
 small_enough a h = let le : 8193000 ≤ 2 ^ 40 = lit≤ tt in le-leb a (2 ^ 40) (le_trans h le)
 
-if_small : (o : Option ℕ) (amounts : List ℕ) (at bound : ℕ) → ((i : ℕ) → slice_index amounts i ≤ bound) → amount_if o amounts at ≤ bound
+if_small : (o : Option ℕ) (amounts : List ℕ) (at bound : ℕ) → ((i : ℕ) → slice_index amounts i ≤ bound)
+    → amount_if o amounts at ≤ bound
 if_small None amounts at bound h = omega arith
 if_small (Some x) amounts at bound h = h at
 
@@ -107,15 +112,18 @@ rows_few tree nodes rows is_span =
     let c : length (spanned_nodes tree nodes) ≤ length tree = passing_few (length tree) (is_spanned tree nodes) in
     omega arith
 
-module _ (tree : Rows) (nodes : List ℕ) (rows : List SpanRow) (amounts : List ℕ) (solved : List ℤ) (is_span : IsSpan tree nodes rows) (limits : IsWithinLimits tree)
+module _ (tree : Rows) (nodes : List ℕ) (rows : List SpanRow) (amounts : List ℕ) (solved : List ℤ)
+    (is_span : IsSpan tree nodes rows) (limits : IsWithinLimits tree)
     (solution : IsSolution (needs_of tree rows) (arcs_from (2 * length rows) 0 rows) amounts solved) where
   abbrev flow : List FlowRow
   flow = read_rows rows amounts 0
 
   pub amounts_few : (i : ℕ) → slice_index amounts i ≤ 8193000
   amounts_few i =
-      let a : slice_index amounts i ≤ sum_below (length (needs_of tree rows)) (takes (needs_of tree rows)) = solution.bounded i in
-      let b : sum_below (length (needs_of tree rows)) (takes (needs_of tree rows)) ≤ length (needs_of tree rows) * 1000 =
+      let a : slice_index amounts i ≤ sum_below (length (needs_of tree rows)) (takes (needs_of tree rows)) =
+      solution.bounded i in
+      let b : sum_below (length (needs_of tree rows)) (takes (needs_of tree rows))
+      ≤ length (needs_of tree rows) * 1000 =
       sum_few (length (needs_of tree rows)) (takes (needs_of tree rows)) (takes_few tree rows limits.light) in
       let c : length (needs_of tree rows) ≡ 2 * length rows + 1 = needs_size tree rows in
       let d : length rows ≤ length tree = rows_few tree nodes rows is_span in
@@ -131,34 +139,46 @@ module _ (tree : Rows) (nodes : List ℕ) (rows : List SpanRow) (amounts : List 
       subst P (sym r.3)
       (and_from _ _ (small_enough _ (if_small (r.0).parent amounts r.1 8193000 amounts_few))
       (and_from _ _ (small_enough _ (if_small (r.0).parent amounts (r.1 + 1) 8193000 amounts_few))
-      (and_from _ _ (small_enough _ (if_small (r.0).first amounts (r.1 + width (r.0).parent + width (r.0).parent) 8193000 amounts_few))
-      (and_from _ _ (small_enough _ (if_small (r.0).last amounts (r.1 + width (r.0).parent + width (r.0).parent + width (r.0).first) 8193000 amounts_few))
-      (small_enough _ (amounts_few (r.1 + width (r.0).parent + width (r.0).parent + width (r.0).first + width (r.0).last)))))))
+      (and_from _ _ (small_enough _ (if_small (r.0).first amounts (r.1 + width (r.0).parent + width (r.0).parent)
+      8193000 amounts_few))
+      (and_from _ _ (small_enough _ (if_small (r.0).last amounts
+      (r.1 + width (r.0).parent + width (r.0).parent + width (r.0).first) 8193000 amounts_few))
+      (small_enough _ (amounts_few (r.1 + width (r.0).parent + width (r.0).parent + width (r.0).first
+      + width (r.0).last)))))))
 
   sign_parent : (k at : ℕ) (row : SpanRow) → slice_get rows k ≡ Some row
-      → (has_parent tree flow (read_row row amounts at) || (eqb (amount_if row.parent amounts at) 0 && eqb (amount_if row.parent amounts (at + 1)) 0)) ≡ true
+      → (has_parent tree flow (read_row row amounts at)
+      || (eqb (amount_if row.parent amounts at) 0 && eqb (amount_if row.parent amounts (at + 1)) 0)) ≡ true
   sign_parent k at row h = elim (cases_option row.parent) [
-    | inl none ↦ or_right (has_parent tree flow (read_row row amounts at)) (eqb (amount_if row.parent amounts at) 0 && eqb (amount_if row.parent amounts (at + 1)) 0)
+    | inl none ↦ or_right (has_parent tree flow (read_row row amounts at))
+        (eqb (amount_if row.parent amounts at) 0 && eqb (amount_if row.parent amounts (at + 1)) 0)
         (and_from (eqb (amount_if row.parent amounts at) 0) (eqb (amount_if row.parent amounts (at + 1)) 0)
         (eq-eqb (amount_if row.parent amounts at) 0 (none_read row.parent amounts at none))
         (eq-eqb (amount_if row.parent amounts (at + 1)) 0 (none_read row.parent amounts (at + 1) none)))
     | inr some ↦
         let p = parent_known tree nodes rows is_span k some.0 row h some.1 in
         let f = flow_at rows amounts 0 some.0 p.0 p.1 in
-        or_left (has_parent tree flow (read_row row amounts at)) (eqb (amount_if row.parent amounts at) 0 && eqb (amount_if row.parent amounts (at + 1)) 0)
-        (any_from (length flow) (λ i. is_parent_at tree (read_row row amounts at) (slice_get flow i)) some.0 (slice_get_within flow some.0 f.0 f.1)
+        or_left (has_parent tree flow (read_row row amounts at))
+        (eqb (amount_if row.parent amounts at) 0 && eqb (amount_if row.parent amounts (at + 1)) 0)
+        (any_from (length flow) (λ i. is_parent_at tree (read_row row amounts at) (slice_get flow i)) some.0
+        (slice_get_within flow some.0 f.0 f.1)
         (ap (λ o. is_parent_at tree (read_row row amounts at) o) f.1
         ∙ is_at_from (f.0).node (parent_of tree row.node) (p.2 ∙ ap (λ (v : ℕ). Some v) (sym f.2))))
   ]
 
   sign_access : (k a b : ℕ) (row : SpanRow) → slice_get rows k ≡ Some row
-      → (is_accessed nodes row.node || (eqb (amount_if row.first amounts a) 0 && eqb (amount_if row.last amounts b) 0)) ≡ true
+      → (is_accessed nodes row.node
+      || (eqb (amount_if row.first amounts a) 0 && eqb (amount_if row.last amounts b) 0)) ≡ true
   sign_access k a b row h = elim (cases_Bool (is_accessed nodes row.node)) [
-    | inl some ↦ or_left (is_accessed nodes row.node) (eqb (amount_if row.first amounts a) 0 && eqb (amount_if row.last amounts b) 0) some
+    | inl some ↦ or_left (is_accessed nodes row.node)
+        (eqb (amount_if row.first amounts a) 0 && eqb (amount_if row.last amounts b) 0) some
     | inr none ↦
-        let e : row.first ≡ None = (is_span.accesses k row h).first ∙ cond-false (is_accessed nodes row.node) (Some (first_access nodes row.node)) None none in
-        let f : row.last ≡ None = (is_span.accesses k row h).last ∙ cond-false (is_accessed nodes row.node) (Some (last_end nodes row.node - 1)) None none in
-        or_right (is_accessed nodes row.node) (eqb (amount_if row.first amounts a) 0 && eqb (amount_if row.last amounts b) 0)
+        let e : row.first ≡ None = (is_span.accesses k row h).first
+        ∙ cond-false (is_accessed nodes row.node) (Some (first_access nodes row.node)) None none in
+        let f : row.last ≡ None = (is_span.accesses k row h).last
+        ∙ cond-false (is_accessed nodes row.node) (Some (last_end nodes row.node - 1)) None none in
+        or_right (is_accessed nodes row.node)
+        (eqb (amount_if row.first amounts a) 0 && eqb (amount_if row.last amounts b) 0)
         (and_from (eqb (amount_if row.first amounts a) 0) (eqb (amount_if row.last amounts b) 0)
         (eq-eqb (amount_if row.first amounts a) 0 (none_read row.first amounts a e))
         (eq-eqb (amount_if row.last amounts b) 0 (none_read row.last amounts b f)))
@@ -169,19 +189,25 @@ module _ (tree : Rows) (nodes : List ℕ) (rows : List SpanRow) (amounts : List 
       let r = read_at rows amounts 0 i f h in
       let P : FlowRow → Type 0 = λ g. is_sign_ok tree nodes flow g ≡ true in
       subst P (sym r.3) (and_from _ _ (sign_parent i r.1 r.0 r.2)
-      (sign_access i (r.1 + width (r.0).parent + width (r.0).parent) (r.1 + width (r.0).parent + width (r.0).parent + width (r.0).first) r.0 r.2))
+      (sign_access i (r.1 + width (r.0).parent + width (r.0).parent)
+      (r.1 + width (r.0).parent + width (r.0).parent + width (r.0).first) r.0 r.2))
 
   pub balances : Balances tree nodes flow
   balances = record {
-    forced = (forced_list_is_span tree nodes (map node_of flow) is_span.is_tree is_span.are_nodes).1 (read_nodes rows amounts 0 ∙ is_span.named);
+    forced = (forced_list_is_span tree nodes (map node_of flow) is_span.is_tree is_span.are_nodes).1
+        (read_nodes rows amounts 0 ∙ is_span.named);
     signs = signs;
-    locks = λ i f h. let r = read_at rows amounts 0 i f h in lock_balanced tree nodes rows amounts solved is_span solution i r.0 f r.2 h (ap node_of r.3);
-    releases = λ i f h. let r = read_at rows amounts 0 i f h in release_balanced tree nodes rows amounts solved is_span solution i r.0 f r.2 h (ap node_of r.3);
+    locks = λ i f h. let r = read_at rows amounts 0 i f h in
+        lock_balanced tree nodes rows amounts solved is_span solution i r.0 f r.2 h (ap node_of r.3);
+    releases = λ i f h. let r = read_at rows amounts 0 i f h in
+        release_balanced tree nodes rows amounts solved is_span solution i r.0 f r.2 h (ap node_of r.3);
   }
 
-  module _ (places : List ℤ) (latest : IsLatest (2 * length rows + 1) (arcs_from (2 * length rows) 0 rows) amounts (pos (length nodes)) places) (lock release : ℕ → ℕ)
+  module _ (places : List ℤ) (latest : IsLatest (2 * length rows + 1) (arcs_from (2 * length rows) 0 rows) amounts
+      (pos (length nodes)) places) (lock release : ℕ → ℕ)
       (locks : (k : ℕ) (row : SpanRow) → slice_get rows k ≡ Some row → pos (lock row.node) ≡ place places (2 * k))
-      (releases : (k : ℕ) (row : SpanRow) → slice_get rows k ≡ Some row → pos (release row.node) ≡ place places (2 * k + 1)) where
+      (releases : (k : ℕ) (row : SpanRow) → slice_get rows k ≡ Some row
+      → pos (release row.node) ≡ place places (2 * k + 1)) where
     are_places : ArePlaces tree nodes flow lock release
     are_places = latest_are_places tree nodes rows amounts is_span places latest lock release locks releases
 
@@ -192,24 +218,33 @@ module _ (tree : Rows) (nodes : List ℕ) (rows : List SpanRow) (amounts : List 
     settles = Settling.settled tree nodes is_span.is_tree is_span.are_nodes flow lock release balances small are_places
 
     pub certifies : IsCertificate tree nodes flow (cost tree plan)
-    certifies = Settling.certificate tree nodes is_span.is_tree is_span.are_nodes flow lock release balances small are_places
+    certifies = Settling.certificate tree nodes is_span.is_tree is_span.are_nodes flow lock release balances small
+        are_places
 
     holding_is : (v : ℕ) → IsSpanned tree nodes v → holding plan v ≡ release v - lock v
     holding_is v sv =
         let five : MeetsFive tree nodes plan = meets_five tree nodes plan is_span.is_tree settles.least.legal in
-        let a : lock_slot plan v ≡ lock v = Settling.lock_is tree nodes is_span.is_tree is_span.are_nodes flow lock release balances small are_places v sv in
-        let b : release_slot plan v ≡ release v = Settling.release_is tree nodes is_span.is_tree is_span.are_nodes flow lock release balances small are_places v sv in
+        let a : lock_slot plan v ≡ lock v =
+        Settling.lock_is tree nodes is_span.is_tree is_span.are_nodes flow lock release balances small are_places
+        v sv in
+        let b : release_slot plan v ≡ release v =
+        Settling.release_is tree nodes is_span.is_tree is_span.are_nodes flow lock release balances small
+        are_places v sv in
         let c : lock_slot plan v + holding plan v ≡ release_slot plan v = five.holds v sv in
         difference (lock v) (holding plan v) (release v) (omega arith)
 
     -- the cost, row by row
     pub costs : cost tree plan ≡ sum_by (λ row. weight_of tree row.node * (release row.node - lock row.node)) rows
     costs =
-        sum_same (length tree) (λ v. weight_of tree v * holding plan v) (λ v. cond (is_spanned tree nodes v) (weight_of tree v * holding plan v) 0)
+        sum_same (length tree) (λ v. weight_of tree v * holding plan v)
+        (λ v. cond (is_spanned tree nodes v) (weight_of tree v * holding plan v) 0)
         (λ v lt. part_all (is_spanned tree nodes v) (weight_of tree v) (holding plan v)
-        (unspanned_free tree nodes plan v is_span.is_tree (λ i w h. Settling.locks_spanned tree nodes is_span.is_tree is_span.are_nodes flow lock release balances small are_places w (i, h))))
+        (unspanned_free tree nodes plan v is_span.is_tree (λ i w h. Settling.locks_spanned tree nodes is_span.is_tree
+        is_span.are_nodes flow lock release balances small are_places w (i, h))))
         ∙ (sym (sums_passing (λ v. weight_of tree v * holding plan v) (length tree) (is_spanned tree nodes))
         ∙ (ap (λ l. sum_by (λ v. weight_of tree v * holding plan v) l) (sym is_span.named)
         ∙ (sums_map (λ v. weight_of tree v * holding plan v) node_of_row rows
-        ∙ sums_same (λ (row : SpanRow). weight_of tree row.node * holding plan row.node) (λ row. weight_of tree row.node * (release row.node - lock row.node)) rows
-        (λ k row h. ap (λ n. weight_of tree row.node * n) (holding_is row.node (row_spanned tree nodes rows is_span k row h))))))
+        ∙ sums_same (λ (row : SpanRow). weight_of tree row.node * holding plan row.node)
+        (λ row. weight_of tree row.node * (release row.node - lock row.node)) rows
+        (λ k row h. ap (λ n. weight_of tree row.node * n) (holding_is row.node
+        (row_spanned tree nodes rows is_span k row h))))))

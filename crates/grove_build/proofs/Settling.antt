@@ -1,4 +1,5 @@
--- The plan laid out from the greatest numbers that fit and are tight along a flow that balances is the settled plan, and the flow certifies its cost.
+-- The plan laid out from the greatest numbers that fit and are tight along a flow that balances is the settled plan,
+-- and the flow certifies its cost.
 use Rattle.std.proofs.Common.{◌≡◌, ℕ, zero, suc, ◌+◌, ◌<◌, ◌≤◌, Bool, true, false, List, length, Some, refl, sym, ◌∙◌, ap, subst, inl, inr, arith}
 use Rattle.std.specs.List.{slice_get}
 use Rattle.std.proofs.lemmas.Option.{same_Some, slice_get_within}
@@ -37,7 +38,8 @@ alone_rises false n = omega arith
 -- the numbers that pass rise
 pub passing_rise : (n : ℕ) (test : ℕ → Bool) → Rises itself 0 n (passing_below n test)
 passing_rise zero test = omega arith
-passing_rise (suc n) test = rises_append itself 0 n (suc n) (passing_below n test) (alone (test n) n) (passing_rise n test) (alone_rises (test n) n)
+passing_rise (suc n) test = rises_append itself 0 n (suc n) (passing_below n test) (alone (test n) n)
+    (passing_rise n test) (alone_rises (test n) n)
 
 module _ (rows : Rows) (nodes : List ℕ) (is_tree : IsTree rows) (are_nodes : AreNodes rows nodes) where
   abbrev span : List ℕ
@@ -64,14 +66,16 @@ module _ (rows : Rows) (nodes : List ℕ) (is_tree : IsTree rows) (are_nodes : A
             let u = (both.1 v sv).1 in
             let lt : u.0 < length plan = slice_get_within plan u.0 _ u.1 in
             let a : release_slot plan v ≡ accesses_before plan u.0 = u.2 in
-            let b : accesses_before plan u.0 ≤ accesses_before plan (length plan) = count_mono u.0 (length plan) (λ k. is_access (slice_get plan k)) (omega arith) in
+            let b : accesses_before plan u.0 ≤ accesses_before plan (length plan) =
+            count_mono u.0 (length plan) (λ k. is_access (slice_get plan k)) (omega arith) in
             let c : length (accesses_of plan) ≡ accesses_before plan (length plan) = accesses_length plan in
             let d : length (accesses_of plan) ≡ length (numbers_below m) = ap length legal.performs.in_order in
             let e : length (numbers_below m) ≡ m = numbers_length m in
             omega arith;
       }
 
-  module _ (flow : List FlowRow) (lock release : ℕ → ℕ) (balances : Balances rows nodes flow) (small : AllRows is_small flow) (places : ArePlaces rows nodes flow lock release) where
+  module _ (flow : List FlowRow) (lock release : ℕ → ℕ) (balances : Balances rows nodes flow)
+      (small : AllRows is_small flow) (places : ArePlaces rows nodes flow lock release) where
     abbrev pub plan : List Step
     plan = laid_out rows span lock release m
 
@@ -85,62 +89,82 @@ module _ (rows : Rows) (nodes : List ℕ) (is_tree : IsTree rows) (are_nodes : A
     rising = passing_rise n (is_spanned rows nodes)
 
     legal : IsLegal rows nodes plan
-    legal = Laying.legal rows nodes span lock release places.fits rising has got (accessed_is_spanned rows nodes) (λ v s. spanned_step rows nodes v is_tree are_nodes s)
+    legal = Laying.legal rows nodes span lock release places.fits rising has got (accessed_is_spanned rows nodes)
+        (λ v s. spanned_step rows nodes v is_tree are_nodes s)
         (parent_lt rows is_tree) (above_le rows is_tree) (suc (n + (n + n))) refl
 
     pub lock_is : (v : ℕ) → IsSpanned rows nodes v → lock_slot plan v ≡ lock v
-    lock_is = Laying.lock_slot_is rows nodes span lock release places.fits rising has got (accessed_is_spanned rows nodes) (λ v s. spanned_step rows nodes v is_tree are_nodes s)
+    lock_is = Laying.lock_slot_is rows nodes span lock release places.fits rising has got
+        (accessed_is_spanned rows nodes) (λ v s. spanned_step rows nodes v is_tree are_nodes s)
         (parent_lt rows is_tree) (above_le rows is_tree) (suc (n + (n + n))) refl
 
     pub release_is : (v : ℕ) → IsSpanned rows nodes v → release_slot plan v ≡ release v
-    release_is = Laying.release_slot_is rows nodes span lock release places.fits rising has got (accessed_is_spanned rows nodes) (λ v s. spanned_step rows nodes v is_tree are_nodes s)
+    release_is = Laying.release_slot_is rows nodes span lock release places.fits rising has got
+        (accessed_is_spanned rows nodes) (λ v s. spanned_step rows nodes v is_tree are_nodes s)
         (parent_lt rows is_tree) (above_le rows is_tree) (suc (n + (n + n))) refl
 
     pub locks_spanned : (v : ℕ) → IsLockedBy plan v → IsSpanned rows nodes v
-    locks_spanned = Laying.locks_span rows nodes span lock release places.fits rising has got (accessed_is_spanned rows nodes) (λ v s. spanned_step rows nodes v is_tree are_nodes s)
+    locks_spanned = Laying.locks_span rows nodes span lock release places.fits rising has got
+        (accessed_is_spanned rows nodes) (λ v s. spanned_step rows nodes v is_tree are_nodes s)
         (parent_lt rows is_tree) (above_le rows is_tree) (suc (n + (n + n))) refl
 
     spanned_locked : (v : ℕ) → IsSpanned rows nodes v → IsLockedBy plan v
-    spanned_locked = Laying.span_locked rows nodes span lock release places.fits rising has got (accessed_is_spanned rows nodes) (λ v s. spanned_step rows nodes v is_tree are_nodes s)
+    spanned_locked = Laying.span_locked rows nodes span lock release places.fits rising has got
+        (accessed_is_spanned rows nodes) (λ v s. spanned_step rows nodes v is_tree are_nodes s)
         (parent_lt rows is_tree) (above_le rows is_tree) (suc (n + (n + n))) refl
 
     flow_spanned : (i : ℕ) (row : FlowRow) → slice_get flow i ≡ Some row → IsSpanned rows nodes row.node
-    flow_spanned i row h = (forced_are_spanned rows nodes row.node is_tree are_nodes).0 ((balances.forced.forced row.node).0 (i, get_map node_of flow i row h))
+    flow_spanned i row h = (forced_are_spanned rows nodes row.node is_tree are_nodes).0
+        ((balances.forced.forced row.node).0 (i, get_map node_of flow i row h))
 
     laid_is_tight : IsTight rows nodes flow plan
     laid_is_tight = record {
       above = λ i row parent h up some. elim (parent_row rows flow row) [
         | inl over ↦
-            let e : over.1.node ≡ parent = same_Some over.1.node parent (sym (is_at_true over.1.node (parent_of rows row.node) over.3) ∙ up) in
+            let e : over.1.node ≡ parent =
+            same_Some over.1.node parent (sym (is_at_true over.1.node (parent_of rows row.node) over.3) ∙ up) in
             let P : ℕ → Type 0 = λ p. lock_slot plan p ≡ lock_slot plan row.node in
-            subst P e (lock_is over.1.node (flow_spanned over.0 over.1 over.2) ∙ (places.tight.above i over.0 row over.1 h over.2 over.3 some ∙ sym (lock_is row.node (flow_spanned i row h))))
-        | inr none ↦ let z = ((has_signs rows nodes flow row (balances.signs i row h)).top none).0 in absurd (omega arith)
+            subst P e (lock_is over.1.node (flow_spanned over.0 over.1 over.2)
+            ∙ (places.tight.above i over.0 row over.1 h over.2 over.3 some
+            ∙ sym (lock_is row.node (flow_spanned i row h))))
+        | inr none ↦ let z = ((has_signs rows nodes flow row (balances.signs i row h)).top none).0 in
+            absurd (omega arith)
       ];
       held = λ i row parent h up some. elim (parent_row rows flow row) [
         | inl over ↦
-            let e : over.1.node ≡ parent = same_Some over.1.node parent (sym (is_at_true over.1.node (parent_of rows row.node) over.3) ∙ up) in
+            let e : over.1.node ≡ parent =
+            same_Some over.1.node parent (sym (is_at_true over.1.node (parent_of rows row.node) over.3) ∙ up) in
             let P : ℕ → Type 0 = λ p. lock_slot plan row.node ≡ release_slot plan p in
-            subst P e (lock_is row.node (flow_spanned i row h) ∙ (places.tight.held i over.0 row over.1 h over.2 over.3 some ∙ sym (release_is over.1.node (flow_spanned over.0 over.1 over.2))))
-        | inr none ↦ let z = ((has_signs rows nodes flow row (balances.signs i row h)).top none).1 in absurd (omega arith)
+            subst P e (lock_is row.node (flow_spanned i row h)
+            ∙ (places.tight.held i over.0 row over.1 h over.2 over.3 some
+            ∙ sym (release_is over.1.node (flow_spanned over.0 over.1 over.2))))
+        | inr none ↦ let z = ((has_signs rows nodes flow row (balances.signs i row h)).top none).1 in
+            absurd (omega arith)
       ];
       first = λ i row h some. elim (cases_Bool (is_accessed nodes row.node)) [
         | inl some_access ↦ lock_is row.node (flow_spanned i row h) ∙ places.tight.first i row h some_access some
-        | inr none ↦ let z = ((has_signs rows nodes flow row (balances.signs i row h)).unaccessed none).0 in absurd (omega arith)
+        | inr none ↦ let z = ((has_signs rows nodes flow row (balances.signs i row h)).unaccessed none).0 in
+            absurd (omega arith)
       ];
       last = λ i row h some. elim (cases_Bool (is_accessed nodes row.node)) [
-        | inl some_access ↦ places.tight.last i row h some_access some ∙ sym (release_is row.node (flow_spanned i row h))
-        | inr none ↦ let z = ((has_signs rows nodes flow row (balances.signs i row h)).unaccessed none).1 in absurd (omega arith)
+        | inl some_access ↦ places.tight.last i row h some_access some
+            ∙ sym (release_is row.node (flow_spanned i row h))
+        | inr none ↦ let z = ((has_signs rows nodes flow row (balances.signs i row h)).unaccessed none).1 in
+            absurd (omega arith)
       ];
-      own = λ i row h some. lock_is row.node (flow_spanned i row h) ∙ (places.tight.own i row h some ∙ sym (release_is row.node (flow_spanned i row h)));
+      own = λ i row h some. lock_is row.node (flow_spanned i row h)
+          ∙ (places.tight.own i row h some ∙ sym (release_is row.node (flow_spanned i row h)));
     }
 
     pub certificate : IsCertificate rows nodes flow (cost rows plan)
-    certificate = tight_is_certified rows nodes flow plan is_tree are_nodes legal balances small (λ i v h. locks_spanned v (i, h)) laid_is_tight
+    certificate = tight_is_certified rows nodes flow plan is_tree are_nodes legal balances small
+        (λ i v h. locks_spanned v (i, h)) laid_is_tight
 
     pub least : IsLeast rows nodes plan
     least = certified_is_least rows nodes flow plan is_tree are_nodes legal certificate
 
-    other_tight : (other : List Step) → IsLeast rows nodes other → AreTight rows nodes flow (lock_slot other) (release_slot other)
+    other_tight : (other : List Step) → IsLeast rows nodes other
+        → AreTight rows nodes flow (lock_slot other) (release_slot other)
     other_tight other o =
         let a : cost rows other ≤ cost rows plan = o.least plan legal in
         let b : gains nodes flow ≡ cost rows plan + losses nodes flow = certificate.value in
@@ -149,16 +173,25 @@ module _ (rows : Rows) (nodes : List ℕ) (is_tree : IsTree rows) (are_nodes : A
     pub settled : IsSettled rows nodes plan
     settled = record {
       least = least;
-      locks = λ v. (λ l. (forced_are_spanned rows nodes v is_tree are_nodes).1 (locks_spanned v l), λ f. spanned_locked v ((forced_are_spanned rows nodes v is_tree are_nodes).0 f));
+      locks = λ v. (
+        λ l. (forced_are_spanned rows nodes v is_tree are_nodes).1 (locks_spanned v l),
+        λ f.
+            spanned_locked v ((forced_are_spanned rows nodes v is_tree are_nodes).0 f),
+      );
       lock_latest = λ other o v f.
           let sv : IsSpanned rows nodes v = (forced_are_spanned rows nodes v is_tree are_nodes).0 f in
-          let a : lock_slot other v ≤ lock v = places.lock_greatest (lock_slot other) (release_slot other) (slots_fit other o.legal) (other_tight other o) v sv in
+          let a : lock_slot other v ≤ lock v =
+          places.lock_greatest (lock_slot other) (release_slot other) (slots_fit other o.legal)
+          (other_tight other o) v sv in
           let b : lock_slot plan v ≡ lock v = lock_is v sv in omega arith;
       release_latest = λ other o v f.
           let sv : IsSpanned rows nodes v = (forced_are_spanned rows nodes v is_tree are_nodes).0 f in
-          let a : release_slot other v ≤ release v = places.release_greatest (lock_slot other) (release_slot other) (slots_fit other o.legal) (other_tight other o) v sv in
+          let a : release_slot other v ≤ release v =
+          places.release_greatest (lock_slot other) (release_slot other) (slots_fit other o.legal)
+          (other_tight other o) v sv in
           let b : release_slot plan v ≡ release v = release_is v sv in omega arith;
       list = span;
       is_forced_list = span_is_forced_list rows nodes is_tree are_nodes;
-      laid = laid_alike rows span lock release (lock_slot plan) (release_slot plan) (λ v h. sym (lock_is v (got v h))) (λ v h. sym (release_is v (got v h))) m;
+      laid = laid_alike rows span lock release (lock_slot plan) (release_slot plan) (λ v h. sym (lock_is v (got v h)))
+          (λ v h. sym (release_is v (got v h))) m;
     }

@@ -15,7 +15,8 @@ use Rattle.grove_build.specs.Networks.{row_arcs, arcs_from, lowered, row_width, 
 use Rattle.grove_build.specs.Stays.{is_needed, stays_cost}
 use Rattle.grove_build.proofs.Lawful.{row_size}
 
-drop_here : {A : Type 0} (xs : List A) (i : ℕ) (x : A) → i < length xs → x ≡ get_or xs i x → drop i xs ≡ x ∷ drop (i + 1) xs
+drop_here : {A : Type 0} (xs : List A) (i : ℕ) (x : A) → i < length xs → x ≡ get_or xs i x
+    → drop i xs ≡ x ∷ drop (i + 1) xs
 drop_here xs i x lt is = rw add-one (drop-cons xs i x lt ∙ ap (λ y. y ∷ drop (suc i) xs) (sym is))
 
 product_le : (a b c d : ℕ) → a ≤ b → c ≤ d → a * c ≤ b * d
@@ -25,31 +26,49 @@ difference_le : (a b c : ℕ) → a ≤ c → a - b ≤ c
 difference_le a b c h = omega arith
 
 -- the cost of one more stay
-pub cost_more : (tree : Rows) (stays : List Stay) (i cost a b : ℕ) (stay : Stay) → i < length stays → stay ≡ get_or stays i stay
-    → (cost ≡ stays_cost tree (take i stays)) × (cost ≤ 64000 * i) → a ≡ weight_of tree stay.node → b ≡ stay.release - stay.lock → weight_of tree stay.node ≤ 1000 → stay.release ≤ 64
+pub cost_more : (tree : Rows) (stays : List Stay) (i cost a b : ℕ) (stay : Stay) → i < length stays
+    → stay ≡ get_or stays i stay
+    → (cost ≡ stays_cost tree (take i stays)) × (cost ≤ 64000 * i) → a ≡ weight_of tree stay.node
+    → b ≡ stay.release - stay.lock → weight_of tree stay.node ≤ 1000 → stay.release ≤ 64
     → (cost + a * b ≡ stays_cost tree (take (i + 1) stays)) × (cost + a * b ≤ 64000 * (i + 1))
 cost_more tree stays i cost a b stay lt is so_far ea eb light end =
     let f : Stay → ℕ = λ s. weight_of tree s.node * (s.release - s.lock) in
-    let t : take (i + 1) stays ≡ take i stays ++ stay ∷ [] = take_more stays i stay lt ∙ ap (λ s. take i stays ++ s ∷ []) (sym is) in
-    let u : stays_cost tree (take (i + 1) stays) ≡ stays_cost tree (take i stays ++ stay ∷ []) = ap (λ l. stays_cost tree l) t in
+    let t : take (i + 1) stays ≡ take i stays ++ stay ∷ [] =
+    take_more stays i stay lt ∙ ap (λ s. take i stays ++ s ∷ []) (sym is) in
+    let u : stays_cost tree (take (i + 1) stays) ≡ stays_cost tree (take i stays ++ stay ∷ []) =
+    ap (λ l. stays_cost tree l) t in
     let v : a * b ≡ weight_of tree stay.node * (stay.release - stay.lock) = ap₂ (λ x y. x * y) ea eb in
-    let m : weight_of tree stay.node * (stay.release - stay.lock) ≤ 1000 * 64 = product_le (weight_of tree stay.node) 1000 (stay.release - stay.lock) 64 light (difference_le stay.release stay.lock 64 end) in
+    let m : weight_of tree stay.node * (stay.release - stay.lock) ≤ 1000 * 64 =
+    product_le (weight_of tree stay.node) 1000 (stay.release - stay.lock) 64 light
+    (difference_le stay.release stay.lock 64 end) in
     let c : cost ≡ stays_cost tree (take i stays) = so_far.0 in
-    let d : cost ≤ 64000 * i = so_far.1 in
-    (omega (arith, sum_by-append (λ s. weight_of tree s.node * (s.release - s.lock)) (take i stays) (stay ∷ []), sum_by-cons (λ s. weight_of tree s.node * (s.release - s.lock)) stay []), omega arith)
+    let d : cost ≤ 64000 * i = so_far.1 in (
+      omega (
+        arith,
+        sum_by-append (λ s. weight_of tree s.node * (s.release - s.lock)) (take i stays) (stay ∷ []),
+        sum_by-cons (λ s. weight_of tree s.node * (s.release - s.lock)) stay [],
+      ),
+      omega arith,
+    )
 
 -- one more row read back
-pub read_more : (rows : List SpanRow) (amounts : List ℕ) (flow : List FlowRow) (base at i width size : ℕ) (row : SpanRow) (read : FlowRow) (all : List FlowRow)
-    → i < length rows → row ≡ get_or rows i row → (flow ++ read_rows (drop i rows) amounts at ≡ all) × (at + length (arcs_from base i (drop i rows)) ≡ size)
+pub read_more : (rows : List SpanRow) (amounts : List ℕ) (flow : List FlowRow) (base at i width size : ℕ)
+    (row : SpanRow) (read : FlowRow) (all : List FlowRow)
+    → i < length rows → row ≡ get_or rows i row → (flow ++ read_rows (drop i rows) amounts at ≡ all)
+    × (at + length (arcs_from base i (drop i rows)) ≡ size)
     → width ≡ row_width row → read ≡ read_row row amounts at
-    → ((flow ++ read ∷ []) ++ read_rows (drop (i + 1) rows) amounts (at + width) ≡ all) × (at + width + length (arcs_from base (i + 1) (drop (i + 1) rows)) ≡ size)
+    → ((flow ++ read ∷ []) ++ read_rows (drop (i + 1) rows) amounts (at + width) ≡ all)
+    × (at + width + length (arcs_from base (i + 1) (drop (i + 1) rows)) ≡ size)
 read_more rows amounts flow base at i width size row read all lt is so_far ew er =
     let d : drop i rows ≡ row ∷ drop (i + 1) rows = drop_here rows i row lt is in
     let a : flow ++ (read_row row amounts at ∷ read_rows (drop (i + 1) rows) amounts (at + row_width row)) ≡ all =
     ap (λ l. flow ++ read_rows l amounts at) (sym d) ∙ so_far.0 in
-    let b : at + length (row_arcs base i row ++ arcs_from base (suc i) (drop (i + 1) rows)) ≡ size = ap (λ l. at + length (arcs_from base i l)) (sym d) ∙ so_far.1 in
+    let b : at + length (row_arcs base i row ++ arcs_from base (suc i) (drop (i + 1) rows)) ≡ size =
+    ap (λ l. at + length (arcs_from base i l)) (sym d) ∙ so_far.1 in
     let c : length (row_arcs base i row) ≡ row_width row = row_size base amounts [] i row in
-    let e : length (arcs_from base (suc i) (drop (i + 1) rows)) ≡ length (arcs_from base (i + 1) (drop (i + 1) rows)) = ap (λ n. length (arcs_from base n (drop (i + 1) rows))) (let s : suc i ≡ i + 1 = omega arith in s) in (
+    let e : length (arcs_from base (suc i) (drop (i + 1) rows))
+    ≡ length (arcs_from base (i + 1) (drop (i + 1) rows)) =
+    ap (λ n. length (arcs_from base n (drop (i + 1) rows))) (let s : suc i ≡ i + 1 = omega arith in s) in (
       append_assoc flow (read ∷ []) (read_rows (drop (i + 1) rows) amounts (at + width))
           ∙ (ap₂ (λ r n. flow ++ (r ∷ read_rows (drop (i + 1) rows) amounts n)) er (ap (λ n. at + n) ew) ∙ a),
       omega (arith, length-append (row_arcs base i row) (arcs_from base (suc i) (drop (i + 1) rows))),
@@ -57,62 +76,73 @@ read_more rows amounts flow base at i width size row read all lt is so_far ew er
 
 -- whether one more row needs the row at a place
 pub needed_more : (rows : List SpanRow) (gaps : List ℕ) (k j : ℕ) (row : SpanRow) → slice_get rows k ≡ Some row
-    → is_needed rows gaps (k + 1) j ≡ ((is_at j row.parent && eqb (slice_index gaps (2 * k)) (slice_index gaps (2 * j + 1))) || is_needed rows gaps k j)
+    → is_needed rows gaps (k + 1) j ≡ ((is_at j row.parent
+    && eqb (slice_index gaps (2 * k)) (slice_index gaps (2 * j + 1))) || is_needed rows gaps k j)
 needed_more rows gaps k j row h =
-    ap (λ n. is_needed rows gaps n j) (let e : k + 1 ≡ suc k = omega arith in e) ∙ (ap (λ o. (is_at j (option_and_then (λ (r : SpanRow). r.parent) o) && eqb (slice_index gaps (2 * k)) (slice_index gaps (2 * j + 1))) || is_needed rows gaps k j) h)
+    ap (λ n. is_needed rows gaps n j) (let e : k + 1 ≡ suc k = omega arith in e)
+    ∙ (ap (λ o. (is_at j (option_and_then (λ (r : SpanRow). r.parent) o)
+    && eqb (slice_index gaps (2 * k)) (slice_index gaps (2 * j + 1))) || is_needed rows gaps k j) h)
 
 -- a row with no parent needs none
-pub needed_none : (rows : List SpanRow) (gaps : List ℕ) (k j : ℕ) (row : SpanRow) → slice_get rows k ≡ Some row → row.parent ≡ None → is_needed rows gaps (k + 1) j ≡ is_needed rows gaps k j
+pub needed_none : (rows : List SpanRow) (gaps : List ℕ) (k j : ℕ) (row : SpanRow) → slice_get rows k ≡ Some row
+    → row.parent ≡ None → is_needed rows gaps (k + 1) j ≡ is_needed rows gaps k j
 needed_none rows gaps k j row h none = needed_more rows gaps k j row h
-    ∙ ap (λ o. (is_at j o && eqb (slice_index gaps (2 * k)) (slice_index gaps (2 * j + 1))) || is_needed rows gaps k j) none
+    ∙ ap (λ o. (is_at j o && eqb (slice_index gaps (2 * k)) (slice_index gaps (2 * j + 1)))
+    || is_needed rows gaps k j) none
 
 -- a row needs no row but its parent
-needed_other : (rows : List SpanRow) (gaps : List ℕ) (k j p : ℕ) (row : SpanRow) → slice_get rows k ≡ Some row → row.parent ≡ Some p → (p ≡ j → ⊥) → is_needed rows gaps (k + 1) j ≡ is_needed rows gaps k j
+needed_other : (rows : List SpanRow) (gaps : List ℕ) (k j p : ℕ) (row : SpanRow) → slice_get rows k ≡ Some row
+    → row.parent ≡ Some p → (p ≡ j → ⊥) → is_needed rows gaps (k + 1) j ≡ is_needed rows gaps k j
 needed_other rows gaps k j p row h some ne = needed_more rows gaps k j row h
-    ∙ (ap (λ o. (is_at j o && eqb (slice_index gaps (2 * k)) (slice_index gaps (2 * j + 1))) || is_needed rows gaps k j) some
-    ∙ ap (λ b. (b && eqb (slice_index gaps (2 * k)) (slice_index gaps (2 * j + 1))) || is_needed rows gaps k j) (ne_eqb p j ne))
+    ∙ (ap (λ o. (is_at j o && eqb (slice_index gaps (2 * k)) (slice_index gaps (2 * j + 1)))
+    || is_needed rows gaps k j) some
+    ∙ ap (λ b. (b && eqb (slice_index gaps (2 * k)) (slice_index gaps (2 * j + 1))) || is_needed rows gaps k j)
+    (ne_eqb p j ne))
 
 -- nor its parent, where that is unlocked in another gap
-pub needed_apart : (rows : List SpanRow) (gaps : List ℕ) (k j p : ℕ) (row : SpanRow) → slice_get rows k ≡ Some row → row.parent ≡ Some p
-    → (slice_index gaps (2 * k) ≡ slice_index gaps (2 * p + 1) → ⊥) → is_needed rows gaps (k + 1) j ≡ is_needed rows gaps k j
+pub needed_apart : (rows : List SpanRow) (gaps : List ℕ) (k j p : ℕ) (row : SpanRow) → slice_get rows k ≡ Some row
+    → row.parent ≡ Some p
+    → (slice_index gaps (2 * k) ≡ slice_index gaps (2 * p + 1) → ⊥)
+    → is_needed rows gaps (k + 1) j ≡ is_needed rows gaps k j
 needed_apart rows gaps k j p row h some apart = elim (cases_eq p j) [
   | inr ne ↦ needed_other rows gaps k j p row h some ne
   | inl e ↦ needed_more rows gaps k j row h
-      ∙ ap (λ b. b || is_needed rows gaps k j) (and_right (is_at j row.parent) (eqb (slice_index gaps (2 * k)) (slice_index gaps (2 * j + 1)))
-      (ne_eqb (slice_index gaps (2 * k)) (slice_index gaps (2 * j + 1)) (λ s. apart (s ∙ ap (λ v. slice_index gaps (2 * v + 1)) (sym e)))))
+      ∙ ap (λ b. b || is_needed rows gaps k j)
+      (and_right (is_at j row.parent) (eqb (slice_index gaps (2 * k)) (slice_index gaps (2 * j + 1)))
+      (ne_eqb (slice_index gaps (2 * k)) (slice_index gaps (2 * j + 1))
+      (λ s. apart (s ∙ ap (λ v. slice_index gaps (2 * v + 1)) (sym e)))))
 ]
 
-needed_here : (rows : List SpanRow) (gaps : List ℕ) (k j p : ℕ) (row : SpanRow) → slice_get rows k ≡ Some row → row.parent ≡ Some p → p ≡ j
+needed_here : (rows : List SpanRow) (gaps : List ℕ) (k j p : ℕ) (row : SpanRow) → slice_get rows k ≡ Some row
+    → row.parent ≡ Some p → p ≡ j
     → slice_index gaps (2 * k) ≡ slice_index gaps (2 * p + 1) → is_needed rows gaps (k + 1) j ≡ true
 needed_here rows gaps k j p row h some e same = needed_more rows gaps k j row h
-    ∙ ap (λ b. b || is_needed rows gaps k j) (and_from (is_at j row.parent) (eqb (slice_index gaps (2 * k)) (slice_index gaps (2 * j + 1)))
+    ∙ ap (λ b. b || is_needed rows gaps k j)
+    (and_from (is_at j row.parent) (eqb (slice_index gaps (2 * k)) (slice_index gaps (2 * j + 1)))
     (ap (λ o. is_at j o) some ∙ eq-eqb p j e)
-    (eq-eqb (slice_index gaps (2 * k)) (slice_index gaps (2 * j + 1)) (same ∙ ap (λ v. slice_index gaps (2 * v + 1)) e)))
+    (eq-eqb (slice_index gaps (2 * k)) (slice_index gaps (2 * j + 1))
+    (same ∙ ap (λ v. slice_index gaps (2 * v + 1)) e)))
 
 -- the marks after a mark on the parent
-pub needed_set : (rows : List SpanRow) (gaps : List ℕ) (needed : List Bool) (k p : ℕ) (row : SpanRow) → slice_get rows k ≡ Some row → row.parent ≡ Some p → p < length needed
-    → slice_index gaps (2 * k) ≡ slice_index gaps (2 * p + 1) → (j : ℕ) → get_or needed j false ≡ is_needed rows gaps k j
+pub needed_set : (rows : List SpanRow) (gaps : List ℕ) (needed : List Bool) (k p : ℕ) (row : SpanRow)
+    → slice_get rows k ≡ Some row → row.parent ≡ Some p → p < length needed
+    → slice_index gaps (2 * k) ≡ slice_index gaps (2 * p + 1) → (j : ℕ)
+    → get_or needed j false ≡ is_needed rows gaps k j
     → get_or (set needed p true) j false ≡ is_needed rows gaps (k + 1) j
 needed_set rows gaps needed k p row h some lt same j so_far = elim (cases_eq p j) [
   | inl e ↦
       let P : ℕ → Type 0 = λ v. get_or (set needed p true) v false ≡ is_needed rows gaps (k + 1) v in
       subst P e (get_or-set_same needed p true false lt ∙ sym (needed_here rows gaps k p p row h some refl same))
-  | inr ne ↦ get_or-set_other needed p j true false (λ s. ne (sym s)) ∙ (so_far ∙ sym (needed_other rows gaps k j p row h some ne))
+  | inr ne ↦ get_or-set_other needed p j true false (λ s. ne (sym s))
+      ∙ (so_far ∙ sym (needed_other rows gaps k j p row h some ne))
 ]
 
 -- one more place lowered
-pub lower_set : (top : ℤ) (xs ys : List ℤ) (i : ℕ) (x z : ℤ) → i < length xs → ys ≡ map (lowered top) (take i xs) ++ drop i xs → x ≡ get_or ys i x → lowered top x ≡ z
+pub lower_set : (top : ℤ) (xs ys : List ℤ) (i : ℕ) (x z : ℤ) → i < length xs
+    → ys ≡ map (lowered top) (take i xs) ++ drop i xs → x ≡ get_or ys i x → lowered top x ≡ z
     → set ys i z ≡ map (lowered top) (take (i + 1) xs) ++ drop (i + 1) xs
-lower_set top xs ys i x z lt so_far is e = ap (λ v. set ys i v) (sym e) ∙ map_over_more (lowered top) xs ys i x lt so_far is
-
-set_itself : (ys : List ℤ) (i : ℕ) (x : ℤ) → x ≡ get_or ys i x → set ys i x ≡ ys
-set_itself [] i x is = refl
-set_itself (y ∷ ys) zero x is = ap (λ v. v ∷ ys) is
-set_itself (y ∷ ys) (suc i) x is = ap (λ l. y ∷ l) (set_itself ys i x is)
-
-pub lower_keep : (top : ℤ) (xs ys : List ℤ) (i : ℕ) (x : ℤ) → i < length xs → ys ≡ map (lowered top) (take i xs) ++ drop i xs → x ≡ get_or ys i x → lowered top x ≡ x
-    → ys ≡ map (lowered top) (take (i + 1) xs) ++ drop (i + 1) xs
-lower_keep top xs ys i x lt so_far is e = sym (set_itself ys i x is) ∙ lower_set top xs ys i x x lt so_far is e
+lower_set top xs ys i x z lt so_far is e =
+    ap (λ v. set ys i v) (sym e) ∙ map_over_more (lowered top) xs ys i x lt so_far is
 
 pub read_self : (ys : List ℤ) (i : ℕ) (d : ℤ) → i < length ys → get_or ys i d ≡ get_or ys i (get_or ys i d)
 read_self [] i d lt = absurd (omega arith)
@@ -120,11 +150,14 @@ read_self (y ∷ ys) zero d lt = refl
 read_self (y ∷ ys) (suc i) d lt = read_self ys i d (omega arith)
 
 -- all places lowered
-pub lower_done : (top : ℤ) (xs ys : List ℤ) (i : ℕ) → length xs ≤ i → ys ≡ map (lowered top) (take i xs) ++ drop i xs → ys ≡ map (lowered top) xs
-lower_done top xs ys i le e = e ∙ (ap₂ (λ a b. map (lowered top) a ++ b) (take_all i xs le) (drop_all i xs le) ∙ append-nil (map (lowered top) xs))
+pub lower_done : (top : ℤ) (xs ys : List ℤ) (i : ℕ) → length xs ≤ i → ys ≡ map (lowered top) (take i xs) ++ drop i xs
+    → ys ≡ map (lowered top) xs
+lower_done top xs ys i le e = e ∙ (ap₂ (λ a b. map (lowered top) a ++ b) (take_all i xs le) (drop_all i xs le)
+    ∙ append-nil (map (lowered top) xs))
 
 -- what a write to a whole vector leaves
-pub take_whole : (xs ys : List ℤ) (n : ℕ) → n ≡ length xs → length ys ≡ length xs → take n (xs ++ drop (length xs) ys) ≡ xs
+pub take_whole : (xs ys : List ℤ) (n : ℕ) → n ≡ length xs → length ys ≡ length xs
+    → take n (xs ++ drop (length xs) ys) ≡ xs
 take_whole xs ys n e f =
     ap (λ l. take n (xs ++ l)) (drop_all (length xs) ys (let a : length ys ≤ length xs = omega arith in a))
     ∙ (ap (λ l. take n l) (append-nil xs) ∙ take_all n xs (let a : length xs ≤ n = omega arith in a))

@@ -1,4 +1,5 @@
--- The network of a list's nodes: arcs and needs in the rows' order, and the flow's rows read back from amounts in that order.
+-- The network of a list's nodes: arcs and needs in the rows' order, and the flow's rows read back from amounts in
+-- that order.
 use Rattle.std.specs.Prelude.{◌≡◌, ℕ, ◌<◌, ◌≤◌, length, slice_get, map, ◌+◌, ◌*◌, suc, List, [], ◌∷◌, ◌++◌, slice_index, Option, Some, None, ℤ, pos, neg_ℤ, int_lt, if◌then◌else◌}
 use borrow.Author.Differences.{up}
 use Rattle.grove_tree.specs.Trees.{Rows, weight_of, IsTree}
@@ -32,7 +33,8 @@ last_arcs base k (Some last) = arc base (2 * k + 1) (pos (last + 1)) ∷ []
 -- the arcs of the row at place k
 abbrev pub row_arcs : ℕ → ℕ → SpanRow → List Arc
 row_arcs base k row =
-    parent_arcs k row.parent ++ (first_arcs base k row.first ++ (last_arcs base k row.last ++ arc (2 * k) (2 * k + 1) (pos 0) ∷ []))
+    parent_arcs k row.parent
+    ++ (first_arcs base k row.first ++ (last_arcs base k row.last ++ arc (2 * k) (2 * k + 1) (pos 0) ∷ []))
 
 -- the arcs of the rows from place k on
 abbrev pub arcs_from : ℕ → ℕ → List SpanRow → List Arc
@@ -42,7 +44,8 @@ arcs_from base k (row ∷ rows) = row_arcs base k row ++ arcs_from base (suc k) 
 -- what each variable needs: each row's lock gives its weight, its release takes it, and the base does neither
 abbrev pub needs_of : Rows → List SpanRow → List ℤ
 needs_of tree [] = pos 0 ∷ []
-needs_of tree (row ∷ rows) = neg_ℤ (pos (weight_of tree row.node)) ∷ (pos (weight_of tree row.node) ∷ needs_of tree rows)
+needs_of tree (row ∷ rows) =
+    neg_ℤ (pos (weight_of tree row.node)) ∷ (pos (weight_of tree row.node) ∷ needs_of tree rows)
 
 -- the places to begin from: every lock at 0, every release after all accesses
 abbrev pub start_of : ℕ → List SpanRow → List ℤ

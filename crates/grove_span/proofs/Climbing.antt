@@ -1,9 +1,9 @@
 -- Climbing to the lowest node above two others.
-use Rattle.std.proofs.Common.{◌≡◌, ℕ, zero, suc, ◌<◌, ◌≤◌, ◌⊎◌, List, length, slice_get, Option, Some, None, refl, sym, ◌∙◌, subst, inl, inr, arith}
+use Rattle.std.proofs.Common.{◌≡◌, ℕ, zero, suc, ◌<◌, ◌≤◌, List, length, slice_get, Some, None, sym, ◌∙◌, subst, inl, inr, arith}
 use Rattle.std.proofs.lemmas.Option.{none-some, same_Some, slice_get_within}
-use Rattle.std.proofs.lemmas.Bool.{cases_lt, cases_eq}
+use Rattle.std.proofs.lemmas.Bool.{cases_eq}
 use Rattle.grove_tree.specs.Trees.{Rows, IsAbove, IsTree, parent_of}
-use Rattle.grove_tree.proofs.Ups.{above_step, above_child, above_trans, root_above, parent_lt}
+use Rattle.grove_tree.proofs.Ups.{above_step, above_trans, root_above}
 use Rattle.grove_access.specs.Spanned.{IsCommon}
 use Rattle.grove_span.specs.Ways.{IsLowest}
 

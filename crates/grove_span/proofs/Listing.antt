@@ -1,35 +1,23 @@
 -- Listing the spanned nodes in order.
-use Rattle.std.proofs.Common.{◌≡◌, ◌≢◌, ℕ, zero, suc, ◌+◌, ◌-◌, ◌<◌, ◌≤◌, ◌⊎◌, ◌↔◌, Bool, true, false, cond, List, [], ◌∷◌, ◌++◌, length, slice_get, Option, Some, None, refl, sym, ◌∙◌, ap, subst, inl, inr, length-append, append-nil, option_map, unwrap_or, add-zero, arith}
+use Rattle.std.proofs.Common.{◌≡◌, ◌≢◌, ℕ, zero, suc, ◌<◌, ◌≤◌, Bool, true, false, cond, List, [], ◌∷◌, ◌++◌, length, slice_get, Option, Some, None, refl, sym, ◌∙◌, ap, subst, inl, inr, length-append, append-nil, option_map, unwrap_or, arith}
 use Rattle.std.specs.Prelude.{map}
 use Rattle.std.specs.Option.{option_and_then}
 use Rattle.std.proofs.lemmas.List.{map-append}
 use Rattle.std.proofs.Math.ListN.{set, length-set}
-use Rattle.std.proofs.lemmas.Option.{none-some, same_Some, slice_get_within}
-use Rattle.std.proofs.lemmas.Bool.{cases_eq, cases_Bool, cases_lt, eq-eqb, ne_eqb, cond-true, cond-false}
+use Rattle.std.proofs.lemmas.Option.{none-some, same_Some}
+use Rattle.std.proofs.lemmas.Bool.{cases_eq, eq-eqb, ne_eqb, cond-true, cond-false}
 use Rattle.std.proofs.Math.Dec.{eqb}
-use Rattle.grove_tree.specs.Numbers.{any_below, alone, passing_below}
+use Rattle.grove_tree.specs.Numbers.{alone, passing_below}
 use Rattle.grove_tree.specs.Trees.{Rows, IsTree, parent_of}
 use Rattle.grove_tree.proofs.Lists.{get_append_cases, map_length}
 use Rattle.grove_tree.proofs.Counting.{passing_got}
 use Rattle.grove_tree.proofs.Ups.{parent_lt}
-use Rattle.grove_access.specs.Spanned.{IsSpanned, is_spanned, spanned_nodes}
+use Rattle.grove_access.specs.Spanned.{is_spanned, spanned_nodes}
 use Rattle.grove_span.specs.declared.row.SpanRow.{SpanRow}
 use Rattle.grove_span.specs.declared.visit.Visits.{Visits}
 use Rattle.grove_span.specs.SpanRows.{node_of_row, find_place, parent_place, HaveParents, HaveAccesses, IsAccessedSo}
-use Rattle.grove_span.specs.Ways.{IsMarked, TellsOf}
+use Rattle.grove_span.specs.Ways.{TellsOf}
 use Rattle.grove_tree.proofs.Lists.{get_set_same, get_set_other}
-
--- nothing is found in a list, where nothing was found beyond its first item
-none_under : (o : Option ℕ) → option_map suc o ≡ None → o ≡ None
-none_under None h = refl
-none_under (Some k) h = absurd (none-some (suc k) (sym h))
-
--- a number is not found in a list where it isn't
-pub find_none : (v : ℕ) (xs : List ℕ) → ((i : ℕ) → slice_get xs i ≡ Some v → ⊥) → find_place v xs ≡ None
-find_none v [] h = refl
-find_none v (x ∷ xs) h =
-    cond-false (eqb x v) (Some 0) (option_map suc (find_place v xs)) (ne_eqb x v (λ e. h 0 (ap (λ (k : ℕ). Some k) e)))
-    ∙ ap (λ (o : Option ℕ). option_map suc o) (find_none v xs (λ i. h (suc i)))
 
 -- a number put at the end is found there, where it wasn't before
 pub find_last : (v : ℕ) (xs : List ℕ) → ((i : ℕ) → slice_get xs i ≡ Some v → ⊥) → find_place v (xs ++ v ∷ []) ≡ Some (length xs)
@@ -59,17 +47,6 @@ find_later test v low (suc high) lt le = elim (cases_eq low (suc high)) [
 pub not_yet : (test : ℕ → Bool) (n i : ℕ) → slice_get (passing_below n test) i ≡ Some n → ⊥
 not_yet test n i h = let lt : n < n = (passing_got n test i n h).0 in omega arith
 
--- at most n numbers below n pass
-pub passing_few : (n : ℕ) (test : ℕ → Bool) → length (passing_below n test) ≤ n
-passing_few zero test = omega arith
-passing_few (suc n) test = let le : length (passing_below n test) ≤ n = passing_few n test in
-    let one : length (alone (test n) n) ≤ 1 = alone_one (test n) n in
-    omega (arith, length-append (passing_below n test) (alone (test n) n))
-  where
-    alone_one : (b : Bool) (n : ℕ) → length (alone b n) ≤ 1
-    alone_one true n = omega arith
-    alone_one false n = omega arith
-
 -- the rows of the spanned nodes below n, and the places of all nodes among them
 pub record IsListedTo (rows : Rows) (nodes : List ℕ) (n count : ℕ) (places : List (Option ℕ)) (items : List SpanRow) : Type 0 where
   pub size : length places ≡ length rows
@@ -79,19 +56,6 @@ pub record IsListedTo (rows : Rows) (nodes : List ℕ) (n count : ℕ) (places :
   pub found : (v : ℕ) → v < length rows → slice_get places v ≡ Some (find_place v (passing_below n (is_spanned rows nodes)))
   pub parents : HaveParents rows nodes items
   pub accesses : HaveAccesses nodes items
-
--- nothing is listed at first
-pub list_first : (rows : Rows) (nodes : List ℕ) (places : List (Option ℕ)) (items : List SpanRow) → items ≡ [] → length places ≡ length rows
-    → ((v : ℕ) → v < length rows → slice_get places v ≡ Some None) → IsListedTo rows nodes 0 0 places items
-list_first rows nodes places items none size empty = record {
-  size = size;
-  counted = sym (ap length none);
-  few = omega arith;
-  listed = ap (map node_of_row) none;
-  found = empty;
-  parents = λ i row h. absurd (none-some row (sym (ap (λ (xs : List SpanRow). slice_get xs i) none) ∙ h));
-  accesses = λ i row h. absurd (none-some row (sym (ap (λ (xs : List SpanRow). slice_get xs i) none) ∙ h));
-}
 
 -- the place of a node's parent among the nodes below it is that among all
 parent_later : (rows : Rows) (nodes : List ℕ) (n : ℕ) (o : Option ℕ) → IsTree rows → n < length rows → parent_of rows n ≡ o

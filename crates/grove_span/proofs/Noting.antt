@@ -1,10 +1,9 @@
 -- Noting the first and the last access of each node.
-use Rattle.std.proofs.Common.{◌≡◌, ℕ, zero, suc, ◌+◌, ◌-◌, ◌<◌, ◌≤◌, ◌⊎◌, Bool, true, false, cond, List, length, slice_get, Option, Some, None, refl, sym, ◌∙◌, ap, subst, inl, inr, unwrap_or, arith}
+use Rattle.std.proofs.Common.{◌≡◌, ℕ, suc, ◌-◌, Bool, true, false, cond, List, slice_get, Option, Some, None, refl, sym, ◌∙◌, ap, subst, inl, inr, unwrap_or, arith}
 use Rattle.std.proofs.Math.ListN.{set, replicate}
-use Rattle.std.specs.Bool.{if◌then◌else◌}
 use Rattle.std.proofs.lemmas.Option.{same_Some, slice_get_within}
-use Rattle.std.proofs.lemmas.Bool.{cases_eq, cases_Bool, eqb-true, eq-eqb, cond-true, cond-false}
-use Rattle.grove_tree.specs.Numbers.{any_below, least_below, last_below}
+use Rattle.std.proofs.lemmas.Bool.{cases_eq, cases_Bool, eqb-true, eq-eqb}
+use Rattle.grove_tree.specs.Numbers.{any_below, least_below}
 use Rattle.grove_tree.specs.Trees.{is_at}
 use Rattle.grove_access.specs.Spanned.{names_at}
 use Rattle.grove_span.specs.declared.visit.Visits.{Visits}

@@ -1,5 +1,5 @@
 -- What the tables say while a span is found. No public contract cites this.
-use Rattle.std.specs.Prelude.{◌≡◌, ℕ, ◌<◌, ◌-◌, ◌⊎◌, Bool, true, List, slice_get, Option, Some, None, if◌then◌else◌}
+use Rattle.std.specs.Prelude.{◌≡◌, ℕ, ◌-◌, ◌⊎◌, Bool, true, List, slice_get, Option, Some, None, if◌then◌else◌}
 use Rattle.grove_tree.specs.Numbers.{any_below, least_below, last_below}
 use Rattle.grove_tree.specs.Trees.{Rows, IsAbove}
 use Rattle.grove_access.specs.Spanned.{names_at, IsCommon}

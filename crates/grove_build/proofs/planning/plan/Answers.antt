@@ -10,7 +10,8 @@ use Rattle.grove_build.specs.Networks.{IsSpan, IsSolved}
 use Rattle.grove_build.proofs.planning.plan.Goals as goal
 
 -- a settled plan is least
-settled_least : (tree : Rows) (nodes : List ℕ) (r : Result Planned NoMemory) → IfOk r (λ planned. IsSettled tree nodes planned.plan) → IfOk r (λ planned. IsLeast tree nodes planned.plan)
+settled_least : (tree : Rows) (nodes : List ℕ) (r : Result Planned NoMemory)
+    → IfOk r (λ planned. IsSettled tree nodes planned.plan) → IfOk r (λ planned. IsLeast tree nodes planned.plan)
 settled_least tree nodes (Ok planned) h = h.least
 settled_least tree nodes (Err e) h = h
 
@@ -40,7 +41,8 @@ settle-requires-clause-span c =
 
 pub settle-requires-clause-solved : goal.settle-requires-clause-solved
 settle-requires-clause-solved c =
-    let P : List SpanRow → Type 0 = λ rows. IsSolved c.args.tree.now (length (nodes_of c.args.list.now)) rows c.in_ok-solved.solved.amounts.items c.in_ok-solved.solved.gaps.items in
+    let P : List SpanRow → Type 0 = λ rows. IsSolved c.args.tree.now (length (nodes_of c.args.list.now)) rows
+    c.in_ok-solved.solved.amounts.items c.in_ok-solved.solved.gaps.items in
     subst P (sym c.deref-2.ensures.value) (subst P c.deref.ensures.value c.in_ok-solved.ensures)
 
 pub returns-clause-least : goal.returns-clause-least

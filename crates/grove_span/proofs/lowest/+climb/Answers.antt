@@ -1,7 +1,7 @@
-use Rattle.std.proofs.Common.{◌≡◌, ◌<◌, ◌≤◌, ℕ, Some, None, sym, ◌∙◌, subst, arith, length, refl}
+use Rattle.std.proofs.Common.{◌≡◌, ◌<◌, ℕ, Some, None, sym, ◌∙◌, subst, arith, length}
 use Rattle.std.proofs.lemmas.Bool.{both_ways}
-use Rattle.grove_tree.specs.Trees.{IsAbove, IsTree, parent_of}
-use Rattle.grove_tree.proofs.Ups.{parent_lt, parent_within, above_child}
+use Rattle.grove_tree.specs.Trees.{IsAbove, parent_of}
+use Rattle.grove_tree.proofs.Ups.{parent_lt, above_child}
 use Rattle.grove_span.proofs.Climbing.{top_above, above_parent}
 use Rattle.grove_span.proofs.lowest.+climb.Goals as goal
 

@@ -1,4 +1,4 @@
-use Rattle.std.proofs.Common.{◌≡◌, ◌<◌, ◌≤◌, ℕ, suc, sym, ◌∙◌, subst, add-one, arith, length}
+use Rattle.std.proofs.Common.{◌≡◌, ◌≤◌, add-one, arith, length}
 use Rattle.grove_access.specs.Lists.{nodes_of}
 use Rattle.grove_access.proofs.Lists.{node_at, nodes_length}
 use Rattle.grove_span.proofs.Accesses.{access_within}

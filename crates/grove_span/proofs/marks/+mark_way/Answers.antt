@@ -1,11 +1,10 @@
-use Rattle.std.proofs.Common.{◌≡◌, ◌<◌, ◌≤◌, ◌≢◌, ℕ, Some, None, sym, ◌∙◌, subst, List, Bool, true, arith, length, refl}
+use Rattle.std.proofs.Common.{◌≡◌, ◌<◌, ℕ, Some, sym, ◌∙◌, subst, true, arith, length}
 use Rattle.std.proofs.Math.ListN.{set, length-set}
 use Rattle.std.proofs.lemmas.Bool.{eqb-true, eq-eqb, both_ways}
-use Rattle.std.proofs.lemmas.Option.{none-some}
-use Rattle.grove_tree.specs.Trees.{IsAbove, IsTree, parent_of}
+use Rattle.grove_tree.specs.Trees.{parent_of}
 use Rattle.grove_tree.proofs.Ups.{parent_lt}
 use Rattle.grove_span.specs.Ways.{MarksWay}
-use Rattle.grove_span.proofs.Climbing.{top_above, above_parent}
+use Rattle.grove_span.proofs.Climbing.{above_parent}
 use Rattle.grove_span.proofs.Marking.{way_ends, way_on, only_top}
 use Rattle.grove_span.proofs.marks.+mark_way.Goals as goal
 

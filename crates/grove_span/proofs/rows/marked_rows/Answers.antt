@@ -1,4 +1,4 @@
-use Rattle.std.proofs.Common.{◌≡◌, ℕ, suc, ◌<◌, ◌≤◌, ◌∙◌, Bool, true, false, List, length, get_or, Option, Some, None, slice_get, option_and_then, unwrap_or, refl, sym, ap, subst, add-one, arith}
+use Rattle.std.proofs.Common.{◌≡◌, ℕ, ◌<◌, ◌∙◌, true, List, length, get_or, Option, None, slice_get, option_and_then, unwrap_or, refl, sym, ap, subst, add-one, arith}
 use Rattle.grove_tree.specs.Trees.{parent_of}
 use Rattle.grove_access.specs.Lists.{nodes_of}
 use Rattle.grove_access.specs.Spanned.{is_spanned}

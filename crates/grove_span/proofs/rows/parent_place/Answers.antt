@@ -1,4 +1,4 @@
-use Rattle.std.proofs.Common.{◌≡◌, ℕ, ◌<◌, ◌≤◌, ◌∙◌, List, length, get_or, Option, Some, None, slice_get, option_and_then, unwrap_or, refl, sym, ap, arith}
+use Rattle.std.proofs.Common.{◌≡◌, ℕ, ◌<◌, ◌∙◌, length, get_or, Option, Some, None, slice_get, option_and_then, unwrap_or, sym, ap, arith}
 use Rattle.std.proofs.lemmas.Option.{unwrap_or-slice_get}
 use Rattle.grove_tree.specs.Trees.{parent_of}
 use Rattle.grove_tree.proofs.Ups.{parent_lt}

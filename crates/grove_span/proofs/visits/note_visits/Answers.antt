@@ -1,9 +1,8 @@
-use Rattle.std.proofs.Common.{◌≡◌, ◌<◌, ◌≤◌, ℕ, suc, sym, ◌∙◌, subst, ap, List, add-one, arith, length, Some}
-use Rattle.std.proofs.Math.ListN.{set, length-set}
+use Rattle.std.proofs.Common.{◌≡◌, ◌<◌, ◌≤◌, ℕ, sym, ◌∙◌, subst, ap, add-one, arith, length, Some}
+use Rattle.std.proofs.Math.ListN.{length-set}
 use Rattle.std.proofs.lemmas.Option.{slice_get-get_or}
 use Rattle.grove_access.specs.Lists.{nodes_of}
 use Rattle.grove_access.proofs.Lists.{node_at}
-use Rattle.grove_span.specs.declared.visit.Visits.{Visits}
 use Rattle.grove_span.specs.Ways.{TellVisits}
 use Rattle.grove_span.proofs.Accesses.{access_within}
 use Rattle.grove_access.proofs.Lists.{nodes_length}
