@@ -1,6 +1,5 @@
 -- Testing, counting, listing and adding up over the numbers below a bound.
-use Rattle.std.proofs.Common.{◌≡◌, ℕ, zero, suc, ◌+◌, ◌*◌, ◌<◌, ◌≤◌, Bool, true, false, cond, [], ◌∷◌, ◌++◌, length, Some, refl, sym, ◌∙◌, ap, subst, inl, inr, zero-add, add-zero, mul-zero, arith, length-append}
-use Rattle.std.proofs.Math.Nat.{mul-add}
+use Rattle.std.proofs.Common.{◌≡◌, ℕ, zero, suc, ◌+◌, ◌<◌, ◌≤◌, Bool, true, false, cond, [], ◌∷◌, ◌++◌, length, Some, refl, sym, ◌∙◌, ap, subst, inl, inr, zero-add, arith, length-append}
 use Rattle.std.specs.List.{slice_get}
 use Rattle.std.proofs.lemmas.Option.{none-some, same_Some, slice_get_within}
 use Rattle.std.proofs.lemmas.Bool.{cases_lt, cases_eq, cases_Bool, both_ways, or_cases, or_parts, or_from, or_left, or_right, cond-true, cond-false}
@@ -47,11 +46,6 @@ any_same zero s t h = refl
 any_same (suc n) s t h = cc (h n (omega arith), any_same n s t (λ k lt. h k (omega arith)))
 
 -- Counting
-
--- tests that agree count the same
-pub count_same : (n : ℕ) (s t : ℕ → Bool) → ((k : ℕ) → k < n → s k ≡ t k) → count_below n s ≡ count_below n t
-count_same zero s t h = refl
-count_same (suc n) s t h = cc (h n (omega arith), count_same n s t (λ k lt. h k (omega arith)))
 
 -- one more number that passes
 pub count_hit : (n : ℕ) (test : ℕ → Bool) → test n ≡ true → count_below (suc n) test ≡ suc (count_below n test)
@@ -116,14 +110,6 @@ count_stops test j none (suc n) le = elim (cases_eq j (suc n)) [
   | inl e ↦ rw e refl
   | inr ne ↦ count_miss n test (none n (omega arith)) ∙ count_stops test j none n (omega arith)
 ]
-
--- a count over m + n numbers is that over the first m and that over the n after them
-pub count_shift : (m n : ℕ) (test : ℕ → Bool) → count_below (n + m) test ≡ count_below m test + count_below n (λ k. test (k + m))
-count_shift m zero test = rw zero-add (sym (add-zero (count_below m test)))
-count_shift m (suc n) test =
-    let e : suc n + m ≡ suc (n + m) = omega arith in
-    let so_far : count_below (n + m) test ≡ count_below m test + count_below n (λ k. test (k + m)) = count_shift m n test in
-    rw e (omega arith)
 
 -- Least and last
 
@@ -312,11 +298,6 @@ sum_zero (suc n) f h =
     let there : sum_below n f ≡ 0 = sum_zero n f (λ k lt. h k (omega arith)) in
     omega arith
 
--- a factor on each term
-pub sum_scale : (n c : ℕ) (f : ℕ → ℕ) → sum_below n (λ k. c * f k) ≡ c * sum_below n f
-sum_scale zero c f = sym (mul-zero c)
-sum_scale (suc n) c f = ap (λ (s : ℕ). c * f n + s) (sum_scale n c f) ∙ sym (mul-add c (f n) (sum_below n f))
-
 -- one term alone
 pub sum_one : (n k : ℕ) (f : ℕ → ℕ) → k < n → ((j : ℕ) → j < n → (j ≡ k → ⊥) → f j ≡ 0) → sum_below n f ≡ f k
 sum_one zero k f lt h = absurd (omega arith)
@@ -335,22 +316,9 @@ sum_term (suc n) k f lt = elim (cases_eq k n) [
   | inr ne ↦ let rest : f k ≤ sum_below n f = sum_term n k f (omega arith) in omega arith
 ]
 
--- a sum over m + n numbers is that over the first m and that over the n after them
-pub sum_shift : (m n : ℕ) (f : ℕ → ℕ) → sum_below (n + m) f ≡ sum_below m f + sum_below n (λ k. f (k + m))
-sum_shift m zero f = rw zero-add (sym (add-zero (sum_below m f)))
-sum_shift m (suc n) f =
-    let e : suc n + m ≡ suc (n + m) = omega arith in
-    let so_far : sum_below (n + m) f ≡ sum_below m f + sum_below n (λ k. f (k + m)) = sum_shift m n f in
-    rw e (omega arith)
-
 -- The first number apart
 
 -- a count is that of 0 and that of the numbers after it
 pub count_front : (n : ℕ) (test : ℕ → Bool) → count_below (suc n) test ≡ cond (test 0) 1 0 + count_below n (λ k. test (suc k))
 count_front zero test = refl
 count_front (suc n) test = let e : count_below (suc n) test ≡ cond (test 0) 1 0 + count_below n (λ k. test (suc k)) = count_front n test in omega arith
-
--- the same of a sum
-pub sum_front : (n : ℕ) (f : ℕ → ℕ) → sum_below (suc n) f ≡ f 0 + sum_below n (λ k. f (suc k))
-sum_front zero f = refl
-sum_front (suc n) f = let e : sum_below (suc n) f ≡ f 0 + sum_below n (λ k. f (suc k)) = sum_front n f in omega arith

@@ -3,7 +3,7 @@ use Rattle.std.proofs.Common.{◌≡◌, ℕ, ◌<◌, List, [], length, Option,
 use Rattle.std.specs.List.{slice_get}
 use Rattle.std.specs.Option.{option_map, option_and_then, unwrap_or}
 use Rattle.std.proofs.lemmas.Option.{slice_get-map, slice_get_read}
-use Rattle.grove_tree.specs.Trees.{NodeRow, parent_of, name_of, weight_of}
+use Rattle.grove_tree.specs.Trees.{NodeRow, parent_of, name_of}
 use Rattle.grove_tree.specs.declared.row.Row.{Row}
 use Rattle.grove_tree.specs.Rules.{row_of, rows_of}
 
@@ -16,6 +16,3 @@ own_parent rows node row is within = ap (λ (o : Option NodeRow). option_and_the
 
 pub own_name : (rows : List Row) (node : ℕ) (row : Row) → row ≡ get_or rows node row → node < length rows → name_of (rows_of rows) node ≡ string_bytes row.name
 own_name rows node row is within = ap (λ (o : Option NodeRow). unwrap_or (option_map (λ (r : NodeRow). r.name) o) []) (own_row rows node row is within)
-
-pub own_weight : (rows : List Row) (node : ℕ) (row : Row) → row ≡ get_or rows node row → node < length rows → weight_of (rows_of rows) node ≡ row.weight
-own_weight rows node row is within = ap (λ (o : Option NodeRow). unwrap_or (option_map (λ (r : NodeRow). r.weight) o) 0) (own_row rows node row is within)

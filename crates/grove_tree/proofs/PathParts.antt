@@ -2,7 +2,7 @@
 use Rattle.std.proofs.Common.{◌≡◌, ℕ, zero, suc, ◌==◌, true, false, List, [], ◌∷◌, ◌++◌, length, take, drop, Some, refl, sym, ◌∙◌, ap, subst, true≢false, eqb-true, arith, bytes_eq}
 use Rattle.std.specs.List.{list_all}
 use Rattle.std.proofs.lemmas.Option.{same_Some, option_and_then_some}
-use Rattle.std.proofs.lemmas.List.{append_cancel_left, take-append-drop}
+use Rattle.std.proofs.lemmas.List.{take-append-drop}
 use Rattle.std.proofs.Math.Seq.{take-append_seam}
 use Rattle.std.proofs.lemmas.Bool.{and_parts}
 use Rattle.std.proofs.lemmas.Slice.Eq.{bytes_eq-Decides}
@@ -27,12 +27,6 @@ goes_not path name below slash first other rest (is_rest, is) =
     let e : below ≡ name ++ rest = tail_same slash 47 _ _ (sym first ∙ is) in
     let same : take (length name) below ≡ name = ap (λ (bytes : List ℕ). take (length name) bytes) e ∙ take-append_seam name rest in
     true≢false (sym ((bytes_eq-Decides (take (length name) below) name).1 same) ∙ other)
-
--- one that goes on with part of a name doesn't go on after the name
-pub goes_other : (path name rest : List ℕ) → path ≡ 47 ∷ name ++ rest → (IsRest rest → ⊥) → (other : List ℕ) → GoesOn path name other → ⊥
-goes_other path name rest is no_rest other (is_rest, is2) =
-    let e : rest ≡ other = append_cancel_left name rest other (tail_same 47 47 _ _ (sym is ∙ is2)) in
-    no_rest (subst (λ (bytes : List ℕ). IsRest bytes) (sym e) is_rest)
 
 slash_no_byte : (byte : ℕ) → byte ≡ 47 → is_name_byte byte ≡ true → ⊥
 slash_no_byte byte e h = true≢false (sym h ∙ ap is_name_byte e)

@@ -1,7 +1,6 @@
 -- The tests of a tree and what they say.
-use Rattle.std.proofs.Common.{◌≡◌, ℕ, suc, ◌+◌, ◌<◌, ◌≤◌, Bool, true, false, Option, Some, None, refl, sym, ap, arith}
+use Rattle.std.proofs.Common.{◌≡◌, ℕ, suc, ◌+◌, ◌<◌, ◌≤◌, true, Option, Some, None, refl, ap, arith}
 use Rattle.std.proofs.lemmas.Bool.{eqb-true, eq-eqb}
-use Rattle.grove_tree.specs.Numbers.{any_below}
 use Rattle.grove_tree.specs.Trees.{Rows, up, IsAbove, IsTree, is_at, is_above}
 use Rattle.grove_tree.proofs.Counting.{any_true, any_from}
 use Rattle.grove_tree.proofs.Ups.{up_le}
