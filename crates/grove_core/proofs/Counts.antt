@@ -1,25 +1,24 @@
 -- How many events and marks a run can have.
-use Rattle.std.proofs.Common.{◌≡◌, ◌≢◌, ℕ, zero, suc, ◌+◌, ◌<◌, ◌≤◌, Bool, true, false, cond, ◌&&◌, eqb, ◌⊎◌, ℤ, List, [], ◌∷◌, ◌++◌, length, take, Option, Some, None, refl, sym, ◌∙◌, ap, subst, inl, inr, arith, length-append, zero-add, add-zero}
+use Rattle.std.proofs.Common.{◌≡◌, ◌≢◌, ℕ, zero, suc, ◌+◌, ◌<◌, ◌≤◌, Bool, true, false, cond, ◌&&◌, eqb, ℤ, List, [], ◌∷◌, ◌++◌, length, take, Option, Some, None, refl, sym, ◌∙◌, ap, subst, inl, inr, arith, length-append}
 use Rattle.std.specs.List.{slice_get}
-use Rattle.std.proofs.lemmas.Option.{none-some, same_Some, slice_get_within}
-use Rattle.std.proofs.lemmas.Bool.{cases_eq, cases_lt, cases_Bool, both_ways, eqb-true, eq-eqb, ne_eqb, cond-true, cond-false}
-use Rattle.grove_tree.specs.Numbers.{count_below, sum_below, numbers_below}
+use Rattle.std.proofs.lemmas.Bool.{cases_eq, cases_Bool, both_ways, eq-eqb, ne_eqb, cond-true, cond-false}
+use Rattle.grove_tree.specs.Numbers.{count_below, sum_below}
 use Rattle.grove_tree.specs.Trees.{Rows}
-use Rattle.grove_tree.proofs.Counting.{count_mono, count_none, count_hit, count_miss, sum_le, sum_add, sum_same, sum_zero, numbers_got}
+use Rattle.grove_tree.proofs.Counting.{count_mono, count_none, count_hit, count_miss, sum_le, sum_same, sum_zero, numbers_got}
 use Rattle.grove_access.specs.declared.access.Access.{Access as Visit}
 use Rattle.grove_access.specs.declared.reply.Reply.{Reply}
 use Rattle.grove_access.specs.Effects.{changed_by, reply_to}
 use Rattle.grove_access.specs.Lists.{nodes_of}
 use Rattle.grove_plan.specs.declared.step.Step.{Step}
 use Rattle.grove_plan.specs.declared.step.Step.TheVariants.{Lock, Unlock, Access}
-use Rattle.grove_plan.specs.Plans.{locks, is_lock, is_access, accesses_of, IsLegal}
+use Rattle.grove_plan.specs.Plans.{locks, is_lock, is_access, accesses_of}
 use Rattle.grove_plan.specs.Slots.{accesses_before}
 use Rattle.grove_plan.proofs.Holding.{locks_true, access_at}
 use Rattle.grove_core.specs.declared.job.Job.{Job}
 use Rattle.grove_core.specs.declared.event.Event.{Event}
 use Rattle.grove_core.specs.declared.event.Event.TheVariants.{Take, Mark}
-use Rattle.grove_core.specs.Serial.{Deed, deeds_records, deeds_replies}
-use Rattle.grove_core.specs.Runs.{list_of, plan_of, place, next_step, is_marked, MayHappen, IsRun, AllLegal, deed_at, deed_of, deeds, run_replies, waits_of, lock_steps, most_events}
+use Rattle.grove_core.specs.Serial.{Deed, deeds_replies}
+use Rattle.grove_core.specs.Runs.{list_of, plan_of, place, next_step, is_marked, IsRun, AllLegal, deed_at, deed_of, deeds, run_replies, waits_of, lock_steps, most_events}
 use Rattle.grove_core.proofs.Swapping.{own, kept_if}
 use Rattle.grove_core.proofs.EachOnce.{one_if}
 use Rattle.grove_core.proofs.Timing.{within_jobs}
@@ -36,10 +35,6 @@ marks_by jobs p (Mark u ∷ past) t = one_if (eqb u t && p (next_step jobs past 
 -- the mark of the next step, where it passes
 abbrev pending : List Job → (Option Step → Bool) → List Event → ℕ → ℕ
 pending jobs p past t = one_if (is_marked past t && p (next_step jobs past t))
-
-one_if_le : (b : Bool) → one_if b ≤ 1
-one_if_le true = omega arith
-one_if_le false = omega arith
 
 one_if_and : (b c : Bool) → one_if (b && c) ≤ one_if c
 one_if_and true c = omega arith

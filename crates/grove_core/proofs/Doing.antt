@@ -1,29 +1,26 @@
 -- What a run did: each deed is a done access, conflicts agree with the locks, and a job's own deeds are the accesses of its done steps.
-use Rattle.std.proofs.Common.{◌≡◌, ◌≢◌, ℕ, zero, suc, ◌+◌, ◌<◌, ◌≤◌, Bool, true, false, cond, eqb, ◌⊎◌, List, [], ◌∷◌, ◌++◌, length, take, Option, Some, None, refl, sym, ◌∙◌, ap, subst, inl, inr, arith, length-append, zero-add}
-use Rattle.std.specs.Bool.{⊤}
+use Rattle.std.proofs.Common.{◌≡◌, ◌≢◌, ℕ, zero, suc, ◌<◌, ◌≤◌, Bool, true, false, eqb, List, [], ◌∷◌, ◌++◌, length, take, Option, Some, None, refl, sym, ◌∙◌, ap, subst, inl, inr, arith}
 use Rattle.std.specs.List.{slice_get}
 use Rattle.std.proofs.lemmas.List.{append_assoc, append-nil}
-use Rattle.std.proofs.lemmas.Option.{none-some, same_Some, slice_get_within}
-use Rattle.std.proofs.lemmas.Bool.{cases_eq, cases_lt, cases_Bool, both_ways, eqb-true, eq-eqb, ne_eqb}
+use Rattle.std.proofs.lemmas.Option.{none-some, same_Some}
+use Rattle.std.proofs.lemmas.Bool.{cases_eq, eq-eqb, ne_eqb}
 use Rattle.std.proofs.Math.Seq.{take-length}
 use Rattle.grove_tree.specs.Numbers.{numbers_below}
 use Rattle.grove_tree.specs.Trees.{Rows}
-use Rattle.grove_tree.proofs.Counting.{numbers_get, numbers_got, numbers_length}
 use Rattle.grove_access.specs.declared.access.Access.{Access as Visit}
 use Rattle.grove_access.specs.Lists.{nodes_of}
 use Rattle.grove_plan.specs.declared.step.Step.{Step}
 use Rattle.grove_plan.specs.declared.step.Step.TheVariants.{Lock, Unlock, Access}
-use Rattle.grove_plan.specs.Plans.{accesses_of, IsLegal, held}
-use Rattle.grove_plan.specs.Slots.{accesses_before}
-use Rattle.grove_plan.proofs.Holding.{HeldAt, held_at, access_at, access_no_unlock}
+use Rattle.grove_plan.specs.Plans.{accesses_of, IsLegal}
+use Rattle.grove_plan.proofs.Holding.{HeldAt, held_at, access_no_unlock}
 use Rattle.grove_core.specs.declared.job.Job.{Job}
 use Rattle.grove_core.specs.declared.event.Event.{Event}
 use Rattle.grove_core.specs.declared.event.Event.TheVariants.{Take, Mark}
 use Rattle.grove_core.specs.Serial.{Deed}
-use Rattle.grove_core.specs.Runs.{list_of, plan_of, place, next_step, MayHappen, IsRun, AllLegal, deed_at, deed_of, deeds}
+use Rattle.grove_core.specs.Runs.{list_of, plan_of, place, next_step, IsRun, AllLegal, deed_at, deed_of, deeds}
 use Rattle.grove_core.proofs.Swapping.{AllDeeds, all_map, all_append, Conflicts, own, kept_if}
 use Rattle.grove_core.proofs.Dealing.{stamped}
-use Rattle.grove_core.proofs.Timing.{Timing, Locked, Before, Precedes, within_jobs, held_order}
+use Rattle.grove_core.proofs.Timing.{Timing, Locked, Precedes, within_jobs, held_order}
 use Rattle.grove_core.proofs.Times.{time, place_old, place_new, place_other, time_old, time_new, time_within, run_timing}
 
 -- a deed is an access of the job's list, done by a step of its plan

@@ -2,10 +2,10 @@
 -- and the first unfinished job of an order that agrees with them would wait for a job that comes before it.
 use Rattle.std.proofs.Common.{◌≡◌, ◌≢◌, ℕ, zero, suc, ◌+◌, ◌<◌, ◌≤◌, Bool, true, false, cond, not, ◌&&◌, eqb, ltb, ◌⊎◌, List, [], ◌∷◌, length, Option, Some, None, refl, sym, ◌∙◌, ap, subst, inl, inr, arith}
 use Rattle.std.specs.List.{slice_get}
-use Rattle.std.proofs.lemmas.Option.{none-some, same_Some, slice_get_within}
-use Rattle.std.proofs.lemmas.Bool.{cases_eq, cases_lt, cases_Bool, both_ways, eqb-true, eq-eqb, ne_eqb, cond-true, cond-false, and_parts, and_from, lt-ltb, le-ltb, ltb-true, ltb-false, not-true, not_from_false, eqb-false, false_from_ne_true}
+use Rattle.std.proofs.lemmas.Option.{slice_get_within}
+use Rattle.std.proofs.lemmas.Bool.{cases_eq, cases_lt, cases_Bool, both_ways, ne_eqb, cond-true, cond-false, and_parts, and_from, lt-ltb, le-ltb, ltb-true, not-true, not_from_false, eqb-false, false_from_ne_true}
 use Rattle.grove_tree.specs.Numbers.{any_below}
-use Rattle.grove_tree.specs.Trees.{Rows, IsTree}
+use Rattle.grove_tree.specs.Trees.{Rows}
 use Rattle.grove_tree.proofs.Counting.{any_true, any_from, any_false}
 use Rattle.grove_plan.specs.declared.step.Step.{Step}
 use Rattle.grove_plan.specs.declared.step.Step.TheVariants.{Lock, Unlock, Access}
@@ -18,7 +18,7 @@ use Rattle.grove_core.specs.Runs.{plan_of, place, next_step, holds, IsFree, MayH
 use Rattle.grove_core.specs.Orders.{first_lock, order_by}
 use Rattle.grove_core.specs.Laws.{CanGoOn, RunsGoOn}
 use Rattle.grove_core.proofs.Swapping.{Among, Agrees}
-use Rattle.grove_core.proofs.Timing.{Timing, Locked, Before, Precedes, within_jobs}
+use Rattle.grove_core.proofs.Timing.{Timing, Precedes, within_jobs}
 use Rattle.grove_core.proofs.Placing.{Tests, order_agrees}
 use Rattle.grove_core.proofs.Times.{time, time_within, time_grows, times_differ, Unlocked, exclusive, place_new, place_other}
 use Rattle.grove_core.proofs.SerialRuns.{order_among}

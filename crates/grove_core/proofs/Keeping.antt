@@ -1,12 +1,11 @@
 -- What a core keeps, after each kind of event.
-use Rattle.std.proofs.Common.{◌≡◌, ◌≢◌, ℕ, zero, suc, ◌+◌, ◌^◌, ◌<◌, ◌≤◌, ℤ, Bool, true, false, cond, ◌&&◌, eqb, ◌⊎◌, List, [], ◌∷◌, ◌++◌, length, reverse, set, get_or, Option, Some, None, refl, sym, ◌∙◌, ap, subst, inl, inr, arith, zero-add, add-one}
-use Rattle.std.specs.Bool.{⊤}
+use Rattle.std.proofs.Common.{◌≡◌, ◌≢◌, ℕ, zero, suc, ◌+◌, ◌^◌, ◌<◌, ◌≤◌, ℤ, true, false, cond, ◌&&◌, eqb, List, [], ◌∷◌, ◌++◌, length, reverse, set, get_or, Option, Some, None, refl, sym, ◌∙◌, ap, subst, inl, inr, arith, add-one}
 use Rattle.std.specs.List.{slice_get}
 use Rattle.std.specs.Vec.{vec_capacity}
-use Rattle.std.proofs.lemmas.List.{append-nil, length-set, reverse-append, length-reverse}
+use Rattle.std.proofs.lemmas.List.{append-nil, length-set, reverse-append}
 use Rattle.std.proofs.lemmas.Option.{none-some, same_Some, slice_get_within, slice_get-get_or}
-use Rattle.std.proofs.lemmas.Bool.{cases_eq, cases_lt, cases_Bool, both_ways, eqb-true, eq-eqb, ne_eqb, cond-true, cond-false, and_from, and_left, and_right}
-use Rattle.grove_tree.specs.Trees.{Rows, IsTree}
+use Rattle.std.proofs.lemmas.Bool.{cases_eq, both_ways, eq-eqb, ne_eqb, cond-true, cond-false, and_from, and_left, and_right}
+use Rattle.grove_tree.specs.Trees.{Rows}
 use Rattle.grove_access.specs.declared.access.Access.{Access as Visit}
 use Rattle.grove_access.specs.declared.reply.Reply.{Reply}
 use Rattle.grove_access.specs.Effects.{changed_by, reply_to}
@@ -19,7 +18,7 @@ use Rattle.grove_core.specs.declared.event.Event.{Event}
 use Rattle.grove_core.specs.declared.event.Event.TheVariants.{Take, Mark}
 use Rattle.grove_core.specs.declared.progress.Progress.{Progress}
 use Rattle.grove_core.specs.Serial.{Deed, deeds_records, deeds_replies}
-use Rattle.grove_core.specs.Runs.{list_of, plan_of, place, next_step, holds, is_marked, IsFree, IsHeldBy, MayHappen, IsRun, AllLegal, deed_at, deed_of, deeds, run_records, run_replies, waits_of, most_events}
+use Rattle.grove_core.specs.Runs.{list_of, plan_of, place, next_step, holds, is_marked, IsFree, IsHeldBy, MayHappen, deed_at, deed_of, deeds, run_records, run_replies, waits_of, most_events}
 use Rattle.grove_core.specs.Orders.{lock_time}
 use Rattle.grove_core.specs.Kept.{HasProgress, Owns, IsCore}
 use Rattle.grove_core.proofs.Dealing.{deeds_records-append, deeds_replies-append}

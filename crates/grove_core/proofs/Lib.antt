@@ -13,4 +13,3 @@ pub mod Counts
 pub mod Keeping
 pub mod Started
 pub mod Filling
-pub mod WorkedRows

@@ -1,10 +1,9 @@
 -- Two jobs that locked a node locked the deeper one of their first nodes, in the same order.
-use Rattle.std.proofs.Common.{◌≡◌, ◌≢◌, ℕ, zero, suc, ◌<◌, ◌≤◌, ◌⊎◌, List, [], ◌∷◌, length, Option, Some, None, refl, sym, ◌∙◌, ap, subst, inl, inr, arith}
+use Rattle.std.proofs.Common.{◌≡◌, ◌≢◌, ℕ, zero, suc, ◌<◌, ◌≤◌, List, Some, sym, ◌∙◌, ap, subst, inl, inr, arith}
 use Rattle.std.specs.List.{slice_get}
-use Rattle.std.proofs.lemmas.Option.{none-some, same_Some}
+use Rattle.std.proofs.lemmas.Option.{same_Some}
 use Rattle.grove_tree.specs.Trees.{Rows, IsTree, depth_of}
-use Rattle.grove_plan.specs.declared.step.Step.{Step}
-use Rattle.grove_plan.specs.declared.step.Step.TheVariants.{Lock, Unlock, Access}
+use Rattle.grove_plan.specs.declared.step.Step.TheVariants.{Lock}
 use Rattle.grove_plan.proofs.Holding.{HeldAt, unlock_no_lock}
 use Rattle.grove_access.specs.Lists.{nodes_of}
 use Rattle.grove_core.specs.declared.job.Job.{Job}

@@ -1,5 +1,5 @@
 -- A finished run is serial by the placement order.
-use Rattle.std.proofs.Common.{◌≡◌, ◌≢◌, ℕ, ◌<◌, ◌≤◌, ℤ, Bool, ◌⊎◌, List, [], ◌∷◌, ◌++◌, length, take, refl, sym, ◌∙◌, ap, subst, inl, inr, arith}
+use Rattle.std.proofs.Common.{◌≡◌, ℕ, ◌<◌, Bool, List, length, take, sym, ◌∙◌, ap, inl, inr, arith}
 use Rattle.std.proofs.lemmas.Bool.{cases_lt}
 use Rattle.std.proofs.Math.Seq.{take-length}
 use Rattle.grove_tree.specs.Trees.{Rows, IsTree}
@@ -7,9 +7,9 @@ use Rattle.grove_plan.specs.declared.step.Step.TheVariants.{Access}
 use Rattle.grove_core.specs.declared.job.Job.{Job}
 use Rattle.grove_core.specs.declared.event.Event.{Event}
 use Rattle.grove_core.specs.Serial.{Deed, deeds_records, deeds_replies}
-use Rattle.grove_core.specs.Runs.{list_of, plan_of, place, AllLegal, IsRun, IsFinished, deeds}
+use Rattle.grove_core.specs.Runs.{list_of, plan_of, AllLegal, IsRun, IsFinished, deeds}
 use Rattle.grove_core.specs.Orders.{locked_after, order_by, placement_order}
-use Rattle.grove_core.specs.Laws.{IsSerialBy, IsEachOnce, RunsAreSerial}
+use Rattle.grove_core.specs.Laws.{IsEachOnce, RunsAreSerial}
 use Rattle.grove_core.proofs.Swapping.{Same, Among, AllDeeds, all_map, own, dealt, serialized}
 use Rattle.grove_core.proofs.Dealing.{Once, stamped, whole, dealt_whole, whole_records, whole_replies}
 use Rattle.grove_core.proofs.Timing.{Precedes, within_jobs}

@@ -1,8 +1,6 @@
 -- The loops that open a core, a job further.
-use Rattle.std.proofs.Common.{◌≡◌, ℕ, zero, suc, ◌+◌, ◌*◌, ◌^◌, ◌<◌, ◌≤◌, Bool, ◌⊎◌, ℤ, List, [], ◌∷◌, ◌++◌, length, reverse, replicate, get_or, Option, Some, None, refl, sym, ◌∙◌, ap, subst, inl, inr, arith, add-one}
-use Rattle.std.specs.Bool.{⊤}
+use Rattle.std.proofs.Common.{◌≡◌, ℕ, zero, suc, ◌+◌, ◌*◌, ◌^◌, ◌<◌, ◌≤◌, ℤ, List, [], ◌∷◌, ◌++◌, length, replicate, Option, Some, None, refl, sym, ◌∙◌, ap, subst, inl, inr, arith, add-one}
 use Rattle.std.specs.List.{slice_get}
-use Rattle.std.specs.Vec.{vec_capacity}
 use Rattle.std.proofs.lemmas.Option.{none-some, same_Some, slice_get_within}
 use Rattle.std.proofs.lemmas.List.{length-replicate}
 use Rattle.grove_tree.specs.Numbers.{sum_below}
@@ -10,16 +8,15 @@ use Rattle.grove_tree.specs.Trees.{Rows, IsTree}
 use Rattle.grove_tree.proofs.Counting.{count_le}
 use Rattle.grove_tree.proofs.Lists.{get_append_cases}
 use Rattle.grove_plan.specs.declared.step.Step.{Step}
-use Rattle.grove_plan.specs.Plans.{is_lock, held}
+use Rattle.grove_plan.specs.Plans.{is_lock}
 use Rattle.grove_core.specs.declared.job.Job.{Job}
-use Rattle.grove_core.specs.declared.event.Event.{Event}
 use Rattle.grove_core.specs.declared.progress.Progress.{Progress}
 use Rattle.grove_core.specs.declared.fault.OpenFault.{OpenFault}
 use Rattle.grove_core.specs.declared.fault.OpenFault.TheVariants.{BadPlan, Memory}
 use Rattle.grove_core.specs.Runs.{list_of, plan_of, AllLegal, lock_steps}
-use Rattle.grove_core.specs.Kept.{HasProgress, Owns, IsCore}
+use Rattle.grove_core.specs.Kept.{Owns, IsCore}
 use Rattle.grove_core.specs.Openings.{fault_of, job_fault, IsFaultOf, IsFirstFault, HasStarted}
-use Rattle.grove_core.proofs.Keeping.{list_of_at, plan_of_at}
+use Rattle.grove_core.proofs.Keeping.{plan_of_at}
 
 -- a plan's steps and lock steps are at most twice its steps
 pub room_more : (jobs : List Job) (n room steps : ℕ) (job : Job) → slice_get jobs n ≡ Some job → steps ≡ length job.plan

@@ -1,20 +1,19 @@
 -- The times of a run's steps, and what the run's rules make of them.
-use Rattle.std.proofs.Common.{◌≡◌, ◌≢◌, ℕ, zero, suc, ◌<◌, ◌≤◌, Bool, true, false, cond, ◌&&◌, eqb, ltb, ◌⊎◌, List, [], ◌∷◌, length, Option, Some, None, refl, sym, ◌∙◌, ap, subst, inl, inr, arith}
-use Rattle.std.specs.Bool.{⊤}
+use Rattle.std.proofs.Common.{◌≡◌, ◌≢◌, ℕ, suc, ◌<◌, ◌≤◌, true, false, cond, ◌&&◌, eqb, ◌⊎◌, List, [], ◌∷◌, length, Option, Some, None, refl, sym, ◌∙◌, ap, inl, inr, arith}
 use Rattle.std.specs.List.{slice_get}
 use Rattle.std.proofs.lemmas.Option.{none-some, same_Some}
-use Rattle.std.proofs.lemmas.Bool.{cases_eq, cases_lt, cases_Bool, both_ways, eqb-true, eqb-false, eq-eqb, ne_eqb, cond_both, cond-true, cond-false, and_parts, and_from, and_left, and_right, lt-ltb, ltb-true}
+use Rattle.std.proofs.lemmas.Bool.{cases_eq, cases_lt, cases_Bool, both_ways, eqb-true, eq-eqb, ne_eqb, cond-true, cond-false, and_parts, and_from, and_right, lt-ltb, ltb-true}
 use Rattle.grove_plan.specs.declared.step.Step.{Step}
-use Rattle.grove_plan.specs.declared.step.Step.TheVariants.{Lock, Unlock, Access}
-use Rattle.grove_plan.specs.Plans.{locks, held}
-use Rattle.grove_plan.proofs.Holding.{locks_true, locks_from, lock_same}
+use Rattle.grove_plan.specs.declared.step.Step.TheVariants.{Lock, Unlock}
+use Rattle.grove_plan.specs.Plans.{locks}
+use Rattle.grove_plan.proofs.Holding.{locks_true, locks_from}
 use Rattle.grove_tree.specs.Trees.{Rows}
 use Rattle.grove_core.specs.declared.job.Job.{Job}
 use Rattle.grove_core.specs.declared.event.Event.{Event}
 use Rattle.grove_core.specs.declared.event.Event.TheVariants.{Take, Mark}
-use Rattle.grove_core.specs.Runs.{plan_of, place, next_step, holds, IsFree, IsHeldBy, MayHappen, IsRun, AllLegal}
-use Rattle.grove_core.specs.Orders.{first_lock, lock_time, earlier, locked_after_at, locked_after}
-use Rattle.grove_core.proofs.Timing.{Timing, Locked, Before, Precedes, within_jobs, unlocked_since}
+use Rattle.grove_core.specs.Runs.{plan_of, place, next_step, holds, IsRun, AllLegal}
+use Rattle.grove_core.specs.Orders.{lock_time, earlier, locked_after_at, locked_after}
+use Rattle.grove_core.proofs.Timing.{Timing, within_jobs, unlocked_since}
 use Rattle.grove_core.proofs.Placing.{Tests}
 
 -- how many events came before a job's step

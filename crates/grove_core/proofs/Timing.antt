@@ -1,12 +1,12 @@
 -- Times of the steps done, seen apart from any run: what two jobs did with a node that both held.
-use Rattle.std.proofs.Common.{◌≡◌, ◌≢◌, ℕ, zero, suc, ◌<◌, ◌≤◌, Bool, true, false, not, ◌&&◌, ltb, ◌⊎◌, List, [], ◌∷◌, length, Option, Some, None, refl, sym, ◌∙◌, ap, subst, inl, inr, arith}
+use Rattle.std.proofs.Common.{◌≡◌, ◌≢◌, ℕ, zero, suc, ◌<◌, Bool, true, false, ◌&&◌, ltb, List, [], ◌∷◌, length, Some, sym, subst, inl, inr, arith}
 use Rattle.std.specs.List.{slice_get}
 use Rattle.std.proofs.lemmas.Option.{none-some}
 use Rattle.std.proofs.lemmas.Bool.{cases_lt, cases_eq, cases_Bool, both_ways, and_parts, and_from, ltb-true, lt-ltb}
 use Rattle.grove_tree.specs.Numbers.{any_below}
 use Rattle.grove_tree.proofs.Counting.{any_true, any_false}
 use Rattle.grove_plan.specs.declared.step.Step.{Step}
-use Rattle.grove_plan.specs.declared.step.Step.TheVariants.{Lock, Unlock, Access}
+use Rattle.grove_plan.specs.declared.step.Step.TheVariants.{Lock, Unlock}
 use Rattle.grove_plan.specs.Plans.{unlocks, held}
 use Rattle.grove_plan.proofs.Holding.{HeldAt, held_from, unlocks_true, unlocks_from}
 use Rattle.grove_core.specs.declared.job.Job.{Job}

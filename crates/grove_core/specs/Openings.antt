@@ -3,7 +3,6 @@ use Rattle.std.specs.Prelude.{◌≡◌, ℕ, ◌<◌, ◌≤◌, false, ⊤, Li
 use Rattle.grove_tree.specs.Trees.{Rows}
 use Rattle.grove_access.specs.Lists.{nodes_of, AreNodes}
 use Rattle.grove_plan.specs.declared.fault.PlanFault.{PlanFault}
-use Rattle.grove_plan.specs.Plans.{IsLegal}
 use Rattle.grove_plan.specs.Faults.{plan_fault_of}
 use Rattle.grove_core.specs.declared.job.Job.{Job}
 use Rattle.grove_core.specs.declared.progress.Progress.{Progress}

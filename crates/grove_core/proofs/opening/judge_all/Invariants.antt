@@ -1,4 +1,4 @@
-use Rattle.std.proofs.Common.{◌≡◌, ℕ, ◌<◌, ◌≤◌, None}
+use Rattle.std.proofs.Common.{◌≡◌, ℕ, ◌<◌, None}
 use Rattle.grove_access.specs.Lists.{nodes_of}
 use Rattle.grove_plan.specs.Plans.{IsLegal}
 use Rattle.grove_core.specs.Runs.{list_of, plan_of}

@@ -1,15 +1,10 @@
-use Rattle.std.proofs.Common.{◌≡◌, ℕ, ◌+◌, ◌*◌, ◌^◌, ◌<◌, ◌≤◌, List, ◌∷◌, [], ◌++◌, length, Option, Some, None, refl, sym, ◌∙◌, ap, subst, arith, below_more, length-append}
+use Rattle.std.proofs.Common.{◌≡◌, ◌*◌, ◌^◌, ◌<◌, ◌≤◌, List, length, Some, sym, ◌∙◌, ap, subst, arith, below_more}
 use Rattle.std.specs.List.{slice_get, slice_index_or}
-use Rattle.grove_access.specs.Lists.{nodes_of, AreNodes}
-use Rattle.grove_plan.specs.Plans.{IsLegal}
 use Rattle.grove_plan.specs.declared.step.Step.{Step}
-use Rattle.grove_access.specs.declared.access.Access.{Access}
 use Rattle.grove_core.specs.declared.job.Job.{Job}
-use Rattle.grove_core.specs.declared.progress.Progress.{Progress}
-use Rattle.grove_core.specs.Runs.{list_of, plan_of}
-use Rattle.grove_core.specs.Openings.{job_fault, fault_of, HasStarted}
-use Rattle.grove_core.proofs.Keeping.{read_at, list_of_at, plan_of_at}
-use Rattle.grove_core.proofs.Started.{room_more, first_fault, job_fault_at, started_more}
+use Rattle.grove_core.specs.Runs.{plan_of}
+use Rattle.grove_core.proofs.Keeping.{read_at, plan_of_at}
+use Rattle.grove_core.proofs.Started.{room_more}
 use Rattle.grove_core.proofs.opening.room.Goals as goal
 
 pub loop-txn-preserved : goal.loop-txn-preserved

@@ -1,4 +1,4 @@
-use Rattle.std.proofs.Common.{◌≡◌, ℕ, ◌<◌, ◌≤◌, length, Some}
+use Rattle.std.proofs.Common.{◌≡◌, ℕ, length, Some}
 use Rattle.std.specs.List.{slice_get}
 use Rattle.grove_core.specs.declared.progress.Progress.{Progress}
 use Rattle.grove_core.specs.Runs.{list_of}

@@ -1,4 +1,4 @@
-use Rattle.std.proofs.Common.{◌≡◌, ℕ, ◌<◌, List, Some, sym, subst, rules, below_more}
+use Rattle.std.proofs.Common.{◌≡◌, List, Some, sym, subst, rules, below_more}
 use Rattle.std.specs.Bool.{IsTrue}
 use Rattle.std.specs.List.{slice_get, slice_index_or}
 use Rattle.grove_access.specs.Lists.{nodes_of, AreNodes}

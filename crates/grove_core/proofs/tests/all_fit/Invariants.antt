@@ -1,4 +1,4 @@
-use Rattle.std.proofs.Common.{◌≡◌, ℕ, ◌<◌}
+use Rattle.std.proofs.Common.{ℕ, ◌<◌}
 use Rattle.grove_access.specs.Lists.{nodes_of, AreNodes}
 use Rattle.grove_core.specs.Runs.{list_of}
 use Rattle.grove_core.proofs.tests.all_fit.Given as goal

@@ -1,15 +1,7 @@
-use Rattle.std.proofs.Common.{◌≡◌, ◌≢◌, ℕ, ◌+◌, ◌^◌, ◌<◌, ◌≤◌, Bool, true, false, List, [], ◌∷◌, ◌++◌, length, reverse, get_or, Option, Some, None, refl, sym, ◌∙◌, ap, subst, inl, inr, arith, below_more}
-use Rattle.std.specs.List.{slice_get, slice_index_or}
-use Rattle.std.specs.Vec.{vec_len, vec_capacity}
+use Rattle.std.proofs.Common.{ℕ, ◌≤◌, reverse, subst}
 use Rattle.std.proofs.lemmas.List.{length-reverse}
-use Rattle.std.proofs.lemmas.Bool.{false≢true}
-use Rattle.grove_core.specs.declared.job.Job.{Job}
-use Rattle.grove_core.specs.declared.progress.Progress.{Progress}
-use Rattle.grove_core.specs.Runs.{place, plan_of, IsFinished, most_events}
-use Rattle.grove_core.specs.Kept.{past_of}
+use Rattle.grove_core.specs.Runs.{most_events}
 use Rattle.grove_core.proofs.Counts.{history_bound}
-use Rattle.grove_core.proofs.GoingOn.{runs_go_on, place_within}
-use Rattle.grove_core.proofs.Keeping.{read_at, plan_of_at, place_read}
 use Rattle.grove_core.proofs.machine.Core.history.Goals as goal
 
 pub returns-clause-few : goal.returns-clause-few
