@@ -1,0 +1,133 @@
+ghost use Rattle.std.specs.Prelude.{◌<◌, IsTrue};
+ghost use Rattle.grove_core.specs.Openings.{AllFit};
+
+use crate::branches::{BRANCHES, branches, each_end};
+use crate::watch::Watch;
+use anyhow::{Result, bail};
+use grove_access::Records;
+use grove_core::{Core, Event, Job, serial_order};
+use grove_plan::{Plan, Step};
+use grove_tree::{Node, Tree};
+use std::alloc::Global;
+
+const JOBS: u32 = 256;
+
+const DEPTH: u32 = 32;
+/// At least as many as a plan here has.
+const STEPS: usize = 8_256;
+
+/// Times 256 jobs of 64 accesses over 2,049 nodes each: a round-robin of `Take`s to the end, and the serial order.
+pub fn time(rt: &HostRuntime) -> Result<()> {
+    let alloc = rt.alloc();
+    let tree = branches(alloc, DEPTH)?;
+    let jobs = jobs(alloc, &tree)?;
+    let records = Records::new(alloc, &vec![in alloc; 0i64; tree.len() as usize]?)?;
+    let mut watch = Watch::start(rt)?;
+    let mut core = open(alloc, &tree, &records, &jobs)?;
+    watch.lap(rt, "open")?;
+    let rounds = take_in_turn(&mut core);
+    watch.lap(rt, "run")?;
+    println!(rt; "  {rounds} rounds of {JOBS} tries")?;
+    println!(rt; "  {} accepted", core.history().len())?;
+    time_order(rt, &core)
+}
+
+fn time_order(rt: &HostRuntime, core: &Core) -> Result<()> {
+    if !core.is_finished() {
+        bail!("some job is left");
+    }
+    let mut watch = Watch::start(rt)?;
+    let order = serial_order(rt.alloc(), core)?;
+    watch.lap(rt, "order")?;
+    println!(rt; "  {} jobs in order", order.len())?;
+    Ok(())
+}
+
+fn open<'a>(alloc: Global, tree: &'a Tree, records: &Records, jobs: &'a [Job]) -> Result<Core<'a>> {
+    if !records.fits(tree) || !all_fit(tree, jobs) || jobs.len() > JOBS as usize {
+        bail!("the jobs don't fit");
+    }
+    match Core::open(alloc, tree, records, jobs) {
+        Ok(core) => Ok(core),
+        Err(fault) => bail!("the jobs are refused: {fault}"),
+    }
+}
+
+/// Is each job's list one of the tree's nodes?
+fn all_fit(tree: &Tree, jobs: &[Job]) -> bool
+    ensures { IsTrue result → AllFit tree.now jobs.now }
+{
+    for txn in 0..jobs.len() {
+        if !jobs[txn].list.fits(tree) {
+            return false;
+        }
+    }
+    true
+}
+
+/// Tries one `Take` of each job in turn, until a round has none that is accepted. Gives the number of rounds before.
+fn take_in_turn(core: &mut Core) -> usize {
+    let most = JOBS as usize * STEPS;
+    for round in 0..most {
+        let mut accepted = false;
+        for txn in 0..JOBS {
+            accepted |= core.step(Event::Take(txn)).is_ok();
+        }
+        if !accepted {
+            return round;
+        }
+    }
+    most
+}
+
+fn jobs(alloc: Global, tree: &Tree) -> Result<Vec<Job>> {
+    let mut jobs = Vec::with_capacity(alloc, JOBS as usize)?;
+    for _txn in 0..JOBS {
+        let list = each_end(alloc, tree, DEPTH)?;
+        let steps = chain_by_chain(alloc)?;
+        if steps.len() > STEPS {
+            bail!("a plan has too many steps");
+        }
+        jobs.push(Job {
+            list,
+            plan: Plan::new(steps),
+        })?;
+    }
+    Ok(jobs)
+}
+
+/// Locks the root and the first node of each chain, lets the root go, and goes down one chain after the other, each
+/// node let go when the next is locked.
+fn chain_by_chain(alloc: Global) -> Result<Vec<Step>> {
+    let mut steps = Vec::with_capacity(alloc, STEPS)?;
+    steps.push(lock(0))?;
+    for branch in 0..BRANCHES {
+        steps.push(lock(branch * DEPTH + 1))?;
+    }
+    steps.push(unlock(0))?;
+    for branch in 0..BRANCHES {
+        go_down(&mut steps, branch)?;
+    }
+    Ok(steps)
+}
+
+fn go_down(steps: &mut Vec<Step>, branch: u32) -> Result<()>
+    requires { branch < 64 }
+{
+    let first = branch * DEPTH + 1;
+    for level in 1..DEPTH {
+        steps.push(lock(first + level))?;
+        steps.push(unlock(first + level - 1))?;
+    }
+    steps.push(Step::Access(branch))?;
+    steps.push(unlock(first + DEPTH - 1))?;
+    Ok(())
+}
+
+fn lock(node: u32) -> Step {
+    Step::Lock(Node::new(node))
+}
+
+fn unlock(node: u32) -> Step {
+    Step::Unlock(Node::new(node))
+}
