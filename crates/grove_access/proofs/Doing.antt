@@ -1,6 +1,5 @@
 -- A list done alone, as far as it has come.
-use Rattle.std.proofs.Common.{◌≡◌, ℕ, suc, ◌+◌, ◌≤◌, ℤ, List, [], ◌∷◌, ◌++◌, length, drop, slice_get, Some, refl, ap, sym, ◌∙◌, append_assoc, add-one, arith}
-use Rattle.std.proofs.Math.Seq.{drop-length}
+use Rattle.std.proofs.Common.{◌≡◌, ℕ, suc, ◌+◌, ◌≤◌, ℤ, List, [], ◌∷◌, ◌++◌, length, drop, slice_get, Some, refl, ap, ◌∙◌, append_assoc, add-one, arith}
 use Rattle.std.proofs.lemmas.List.{length-set, length-append}
 use Rattle.grove_access.specs.declared.access.Access.{Access}
 use Rattle.grove_access.specs.declared.reply.Reply.{Reply}
@@ -37,10 +36,3 @@ do_next list opening place access records after replies more room space at chang
       count = let counted : length replies ≡ place = so_far.count in rw added (omega (arith, length-append replies (reply_to access records ∷ [])));
       room_left = let fits : length list ≤ room = so_far.room_left in omega arith;
     }
-
--- at the end the records and replies are those of the whole list
-pub records_done : (list : List Access) (opening : List ℤ) (place : ℕ) (records : List ℤ) (replies : List Reply) (room : ℕ)
-    → length list ≡ place → IsDoneTo list opening place records replies room → records ≡ records_after list opening
-records_done list opening place records replies room end so_far =
-    let none : drop place list ≡ [] = rw (← end) (drop-length list) in
-    sym (ap (λ (left : List Access). records_after left records) none) ∙ so_far.records_left

@@ -1,10 +1,10 @@
 -- Spanned nodes: the tests and what they say, and the way from a spanned node to its parent.
-use Rattle.std.proofs.Common.{◌≡◌, ℕ, suc, ◌+◌, ◌<◌, ◌≤◌, Bool, true, false, not, ◌&&◌, ◌⊎◌, List, length, get_or, Option, Some, None, refl, sym, ◌∙◌, ap, subst, inl, inr, arith}
+use Rattle.std.proofs.Common.{◌≡◌, ℕ, ◌<◌, Bool, true, false, not, ◌&&◌, ◌⊎◌, List, length, get_or, Option, Some, None, refl, sym, ◌∙◌, subst, inl, inr}
 use Rattle.std.specs.List.{slice_get}
-use Rattle.std.proofs.lemmas.Option.{none-some, same_Some, slice_get_within, slice_get-get_or}
+use Rattle.std.proofs.lemmas.Option.{same_Some, slice_get_within, slice_get-get_or}
 use Rattle.std.proofs.lemmas.Bool.{both_ways, and_parts, and_from, not-true, not-false, not_from_false, not_from_true, cases_Bool}
-use Rattle.grove_tree.specs.Numbers.{any_below, passing_below}
-use Rattle.grove_tree.specs.Trees.{Rows, parent_of, up, IsAbove, IsTree, is_above}
+use Rattle.grove_tree.specs.Numbers.{any_below}
+use Rattle.grove_tree.specs.Trees.{Rows, parent_of, IsAbove, IsTree, is_above}
 use Rattle.grove_tree.proofs.Counting.{any_true, any_from, any_none, any_false, passing_get, passing_got}
 use Rattle.grove_tree.proofs.Ups.{above_trans, above_step, above_within, parent_above, root_above}
 use Rattle.grove_tree.proofs.Tests.{is_above_true, is_above_from}

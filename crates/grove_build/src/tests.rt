@@ -1,4 +1,4 @@
-use crate::{Planned, plan};
+use crate::{Planned, plan, settled_once};
 use grove_access::{Access, AccessList, Op};
 use grove_plan::Step;
 use grove_proof::{FlowRow, check};
@@ -87,6 +87,7 @@ fn one_leaf_is_held_for_its_own_access(rt: HostRuntime) -> Result<(), Fail> {
         own: 0,
     };
     assert_eq!(rt; one.flow.rows(), [row].as_slice());
+    settled_once();
     Ok(())
 }
 

@@ -13,3 +13,4 @@ pub mod Counts
 pub mod Keeping
 pub mod Started
 pub mod Filling
+pub mod WorkedRows

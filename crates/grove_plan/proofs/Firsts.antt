@@ -1,5 +1,5 @@
 -- The first number below a bound that passes, as a loop finds it.
-use Rattle.std.proofs.Common.{◌≡◌, ℕ, suc, ◌+◌, ◌<◌, Bool, true, false, ◌||◌, cond, List, length, get_or, Some, None, ◌∙◌, ap, arith}
+use Rattle.std.proofs.Common.{◌≡◌, ℕ, suc, ◌<◌, Bool, true, false, ◌||◌, cond, List, length, get_or, Some, None, ◌∙◌, ap}
 use Rattle.std.specs.List.{slice_get}
 use Rattle.std.proofs.lemmas.Option.{slice_get-get_or}
 use Rattle.std.proofs.lemmas.Bool.{cond-true}
@@ -20,7 +20,3 @@ found_first f n k test lt before here =
 -- a number that fails adds nothing
 pub any_miss : (n : ℕ) (test : ℕ → Bool) → test n ≡ false → any_below (suc n) test ≡ any_below n test
 any_miss n test miss = ap (λ (b : Bool). b || any_below n test) miss
-
--- a number that fails where none before it passed
-pub any_next : (n m : ℕ) (test : ℕ → Bool) → m ≡ n + 1 → any_below n test ≡ false → test n ≡ false → any_below m test ≡ false
-any_next n m test e before here = let f : m ≡ suc n = omega arith in rw f (any_miss n test here ∙ before)

@@ -36,12 +36,6 @@ is_lock_true (Some (Unlock w)) h = absurd (cc)
 is_lock_true (Some (Access a)) h = absurd (cc)
 is_lock_true None h = absurd (cc)
 
-pub is_access_true : (step : Option Step) → is_access step ≡ true → (a : ℕ) × (step ≡ Some (Access a))
-is_access_true (Some (Lock w)) h = absurd (cc)
-is_access_true (Some (Unlock w)) h = absurd (cc)
-is_access_true (Some (Access a)) h = (a, refl)
-is_access_true None h = absurd (cc)
-
 -- steps of different kinds differ, and those of one kind are of one number where they are one
 pub unlock_no_lock : (v w : ℕ) → Some (Unlock v) ≡ Some (Lock w) → ⊥
 unlock_no_lock v w h = absurd (cc)
@@ -116,10 +110,6 @@ held_from plan v place h =
 -- what isn't held, by the fact
 pub held_not : (plan : List Step) (v place : ℕ) → (HeldAt plan v place → ⊥) → held plan v place ≡ false
 held_not plan v place h = false_from_ne_true (held plan v place) (λ e. h (held_at plan v place e))
-
--- at the start nothing is held
-pub held_zero : (plan : List Step) (v : ℕ) → held plan v 0 ≡ false
-held_zero plan v = refl
 
 -- How a step changes it
 
