@@ -1,10 +1,9 @@
 -- Accesses whose nodes are nodes of a tree.
-use Rattle.std.proofs.Common.{◌≡◌, ℕ, zero, suc, ◌<◌, ◌≤◌, List, [], ◌∷◌, ◌++◌, length, Some, None, refl, sym, ap, ◌∙◌, cond, arith}
-use Rattle.std.specs.Prelude.{slice_get}
+use Rattle.std.proofs.Common.{◌≡◌, ℕ, zero, suc, ◌<◌, ◌≤◌, List, [], ◌∷◌, ◌++◌, length, Some, None, refl, ap, ◌∙◌, cond}
 use Rattle.std.proofs.lemmas.Bool.{lt-ltb, le-ltb}
 use Rattle.grove_tree.specs.Trees.{Rows}
 use Rattle.grove_access.specs.declared.access.Access.{Access}
-use Rattle.grove_access.specs.Lists.{nodes_of, AreBelow, AreNodes, first_beyond, list_fault_of, no_node}
+use Rattle.grove_access.specs.Lists.{nodes_of, AreBelow, AreNodes, first_beyond, list_fault_of}
 
 pub none_below : (n : ℕ) → AreBelow n []
 none_below n access node at = absurd (cc)

@@ -1,5 +1,5 @@
 -- Values written in turn, by a loop that has written some of them.
-use Rattle.std.proofs.Common.{◌≡◌, ℕ, ◌+◌, ◌<◌, ◌≤◌, List, [], ◌∷◌, ◌++◌, length, take, get_or, Some, Vec, Global, refl, ap, sym, ◌∙◌}
+use Rattle.std.proofs.Common.{◌≡◌, ℕ, ◌+◌, ◌<◌, ◌≤◌, List, [], ◌∷◌, ◌++◌, length, take, get_or, Some, Vec, Global, ap, sym, ◌∙◌}
 use Rattle.std.specs.Prelude.{Result, Ok, map}
 use Rattle.std.proofs.lemmas.List.{take_more, take_all, map_push}
 use Rattle.serde_json.specs.Data.{Data, array}

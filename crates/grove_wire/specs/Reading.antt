@@ -9,7 +9,6 @@ use Rattle.grove_tree.specs.Paths.{node_at}
 use Rattle.grove_tree.specs.Rules.{tree_fault_of}
 use Rattle.grove_tree.specs.declared.fault.TreeFault.{TreeFault}
 use Rattle.grove_access.specs.declared.access.Access.{Access}
-use Rattle.grove_access.specs.declared.access.Op.{Op}
 use Rattle.grove_plan.specs.declared.step.Step.{Step}
 use Rattle.grove_plan.specs.declared.step.Step.TheVariants as step
 use Rattle.grove_proof.specs.declared.flow.FlowRow.{FlowRow}

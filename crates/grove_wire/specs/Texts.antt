@@ -1,5 +1,5 @@
 -- The texts of faults.
-use Rattle.std.specs.Prelude.{ℕ, ℤ, codes, decimal, List, [], ◌∷◌, ◌++◌, Option, Some, None, ◌<◌, length}
+use Rattle.std.specs.Prelude.{ℕ, ℤ, codes, decimal, List, [], ◌++◌, Option, Some, None, ◌<◌, length}
 use Rattle.std.specs.Fmt.{signed_decimal}
 use Rattle.grove_tree.specs.Trees.{Rows}
 use Rattle.grove_tree.specs.Paths.{path_of}

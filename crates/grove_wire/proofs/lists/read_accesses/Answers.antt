@@ -1,4 +1,4 @@
-use Rattle.std.proofs.Common.{◌≡◌, ◌∙◌, ◌+◌, sym, ap, refl, rules, arith}
+use Rattle.std.proofs.Common.{◌∙◌, ◌+◌, sym, ap, refl, arith}
 use Rattle.std.proofs.lemmas.List.{length_push}
 use Rattle.grove_wire.specs.Reading.{access_in}
 use Rattle.grove_wire.proofs.Each.{with_front-none, each_goes, each_stops, each_ends, fails_so}

@@ -1,4 +1,4 @@
-use Rattle.std.proofs.Common.{◌≡◌, ◌∙◌, ◌+◌, sym, ap, rules, arith}
+use Rattle.std.proofs.Common.{◌∙◌, ◌+◌, sym, ap, arith}
 use Rattle.grove_wire.specs.Reading.{step_in}
 use Rattle.grove_wire.proofs.Each.{with_front-none, each_goes, each_stops, each_ends, fails_so}
 use Rattle.grove_wire.proofs.plans.read_steps.Goals as goal
