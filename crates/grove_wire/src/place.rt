@@ -65,14 +65,18 @@ impl Place {
 }
 
 impl fmt::Display for Place {
+    ghost use Rattle.std.specs.Prelude.{Some};
+    ghost use Rattle.grove_wire.specs.Texts.{place_text};
+
+    ghost output = { λ place. Some (place_text place) };
+
     fn fmt<W: fmt::Write>(&self, f: &mut fmt::Formatter<W>) -> fmt::Result {
-        write!(f, "{}", self.part.word())?;
-        if let Some(at) = self.at {
-            write!(f, " {at}")?;
+        let word = self.part.word();
+        match (self.at, self.item) {
+            (None, None) => write!(f, "{word}"),
+            (Some(at), None) => write!(f, "{word} {at}"),
+            (None, Some(item)) => write!(f, "{word} {item}"),
+            (Some(at), Some(item)) => write!(f, "{word} {at} {item}"),
         }
-        if let Some(item) = self.item {
-            write!(f, " {item}")?;
-        }
-        Ok(())
     }
 }
