@@ -1,8 +1,6 @@
 -- The node that a plan's fault names is a node of the tree.
-use Rattle.std.proofs.Common.{◌≡◌, ◌≢◌, ℕ, zero, suc, ◌==◌, nat_lt, ◌<◌, Bool, true, false, cond, not, ◌&&◌, List, length, slice_get, Option, Some, None, refl, sym, ap, ◌∙◌, subst, inl, inr, IfSome}
-use Rattle.std.proofs.lemmas.Bool.{cases_Bool, cond-true, cond-false}
-use Rattle.std.proofs.lemmas.Option.{none-some}
-use Rattle.grove_tree.specs.Numbers.{any_below, least_below}
+use Rattle.std.proofs.Common.{◌≡◌, ◌≢◌, ℕ, zero, suc, Bool, true, false, cond, List, length, slice_get, Option, Some, None, refl, subst, IfSome}
+use Rattle.grove_tree.specs.Numbers.{least_below}
 use Rattle.grove_tree.specs.Trees.{Rows}
 use Rattle.grove_tree.proofs.Counting.{least_is}
 use Rattle.grove_plan.specs.declared.step.Step.{Step}

@@ -1,5 +1,5 @@
 -- What the judge command says of a document: its lines, or the text of the first fault.
-use Rattle.std.specs.Prelude.{◌≡◌, ◌≢◌, ℕ, ◌≤◌, ℤ, codes, decimal, List, ◌∷◌, ◌++◌, string_bytes, Option, Some, None, Result, Ok, Err}
+use Rattle.std.specs.Prelude.{◌≡◌, ◌≢◌, ℕ, ◌≤◌, ℤ, codes, decimal, List, ◌++◌, string_bytes, Option, Some, None, Result, Ok, Err}
 use Rattle.serde_json.specs.Data.{Data}
 use Rattle.serde_json.specs.Written.{compact_text}
 use Rattle.grove_tree.specs.Trees.{Rows}

@@ -1,3 +1,4 @@
 pub mod CommandLines
 pub mod Endings
 pub mod Judgements
+pub mod Outcomes

@@ -1,8 +1,10 @@
-ghost use Rattle.std.specs.Prelude.{◌≡◌, ◌≢◌, ◌≤◌, [], length, false, None, IfOk, IfSome, OnOk};
+ghost use Rattle.std.specs.Prelude.{◌≡◌, ◌≢◌, ◌≤◌, length, map, false, None, IfOk, IfSome, OnOk, string_bytes};
 ghost use Rattle.clap.specs.Values.{kind_of};
 ghost use Rattle.std.specs.Io.KnownBytes.{Consumes, IsAtEnd, Keeps};
 ghost use Rattle.grove.specs.Endings.{status_of, IsRefusalLine, SaysRefusal, SaysStop};
-ghost use Rattle.grove.specs.Judgements.{judgement, PrintsIt, SaysIt};
+ghost use Rattle.grove.specs.CommandLines.{AskFor};
+ghost use Rattle.grove.specs.Judgements.{judgement, PrintsIt};
+ghost use Rattle.grove.specs.Outcomes.{IsSaidOf, SaysOne, PrintsOne};
 
 use crate::answer::{Answer, Stop, end};
 use crate::checking::check_document;
@@ -28,8 +30,12 @@ pub fn run_command<R: Files + AllocGlobal, I: Source, O: Sink, E: Sink>(
     out: &mut O,
     err: &mut E,
 ) -> u8
-    ensures judged { words.now ≡ [] → IfSome (I.remaining input.old) (λ document.
+    ensures judged { AskFor (map string_bytes words.now) (Order.Judge None) → IfSome (I.remaining input.old) (λ document.
         PrintsIt (judgement document) result (O.contents out.old) (O.contents out.new)) }
+    ensures checked { AskFor (map string_bytes words.now) (Order.Check None) → IfSome (I.remaining input.old) (λ document.
+        PrintsOne (IsSaidOf (Order.Check None) document) result (O.contents out.old) (O.contents out.new)) }
+    ensures planned { AskFor (map string_bytes words.now) (Order.Plan None) → IfSome (I.remaining input.old) (λ document.
+        PrintsOne (IsSaidOf (Order.Plan None) document) result (O.contents out.old) (O.contents out.new)) }
     ensures status { result ≤ 3 }
     ensures refused { result ≡ 1 → SaysRefusal (O.contents out.old) (O.contents out.new) }
     ensures unread { result ≡ 2 → I.read_count input.new ≡ I.read_count input.old }
@@ -57,8 +63,8 @@ fn answer<R: Files + AllocGlobal, I: Source>(
     words: &[String],
     input: &mut I,
 ) -> Result<Answer, Stop>
-    ensures judged { words.now ≡ [] → IfOk result (λ answer.
-        IfSome (I.remaining input.old) (λ document. SaysIt (judgement document) answer)) }
+    ensures said { (order : Order) → AskFor (map string_bytes words.now) order → IfOk result (λ answer.
+        IfSome (I.remaining input.old) (λ document. SaysOne (IsSaidOf order document) answer)) }
     ensures refused { IfOk result IsRefusalLine }
     ensures unread { IfOk result (λ answer. status_of answer ≡ 2 → I.read_count input.new ≡ I.read_count input.old) }
     ensures sound { OnOk result (I.has_failed input.new ≡ I.has_failed input.old) }

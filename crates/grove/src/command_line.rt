@@ -1,8 +1,8 @@
-ghost use Rattle.std.specs.Prelude.{◌≡◌, [], false, codes, None, IfOk, IfErr};
+ghost use Rattle.std.specs.Prelude.{◌≡◌, [], false, codes, map, Some, None, IfOk, IfErr, string_bytes};
 ghost use Rattle.clap.specs.declared.builder.command.Command.{out-Command};
 ghost use Rattle.clap.specs.Values.{kind_of};
 ghost use Rattle.clap.specs.Words.{app_of, rule_of, new_rule, subcommand_rows_of};
-ghost use Rattle.grove.specs.CommandLines.{document_command, grove_command};
+ghost use Rattle.grove.specs.CommandLines.{document_command, grove_command, AskFor};
 
 use clap::error::ErrorKind;
 use clap::{Arg, ArgMatches, Command, Error};
@@ -18,15 +18,18 @@ pub enum Order<'a> {
 
 /// The order that the words after the program's name are. No words ask to judge standard input.
 pub fn order_of<'a>(alloc: Global, words: &'a [String]) -> Result<Order<'a>, Error>
-    ensures bare { words.now ≡ [] → IfOk result (λ order. order ≡ Order.Judge None) }
-    ensures certain { words.now ≡ [] → IfErr result (λ error. kind_of error ≡ ErrorKind.OutOfMemory) }
+    ensures asked { (order : Order) → AskFor (map string_bytes words.now) order → IfOk result (λ found. found ≡ order) }
+    ensures certain { (order : Order) → AskFor (map string_bytes words.now) order → IfErr result (λ error. kind_of error ≡ ErrorKind.OutOfMemory) }
 {
     let matches = command_line(alloc)?.try_get_matches_from(words)?;
     Ok(order_in(&matches))
 }
 
 fn order_in<'a>(matches: &ArgMatches<'a>) -> Order<'a>
-    ensures { subcommand_rows_of matches.now ≡ None → result ≡ Order.Judge None }
+    ensures bare { subcommand_rows_of matches.now ≡ None → result ≡ Order.Judge None }
+    ensures judge { subcommand_rows_of matches.now ≡ Some (codes "judge", []) → result ≡ Order.Judge None }
+    ensures check { subcommand_rows_of matches.now ≡ Some (codes "check", []) → result ≡ Order.Check None }
+    ensures plan { subcommand_rows_of matches.now ≡ Some (codes "plan", []) → result ≡ Order.Plan None }
 {
     match matches.subcommand() {
         Some(("check", given)) => Order::Check {

@@ -1,5 +1,5 @@
 -- What was read so far is what the source gave, and at most one byte too much.
-use Rattle.std.proofs.Common.{◌≡◌, ◌+◌, ◌-◌, ◌≤◌, length, vec_len}
+use Rattle.std.proofs.Common.{◌≡◌, ◌-◌, ◌≤◌, length}
 use Rattle.std.specs.Io.KnownBytes.{Consumes}
 use Rattle.grove.proofs.devices.read_whole.Given as goal
 

@@ -1,10 +1,10 @@
-use Rattle.grove_access.specs.Lists.{nodes_of}
-use Rattle.grove_plan.specs.Plans.{cost}
-use Rattle.grove.proofs.Fitting.{flow_fits}
+use Rattle.serde_json.specs.View.{view}
+use Rattle.grove.specs.Outcomes.{ObjectPlanned}
+use Rattle.grove.proofs.Saying.{says_refusal, says_on}
 use Rattle.grove.proofs.planning.plan_document.Goals as goal
 
-pub flow_value-requires : goal.flow_value-requires
-flow_value-requires c = record {
-  fits = flow_fits c.in_ok-tree.tree (nodes_of c.in_ok-list.list) c.in_ok-planned.planned.plan c.in_ok-planned.planned.flow
-      (cost c.in_ok-tree.tree c.in_ok-planned.planned.plan) c.in_ok-planned.ensures.least c.in_ok-planned.ensures.certificate;
-}
+pub returns-in_err-document : goal.returns-in_err-document
+returns-in_err-document c = says_refusal view c.read_document.result _ _ ObjectPlanned c.from_residual.result c.read_document.ensures c.in_err-document.ensures.err c.from_residual.ensures.1
+
+pub returns : goal.returns
+returns c = says_on view c.read_document.result _ _ ObjectPlanned _ c.read_document.ensures c.in_ok-document.ensures.ok c.plan_object.ensures
