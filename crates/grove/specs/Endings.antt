@@ -32,6 +32,10 @@ stop_line Memory = codes "memory" ++ 10 ∷ []
 abbrev pub SaysStop : Option (List ℕ) → Option (List ℕ) → Type 0
 SaysStop old new = Appends old new (stop_line Device) ⊎ Appends old new (stop_line Memory)
 
+-- standard error got the line of a stop: for want of memory, or of a device, and then some device has failed
+abbrev pub SaysWhy : Type 0 → Option (List ℕ) → Option (List ℕ) → Type 0
+SaysWhy HasFailed old new = Appends old new (stop_line Memory) ⊎ (Appends old new (stop_line Device) × HasFailed)
+
 -- the line of a refusal, whose text is that of a fault
 abbrev pub refusal_line : List ℕ → List ℕ
 refusal_line fault = codes "refused " ++ fault ++ 10 ∷ []

@@ -1,6 +1,6 @@
 ghost use Rattle.std.specs.Prelude.{◌≡◌, ◌≤◌, ◌⊎◌, true, false, IfOk, IsOkAnd, OnErr};
 ghost use Rattle.std.specs.Io.KnownBytes.{Appends, Keeps};
-ghost use Rattle.grove.specs.Endings.{status_of, printed, complained, stop_line, IsRefusalLine, SaysRefusal, SaysStop};
+ghost use Rattle.grove.specs.Endings.{status_of, printed, complained, stop_line, IsRefusalLine, SaysRefusal, SaysStop, SaysWhy};
 
 use crate::devices::write_whole;
 use grove_store::{DeviceFault, Sink};
@@ -39,6 +39,8 @@ pub fn end<O: Sink, E: Sink>(answer: Result<Answer, Stop>, out: &mut O, err: &mu
     ensures sound_output { result ≤ 2 → O.has_failed out.new ≡ O.has_failed out.old }
     ensures sound_errors { result ≤ 2 → E.has_failed err.new ≡ E.has_failed err.old }
     ensures told { result ≡ 3 → E.has_failed err.new ≡ false → SaysStop (E.contents err.old) (E.contents err.new) }
+    ensures blamed { result ≡ 3 → E.has_failed err.new ≡ false
+        → SaysWhy ((answer ≡ Err Stop.Device) ⊎ (O.has_failed out.new ≡ true)) (E.contents err.old) (E.contents err.new) }
     ensures unprinted { OnErr answer (Keeps (O.contents out.old) (O.contents out.new)) }
 {
     match answer {
@@ -57,6 +59,7 @@ fn tell<O: Sink, E: Sink>(text: &str, status: u8, out: &mut O, err: &mut E) -> u
     ensures errors { result ≤ 2 → err.new ≡ err.old }
     ensures sound { result ≤ 2 → O.has_failed out.new ≡ O.has_failed out.old }
     ensures told { result ≡ 3 → E.has_failed err.new ≡ false → SaysStop (E.contents err.old) (E.contents err.new) }
+    ensures blamed { result ≡ 3 → E.has_failed err.new ≡ false → SaysWhy (O.has_failed out.new ≡ true) (E.contents err.old) (E.contents err.new) }
 {
     match write_whole(out, text.as_bytes()) {
         Ok(()) => status,
@@ -99,12 +102,22 @@ impl From<DeviceFault> for Stop {
 }
 
 impl From<AllocError> for Stop {
+    ghost use Rattle.std.specs.Prelude.{◌≡◌};
+    ghost use Rattle.grove.specs.declared.answer.Stop.TheVariants.{Memory};
+
+    ghost from_gives = { λ _ stop. stop ≡ Memory };
+
     fn from(_error: AllocError) -> Stop {
         Stop::Memory
     }
 }
 
 impl<T: Drop> From<AllocFailed<T>> for Stop {
+    ghost use Rattle.std.specs.Prelude.{◌≡◌};
+    ghost use Rattle.grove.specs.declared.answer.Stop.TheVariants.{Memory};
+
+    ghost from_gives = { λ _ stop. stop ≡ Memory };
+
     fn from(_error: AllocFailed<T>) -> Stop {
         Stop::Memory
     }

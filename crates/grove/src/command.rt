@@ -1,7 +1,7 @@
-ghost use Rattle.std.specs.Prelude.{◌≡◌, ◌≢◌, ◌≤◌, length, map, false, None, IfOk, IfSome, OnOk, string_bytes};
+ghost use Rattle.std.specs.Prelude.{◌≡◌, ◌≢◌, ◌≤◌, ◌⊎◌, length, map, true, false, None, IfOk, IfErr, IfSome, OnOk, string_bytes};
 ghost use Rattle.clap.specs.Values.{kind_of};
 ghost use Rattle.std.specs.Io.KnownBytes.{Consumes, IsAtEnd, Keeps};
-ghost use Rattle.grove.specs.Endings.{status_of, IsRefusalLine, SaysRefusal, SaysStop};
+ghost use Rattle.grove.specs.Endings.{status_of, IsRefusalLine, SaysRefusal, SaysStop, SaysWhy};
 ghost use Rattle.grove.specs.CommandLines.{AskFor};
 ghost use Rattle.grove.specs.Judgements.{judgement, PrintsIt};
 ghost use Rattle.grove.specs.Outcomes.{IsSaidOf, SaysOne, PrintsOne};
@@ -40,6 +40,8 @@ pub fn run_command<R: Files + AllocGlobal, I: Source, O: Sink, E: Sink>(
     ensures refused { result ≡ 1 → SaysRefusal (O.contents out.old) (O.contents out.new) }
     ensures unread { result ≡ 2 → I.read_count input.new ≡ I.read_count input.old }
     ensures told { result ≡ 3 → E.has_failed err.new ≡ false → SaysStop (E.contents err.old) (E.contents err.new) }
+    ensures blamed { (order : Order) → AskFor (map string_bytes words.now) order → result ≡ 3 → E.has_failed err.new ≡ false
+        → SaysWhy ((I.has_failed input.new ≡ true) ⊎ (O.has_failed out.new ≡ true)) (E.contents err.old) (E.contents err.new) }
     ensures quiet_output { result ≡ 2 → Keeps (O.contents out.old) (O.contents out.new) }
     ensures quiet_errors { result ≤ 1 → Keeps (E.contents err.old) (E.contents err.new) }
     ensures sound_input { result ≤ 2 → I.has_failed input.new ≡ I.has_failed input.old }
@@ -51,7 +53,8 @@ pub fn run_command<R: Files + AllocGlobal, I: Source, O: Sink, E: Sink>(
 
 /// The answer to words that aren't text.
 pub fn refused_words(alloc: Global) -> Result<Answer, Stop>
-    ensures { IfOk result (λ answer. status_of answer ≡ 2) }
+    ensures usage { IfOk result (λ answer. status_of answer ≡ 2) }
+    ensures stopped { IfErr result (λ stop. stop ≡ Stop.Memory) }
 {
     let message = "a word of the command line is not UTF-8";
     let error = command_line(alloc)?.error(ErrorKind::InvalidValue, message)?;
@@ -68,6 +71,8 @@ fn answer<R: Files + AllocGlobal, I: Source>(
     ensures refused { IfOk result IsRefusalLine }
     ensures unread { IfOk result (λ answer. status_of answer ≡ 2 → I.read_count input.new ≡ I.read_count input.old) }
     ensures sound { OnOk result (I.has_failed input.new ≡ I.has_failed input.old) }
+    ensures blamed { (order : Order) → AskFor (map string_bytes words.now) order → IfErr result (λ stop.
+        stop ≡ Stop.Device → I.has_failed input.new ≡ true) }
 {
     let alloc = rt.alloc();
     match order_of(alloc, words) {
@@ -95,6 +100,7 @@ fn document_bytes<R: Files + AllocGlobal, I: Source>(
     ensures input { name.entry ≡ None → IfOk result (λ bytes. Consumes (I.remaining input.old) (I.remaining input.new) bytes.items) }
     ensures end { name.entry ≡ None → IfOk result (λ bytes. length bytes.items ≤ 4194304 → IsAtEnd (I.remaining input.new)) }
     ensures sound { OnOk result (I.has_failed input.new ≡ I.has_failed input.old) }
+    ensures blamed { name.entry ≡ None → IfErr result (λ stop. stop ≡ Stop.Device → I.has_failed input.new ≡ true) }
 {
     match name {
         Some(name) => {
@@ -109,6 +115,7 @@ fn document_bytes<R: Files + AllocGlobal, I: Source>(
 fn words_answer(alloc: Global, error: &Error) -> Result<Answer, Stop>
     ensures refused { IfOk result IsRefusalLine }
     ensures memory { kind_of error.now ≡ ErrorKind.OutOfMemory → result ≡ Err Stop.Memory }
+    ensures stopped { IfErr result (λ stop. stop ≡ Stop.Memory) }
     ensures usage { kind_of error.now ≢ ErrorKind.DisplayHelp → kind_of error.now ≢ ErrorKind.DisplayVersion
         → IfOk result (λ answer. status_of answer ≡ 2) }
 {

@@ -1,4 +1,4 @@
-ghost use Rattle.std.specs.Prelude.{◌≡◌, ◌+◌, ◌≤◌, ◌||◌, length, IfOk, OnOk, is_err};
+ghost use Rattle.std.specs.Prelude.{◌≡◌, ◌+◌, ◌≤◌, ◌||◌, true, length, IfOk, IfErr, OnOk, is_err};
 ghost use Rattle.std.specs.Io.KnownBytes.{Appends, Consumes, IsAtEnd};
 
 use crate::answer::Stop;
@@ -14,6 +14,7 @@ pub fn read_whole<S: Source>(alloc: Global, source: &mut S) -> Result<Vec<u8>, S
     ensures few { IfOk result (λ bytes. length bytes.items ≤ MOST_BYTES + 1) }
     ensures end { IfOk result (λ bytes. length bytes.items ≤ MOST_BYTES → IsAtEnd (S.remaining source.new)) }
     ensures failed { OnOk result (S.has_failed source.new ≡ S.has_failed source.old) }
+    ensures blamed { IfErr result (λ stop. stop ≡ Stop.Device → S.has_failed source.new ≡ true) }
 {
     let mut bytes = Vec::new(alloc);
     let mut buffer = [0u8; 8192];

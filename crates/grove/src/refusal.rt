@@ -78,6 +78,7 @@ pub fn answer_of(alloc: Global, lines: Result<String, Refusal>) -> Result<Answer
         → IfOk result (SaysIt said) }
     ensures refused { IfOk result IsRefusalLine }
     ensures status { IfOk result (λ answer. status_of answer ≤ 1) }
+    ensures memory { IfErr result (λ stop. stop ≡ Stop.Memory) }
 {
     match lines {
         Ok(lines) => Ok(Answer::Done(lines)),
