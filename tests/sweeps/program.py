@@ -58,6 +58,10 @@ class Tally:
     def note(self, where: str, fault: str | None) -> None:
         """Counts one more thing tried; no fault where it was right."""
         self.tried += 1
+        self.blame(where, fault)
+
+    def blame(self, where: str, fault: str | None) -> None:
+        """Tells a fault, if there is one, of what is counted already."""
         if fault:
             self.faults.append(f"{where}: {fault}")
 
