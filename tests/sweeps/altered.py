@@ -1,16 +1,16 @@
-"""Altered certificates: each amount of a flow that `check` accepts, changed by one, is refused."""
+"""Altered certificates: each amount of a flow that `check` accepts, changed by one, is refused by the rule it breaks."""
 
 from __future__ import annotations
 
 import json
 from functools import partial
 
-from sweeps.answers import cost_of, is_refused
+from sweeps.answers import cost_of
 from sweeps.documents import put_back, seeded
 from sweeps.program import Ran, Tally, Try, run
 
 TRIED = "amounts of accepted flows changed by one"
-SEEDED = 24
+SEEDED = 100
 AMOUNTS = ["above", "held", "first", "last", "own"]
 
 
@@ -25,22 +25,33 @@ def alter_each(program: str, seed: int, tally: Tally) -> None:
         tally.note("as made", f"wanted a plan; came {planned}")
         return
     document = json.loads(put_back(seeded(seed), planned.out))
-    tally.compare("as planned", check(program, document), Ran(0, b"cost %d\n" % cost, b""))
+    accepted = check(program, document)
+    tally.blame("as planned", None if cost_of("check", accepted) == cost else f"wanted cost {cost}; came {accepted}")
     for number, row in enumerate(document["flow"]):
         for amount in AMOUNTS:
+            wanted = Ran(1, f"refused {fault_of(document, number, amount)}\n".encode(), b"")
             for by in (-1, 1):
-                alter(program, document, row, amount, by, f"row {number}, {amount} {by:+}", tally)
-                if tally.is_over:
-                    return
+                if row[amount] + by >= 0:
+                    ran = check(program, with_amount(document, number, amount, row[amount] + by))
+                    tally.compare(f"row {number}, {amount} {by:+}", ran, wanted)
 
 
-def alter(program: str, document: dict, row: dict, amount: str, by: int, where: str, tally: Tally) -> None:
-    """Checks the document with one amount changed, which is then put back. No amount is below 0."""
-    row[amount] += by
-    if row[amount] >= 0:
-        ran = check(program, document)
-        tally.note(where, None if is_refused(ran) else f"wanted a refusal; came {ran}")
-    row[amount] -= by
+def with_amount(document: dict, number: int, amount: str, value: int) -> dict:
+    """The document with this amount in the row of this number."""
+    flow = [{**row, amount: value} if at == number else row for at, row in enumerate(document["flow"])]
+    return {**document, "flow": flow}
+
+
+def fault_of(document: dict, number: int, amount: str) -> str:
+    """The first rule that a certificate breaks where this amount alone, of the row of this number, isn't right."""
+    rows = [row["node"] for row in document["flow"]]
+    is_accessed = any(path == rows[number] for _, path, *_ in document["list"])
+    if number == 0 and amount in ("above", "held") or not is_accessed and amount in ("first", "last"):
+        return f"sign {number}"
+    if amount == "above":
+        # (the parent's balance at its lock counts it too, and is told first)
+        return f"lock-balance {rows.index(rows[number].rpartition('/')[0] or '/')}"
+    return f"release-balance {number}" if amount == "last" else f"lock-balance {number}"
 
 
 def check(program: str, document: dict) -> Ran:

@@ -3,6 +3,7 @@
 from __future__ import annotations
 
 import os
+import select
 import shutil
 import threading
 from functools import partial
@@ -173,8 +174,11 @@ class opened:
 
 
 class unread(opened):
-    """The end for writing of a pipe whose end for reading is closed."""
+    """The end for writing of a pipe whose end for reading is closed, also in a run that is just being started."""
 
     def __init__(self) -> None:
         ends, self.descriptor = os.pipe()
         os.close(ends)
+        poll = select.poll()
+        poll.register(self.descriptor, 0)
+        poll.poll(1000)

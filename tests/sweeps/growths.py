@@ -56,7 +56,7 @@ def refuse_each(program: str, library: str, asked: Asked, tally: Tally) -> None:
         is_well = ran == right or was_refused and ran == MEMORY
         if was_refused or not is_well:
             tally.note(f"growth {number} refused", None if is_well else f"wanted {right}, or {MEMORY}; came {ran}")
-        if not was_refused or tally.is_over:
+        if not was_refused:
             return
     tally.note(f"growth {MOST_GROWTHS} refused", "there are still more of them")
 

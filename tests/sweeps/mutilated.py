@@ -40,8 +40,6 @@ def mutilate_each(program: str, text: bytes, seed: int, tally: Tally) -> None:
         costs = {command: ask(program, command, document, f"number {number}", tally) for command in ("judge", "check")}
         costs["plan"] = plan(program, document, f"number {number}", tally)
         tally.blame(f"number {number}", told(disagreement(costs), document))
-        if tally.is_over:
-            return
 
 
 def planned(program: str, text: bytes) -> bytes:

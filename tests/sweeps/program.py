@@ -48,6 +48,10 @@ def run(program: str, *words: str, text: bytes | None = b"", **how) -> Ran:
     return Ran(started.returncode, out or b"", err or b"")
 
 
+class Enough(Exception):
+    """A try has found enough that is wrong."""
+
+
 @dataclass
 class Tally:
     """How much a try has tried, and the first few things that were wrong."""
@@ -61,16 +65,14 @@ class Tally:
         self.blame(where, fault)
 
     def blame(self, where: str, fault: str | None) -> None:
-        """Tells a fault, if there is one, of what is counted already."""
+        """Tells a fault, if there is one, of what is counted already. Ends the try where it has told enough of them."""
         if fault:
             self.faults.append(f"{where}: {fault}")
+        if len(self.faults) >= MOST_FAULTS:
+            raise Enough
 
     def compare(self, where: str, ran: Ran, wanted: Ran) -> None:
         self.note(where, None if ran == wanted else f"wanted {wanted}; came {ran}")
-
-    @property
-    def is_over(self) -> bool:
-        return len(self.faults) >= MOST_FAULTS
 
 
 @dataclass(frozen=True)
@@ -84,8 +86,10 @@ class Try:
         tally = Tally()
         try:
             self.call(tally)
+        except Enough:
+            pass
         except Exception as error:
-            tally.note("stopped", f"{type(error).__name__}: {error}")
-        if not tally.tried:
-            tally.note("stopped", "nothing was tried")
+            tally.faults.append(f"stopped: {type(error).__name__}: {error}")
+        if not tally.tried and not tally.faults:
+            tally.faults.append("nothing was tried")
         return tally
