@@ -6,9 +6,10 @@ import os
 import select
 import shutil
 import threading
+from dataclasses import replace
 from functools import partial
 
-from sweeps.documents import EXAMPLES, Asked, certified_examples, examples
+from sweeps.documents import EXAMPLES, Asked, certified_examples, examples, helped, wrong_words
 from sweeps.program import DEVICE, Ran, Tally, Try, run
 
 TRIED = "runs with a device that is closed, full, of another kind, or in pieces"
@@ -30,65 +31,70 @@ def tries(program: str, room: str) -> list[Try]:
         Try("a file without leave to read", partial(forbidden, program, room)),
         Try("an endless input", partial(endless, program)),
     ]
-    pieces = [Try(f"{it.command} {it.name} in pieces", partial(in_pieces, program, it)) for it in in_pieces_asked()]
+    pieces = [Try(f"{it.name}, in pieces", partial(in_pieces, program, it)) for it in examples() + certified_examples()]
     return fixed + pieces
 
 
-def answered() -> list[tuple[str, list[str], bytes]]:
-    """Words, input and what they are called, of runs that end with an answer or a refusal on standard output."""
-    documents = [(f"{it.command} {it.name}", [it.command], it.document) for it in examples()]
-    return documents + [("--help", ["--help"], b""), ("plan --help", ["plan", "--help"], b"")]
+def answered() -> list[Asked]:
+    """Runs that end with something on standard output."""
+    return examples() + helped()
 
 
 def failing_output(program: str, tally: Tally) -> None:
-    for name, words, text in answered():
+    for asked in answered():
         with open("/dev/full", "wb") as full:
-            tally.compare(f"{name}, full", run(program, *words, text=text, stdout=full), DEVICE)
-        tally.compare(f"{name}, closed", closing(program, ">&-", *words, text=text), DEVICE)
+            tally.compare(f"{asked.name}, full", run(program, *asked.words, text=asked.text, stdout=full), DEVICE)
+        tally.compare(f"{asked.name}, closed", closing(program, ">&-", asked), DEVICE)
         with unread() as pipe:
-            tally.compare(f"{name}, a pipe that nobody reads", run(program, *words, text=text, stdout=pipe), DEVICE)
+            ran = run(program, *asked.words, text=asked.text, stdout=pipe)
+            tally.compare(f"{asked.name}, a pipe that nobody reads", ran, DEVICE)
 
 
 def unused_errors(program: str, tally: Tally) -> None:
-    for name, words, text in answered():
-        right = run(program, *words, text=text)
+    for asked in answered():
         with open("/dev/full", "wb") as full:
-            tally.compare(f"{name}, full", run(program, *words, text=text, stderr=full), right)
-        tally.compare(f"{name}, closed", closing(program, "2>&-", *words, text=text), right)
+            ran = run(program, *asked.words, text=asked.text, stderr=full)
+            tally.note(f"{asked.name}, full", asked.fault(ran))
+        tally.note(f"{asked.name}, closed", asked.fault(closing(program, "2>&-", asked)))
 
 
 def failing_errors(program: str, tally: Tally) -> None:
-    for words in (["bogus"], ["judge", "a", "b"], ["judge", "--bogus"], ["judge", "no-such-file"]):
+    for asked in wrong_words() + [Asked("no such file", ("judge", "no-such-file"), b"", 3)]:
         with open("/dev/full", "wb") as full:
-            tally.compare(f"{words}, full", run(program, *words, stderr=full), SILENT)
-        tally.compare(f"{words}, closed", closing(program, "2>&-", *words), SILENT)
+            tally.compare(f"{asked.name}, full", run(program, *asked.words, stderr=full), SILENT)
+        tally.compare(f"{asked.name}, closed", closing(program, "2>&-", asked), SILENT)
 
 
 def failing_both(program: str, tally: Tally) -> None:
-    for name, words, text in answered():
+    for asked in answered():
         with open("/dev/full", "wb") as full:
-            tally.compare(f"{name}, full", run(program, *words, text=text, stdout=full, stderr=full), SILENT)
-        tally.compare(f"{name}, closed", closing(program, ">&- 2>&-", *words, text=text), SILENT)
+            ran = run(program, *asked.words, text=asked.text, stdout=full, stderr=full)
+            tally.compare(f"{asked.name}, full", ran, SILENT)
+        tally.compare(f"{asked.name}, closed", closing(program, ">&- 2>&-", asked), SILENT)
 
 
 def failing_input(program: str, tally: Tally) -> None:
-    for words in ([], ["judge"], ["check"], ["plan"]):
-        tally.compare(f"{words}, closed", closing(program, "<&-", *words), DEVICE)
+    for words in ((), ("judge",), ("check",), ("plan",)):
+        asked = Asked(" ".join(words) or "no words", words, b"", 3)
+        tally.compare(f"{asked.name}, closed", closing(program, "<&-", asked), DEVICE)
         with opened(str(EXAMPLES), os.O_RDONLY) as folder:
-            tally.compare(f"{words}, a folder", run(program, *words, text=None, stdin=folder), DEVICE)
+            tally.compare(f"{asked.name}, a folder", run(program, *words, text=None, stdin=folder), DEVICE)
         with opened("/dev/null", os.O_WRONLY) as sink:
-            tally.compare(f"{words}, only for writing", run(program, *words, text=None, stdin=sink), DEVICE)
-    tally.compare("all three closed", closing(program, "<&- >&- 2>&-", "judge"), SILENT)
+            tally.compare(f"{asked.name}, only for writing", run(program, *words, text=None, stdin=sink), DEVICE)
+        tally.compare(f"{asked.name}, all closed", closing(program, "<&- >&- 2>&-", asked), SILENT)
 
 
 def unused_input(program: str, tally: Tally) -> None:
-    for command in ("judge", "plan"):
-        right = run(program, command, DOCUMENT)
-        wanted = next(it.output for it in examples() if it.command == command and DOCUMENT.endswith(f"/{it.name}"))
-        tally.compare(f"{command}, empty", right, Ran(0, wanted, b""))
-        tally.compare(f"{command}, closed", closing(program, "<&-", command, DOCUMENT), right)
+    """Runs on a named file, which need no standard input."""
+    for asked in named_examples():
+        tally.note(f"{asked.name}, closed", asked.fault(closing(program, "<&-", asked)))
         with opened(str(EXAMPLES), os.O_RDONLY) as folder:
-            tally.compare(f"{command}, a folder", run(program, command, DOCUMENT, text=None, stdin=folder), right)
+            tally.note(f"{asked.name}, a folder", asked.fault(run(program, *asked.words, text=None, stdin=folder)))
+
+
+def named_examples() -> list[Asked]:
+    """The examples, each as a named file and with a standard input of nothing."""
+    return [replace(it, words=(*it.words, str(EXAMPLES / it.name.split()[1])), text=b"") for it in examples()]
 
 
 def unreadable_names(program: str, tally: Tally) -> None:
@@ -100,15 +106,15 @@ def unreadable_names(program: str, tally: Tally) -> None:
 def forbidden(program: str, room: str, tally: Tally) -> None:
     """A file that whoever runs the program may not read; root may read all, so the program then runs as nobody."""
     os.chmod(room, 0o711)
-    file, own = f"{room}/forbidden.json", f"{room}/program"
-    shutil.copyfile(DOCUMENT, file)
-    shutil.copyfile(program, own)
-    os.chmod(own, 0o755)
-    as_nobody = {"user": NOBODY, "group": NOBODY, "extra_groups": []} if os.geteuid() == 0 else {}
-    os.chmod(file, 0o644)
-    tally.compare("with leave", run(own, "judge", file, cwd="/", **as_nobody), run(program, "judge", DOCUMENT))
-    os.chmod(file, 0)
-    tally.compare("without leave", run(own, "judge", file, cwd="/", **as_nobody), DEVICE)
+    own = shutil.copy(program, f"{room}/program")
+    for asked in named_examples():
+        file = shutil.copy(asked.words[1], room)
+        as_nobody = {"user": NOBODY, "group": NOBODY, "extra_groups": []} if os.geteuid() == 0 else {}
+        os.chmod(file, 0o644)
+        tally.note(f"{asked.name}, with leave", asked.fault(run(own, asked.words[0], file, cwd="/", **as_nobody)))
+        os.chmod(file, 0)
+        tally.compare(f"{asked.name}, without leave", run(own, asked.words[0], file, cwd="/", **as_nobody), DEVICE)
+        os.remove(file)
 
 
 def endless(program: str, tally: Tally) -> None:
@@ -120,24 +126,19 @@ def endless(program: str, tally: Tally) -> None:
             tally.compare(f"{command}, standard input", run(program, command, text=None, stdin=zeros), wanted)
 
 
-def in_pieces_asked() -> list[Asked]:
-    return examples() + certified_examples()
-
-
 def in_pieces(program: str, asked: Asked, tally: Tally) -> None:
     for size in (1, 7):
-        ran = run_on_pieces(program, asked, size)
-        tally.compare(f"of {size}", ran, Ran(asked.status, asked.output, b""))
+        tally.note(f"of {size}", asked.fault(run_on_pieces(program, asked, size)))
 
 
 def run_on_pieces(program: str, asked: Asked, size: int) -> Ran:
     """Runs the program on a pipe that keeps pieces apart: a read gives one of them at most."""
     ends, starts = os.pipe2(os.O_DIRECT | os.O_CLOEXEC)
-    pieces = [asked.document[at : at + size] for at in range(0, len(asked.document), size)]
+    pieces = [asked.text[at : at + size] for at in range(0, len(asked.text), size)]
     writer = threading.Thread(target=write_pieces, args=(starts, pieces))
     writer.start()
     try:
-        return run(program, asked.command, text=None, stdin=ends)
+        return run(program, *asked.words, text=None, stdin=ends)
     finally:
         # (a writer of more than was read is let go)
         os.close(ends)
@@ -154,10 +155,9 @@ def write_pieces(starts: int, pieces: list[bytes]) -> None:
         os.close(starts)
 
 
-def closing(program: str, streams: str, *words: str, text: bytes = b"") -> Ran:
+def closing(program: str, streams: str, asked: Asked) -> Ran:
     """Runs the program with streams closed, as the shell's words for it say."""
-    shell = ["-c", f'exec "$@" {streams}', "sh", program, *words]
-    return run("sh", *shell, text=text)
+    return run("sh", "-c", f'exec "$@" {streams}', "sh", program, *asked.words, text=asked.text)
 
 
 class opened:

@@ -1,4 +1,4 @@
-"""The documents that the sweeps start from."""
+"""What the sweeps ask of the program: documents and words, with the answers that are right for them."""
 
 from __future__ import annotations
 
@@ -7,18 +7,30 @@ from dataclasses import dataclass
 from pathlib import Path
 from random import Random
 
+from sweeps.program import Ran
+
 EXAMPLES = Path(__file__).resolve().parents[2] / "examples"
 
 
 @dataclass(frozen=True)
 class Asked:
-    """A command, a document, and the standard output and status that are right for them."""
+    """Words and an input, with the status and the output that are right for them.
+
+    Without an output any text is right: on standard error where the status is 2, else on standard output."""
 
     name: str
-    command: str
-    document: bytes
-    output: bytes
+    words: tuple[str, ...]
+    text: bytes
     status: int
+    output: bytes | None = None
+
+    def fault(self, ran: Ran) -> str | None:
+        """What is wrong with the run as an answer, if anything is."""
+        if self.output is not None:
+            return None if ran == Ran(self.status, self.output, b"") else f"wanted {self.output!r}; came {ran}"
+        said, unsaid = (ran.err, ran.out) if self.status == 2 else (ran.out, ran.err)
+        is_well = ran.status == self.status and said and not unsaid
+        return None if is_well else f"wanted status {self.status} and a text on one stream; came {ran}"
 
 
 def examples() -> list[Asked]:
@@ -30,7 +42,7 @@ def example(stored: Path) -> Asked:
     name, command = stored.stem.rsplit(".", 1)
     output = stored.read_bytes()
     status = 1 if output.startswith(b"refused ") else 0
-    return Asked(f"{name}.json", command, (EXAMPLES / f"{name}.json").read_bytes(), output, status)
+    return Asked(f"{command} {name}.json", (command,), (EXAMPLES / f"{name}.json").read_bytes(), status, output)
 
 
 def put_back(document: bytes, planned: bytes) -> bytes:
@@ -45,12 +57,12 @@ def put_back(document: bytes, planned: bytes) -> bytes:
 
 def certified_examples() -> list[Asked]:
     """The planned examples once more, each with its plan and its flow, to be checked."""
-    return [certified(it) for it in examples() if it.command == "plan"]
+    return [certified(it) for it in examples() if it.words == ("plan",)]
 
 
 def certified(planned: Asked) -> Asked:
     cost = planned.output.splitlines(keepends=True)[0]
-    return Asked(f"{planned.name} as planned", "check", put_back(planned.document, planned.output), cost, 0)
+    return Asked(f"check what {planned.name} prints", ("check",), put_back(planned.text, planned.output), 0, cost)
 
 
 def two_leaves() -> dict:
@@ -108,7 +120,20 @@ def refused() -> list[Asked]:
 
 
 def refusal(command: str, document: bytes, text: str) -> Asked:
-    return Asked(f"refused {text}", command, document, f"refused {text}\n".encode(), 1)
+    return Asked(f"{command} {text}", (command,), document, 1, f"refused {text}\n".encode())
+
+
+def helped() -> list[Asked]:
+    """Words that ask for help."""
+    return [Asked("help", ("--help",), b"", 0), Asked("help of a command", ("plan", "--help"), b"", 0)]
+
+
+def wrong_words() -> list[Asked]:
+    return [
+        Asked("an unknown command", ("bogus",), b"", 2),
+        Asked("an unknown flag", ("judge", "--bogus"), b"", 2),
+        Asked("a word too many", ("check", "a", "b"), b"", 2),
+    ]
 
 
 def changed(path: tuple, value) -> bytes:

@@ -26,10 +26,9 @@ def tries(program: str, _room: str) -> list[Try]:
 
 
 def whole() -> list[tuple[str, bytes]]:
-    """The documents that are mutilated: each example once, each as planned, and some with seeded trees."""
-    plain = {it.name: it.document for it in examples()}
-    planned = {it.name: it.document for it in certified_examples()}
-    return [*plain.items(), *planned.items()] + [(f"seeded document {it}", seeded(it)) for it in range(SEEDED)]
+    """The documents that are mutilated, each once: the examples, what was planned of them, and some with seeded trees."""
+    plain = {it.text: it.name for it in examples() + certified_examples()}
+    return [(name, text) for text, name in plain.items()] + [(f"seeded document {it}", seeded(it)) for it in range(SEEDED)]
 
 
 def mutilate_each(program: str, text: bytes, seed: int, tally: Tally) -> None:
