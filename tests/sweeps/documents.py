@@ -106,8 +106,14 @@ REFUSED = [
 ]
 
 
+def too_many() -> Asked:
+    """More nodes than a tree has, refused. (A run on it takes too many growths to refuse each.)"""
+    leaves = [{"parent": 0, "name": f"n{number}", "weight": 1} for number in range(4096)]
+    return refusal("judge", json.dumps({"nodes": chain(1) + leaves}).encode(), "tree too-many")
+
+
 def refused() -> list[Asked]:
-    """A refused document of each kind."""
+    """A document for each other kind of refusal."""
     kinds = [
         refusal("judge", b"{", "bad-json"),
         refusal("judge", b"[]", "shape whole"),

@@ -4,14 +4,14 @@ from __future__ import annotations
 
 from functools import partial
 
-from sweeps.documents import Asked, certified_examples, examples, refused
+from sweeps.documents import Asked, certified_examples, examples, refused, too_many
 from sweeps.program import Tally, Try, run
 
 TRIED = "answers compared with those that are right"
 
 
 def tries(program: str, room: str) -> list[Try]:
-    documents = examples() + certified_examples() + refused()
+    documents = examples() + certified_examples() + refused() + [too_many()]
     return [Try(asked.name, partial(compare, program, f"{room}/{at}", asked)) for at, asked in enumerate(documents)]
 
 
