@@ -1,4 +1,4 @@
-"""Altered certificates: each amount of a flow that `check` accepts, changed by one, is refused by the rule it breaks."""
+"""Altered certificates: each amount of a flow that `check` accepts, changed by one, is refused by its rule."""
 
 from __future__ import annotations
 

@@ -13,7 +13,6 @@ from sweeps.documents import EXAMPLES, Asked, certified_examples, examples, help
 from sweeps.program import DEVICE, Ran, Tally, Try, run
 
 TRIED = "runs with a device that is closed, full, of another kind, or in pieces"
-DOCUMENT = str(EXAMPLES / "two-leaves.json")
 NOBODY = 65534
 # Where standard error fails too, nothing can be said.
 SILENT = Ran(3, b"", b"")
@@ -37,7 +36,7 @@ def tries(program: str, room: str) -> list[Try]:
 
 def answered() -> list[Asked]:
     """Runs that end with something on standard output."""
-    return examples() + helped()
+    return examples() + named_examples() + helped()
 
 
 def failing_output(program: str, tally: Tally) -> None:
@@ -94,12 +93,17 @@ def unused_input(program: str, tally: Tally) -> None:
 
 def named_examples() -> list[Asked]:
     """The examples, each as a named file and with a standard input of nothing."""
-    return [replace(it, words=(*it.words, str(EXAMPLES / it.name.split()[1])), text=b"") for it in examples()]
+    return [named(it) for it in examples()]
+
+
+def named(asked: Asked) -> Asked:
+    command, file = asked.name.split()
+    return replace(asked, name=f"{asked.name} by name", words=(command, str(EXAMPLES / file)), text=b"")
 
 
 def unreadable_names(program: str, tally: Tally) -> None:
     for command in ("judge", "check", "plan"):
-        for name in (str(EXAMPLES), f"{DOCUMENT}/below", "no-such-file", "-", "", "n" * 5000):
+        for name in (str(EXAMPLES), f"{EXAMPLES}/two-leaves.json/below", "no-such-file", "-", "", "n" * 5000):
             tally.compare(f"{command} {name[:60]!r}", run(program, command, name), DEVICE)
 
 

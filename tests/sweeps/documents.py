@@ -163,7 +163,7 @@ def still_held() -> dict:
 
 
 def dearer() -> dict:
-    """Two leaves, the root held over the first access: a legal plan that isn't the cheapest, beside a flow in balance."""
+    """Two leaves, the root held over the first access: a legal plan, not the cheapest, beside a flow in balance."""
     found = two_leaves()
     steps = found["plan"]
     steps[3], steps[4] = steps[4], steps[3]
@@ -184,8 +184,8 @@ def tree(random: Random, size: int) -> list[dict]:
     way = [0]
     for number in range(1, size):
         del way[random.randint(1, len(way)) :]
-        row = {"parent": way[-1], "name": f"n{number}", "weight": random.randint(1, 20), "value": random.randint(-9, 99)}
-        nodes.append(row)
+        weight, value = random.randint(1, 20), random.randint(-99, 99)
+        nodes.append({"parent": way[-1], "name": f"n{number}", "weight": weight, "value": value})
         way.append(number)
     return nodes
 

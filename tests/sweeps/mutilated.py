@@ -17,18 +17,23 @@ EACH = 100
 
 NUMBERS = [-(2**63) - 1, -(2**63), -1, 0, 1, 2, 3, 1000, 1001, 2**31, 2**32 - 1, 2**32, 2**40, 2**40 + 1]
 NUMBERS += [2**63 - 1, 2**63, 2**64 - 1, 2**64, 1.0, -0.0, 1e2, 1e300]
-TEXTS = ["/", "", "/a", "/a/", "//a", "a", "A", "/b", "lock", "unlock", "access", "get", "set", "add", "é", "\ud800", "a" * 33]
+TEXTS = ["/", "", "/a", "/a/", "//a", "/b", "a", "A", "é", "\ud800", "a" * 33]
+TEXTS += ["lock", "unlock", "access", "get", "set", "add"]
 VALUES = [None, True, False, [], {}, [[]], "1"]
 
 
 def tries(program: str, _room: str) -> list[Try]:
-    return [Try(f"{name}, seed {seed}", partial(mutilate_each, program, text, seed)) for seed, (name, text) in enumerate(whole())]
+    return [
+        Try(f"{name}, seed {seed}", partial(mutilate_each, program, text, seed))
+        for seed, (name, text) in enumerate(whole())
+    ]
 
 
 def whole() -> list[tuple[str, bytes]]:
-    """The documents that are mutilated, each once: the examples, what was planned of them, and some with seeded trees."""
-    plain = {it.text: it.name for it in examples() + certified_examples()}
-    return [(name, text) for text, name in plain.items()] + [(f"seeded document {it}", seeded(it)) for it in range(SEEDED)]
+    """The documents that are mutilated: the examples, what was planned of them, and some with seeded trees."""
+    names = {it.text: it.name for it in examples() + certified_examples()}
+    names.update((seeded(seed), f"seeded document {seed}") for seed in range(SEEDED))
+    return [(name, text) for text, name in names.items()]
 
 
 def mutilate_each(program: str, text: bytes, seed: int, tally: Tally) -> None:
