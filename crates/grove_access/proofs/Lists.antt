@@ -38,6 +38,11 @@ below_none n place (node ∷ nodes) found access other at = elim (cases_lt node 
   | inr ge ↦ absurd (none-some place (sym found ∙ cond-false (nat_lt node n) (first_beyond n (suc place) nodes) (Some place) (le-ltb node n ge)))
 ]
 
+-- a place beyond n was found only where some node is not below n
+pub beyond_refused : (n m place : ℕ) (nodes : List ℕ) → m ≡ n → Some place ≡ first_beyond m 0 nodes → ¬ AreBelow n nodes
+beyond_refused n m place nodes size found =
+    λ below. none-some place (sym (none_beyond n 0 nodes below) ∙ sym (found ∙ ap (λ (k : ℕ). first_beyond k 0 nodes) size))
+
 -- nothing was found
 none_from : (found : Option ℕ) → is_some found ≡ false → found ≡ None
 none_from None h = refl

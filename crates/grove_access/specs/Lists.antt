@@ -1,5 +1,5 @@
 -- Lists of accesses, seen by their nodes.
-use Rattle.std.specs.Prelude.{◌≡◌, ℕ, suc, ◌<◌, nat_lt, List, [], ◌∷◌, length, slice_get, Option, Some, None, if◌then◌else◌}
+use Rattle.std.specs.Prelude.{◌≡◌, ℕ, suc, ◌<◌, ◌≤◌, nat_lt, List, [], ◌∷◌, length, slice_get, Option, Some, None, if◌then◌else◌}
 use Rattle.grove_tree.specs.Trees.{Rows}
 use Rattle.grove_access.specs.declared.access.Access.{Access}
 use Rattle.grove_access.specs.declared.fault.ListFault.{ListFault}
@@ -30,3 +30,7 @@ no_node (Some place) = Some (NoNode place)
 
 abbrev pub list_fault_of : Rows → List Access → Option ListFault
 list_fault_of rows accesses = if nat_lt 64 (length accesses) then Some TooLong else no_node (first_beyond (length rows) 0 (nodes_of accesses))
+
+-- accesses that make a list over a tree
+abbrev pub AreListed : Rows → List Access → Type 0
+AreListed rows accesses = (length accesses ≤ 64) × AreNodes rows (nodes_of accesses)
