@@ -5,7 +5,7 @@ from dataclasses import dataclass, field
 from makers import MAKERS
 
 MANNERS = {"bare", "escaped", "made"}
-COMPARISONS = {"has", "begins", "certified"}
+COMPARISONS = {"has", "certified"}
 ESCAPES = {"n": b"\n", "r": b"\r", "t": b"\t", "\\": b"\\"}
 
 
