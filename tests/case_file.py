@@ -2,6 +2,7 @@
 import re
 from dataclasses import dataclass, field
 
+import combs  # noqa: F401 (its makers join the others)
 from makers import MAKERS
 
 MANNERS = {"bare", "escaped", "made"}
@@ -15,7 +16,7 @@ class BadCase(Exception):
 
 @dataclass
 class Wanted:
-    """What a stream has to be: just this text, or what the comparison says of it."""
+    """What a stream has to be: just this text, or what the README says of the comparison."""
 
     text: bytes = b""
     comparison: str = "exact"
@@ -34,9 +35,10 @@ class Case:
 
 
 def read_case(path):
-    about, *sections = re.split(r"^--- ", path.read_text(encoding="utf-8"), flags=re.MULTILINE)
-    if not about.strip():
-        raise BadCase("it doesn't say what it shows")
+    text = path.read_text(encoding="utf-8")
+    about, *sections = re.split(r"^--- ", text, flags=re.MULTILINE)
+    if not about.strip() or not text.endswith("\n"):
+        raise BadCase("it doesn't say what it shows, or doesn't end with its last line")
     case, seen = Case(), set()
     for section in sections:
         heading, _, body = section.partition("\n")
@@ -118,5 +120,8 @@ def made(body):
         else:
             raise BadCase(f"no maker is {maker}")
     if size is not None:
-        pieces.insert(place, b" " * (size - sum(map(len, pieces))))
+        blanks = size - sum(map(len, pieces))
+        if blanks < 0:
+            raise BadCase(f"it has {-blanks} bytes more than are to be filled")
+        pieces.insert(place, b" " * blanks)
     return b"".join(pieces)
