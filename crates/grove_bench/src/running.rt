@@ -36,7 +36,6 @@ fn time_run(rt: &HostRuntime, core: &mut Core) -> Result<()> {
     let rounds = take_in_turn(core);
     watch.lap(rt, "run")?;
     println!(rt; "  {rounds} rounds of {JOBS} tries")?;
-    println!(rt; "  {} steps taken", core.history().len())?;
     Ok(())
 }
 
@@ -47,7 +46,8 @@ fn time_order(rt: &HostRuntime, core: &Core) -> Result<()> {
     let mut watch = Watch::start(rt)?;
     let order = serial_order(rt.alloc(), core)?;
     watch.lap(rt, "order")?;
-    println!(rt; "  {} jobs finished", order.len())?;
+    let steps = core.history().len();
+    println!(rt; "  {} jobs finished in {steps} steps", order.len())?;
     Ok(())
 }
 

@@ -1,29 +1,27 @@
 use grove_access::{Access, Op};
 use grove_plan::Step;
 use grove_tree::{Node, Row, Tree};
-use std::alloc::{AllocError, Global};
-use std::test::Fail;
+use std::alloc::Global;
+use std::process::Abort;
 
 /// A tree of the rows with these parents, names and weights.
-pub fn tree_of(alloc: Global, rows: &[(Option<u32>, &str, u32)]) -> Result<Tree, Fail> {
+pub fn tree_of(rt: &impl Abort, alloc: Global, rows: &[(Option<u32>, &str, u32)]) -> Tree {
     let mut list = Vec::new(alloc);
     for (parent, name, weight) in rows {
-        let name = String::from_str(alloc, name)?;
-        list.push(Row {
+        let row = Row {
             parent: *parent,
-            name,
+            name: String::from_str(alloc, name).expect(rt, "room for a name"),
             weight: *weight,
-        })?;
+        };
+        list.push(row).expect(rt, "room for a row");
     }
-    Ok(Tree::build(alloc, &list)?)
+    Tree::build(alloc, &list).expect(rt, "a tree")
 }
 
 /// A root, node 0, with two children `/a` and `/b`, nodes 1 and 2; each weighs 1.
-pub fn two_leaves(alloc: Global) -> Result<Tree, Fail> {
-    tree_of(
-        alloc,
-        &[(None, "", 1), (Some(0), "a", 1), (Some(0), "b", 1)],
-    )
+pub fn two_leaves(rt: &impl Abort, alloc: Global) -> Tree {
+    let rows = [(None, "", 1), (Some(0), "a", 1), (Some(0), "b", 1)];
+    tree_of(rt, alloc, &rows)
 }
 
 pub fn access(node: u32, op: Op) -> Access {
@@ -32,12 +30,14 @@ pub fn access(node: u32, op: Op) -> Access {
 }
 
 /// Accesses that read these nodes.
-pub fn gets(alloc: Global, nodes: &[u32]) -> Result<Vec<Access>, AllocError> {
+pub fn gets(rt: &impl Abort, alloc: Global, nodes: &[u32]) -> Vec<Access> {
     let mut accesses = Vec::new(alloc);
     for node in nodes {
-        accesses.push(access(*node, Op::Get))?;
+        accesses
+            .push(access(*node, Op::Get))
+            .expect(rt, "room for an access");
     }
-    Ok(accesses)
+    accesses
 }
 
 pub fn lock(node: u32) -> Step {

@@ -1,7 +1,8 @@
 ghost use Rattle.std.specs.Prelude.{◌≡◌};
 
 use grove_flow::{Arc, Network, Solution, latest, solve};
-use std::test::Fail;
+use std::alloc::Global;
+use std::process::Abort;
 
 fn arc(from: u32, to: u32, least: i64) -> Arc
     ensures { result ≡ record { from = from; to = to; least = least } }
@@ -9,47 +10,53 @@ fn arc(from: u32, to: u32, least: i64) -> Arc
     Arc { from, to, least }
 }
 
-#[test]
-fn a_row_is_paid_through_the_base(rt: HostRuntime) -> Result<(), Fail> {
-    let alloc = rt.alloc();
-    let arcs = vec![in alloc; arc(0, 2, 0), arc(2, 1, 1), arc(0, 1, 0)]?;
-    let needs = vec![in alloc; -1, 1, 0]?;
-    let network = Network { arcs, needs };
-    let solution = solve(alloc, &network, &[0, 1, 0])?;
-    assert_eq!(rt; solution.amounts.as_slice(), [1, 1, 0].as_slice());
-    assert_eq!(rt; solution.places.as_slice(), [0, 1, 0].as_slice());
-    let solution = Solution {
-        amounts: vec![in alloc; 1, 1, 0]?,
-        places: vec![in alloc; 0, 1, 0]?,
-    };
-    let places = latest(alloc, &network, &solution, 1)?;
-    assert_eq!(rt; places.as_slice(), [0, 1, 0].as_slice());
-    Ok(())
+fn network_of(rt: &impl Abort, alloc: Global, arcs: &[Arc], needs: &[i64]) -> Network
+    ensures arcs { result.arcs.items ≡ arcs.now }
+    ensures needs { result.needs.items ≡ needs.now }
+{
+    let arcs = Vec::from_slice(alloc, arcs).expect(rt, "room for arcs");
+    let needs = Vec::from_slice(alloc, needs).expect(rt, "room for needs");
+    Network { arcs, needs }
+}
+
+fn solution_of(rt: &impl Abort, alloc: Global, amounts: &[u64], places: &[i64]) -> Solution
+    ensures amounts { result.amounts.items ≡ amounts.now }
+    ensures places { result.places.items ≡ places.now }
+{
+    let amounts = Vec::from_slice(alloc, amounts).expect(rt, "room for amounts");
+    let places = Vec::from_slice(alloc, places).expect(rt, "room for places");
+    Solution { amounts, places }
 }
 
 #[test]
-fn no_rows_need_nothing(rt: HostRuntime) -> Result<(), Fail> {
+fn a_row_is_paid_through_the_base(rt: HostRuntime) {
     let alloc = rt.alloc();
-    let network = Network {
-        arcs: vec![in alloc]?,
-        needs: vec![in alloc; 0]?,
-    };
-    let solution = solve(alloc, &network, &[0])?;
-    assert_eq!(rt; solution.amounts.len(), 0);
-    assert_eq!(rt; solution.places.as_slice(), [0].as_slice());
-    let solution = Solution {
-        amounts: vec![in alloc]?,
-        places: vec![in alloc; 0]?,
-    };
-    let places = latest(alloc, &network, &solution, 0)?;
-    assert_eq!(rt; places.as_slice(), [0].as_slice());
-    Ok(())
+    let arcs = [arc(0, 2, 0), arc(2, 1, 1), arc(0, 1, 0)];
+    let network = network_of(&rt, alloc, &arcs, &[-1, 1, 0]);
+    let solution = solve(alloc, &network, &[0, 1, 0]).expect(&rt, "room to solve");
+    assert!(rt; solution.amounts.as_slice() == [1, 1, 0].as_slice());
+    assert!(rt; solution.places.as_slice() == [0, 1, 0].as_slice());
+    let solution = solution_of(&rt, alloc, &[1, 1, 0], &[0, 1, 0]);
+    let places = latest(alloc, &network, &solution, 1).expect(&rt, "room for the latest");
+    assert!(rt; places.as_slice() == [0, 1, 0].as_slice());
 }
 
 #[test]
-fn a_light_root_is_held_late_and_a_heavy_one_short(rt: HostRuntime) -> Result<(), Fail> {
+fn no_rows_need_nothing(rt: HostRuntime) {
     let alloc = rt.alloc();
-    let arcs = vec![in alloc;
+    let network = network_of(&rt, alloc, &[], &[0]);
+    let solution = solve(alloc, &network, &[0]).expect(&rt, "room to solve");
+    assert!(rt; solution.amounts.is_empty());
+    assert!(rt; solution.places.as_slice() == [0].as_slice());
+    let solution = solution_of(&rt, alloc, &[], &[0]);
+    let places = latest(alloc, &network, &solution, 0).expect(&rt, "room for the latest");
+    assert!(rt; places.as_slice() == [0].as_slice());
+}
+
+#[test]
+fn a_light_root_is_held_late_and_a_heavy_one_short(rt: HostRuntime) {
+    let alloc = rt.alloc();
+    let arcs = [
         arc(0, 1, 0),
         arc(0, 2, 0),
         arc(2, 1, 0),
@@ -61,20 +68,13 @@ fn a_light_root_is_held_late_and_a_heavy_one_short(rt: HostRuntime) -> Result<()
         arc(4, 6, -1),
         arc(6, 5, 2),
         arc(4, 5, 0),
-    ]?;
-    let needs = vec![in alloc; -1, 1, -1, 1, -1, 1, 0]?;
-    let network = Network { arcs, needs };
-    let light = Solution {
-        amounts: vec![in alloc; 0, 1, 0, 2, 1, 0, 0, 1, 0, 1, 0]?,
-        places: vec![in alloc; 0, 0, 0, 1, 0, 2, 0]?,
-    };
-    let places = latest(alloc, &network, &light, 2)?;
-    assert_eq!(rt; places.as_slice(), [0, 1, 0, 1, 1, 2, 0].as_slice());
-    let heavy = Solution {
-        amounts: vec![in alloc; 4, 1, 0, 2, 1, 0, 0, 1, 0, 1, 0]?,
-        places: vec![in alloc; 0, 0, 0, 1, 0, 2, 0]?,
-    };
-    let places = latest(alloc, &network, &heavy, 2)?;
-    assert_eq!(rt; places.as_slice(), [0, 0, 0, 1, 0, 2, 0].as_slice());
-    Ok(())
+    ];
+    let network = network_of(&rt, alloc, &arcs, &[-1, 1, -1, 1, -1, 1, 0]);
+    let start = [0, 0, 0, 1, 0, 2, 0];
+    let light = solution_of(&rt, alloc, &[0, 1, 0, 2, 1, 0, 0, 1, 0, 1, 0], &start);
+    let places = latest(alloc, &network, &light, 2).expect(&rt, "room for the latest");
+    assert!(rt; places.as_slice() == [0, 1, 0, 1, 1, 2, 0].as_slice());
+    let heavy = solution_of(&rt, alloc, &[4, 1, 0, 2, 1, 0, 0, 1, 0, 1, 0], &start);
+    let places = latest(alloc, &network, &heavy, 2).expect(&rt, "room for the latest");
+    assert!(rt; places.as_slice() == [0, 0, 0, 1, 0, 2, 0].as_slice());
 }

@@ -2,12 +2,11 @@ use crate::fixtures::{gets, lock, two_leaves, unlock};
 use grove_access::{AccessList, ListFault};
 use grove_plan::{Plan, Step};
 use grove_tree::Node;
-use std::test::Fail;
 
 #[test]
-fn a_list_is_short_and_names_nodes_of_the_tree(rt: HostRuntime) -> Result<(), Fail> {
+fn a_list_is_short_and_names_nodes_of_the_tree(rt: HostRuntime) {
     let alloc = rt.alloc();
-    let tree = two_leaves(alloc)?;
+    let tree = two_leaves(&rt, alloc);
     let cases: [(&[u32], Option<ListFault>); 4] = [
         (&[1; 64], None),
         (&[1; 65], Some(ListFault::TooLong)),
@@ -15,14 +14,13 @@ fn a_list_is_short_and_names_nodes_of_the_tree(rt: HostRuntime) -> Result<(), Fa
         (&[0, 3], Some(ListFault::NoNode(1))),
     ];
     for (nodes, fault) in cases {
-        let list = AccessList::new(alloc, &tree, &gets(alloc, nodes)?);
-        assert_eq!(rt; list.err(), fault);
+        let list = AccessList::new(alloc, &tree, &gets(&rt, alloc, nodes));
+        assert!(rt; list.err() == fault);
     }
-    Ok(())
 }
 
 #[test]
-fn a_plan_tells_the_slots_of_its_locks_and_unlocks(rt: HostRuntime) -> Result<(), Fail> {
+fn a_plan_tells_the_slots_of_its_locks_and_unlocks(rt: HostRuntime) {
     let steps = [
         lock(0),
         lock(1),
@@ -32,7 +30,8 @@ fn a_plan_tells_the_slots_of_its_locks_and_unlocks(rt: HostRuntime) -> Result<()
         Step::Access(1),
         unlock(2),
     ];
-    let plan = Plan::new(Vec::from_slice(rt.alloc(), &steps)?);
+    let steps = Vec::from_slice(rt.alloc(), &steps).expect(&rt, "room for steps");
+    let plan = Plan::new(steps);
     let slots = [
         (0, Some(0), None),
         (1, Some(0), Some(1)),
@@ -46,5 +45,4 @@ fn a_plan_tells_the_slots_of_its_locks_and_unlocks(rt: HostRuntime) -> Result<()
             (locked, released)
         );
     }
-    Ok(())
 }

@@ -7,7 +7,6 @@ use grove_plan::{Plan, PlanFault, Step};
 use grove_tree::{Node, Tree};
 use std::alloc::Global;
 use std::process::Abort;
-use std::test::Fail;
 
 const ROOT: u32 = 0;
 
@@ -49,11 +48,14 @@ fn alone(node: u32) -> [Step; 3] {
     [lock(node), Step::Access(0), unlock(node)]
 }
 
-fn job_of(rt: &impl Abort, alloc: Global, tree: &Tree, script: &Script) -> Result<Job, Fail> {
+fn job_of(rt: &impl Abort, alloc: Global, tree: &Tree, script: &Script) -> Job {
     assert!(rt; script.steps.len() < 100);
-    let list = AccessList::new(alloc, tree, script.accesses)?;
-    let plan = Plan::new(Vec::from_slice(alloc, script.steps)?);
-    Ok(Job { list, plan })
+    let list = AccessList::new(alloc, tree, script.accesses).expect(rt, "a list");
+    let steps = Vec::from_slice(alloc, script.steps).expect(rt, "room for steps");
+    Job {
+        list,
+        plan: Plan::new(steps),
+    }
 }
 
 fn open<'a>(
@@ -77,19 +79,19 @@ fn plays(
     opening: &[i64],
     turns: &[Turn],
     outcome: &Outcome,
-) -> Result<(), Fail> {
-    let tree = two_leaves(alloc)?;
-    let records = Records::new(alloc, opening)?;
+) {
+    let tree = two_leaves(rt, alloc);
+    let records = Records::new(alloc, opening).expect(rt, "room for records");
     let jobs = [
-        job_of(rt, alloc, &tree, &scripts[0])?,
-        job_of(rt, alloc, &tree, &scripts[1])?,
+        job_of(rt, alloc, &tree, &scripts[0]),
+        job_of(rt, alloc, &tree, &scripts[1]),
     ];
-    let mut core = open(rt, alloc, &tree, &records, &jobs)?;
+    let mut core = open(rt, alloc, &tree, &records, &jobs).expect(rt, "a core");
     for (count, event, answer) in turns {
         turn(rt, &mut core, *count, *event, *answer);
     }
     comes_to(rt, &core, outcome);
-    is_in_order(rt, alloc, &core, &outcome.order)
+    is_in_order(rt, alloc, &core, &outcome.order);
 }
 
 fn turn(rt: &impl Abort, core: &mut Core, count: u32, event: Event, answer: Result<(), StepFault>) {
@@ -117,17 +119,17 @@ fn comes_to(rt: &impl Abort, core: &Core, outcome: &Outcome) {
     }
 }
 
-fn is_in_order(rt: &impl Abort, alloc: Global, core: &Core, order: &[u32]) -> Result<(), Fail> {
+fn is_in_order(rt: &impl Abort, alloc: Global, core: &Core, order: &[u32]) {
     assert!(rt; core.is_finished());
-    assert_eq!(rt; serial_order(alloc, core)?.as_slice(), order);
-    let mut found = Vec::with_capacity(alloc, core.jobs().len())?;
+    let found = serial_order(alloc, core).expect(rt, "room for an order");
+    assert!(rt; found.as_slice() == order);
+    let mut found = Vec::with_capacity(alloc, core.jobs().len()).expect(rt, "room for an order");
     serial_order_into(core, &mut found);
-    assert_eq!(rt; found.as_slice(), order);
-    Ok(())
+    assert!(rt; found.as_slice() == order);
 }
 
 #[test]
-fn whoever_reads_the_old_record_comes_first(rt: HostRuntime) -> Result<(), Fail> {
+fn whoever_reads_the_old_record_comes_first(rt: HostRuntime) {
     let steps = alone(A);
     let scripts = [
         Script {
@@ -154,11 +156,11 @@ fn whoever_reads_the_old_record_comes_first(rt: HostRuntime) -> Result<(), Fail>
         &[0, 7, 0],
         &[takes(3, 1), takes(3, 0)],
         &outcome,
-    )
+    );
 }
 
 #[test]
-fn a_first_node_higher_up_comes_first(rt: HostRuntime) -> Result<(), Fail> {
+fn a_first_node_higher_up_comes_first(rt: HostRuntime) {
     let scripts = [
         Script {
             accesses: &[access(A, Op::Get)],
@@ -184,11 +186,11 @@ fn a_first_node_higher_up_comes_first(rt: HostRuntime) -> Result<(), Fail> {
         &[0, 0, 0],
         &[takes(3, 0), takes(3, 1)],
         &outcome,
-    )
+    );
 }
 
 #[test]
-fn a_job_that_locks_nothing_comes_last(rt: HostRuntime) -> Result<(), Fail> {
+fn a_job_that_locks_nothing_comes_last(rt: HostRuntime) {
     let scripts = [
         Script {
             accesses: &[],
@@ -214,11 +216,11 @@ fn a_job_that_locks_nothing_comes_last(rt: HostRuntime) -> Result<(), Fail> {
         &[0, 0, 0],
         &[takes(3, 1)],
         &outcome,
-    )
+    );
 }
 
 #[test]
-fn each_refusal_has_its_name(rt: HostRuntime) -> Result<(), Fail> {
+fn each_refusal_has_its_name(rt: HostRuntime) {
     let steps = alone(A);
     let reads = [access(A, Op::Get)];
     let script = Script {
@@ -253,11 +255,11 @@ fn each_refusal_has_its_name(rt: HostRuntime) -> Result<(), Fail> {
         &[0, 0, 0],
         &turns,
         &outcome,
-    )
+    );
 }
 
 #[test]
-fn a_follower_waits_for_the_second_node(rt: HostRuntime) -> Result<(), Fail> {
+fn a_follower_waits_for_the_second_node(rt: HostRuntime) {
     let steps = [
         lock(ROOT),
         lock(A),
@@ -296,7 +298,7 @@ fn a_follower_waits_for_the_second_node(rt: HostRuntime) -> Result<(), Fail> {
         records: [0, 2, 2],
         waits: [0, 0, 1],
     };
-    plays(&rt, rt.alloc(), scripts, &[0, 0, 0], &turns, &outcome)
+    plays(&rt, rt.alloc(), scripts, &[0, 0, 0], &turns, &outcome);
 }
 
 /// The first job sets a child, and the second reads the root and that child.
@@ -306,7 +308,7 @@ fn a_set_and_two_gets(
     turns: &[Turn],
     order: [u32; 2],
     second_replies: &[Reply],
-) -> Result<(), Fail> {
+) {
     let sets = [access(A, Op::Set(1))];
     let gets = [access(ROOT, Op::Get), access(A, Op::Get)];
     let steps = [
@@ -335,37 +337,29 @@ fn a_set_and_two_gets(
         records: [0, 1, 0],
         waits: [0, 0, 0],
     };
-    plays(rt, alloc, scripts, &[0, 0, 0], turns, &outcome)
+    plays(rt, alloc, scripts, &[0, 0, 0], turns, &outcome);
 }
 
 #[test]
-fn who_locks_the_shared_node_first_comes_first(rt: HostRuntime) -> Result<(), Fail> {
+fn who_locks_the_shared_node_first_comes_first(rt: HostRuntime) {
     let set_first = [takes(3, 0), takes(6, 1)];
     let replies = [Reply::Value(0), Reply::Value(1)];
-    a_set_and_two_gets(&rt, rt.alloc(), &set_first, [0, 1], &replies)?;
+    a_set_and_two_gets(&rt, rt.alloc(), &set_first, [0, 1], &replies);
     let gets_first = [takes(6, 1), takes(3, 0)];
     let replies = [Reply::Value(0), Reply::Value(0)];
-    a_set_and_two_gets(&rt, rt.alloc(), &gets_first, [1, 0], &replies)
+    a_set_and_two_gets(&rt, rt.alloc(), &gets_first, [1, 0], &replies);
 }
 
 #[test]
-fn a_plan_that_locks_twice_is_refused(rt: HostRuntime) -> Result<(), Fail> {
+fn a_plan_that_locks_twice_is_refused(rt: HostRuntime) {
     let alloc = rt.alloc();
-    let tree = two_leaves(alloc)?;
-    let records = Records::new(alloc, &[0, 0, 0])?;
-    let steps = [lock(A), unlock(A), lock(A), Step::Access(0), unlock(A)];
-    let reads = [access(A, Op::Get)];
-    let jobs = [job_of(
-        &rt,
-        alloc,
-        &tree,
-        &Script {
-            accesses: &reads,
-            steps: &steps,
-        },
-    )?];
+    let tree = two_leaves(&rt, alloc);
+    let records = Records::new(alloc, &[0, 0, 0]).expect(&rt, "room for records");
+    let script = Script {
+        accesses: &[access(A, Op::Get)],
+        steps: &[lock(A), unlock(A), lock(A), Step::Access(0), unlock(A)],
+    };
+    let jobs = [job_of(&rt, alloc, &tree, &script)];
     let opened = open(&rt, alloc, &tree, &records, &jobs);
-    let fault = OpenFault::BadPlan(0, PlanFault::Relock(2));
-    assert_eq!(rt; opened.err(), Some(fault));
-    Ok(())
+    assert!(rt; opened.err() == Some(OpenFault::BadPlan(0, PlanFault::Relock(2))));
 }
