@@ -102,20 +102,18 @@ fn turn(rt: &impl Abort, core: &mut Core, count: u32, event: Event, answer: Resu
 }
 
 fn comes_to(rt: &impl Abort, core: &Core, outcome: &Outcome) {
-    assert_eq!(rt; core.history().len(), outcome.events);
-    assert_eq!(rt; core.jobs().len(), 2);
-    assert_eq!(rt; core.replies(0), outcome.first_replies);
-    assert_eq!(rt; core.replies(1), outcome.second_replies);
-    assert_eq!(rt; core.tree().len(), 3);
-    assert_eq!(rt; core.records().len(), 3);
+    assert!(rt; core.history().len() == outcome.events);
+    assert!(rt; core.jobs().len() == 2);
+    assert!(rt; core.replies(0) == outcome.first_replies);
+    assert!(rt; core.replies(1) == outcome.second_replies);
+    assert!(rt; core.tree().len() == 3);
+    assert!(rt; core.records().len() == 3);
     for number in 0..3u32 {
         let node = Node::new(number);
         let record = outcome.records[number as usize];
         let waits = outcome.waits[number as usize];
-        assert_eq!(rt;
-            (core.records().get(node), core.waits(node)),
-            (record, waits)
-        );
+        assert!(rt; core.records().get(node) == record);
+        assert!(rt; core.waits(node) == waits);
     }
 }
 
