@@ -23,5 +23,3 @@ mod place;
 mod plan_values;
 mod plans;
 mod replies;
-#[cfg(test)]
-mod tests;
