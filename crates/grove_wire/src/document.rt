@@ -9,13 +9,14 @@ use serde_json::Value;
 use std::alloc::Global;
 
 /// The greatest number of bytes of a document.
-const MOST_BYTES: usize = 4_194_304;
+pub const MOST_BYTES: usize = 4_194_304;
 
 /// The JSON object that a text of at most 4,194,304 bytes is. More bytes are `Limit`, what isn't UTF-8 or isn't JSON is
-/// `BadJson`, and what is no object is `Shape`, of the whole.
-#[tactic(auto, unfolding(crate::specs::Reading::document_of))]
+/// `BadJson`, and what is no object is `Shape`, of the whole. So few bytes hold no long arrays.
+#[tactic(auto, using(crate::proofs::Lengths::arrays_of_short), unfolding(crate::specs::Reading::document_of))]
 pub fn read_document(alloc: Global, bytes: &[u8]) -> Result<Value, WireFault>
-    ensures { Gives (λ document. view document) result (document_of bytes.now) }
+    ensures read { Gives (λ document. view document) result (document_of bytes.now) }
+    ensures short { IfOk result (λ document. HasArraysWithin 4194304 (view document)) }
 {
     if bytes.len() > MOST_BYTES {
         return Err(WireFault::Limit(Place::whole(Part::Whole)));

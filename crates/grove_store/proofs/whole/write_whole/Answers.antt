@@ -1,6 +1,6 @@
 use Rattle.std.proofs.Common.{rules}
-use Rattle.grove.proofs.Writing.{writes_on}
-use Rattle.grove.proofs.devices.write_whole.Goals as goal
+use Rattle.grove_store.proofs.Written.{writes_on}
+use Rattle.grove_store.proofs.whole.write_whole.Goals as goal
 
 pub loop-rest-preserved : goal.loop-rest-preserved
 loop-rest-preserved g c = (

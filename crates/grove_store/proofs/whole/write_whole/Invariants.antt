@@ -1,7 +1,7 @@
 -- What is written and what is left to write are the bytes together.
 use Rattle.std.proofs.Common.{◌≡◌, length}
-use Rattle.grove.proofs.Writing.{IsWritten}
-use Rattle.grove.proofs.devices.write_whole.Given as goal
+use Rattle.grove_store.proofs.Written.{IsWritten}
+use Rattle.grove_store.proofs.whole.write_whole.Given as goal
 
 abbrev pub invariant-loop-rest : goal.invariant-loop-rest
 invariant-loop-rest g l =
