@@ -1,19 +1,13 @@
 -- The words after a command: clap takes them only where they give a document.
-use Rattle.std.proofs.Common.{◌≡◌, ◌≢◌, ◌∙◌, ℕ, zero, suc, ap, refl, sym, subst, Bool, true, false, cond, List, [], ◌∷◌, Option, Some, None, inl, inr, codes, slice_get, length, ◌||◌, ◌⊎◌, drop, encode_utf8, ◌==◌, fold}
-use Rattle.std.specs.Str.{chars, bytes_eq}
-use Rattle.clap.specs.Lexer.{long_of, short_of}
-use Rattle.clap.specs.Words.{subcommand_of, first_of, Row, Rule, Shape, Text, fault_of, built, App, new_rule}
-use Rattle.std.specs.Prelude.{is_some, option_and_then}
-use Rattle.std.proofs.lemmas.Slice.Eq.{bytes_eq-Decides}
-use Rattle.clap.proofs.WalkLemmas.{walk_stopped}
-use Rattle.clap.proofs.FaultLemmas.{stopped_fault}
-use Rattle.clap.specs.Simple.{entered, names_of, built_leaf, inherited, help_rule, version_rule, filled, with_index}
-use Rattle.clap.specs.Walk.{subcommand_met, Names, walk, rows_after, Held, Walk, Waiting, idle, positional, nothing_held, walked, walk_from, word_met, bundle_met, plain, value, arg_by_long, arg_by_short, has_long, has_short, settled, reacted}
-use Rattle.clap.specs.Faults.{word_fault, step_fault, entered_fault, turn_fault, flag_word_fault, long_fault, short_fault, bundle_fault, flags_fault, walk_fault, level_fault, settle_fault, use_fault, react_fault}
-use Rattle.clap.specs.Kinds.{or_else, Kinds}
+use Rattle.std.proofs.Common.{◌≡◌, ◌≢◌, ℕ, refl, sym, subst, true, false, List, [], ◌∷◌, Option, Some, None, inl, inr, codes}
+use Rattle.clap.specs.Words.{first_of, Row, Shape, Text}
+use Rattle.clap.specs.Simple.{built_leaf, inherited}
+use Rattle.clap.specs.Walk.{rows_after, Walk, idle, nothing_held, walked, walk_from, word_met}
+use Rattle.clap.specs.Faults.{word_fault, step_fault, turn_fault, walk_fault, level_fault}
+use Rattle.clap.specs.Kinds.{Kinds}
 use Rattle.clap.proofs.OnLiterals.{clap_on_literals}
-use Rattle.grove.specs.CommandLines.{grove_command, document_command, no_command, hyphens, is_option, IsPlain, AreDocument}
-use Rattle.grove.proofs.Words.{IsFaulty, or_faulty, or_later, not_none, top_rules, leaf_rules, top_long, top_short, leaf_long, leaf_short, held_with, IsOption, option_refused, first_flag, HasNoFlag, no_flag, no_bundle, differs, met_plain, Kind, hyphens_kind, option_kind, plain_kind, kind_of}
+use Rattle.grove.specs.CommandLines.{document_command, no_command, hyphens, is_option, AreDocument}
+use Rattle.grove.proofs.Words.{IsFaulty, or_faulty, or_later, not_none, leaf_rules, leaf_long, leaf_short, held_with, IsOption, option_refused, HasNoFlag, no_flag, differs, met_plain, Kind, hyphens_kind, option_kind, plain_kind, kind_of}
 
 -- the document that rows name
 abbrev pub document_in : List Row → Option Text

@@ -1,11 +1,9 @@
 -- Words that are an order are taken by clap, and are no second order.
-use Rattle.std.proofs.Common.{arith, ◌<◌, ◌≡◌, ◌≢◌, ◌∙◌, ℕ, zero, suc, ap, refl, sym, subst, Bool, true, false, List, [], ◌∷◌, length, get_or, Option, Some, None, inl, inr, codes, slice_get, ◌⊎◌, String, Result, fold}
+use Rattle.std.proofs.Common.{arith, ◌<◌, ◌≡◌, ◌≢◌, ◌∙◌, ℕ, ap, refl, sym, subst, false, List, [], ◌∷◌, length, Option, Some, None, inl, inr, codes, ◌⊎◌, Result, fold}
 use Rattle.std.specs.Prelude.{is_some}
-use Rattle.std.specs.Str.{chars}
-use Rattle.clap.specs.Lexer.{long_of, short_of}
-use Rattle.clap.specs.Words.{Text, Rule, Shape, fault_of, built}
-use Rattle.clap.specs.Walk.{Held, Walk, Names, idle, nothing_held, walk, walked, walk_from, word_met, settled, finished}
-use Rattle.clap.specs.Faults.{word_fault, step_fault, turn_fault, walk_fault, level_fault, settle_fault, defaults_fault, check_fault, entered_fault, flags_fault}
+use Rattle.clap.specs.Words.{Text, fault_of, built}
+use Rattle.clap.specs.Walk.{Walk, idle, nothing_held, walk, walked, walk_from, word_met, settled, finished}
+use Rattle.clap.specs.Faults.{word_fault, step_fault, turn_fault, walk_fault, settle_fault, defaults_fault, check_fault, entered_fault}
 use Rattle.clap.specs.Simple.{entered}
 use Rattle.clap.specs.Kinds.{or_else, Kinds}
 use Rattle.clap.specs.Words.{HasKind, kind_of}
@@ -17,7 +15,7 @@ use Rattle.clap.proofs.WalkLemmas.{walk_stopped}
 use Rattle.clap.proofs.FaultLemmas.{fault_ends, stopped_fault}
 use Rattle.grove.specs.declared.command_line.Order.{Order}
 use Rattle.grove.specs.declared.command_line.Order.TheVariants.{Judge, Check, Plan}
-use Rattle.grove.specs.CommandLines.{grove_command, hyphens, is_option, IsPlain, AreDocument, AreCommand, AskFor, AskToShow, NameDocument, word_of, name_of, text_of}
+use Rattle.grove.specs.CommandLines.{grove_command, hyphens, IsPlain, AreDocument, AskFor, AskToShow, NameDocument, word_of, name_of, text_of}
 use Rattle.std.proofs.lemmas.Result.{IfOk-weaker}
 use Rattle.std.specs.Prelude.{IfOk, IfSome}
 use Rattle.grove.specs.declared.answer.Answer.{Answer}
@@ -25,7 +23,7 @@ use Rattle.grove.specs.declared.answer.Stop.{Stop}
 use Rattle.grove.specs.declared.answer.Stop.TheVariants.{Device, Memory}
 use Rattle.grove.specs.Endings.{Blames}
 use Rattle.grove.specs.Outcomes.{IsSaidOf, SaysOne}
-use Rattle.grove.proofs.Words.{top_rules, leaf_rules, HasNoFlag, no_flag, differs, met_plain, held_with}
+use Rattle.grove.proofs.Words.{top_rules, leaf_rules, HasNoFlag, no_flag, differs, met_plain}
 use Rattle.grove.proofs.Documents.{leaf, leaf_fault, named, walked_plain, hyphens_after}
 use Rattle.grove.proofs.Asking.{names, top, at_command, IsOneOf, judge_is, check_is, plan_is}
 

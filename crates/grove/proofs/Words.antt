@@ -1,18 +1,15 @@
 -- What clap makes of a word that is no document's name: it is refused, or asks for help or the version.
-use Rattle.std.proofs.Common.{◌≡◌, ◌≢◌, ◌∙◌, ℕ, zero, suc, ap, refl, sym, subst, Bool, true, false, cond, List, [], ◌∷◌, Option, Some, None, inl, inr, codes, slice_get, length, ◌||◌, ◌⊎◌, drop, encode_utf8, ◌==◌, fold}
+use Rattle.std.proofs.Common.{◌≡◌, ◌≢◌, ℕ, zero, suc, refl, Bool, true, false, cond, List, [], ◌∷◌, Option, Some, None, inl, inr, codes, slice_get, length, ◌||◌, ◌⊎◌, drop, encode_utf8, ◌==◌}
 use Rattle.std.specs.Str.{chars, bytes_eq}
 use Rattle.clap.specs.Lexer.{long_of, short_of}
-use Rattle.clap.specs.Words.{subcommand_of, first_of, Row, Rule, Shape, Text, fault_of, built, App, new_rule}
+use Rattle.clap.specs.Words.{Rule, Shape, Text, built, new_rule}
 use Rattle.std.specs.Prelude.{is_some, option_and_then}
 use Rattle.std.proofs.lemmas.Slice.Eq.{bytes_eq-Decides}
-use Rattle.clap.proofs.WalkLemmas.{walk_stopped}
-use Rattle.clap.proofs.FaultLemmas.{stopped_fault}
-use Rattle.clap.specs.Simple.{entered, names_of, built_leaf, inherited, help_rule, version_rule, filled, with_index}
-use Rattle.clap.specs.Walk.{subcommand_met, Names, walk, rows_after, Held, Walk, Waiting, idle, positional, nothing_held, walked, walk_from, word_met, bundle_met, plain, value, arg_by_long, arg_by_short, has_long, has_short, settled, reacted}
-use Rattle.clap.specs.Faults.{word_fault, step_fault, entered_fault, turn_fault, flag_word_fault, long_fault, short_fault, bundle_fault, flags_fault, walk_fault, level_fault, settle_fault, use_fault, react_fault}
+use Rattle.clap.specs.Simple.{help_rule, version_rule, filled, with_index}
+use Rattle.clap.specs.Walk.{Held, idle, word_met, bundle_met, plain, value, arg_by_long, arg_by_short, settled, reacted}
+use Rattle.clap.specs.Faults.{flag_word_fault, long_fault, short_fault, flags_fault, settle_fault, use_fault, react_fault}
 use Rattle.clap.specs.Kinds.{or_else, Kinds}
-use Rattle.clap.proofs.OnLiterals.{clap_on_literals}
-use Rattle.grove.specs.CommandLines.{grove_command, document_command, no_command, hyphens, is_option}
+use Rattle.grove.specs.CommandLines.{grove_command, hyphens, is_option}
 
 -- some kind is among them
 abbrev pub IsFaulty : Kinds → Type 0

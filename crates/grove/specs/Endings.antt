@@ -1,5 +1,5 @@
 -- What the program prints, and the status that it ends with.
-use Rattle.std.specs.Prelude.{◌≡◌, ◌≢◌, ℕ, codes, List, [], ◌∷◌, ◌++◌, string_bytes, Option, ◌⊎◌}
+use Rattle.std.specs.Prelude.{◌≡◌, ◌≢◌, ℕ, codes, List, [], ◌∷◌, ◌++◌, string_bytes, Option}
 use Rattle.std.specs.Io.KnownBytes.{Appends}
 use Rattle.grove_store.specs.declared.fault.ReadFault.{ReadFault}
 use Rattle.grove_store.specs.declared.fault.ReadFault.TheVariants as read

@@ -1,5 +1,5 @@
-use Rattle.std.proofs.Common.{◌≡◌, ◌∙◌, ap, codes, List, Option, Some, option_map}
-use Rattle.clap.specs.Words.{Row, Text, found_of, first_of, subcommand_rows_of}
+use Rattle.std.proofs.Common.{◌≡◌, ◌∙◌, ap, codes, Some, option_map}
+use Rattle.clap.specs.Words.{found_of, first_of}
 use Rattle.clap.specs.Walk.{rows_of}
 use Rattle.clap.proofs.WalkLemmas.{first_value-rows}
 use Rattle.grove.proofs.command_line.order_in.Goals as goal

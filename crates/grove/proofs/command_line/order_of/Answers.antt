@@ -1,4 +1,4 @@
-use Rattle.std.proofs.Common.{rules, [], ◌≡◌, ◌∙◌, ap, sym, subst, map, string_bytes, refl, inl}
+use Rattle.std.proofs.Common.{rules, [], ◌≡◌, ◌∙◌, ap, sym, subst, map, string_bytes}
 use Rattle.clap.specs.Words.{App, HasKind, app_of, is_simple, is_simple_and_free, subcommand_of, subcommand_rows_of, fault_of}
 use Rattle.grove.specs.CommandLines.{grove_command}
 use Rattle.grove.proofs.Asking.{is_simple_line, is_free_line, line_reads}
