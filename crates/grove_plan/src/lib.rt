@@ -10,6 +10,4 @@ mod fault;
 mod judging;
 mod plan;
 mod step;
-#[cfg(test)]
-mod tests;
 mod watch;
