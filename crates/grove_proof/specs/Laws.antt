@@ -20,16 +20,16 @@ ForcedListIsSpan = (rows : Rows) (nodes list : List ℕ) → IsTree rows → Are
 
 -- in every legal plan the slots of the forced nodes are there and meet the five constraints
 abbrev pub LegalMeetsFive : Type 0
-LegalMeetsFive = (rows : Rows) (nodes : List ℕ) (plan : List Step) → IsTree rows → IsLegal rows nodes plan
-    → MeetsFive rows nodes plan
+LegalMeetsFive = (rows : Rows) (nodes lengths : List ℕ) (plan : List Step) → IsTree rows → IsLegal rows nodes plan
+    → MeetsFive rows nodes lengths plan
     × ((node : ℕ) → IsSpanned rows nodes node → LocksAtSlot plan node (lock_slot plan node) × UnlocksAtSlot plan node (release_slot plan node))
 
 -- the bound of rows that balance is at most the cost of every legal plan
 abbrev pub WeakDuality : Type 0
-WeakDuality = (rows : Rows) (nodes : List ℕ) (flow : List FlowRow) (plan : List Step) → IsTree rows → AreNodes rows nodes → Balances rows nodes flow → IsLegal rows nodes plan
-    → gains nodes flow ≤ cost rows plan + losses nodes flow
+WeakDuality = (rows : Rows) (nodes lengths : List ℕ) (flow : List FlowRow) (plan : List Step) → IsTree rows → AreNodes rows nodes → Balances rows nodes flow → IsLegal rows nodes plan
+    → gains nodes lengths flow ≤ cost rows lengths plan + losses nodes lengths flow
 
 -- accepted means least
 abbrev pub CertifiedIsLeast : Type 0
-CertifiedIsLeast = (rows : Rows) (nodes : List ℕ) (flow : List FlowRow) (plan : List Step) → IsTree rows → AreNodes rows nodes → IsLegal rows nodes plan
-    → IsCertificate rows nodes flow (cost rows plan) → IsLeast rows nodes plan
+CertifiedIsLeast = (rows : Rows) (nodes lengths : List ℕ) (flow : List FlowRow) (plan : List Step) → IsTree rows → AreNodes rows nodes → IsLegal rows nodes plan
+    → IsCertificate rows nodes lengths flow (cost rows lengths plan) → IsLeast rows nodes lengths plan
