@@ -12,5 +12,3 @@ mod planning;
 mod solving;
 mod stays;
 mod steps;
-#[cfg(test)]
-mod tests;
