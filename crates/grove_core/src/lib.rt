@@ -17,5 +17,3 @@ mod machine;
 mod opening;
 mod ordering;
 mod progress;
-#[cfg(test)]
-mod tests;
