@@ -23,5 +23,4 @@ mod place;
 mod plan_values;
 mod plans;
 mod replies;
-#[cfg(test)]
-mod tests;
+mod versions;
