@@ -16,8 +16,6 @@ mod devices;
 mod judging;
 mod planning;
 mod refusal;
-#[cfg(test)]
-mod tests;
 
 fn main(rt: HostRuntime) -> ExitCode {
     let mut input = ReaderSource::new(rt.stdin());
