@@ -9,6 +9,7 @@ use Rattle.grove_plan.specs.Slots.{LocksAtSlot, UnlocksAtSlot, lock_slot, releas
 use Rattle.grove_proof.specs.declared.flow.FlowRow.{FlowRow}
 use Rattle.grove_proof.specs.Forced.{IsForcedList}
 use Rattle.grove_proof.specs.Five.{MeetsFive}
+use Rattle.grove_proof.specs.Changes.{IsChangedOnce}
 use Rattle.grove_proof.specs.Flows.{gains, losses, Balances, IsCertificate}
 
 -- the forced nodes are the spanned ones
@@ -33,3 +34,8 @@ WeakDuality = (rows : Rows) (nodes lengths : List ℕ) (flow : List FlowRow) (pl
 abbrev pub CertifiedIsLeast : Type 0
 CertifiedIsLeast = (rows : Rows) (nodes lengths : List ℕ) (flow : List FlowRow) (plan : List Step) → IsTree rows → AreNodes rows nodes → IsLegal rows nodes plan
     → IsCertificate rows nodes lengths flow (cost rows lengths plan) → IsLeast rows nodes lengths plan
+
+-- with one amount changed, a certificate is one of no cost whatever
+abbrev pub OneChangeIsRefused : Type 0
+OneChangeIsRefused = (rows : Rows) (nodes lengths : List ℕ) (flow other : List FlowRow) (cost claim : ℕ) → IsTree rows
+    → IsCertificate rows nodes lengths flow cost → IsChangedOnce flow other → ¬ IsCertificate rows nodes lengths other claim
