@@ -46,6 +46,7 @@ pub fn each_end(alloc: Global, tree: &Tree, depth: u32) -> Result<AccessList>
         accesses.push(Access {
             node: Node::new(branch * depth),
             op: Op::Add(1),
+            length: 1,
         })?;
     }
     match AccessList::new(alloc, tree, &accesses) {
