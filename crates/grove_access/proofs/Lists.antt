@@ -2,7 +2,7 @@
 use Rattle.std.proofs.Common.{◌≡◌, ℕ, zero, suc, ◌<◌, ◌≤◌, nat_lt, Bool, true, false, List, [], ◌∷◌, length, drop, slice_get, Option, Some, None, refl, ap, sym, ◌∙◌, subst, inl, inr, option_map, is_some, not, IsTrue, ◌↔◌}
 use Rattle.std.proofs.Math.Seq.{drop-cons}
 use Rattle.std.proofs.lemmas.Option.{slice_get_within, get_or_from_slice_get, none-some, same_Some}
-use Rattle.std.proofs.lemmas.Bool.{cond-true, cond-false, lt-ltb, le-ltb, cases_lt, cases_Bool, and_parts, leb-true}
+use Rattle.std.proofs.lemmas.Bool.{cond-true, cond-false, lt-ltb, le-ltb, cases_lt, cases_Bool, and_parts, and_from, leb-true, le-leb}
 use Rattle.grove_access.specs.declared.access.Access.{Access}
 use Rattle.grove_access.specs.Lists.{nodes_of, lengths_of, AreBelow, AreLengths, first_beyond, is_length, first_bad_length}
 
@@ -37,6 +37,11 @@ below_none n place (node ∷ nodes) found access other at = elim (cases_lt node 
       (below_none n (suc place) nodes (sym (cond-true (nat_lt node n) (first_beyond n (suc place) nodes) (Some place) (lt-ltb node n lt)) ∙ found)) access other at
   | inr ge ↦ absurd (none-some place (sym found ∙ cond-false (nat_lt node n) (first_beyond n (suc place) nodes) (Some place) (le-ltb node n ge)))
 ]
+
+-- a place beyond n was found only where some node is not below n
+pub beyond_refused : (n m place : ℕ) (nodes : List ℕ) → m ≡ n → Some place ≡ first_beyond m 0 nodes → ¬ AreBelow n nodes
+beyond_refused n m place nodes size found =
+    λ below. none-some place (sym (none_beyond n 0 nodes below) ∙ sym (found ∙ ap (λ (k : ℕ). first_beyond k 0 nodes) size))
 
 -- nothing was found
 none_from : (found : Option ℕ) → is_some found ≡ false → found ≡ None
@@ -89,3 +94,14 @@ none_bad place (first ∷ lengths) found access slots at = elim (cases_Bool (is_
     right : (access : ℕ) → slice_get (first ∷ lengths) access ≡ Some slots → AreLengths lengths → (1 ≤ first) × (first ≤ 1000) → (1 ≤ slots) × (slots ≤ 1000)
     right zero at rest here = subst (λ (k : ℕ). (1 ≤ k) × (k ≤ 1000)) (same_Some first slots at) here
     right (suc access) at rest here = rest access slots at
+
+-- where all are as they are to be, none is found
+none_found : (place : ℕ) (lengths : List ℕ) → AreLengths lengths → first_bad_length place lengths ≡ None
+none_found place [] are = refl
+none_found place (first ∷ lengths) are =
+    let here : (1 ≤ first) × (first ≤ 1000) = are 0 first refl in
+    cond-true (is_length first) (first_bad_length (suc place) lengths) (Some place) (and_from _ _ (le-leb 1 first here.0) (le-leb first 1000 here.1))
+    ∙ none_found (suc place) lengths (λ access slots at. are (suc access) slots at)
+
+pub bad_refused : (place : ℕ) (lengths : List ℕ) → Some place ≡ first_bad_length 0 lengths → ¬ AreLengths lengths
+bad_refused place lengths found = λ are. none-some place (sym (none_found 0 lengths are) ∙ sym found)

@@ -48,3 +48,7 @@ bad_access None None = None
 
 abbrev pub list_fault_of : Rows → List Access → Option ListFault
 list_fault_of rows accesses = if nat_lt 64 (length accesses) then Some TooLong else bad_access (first_beyond (length rows) 0 (nodes_of accesses)) (first_bad_length 0 (lengths_of accesses))
+
+-- accesses that make a list over a tree
+abbrev pub AreListed : Rows → List Access → Type 0
+AreListed rows accesses = (length accesses ≤ 64) × AreNodes rows (nodes_of accesses) × AreLengths (lengths_of accesses)

@@ -1,5 +1,5 @@
-ghost use Rattle.std.specs.Prelude.{◌≡◌, ◌≢◌, ◌<◌, ◌≤◌, ◌↔◌, length, IsTrue, IfOk, IfErr, Some, None, slice_get};
-ghost use Rattle.grove_access.specs.Lists.{nodes_of, lengths_of, AreNodes, AreLengths, first_beyond as first_place_beyond, first_bad_length as first_place_of_no_length, list_fault_of};
+ghost use Rattle.std.specs.Prelude.{◌≡◌, ◌≢◌, ◌<◌, ◌≤◌, ◌↔◌, length, IsTrue, IfOk, IfErr, IsErrOf, Some, None, slice_get};
+ghost use Rattle.grove_access.specs.Lists.{nodes_of, lengths_of, AreNodes, AreLengths, AreListed, first_beyond as first_place_beyond, first_bad_length as first_place_of_no_length, list_fault_of};
 ghost use Rattle.grove_access.specs.Slots.{slots_before};
 
 use crate::{Access, ListFault};
@@ -37,6 +37,8 @@ impl AccessList {
         ensures faultless { IfOk result (λ list. list_fault_of tree.now accesses.now ≡ None) }
         ensures fitting { IfOk result (λ list. AreNodes tree.now (nodes_of list)) }
         ensures fault { IfErr result (λ fault. fault ≢ ListFault.Memory → list_fault_of tree.now accesses.now ≡ Some fault) }
+        ensures refused { IfErr result (λ fault. fault ≢ ListFault.Memory → ¬ AreListed tree.now accesses.now) }
+        ensures memory { IsErrOf result ListFault.Memory → list_fault_of tree.now accesses.now ≡ None }
     {
         if accesses.len() > LIMIT {
             return Err(ListFault::TooLong);

@@ -7,8 +7,6 @@ pub use outline::Outline;
 pub use row::Row;
 pub use tree::Tree;
 
-#[cfg(test)]
-mod examples;
 mod fault;
 mod finding;
 mod growing;

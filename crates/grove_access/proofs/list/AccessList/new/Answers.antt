@@ -1,6 +1,6 @@
-use Rattle.std.proofs.Common.{sym, ◌∙◌, ap, arith}
-use Rattle.grove_access.specs.Lists.{nodes_of, lengths_of, AreLengths}
-use Rattle.grove_access.proofs.Lists.{below_none, none_bad}
+use Rattle.std.proofs.Common.{length, sym, arith}
+use Rattle.grove_access.specs.Lists.{nodes_of, lengths_of}
+use Rattle.grove_access.proofs.Lists.{below_none, beyond_refused, none_bad, bad_refused}
 use Rattle.grove_access.proofs.list.AccessList.new.Goals as goal
 
 pub returns-clause-fitting : goal.returns-clause-fitting
@@ -10,3 +10,11 @@ returns-clause-fitting c =
 pub invariant_of-result : goal.invariant_of-result
 invariant_of-result c =
     rw c.in_ok-accesses.ensures.items (omega arith, none_bad 0 (lengths_of c.args.accesses.now) (sym c.in_default-first_bad_length.ensures))
+
+pub returns-in-Some-clause-refused : goal.returns-in-Some-clause-refused
+returns-in-Some-clause-refused c = λ other listed.
+    beyond_refused (length c.args.tree.now) c.len.result c.in-Some.access (nodes_of c.args.accesses.now) c.len.ensures.number c.in-Some.ensures listed.1
+
+pub returns-in-Some-first_bad_length-clause-refused : goal.returns-in-Some-first_bad_length-clause-refused
+returns-in-Some-first_bad_length-clause-refused c = λ other listed.
+    bad_refused c.in-Some-first_bad_length.access (lengths_of c.args.accesses.now) c.in-Some-first_bad_length.ensures listed.2
