@@ -1,9 +1,8 @@
 -- The stays read from the solved network give the settled plan.
-use Rattle.std.proofs.Common.{◌≡◌, ℕ, zero, suc, ◌+◌, ◌-◌, ◌*◌, ◌<◌, ◌≤◌, ◌&&◌, Bool, true, false, not, cond, eqb, ltb, List, [], ◌∷◌, ◌++◌, map, filter, length, get_or, Option, Some, None, ℤ, pos, negsuc, ◌≤ℤ◌, refl, sym, ◌∙◌, ap, ap₂, subst, inl, inr, arith, length-append}
+use Rattle.std.proofs.Common.{◌≡◌, ℕ, zero, suc, ◌+◌, ◌-◌, ◌*◌, ◌<◌, ◌≤◌, ◌&&◌, Bool, true, false, not, cond, eqb, ltb, List, [], ◌∷◌, ◌++◌, map, filter, length, get_or, Option, Some, None, ℤ, pos, refl, sym, ◌∙◌, ap, ap₂, subst, inl, inr, arith, length-append}
 use Rattle.std.specs.Prelude.{slice_index, filter_map}
 use Rattle.std.specs.List.{slice_get, list_any, sum_by, cons_option}
 use Rattle.std.specs.Option.{option_and_then, unwrap_or}
-use Rattle.std.proofs.lemmas.Int.{ints}
 use Rattle.std.proofs.lemmas.Option.{none-some, same_Some, slice_get_within}
 use Rattle.std.proofs.lemmas.Bool.{and_parts, and_from, or_cases, eqb-true, eq-eqb}
 use Rattle.std.proofs.lemmas.List.Sums.{sum_by-cons}

@@ -2,7 +2,7 @@
 use Rattle.std.proofs.Common.{◌≡◌, ℕ, zero, suc, ◌+◌, ◌-◌, ◌*◌, ◌<◌, ◌≤◌, true, List, [], ◌∷◌, map, length, Some, None, ℤ, pos, neg_ℤ, ◌+ℤ◌, ◌≤ℤ◌, refl, sym, ◌∙◌, ap, subst, inl, inr, arith}
 use Rattle.std.specs.List.{slice_get}
 use Rattle.std.proofs.lemmas.Int.{ints}
-use Rattle.std.proofs.lemmas.Option.{none-some, same_Some, slice_get_within}
+use Rattle.std.proofs.lemmas.Option.{none-some, same_Some}
 use Rattle.std.proofs.lemmas.Bool.{cond-true, cases_lt}
 use Rattle.grove_tree.specs.Trees.{Rows, parent_of}
 use Rattle.grove_tree.proofs.Counting.{least_is, last_is}
@@ -415,8 +415,7 @@ module _ (tree : Rows) (nodes lengths : List ℕ) (rows : List SpanRow) (amounts
             × (release row.node ≤ m)
         fits_own k row g =
             let fl = flow_at rows amounts 0 k row g in
-            let r = lawful_at k row fl.0 g fl.1 in
-            (
+            let r = lawful_at k row fl.0 g fl.1 in (
               back (lock row.node) (release row.node) (low k row g).0
                   (level_le (slots_before lengths (lock row.node)) (slots_before lengths (release row.node))
                   (place places (2 * k)) (place places (2 * k + 1))

@@ -1,9 +1,8 @@
 -- What is known of a plan at a place, and how a step changes it.
-use Rattle.std.proofs.Common.{◌≡◌, ℕ, zero, suc, ◌+◌, ◌*◌, ◌<◌, ◌≤◌, Bool, true, false, not, ◌&&◌, cond, List, length, get_or, set, Option, Some, None, refl, sym, ◌∙◌, ap, inl, inr, mul-add, add-mul, zero-mul, zero-add, arith}
+use Rattle.std.proofs.Common.{◌≡◌, ℕ, zero, suc, ◌+◌, ◌*◌, ◌<◌, ◌≤◌, Bool, true, false, not, cond, List, length, get_or, set, Option, Some, None, refl, sym, ◌∙◌, ap, inl, inr, mul-add, add-mul, zero-mul, zero-add, arith}
 use Rattle.std.specs.List.{slice_get}
-use Rattle.std.proofs.Math.Nat.{mul-suc}
 use Rattle.std.proofs.lemmas.List.{get_or-set_other, get_or-set_same}
-use Rattle.std.proofs.lemmas.Bool.{cases_eq, cases_Bool, cond-true, cond-false, or_right, and_left, and_right, and_from, ne_eqb}
+use Rattle.std.proofs.lemmas.Bool.{cases_eq, cases_Bool, cond-true, cond-false, or_right, ne_eqb}
 use Rattle.grove_tree.specs.Numbers.{any_below, sum_below}
 use Rattle.grove_tree.specs.Trees.{Rows, weight_of}
 use Rattle.grove_tree.specs.Rules.{IsWithinLimits}

@@ -1,5 +1,5 @@
 -- A certificate with one amount changed doesn't balance at the row of the change.
-use Rattle.std.proofs.Common.{◌≡◌, ◌≢◌, ℕ, zero, suc, ◌+◌, ◌≤◌, Bool, true, false, cond, List, [], ◌∷◌, Option, Some, None, option_map, refl, sym, ◌∙◌, ap, subst, inl, inr, arith}
+use Rattle.std.proofs.Common.{◌≡◌, ◌≢◌, ℕ, suc, ◌+◌, ◌≤◌, false, cond, List, [], ◌∷◌, Option, Some, None, refl, sym, ◌∙◌, ap, subst, inl, inr, arith}
 use Rattle.std.specs.List.{slice_get, sum_by}
 use Rattle.std.proofs.lemmas.Option.{none-some, same_Some}
 use Rattle.std.proofs.lemmas.Bool.{cases_eq, cases_Bool, eqb-true}
@@ -9,7 +9,7 @@ use Rattle.grove_tree.proofs.Ups.{parent_lt}
 use Rattle.grove_tree.proofs.Tests.{is_at_true}
 use Rattle.grove_proof.specs.declared.flow.FlowRow.{FlowRow}
 use Rattle.grove_proof.specs.Changes.{Constraint, Above, Held, First, Last, Own, amount_on, DifferInOne, IsChangedOnce}
-use Rattle.grove_proof.specs.Flows.{child_sum, is_child, Balances, IsCertificate}
+use Rattle.grove_proof.specs.Flows.{child_sum}
 use Rattle.grove_proof.specs.Laws.{OneChangeIsRefused}
 
 -- a function of an item that may be missing

@@ -1,7 +1,6 @@
 -- What the visits of a node tell of its slots.
-use Rattle.std.proofs.Common.{◌≡◌, ℕ, suc, ◌+◌, ◌-◌, ◌<◌, ◌≤◌, Bool, true, false, cond, List, length, Option, Some, None, refl, sym, ◌∙◌, ap, option_map, arith}
+use Rattle.std.proofs.Common.{◌≡◌, ℕ, suc, ◌+◌, ◌-◌, ◌<◌, Bool, true, false, cond, List, length, Some, None, refl, sym, ap, arith}
 use Rattle.std.proofs.lemmas.Option.{none-some, same_Some}
-use Rattle.grove_tree.specs.Numbers.{any_below, least_below, last_below}
 use Rattle.grove_tree.proofs.Counting.{least_is, last_is}
 use Rattle.grove_access.specs.Spanned.{names_at, is_accessed, first_access, last_end}
 use Rattle.grove_access.specs.Slots.{slots_before}

@@ -1,6 +1,6 @@
-use Rattle.std.proofs.Common.{◌≡◌, ◌≤◌, ◌+◌, ◌*◌, ℕ, suc, Bool, false, length, sym, ◌∙◌, ap, add-one, eq-eqb, ne_eqb, arith}
+use Rattle.std.proofs.Common.{◌≡◌, ◌≤◌, ◌*◌, suc, length, sym, ◌∙◌, add-one, eq-eqb, ne_eqb, arith}
 use Rattle.std.specs.Prelude.{slice_index}
-use Rattle.std.proofs.Common.{eqb, ◌||◌}
+use Rattle.std.proofs.Common.{eqb}
 use Rattle.grove_tree.proofs.Counting.{least_same, any_false}
 use Rattle.grove_access.specs.Lists.{lengths_of, AreLengths}
 use Rattle.grove_access.specs.Slots.{slots_before}

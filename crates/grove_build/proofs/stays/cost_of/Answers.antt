@@ -1,4 +1,4 @@
-use Rattle.std.proofs.Common.{◌≡◌, ◌≤◌, ◌-◌, length, refl, ◌∙◌, ap₂, arith}
+use Rattle.std.proofs.Common.{◌≤◌, ◌-◌, length, refl, ◌∙◌, ap₂, arith}
 use Rattle.std.proofs.lemmas.Option.{slice_get_read}
 use Rattle.grove_access.specs.Lists.{lengths_of}
 use Rattle.grove_access.specs.Slots.{slots_before}

@@ -1,4 +1,4 @@
-use Rattle.std.proofs.Common.{◌≡◌, ◌≤◌, ◌+◌, ◌*◌, ℕ, ◌∙◌, ap, ap₂, add-one, add_comm, arith}
+use Rattle.std.proofs.Common.{◌≡◌, ◌≤◌, ◌*◌, add-one, arith}
 use Rattle.std.specs.Prelude.{slice_index}
 use Rattle.grove_access.specs.Lists.{lengths_of, AreLengths}
 use Rattle.grove_access.specs.Slots.{slots_before}
