@@ -23,7 +23,8 @@ def fault_of_certificate(document, cost):
         fault = fault_of_row(row, weights[node], children[node], node == forced[0], node in accessed)
         if fault:
             return f"{fault} of {row['node']}"
-    bound = sum(bound_of(rows[node], node, accessed) for node in rows)
+    ends = ends_of(document["list"])
+    bound = sum(bound_of(rows[node], node, accessed, ends) for node in rows)
     return None if bound == cost else f"its bound is {bound}"
 
 
@@ -62,10 +63,19 @@ def fault_of_row(row, weight, children, is_top, is_accessed):
     return None
 
 
-def bound_of(row, node, accessed):
+def ends_of(accesses):
+    """The numbers of slots before each access, and after the last one."""
+    ends = [0]
+    for access in accesses:
+        items = 2 if access[0] == "get" else 3
+        ends.append(ends[-1] + (access[items] if len(access) > items else 1))
+    return ends
+
+
+def bound_of(row, node, accessed, ends):
     """What the row adds to the bound."""
     if node not in accessed:
         return 0
     first = accessed.index(node)
     last = len(accessed) - 1 - accessed[::-1].index(node)
-    return row["last"] * (last + 1) - row["first"] * first
+    return row["last"] * ends[last + 1] - row["first"] * ends[first]

@@ -50,6 +50,13 @@ def comb_list(words):
 
 
 @maker
+def comb_timed_list(words):
+    """`comb_timed_list ACCESSES CHAIN LENGTH`: the same, each access of so many slots."""
+    accesses, chain, length = numbers(words)
+    return compact([["add", comb_path(number * chain + chain, chain), 1, length] for number in range(accesses)])
+
+
+@maker
 def comb_replies(words):
     """What that list answers: each last node's number and 1."""
     accesses, chain = numbers(words)

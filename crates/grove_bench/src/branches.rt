@@ -43,6 +43,7 @@ pub fn each_end(alloc: Global, tree: &Tree, depth: u32) -> Result<AccessList>
         accesses.push(Access {
             node: Node::new(branch * depth),
             op: Op::Add(1),
+            length: 1,
         })?;
     }
     Ok(AccessList::new(alloc, tree, &accesses)?)

@@ -21,7 +21,7 @@ abbrev tree : Rows
 tree = record { parent = None; name = []; weight = 1 } ∷ record { parent = Some 0; name = 97 ∷ []; weight = 1 } ∷ record { parent = Some 0; name = 98 ∷ []; weight = 1 } ∷ []
 
 abbrev one_access : ℕ → Op → Job
-one_access node op = record { list = record { node = node; op = op } ∷ []; plan = Lock node ∷ Access 0 ∷ Unlock node ∷ [] }
+one_access node op = record { list = record { node = node; op = op; length = 1 } ∷ []; plan = Lock node ∷ Access 0 ∷ Unlock node ∷ [] }
 
 -- who reads the old record comes first: job 0 sets it, job 1 reads it, and job 1 is taken whole before
 abbrev reader_first : List Job
@@ -67,7 +67,7 @@ waiting_length = refl
 
 abbrev two_sets : ℤ → Job
 two_sets x = record {
-  list = record { node = 1; op = Set x } ∷ record { node = 2; op = Set x } ∷ [];
+  list = record { node = 1; op = Set x; length = 1 } ∷ record { node = 2; op = Set x; length = 1 } ∷ [];
   plan = Lock 0 ∷ Lock 1 ∷ Access 0 ∷ Unlock 1 ∷ Lock 2 ∷ Unlock 0 ∷ Access 1 ∷ Unlock 2 ∷ [];
 }
 

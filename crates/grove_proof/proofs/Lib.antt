@@ -10,3 +10,4 @@ pub mod ByNode
 pub mod Totals
 pub mod Faults
 pub mod OneFault
+pub mod Changing

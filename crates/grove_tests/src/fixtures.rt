@@ -26,7 +26,7 @@ pub fn two_leaves(rt: &impl Abort, alloc: Global) -> Tree {
 
 pub fn access(node: u32, op: Op) -> Access {
     let node = Node::new(node);
-    Access { node, op }
+    Access { node, op, length: 1 }
 }
 
 /// Accesses that read these nodes.

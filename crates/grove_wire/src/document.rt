@@ -4,6 +4,7 @@ ghost use Rattle.grove_wire.specs.Forms.{items_of, HasArraysWithin};
 ghost use Rattle.grove_wire.specs.Outcomes.{Gives, or_fault};
 ghost use Rattle.grove_wire.specs.Reading.{document_of, value_of, items_in};
 
+use crate::versions::version_of;
 use crate::{Part, Place, WireFault};
 use serde_json::Value;
 use std::alloc::Global;
@@ -12,7 +13,8 @@ use std::alloc::Global;
 pub const MOST_BYTES: usize = 4_194_304;
 
 /// The JSON object that a text of at most 4,194,304 bytes is. More bytes are `Limit`, what isn't UTF-8 or isn't JSON is
-/// `BadJson`, and what is no object is `Shape`, of the whole. So few bytes hold no long arrays.
+/// `BadJson`, and what is no object, or tells another version than 1 or 2, is `Shape`, of the whole. So few bytes hold no
+/// long arrays.
 #[tactic(auto, using(crate::proofs::Lengths::arrays_of_short), unfolding(crate::specs::Reading::document_of))]
 pub fn read_document(alloc: Global, bytes: &[u8]) -> Result<Value, WireFault>
     ensures read { Gives (λ document. view document) result (document_of bytes.now) }
@@ -22,11 +24,11 @@ pub fn read_document(alloc: Global, bytes: &[u8]) -> Result<Value, WireFault>
         return Err(WireFault::Limit(Place::whole(Part::Whole)));
     }
     let document = read_value(alloc, bytes)?;
-    if document.is_object() {
-        Ok(document)
-    } else {
-        Err(WireFault::Shape(Place::whole(Part::Whole)))
+    if !document.is_object() {
+        return Err(WireFault::Shape(Place::whole(Part::Whole)));
     }
+    let _version = version_of(&document)?;
+    Ok(document)
 }
 
 #[tactic(auto, using(crate::proofs::Documents::value_read, crate::proofs::Documents::value_refused, crate::proofs::Lengths::arrays_of_text))]

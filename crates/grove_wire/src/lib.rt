@@ -23,3 +23,4 @@ mod place;
 mod plan_values;
 mod plans;
 mod replies;
+mod versions;

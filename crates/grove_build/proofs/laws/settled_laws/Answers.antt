@@ -6,5 +6,5 @@ pub returns-clause-once : goal.returns-clause-once
 returns-clause-once c = settled_one
 
 pub returns-clause-accepted : goal.returns-clause-accepted
-returns-clause-accepted c = λ rows nodes plan flow fault settled certificate is.
-    certified_is_faultless rows nodes plan flow fault settled.least.legal certificate is
+returns-clause-accepted c = λ rows nodes lengths plan flow fault settled certificate is.
+    certified_is_faultless rows nodes lengths plan flow fault settled.least.legal certificate is
