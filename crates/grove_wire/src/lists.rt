@@ -137,12 +137,7 @@ fn third_form<'v>(
 }
 
 /// An access with the length that it tells.
-fn timed<'v>(
-    version: Version,
-    length: &Value,
-    path: &'v str,
-    op: Op,
-) -> Option<(&'v str, Op, u64)>
+fn timed<'v>(version: Version, length: &Value, path: &'v str, op: Op) -> Option<(&'v str, Op, u64)>
     ensures { option_map (λ form. (form.0.now, form.1, form.2)) result ≡ timed version (view length.now) (path.now, op) }
 {
     match version {
