@@ -6,7 +6,7 @@ use borrow.Author.Differences.{ints}
 use Rattle.grove_flow.specs.declared.network.Arc.{Arc}
 use Rattle.grove_flow.specs.Networks.{arc_at, place, IsLawful, AreLawful}
 use Rattle.grove_flow.specs.States.{IsFrame, AreUnmoved, AreNear, IsState}
-use Rattle.grove_flow.specs.Searches.{IsStep, AreNoSteps, IsLeastStep, IsReached, IsRaised, IsLink, IsGrown, unranked}
+use Rattle.grove_flow.specs.Reaches.{IsStep, AreNoSteps, IsLeastStep, IsReached, IsRaised, IsLink, IsGrown, unranked}
 use Rattle.grove_flow.proofs.Cuts.{IsClosed, none_to_give}
 use Rattle.grove_flow.proofs.Bands.{excess_low}
 

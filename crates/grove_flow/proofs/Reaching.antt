@@ -8,7 +8,7 @@ use borrow.Author.Differences.{ints}
 use Rattle.grove_flow.specs.declared.network.Arc.{Arc}
 use Rattle.grove_flow.specs.Networks.{arc_at, place, IsModest}
 use Rattle.grove_flow.specs.States.{IsState}
-use Rattle.grove_flow.specs.Searches.{IsStep, IsNew, IsAhead, IsBehind, IsLinkedOn, IsLinkedBack, IsLink, IsReached, IsGrown, IsRaised, IsLeastStep, unranked}
+use Rattle.grove_flow.specs.Reaches.{IsStep, IsAhead, IsBehind, IsLinkedOn, IsLinkedBack, IsLink, IsReached, IsGrown, IsRaised, IsLeastStep, unranked}
 use Rattle.grove_flow.proofs.Raising.{all_met, raised_reached, raised_state}
 
 -- a variable that an arc leads on to, once it has a rank and a room
@@ -17,11 +17,6 @@ pub record IsEntered (arc : Arc) (amount : ℕ) (places : List ℤ) (ranks rooms
   pub some : 0 < room
   pub low : place places v ≤ℤ (place places source +ℤ pos (1048576 * (count + 1)))
   pub link : IsLink arc amount places (slice_set ranks v (count + 1)) (slice_set rooms v room) v
-
--- an arc that leads on leads to a new variable
-pub step_new : (arc : Arc) (amount : ℕ) (places : List ℤ) (ranks : List ℕ) (slack : ℤ) → IsStep arc amount places ranks slack → IsNew arc amount ranks
-step_new arc amount places ranks slack (inl h) = inl (h.leaves, h.arrives)
-step_new arc amount places ranks slack (inr h) = inr (h.leaves, h.arrives, h.some)
 
 pub entered : (arcs : List Arc) (amounts : List ℕ) (places : List ℤ) (excess ranks vias rooms : List ℕ) (source count : ℕ) (arc : Arc) (amount v room : ℕ)
     → IsReached arcs amounts places excess ranks vias rooms source count → IsModest arc.least → place places arc.from +ℤ arc.least ≡ place places arc.to → v < length places

@@ -7,7 +7,7 @@ use Rattle.grove_flow.specs.declared.network.Arc.{Arc}
 use Rattle.grove_flow.specs.Networks.{arc_at, place, IsLawful, AreLawful}
 use Rattle.grove_flow.specs.Flows.{amount_in, amount_out, takes}
 use Rattle.grove_flow.specs.States.{at, gives, IsMoved, IsState}
-use Rattle.grove_flow.specs.Searches.{IsReached, IsGrown, AreAlong}
+use Rattle.grove_flow.specs.Reaches.{IsReached, IsGrown, AreAlong}
 
 -- what is sent along tight arcs is lawful
 lawful_along : (arcs : List Arc) (old new : List ℕ) (places : List ℤ) (excess ranks vias rooms : List ℕ) (source count : ℕ)

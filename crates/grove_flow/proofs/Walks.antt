@@ -6,7 +6,7 @@ use Rattle.grove_flow.specs.declared.network.Arc.{Arc}
 use Rattle.grove_flow.specs.Networks.{arc_at}
 use Rattle.grove_flow.specs.Flows.{sent, amount_in, amount_out}
 use Rattle.grove_flow.specs.States.{at, IsMoved}
-use Rattle.grove_flow.specs.Searches.{IsLinkedOn, IsLinkedBack, AreWays, AreAlong, IsSentOn, IsSentBack}
+use Rattle.grove_flow.specs.Reaches.{IsLinkedOn, IsLinkedBack, AreWays, AreAlong, IsSentOn, IsSentBack}
 
 -- more along one arc is more for the tests that the arc passes
 sent_more : (test : Arc → Bool) (arcs : List Arc) (amounts : List ℕ) (i x by : ℕ) → i < length arcs → length amounts ≡ length arcs → x ≡ slice_index amounts i + by

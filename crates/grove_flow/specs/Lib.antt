@@ -2,4 +2,8 @@ pub mod Networks
 pub mod Flows
 pub mod States
 pub mod Floors
+pub mod Reaches
+pub mod Trees
+pub mod Fans
+pub mod Queues
 pub mod Searches

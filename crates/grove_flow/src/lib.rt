@@ -5,8 +5,12 @@ pub use network::{Arc, Network, Solution};
 pub use settling::latest;
 pub use solving::solve;
 
+mod fan;
 mod network;
 mod pushing;
-mod searching;
+mod queue;
+mod search;
 mod settling;
 mod solving;
+mod state;
+mod tree;
