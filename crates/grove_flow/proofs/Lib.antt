@@ -11,3 +11,4 @@ pub mod Keys
 pub mod Fitting
 pub mod Offering
 pub mod Growing
+pub mod Totals
