@@ -7,3 +7,5 @@ pub mod Trees
 pub mod Fans
 pub mod Queues
 pub mod Searches
+pub mod Checks
+pub mod Ways
