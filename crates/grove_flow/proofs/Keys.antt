@@ -1,6 +1,7 @@
 -- Keys of the arcs that lead on, over the places as they stand, and slacks over the places as they would be raised.
 use Rattle.std.proofs.Common.{◌≡◌, ℕ, zero, suc, ◌+◌, ◌<◌, ◌≤◌, List, [], ◌∷◌, length, slice_index, slice_set, ℤ, pos, negsuc, ◌+ℤ◌, ◌-ℤ◌, ◌≤ℤ◌, refl, sym, ◌∙◌, ap, subst, inl, inr, arith, eq-zero-or-pos, length-set, get_or-set_same, get_or-set_other}
 use Rattle.std.proofs.lemmas.Bool.{cases_eq}
+use Rattle.std.proofs.lemmas.Grind.{common_steps}
 use borrow.Author.Differences.{ints, up}
 use Rattle.grove_flow.specs.declared.network.Arc.{Arc}
 use Rattle.grove_flow.specs.Networks.{arc_at, place, IsLawful, AreLawful}
@@ -110,34 +111,25 @@ raise_by by [] (z ∷ places) = z ∷ places
 raise_by by (zero ∷ ranks) (z ∷ places) = z ∷ raise_by by ranks places
 raise_by by (suc rank ∷ ranks) (z ∷ places) = (z +ℤ by) ∷ raise_by by ranks places
 
+raised_cons : (by z y : ℤ) (rank : ℕ) (ranks : List ℕ) (places next : List ℤ) → IsRaised ranks by places next → (0 < rank → y ≡ z +ℤ by) → (rank ≡ 0 → y ≡ z) → IsRaised (rank ∷ ranks) by (z ∷ places) (y ∷ next)
+raised_cons by z y rank ranks places next rest up same = record { size = omega (arith, rest.size); moved = moved; still = still }
+  where
+    moved : (v : ℕ) → 0 < slice_index (rank ∷ ranks) v → place (y ∷ next) v ≡ place (z ∷ places) v +ℤ by
+    moved zero some = up some
+    moved (suc v) some = rest.moved v some
+
+    still : (v : ℕ) → slice_index (rank ∷ ranks) v ≡ 0 → place (y ∷ next) v ≡ place (z ∷ places) v
+    still zero none = same none
+    still (suc v) none = rest.still v none
+
 pub raised_by : (by : ℤ) (ranks : List ℕ) (places : List ℤ) → length ranks ≡ length places → IsRaised ranks by places (raise_by by ranks places)
 raised_by by [] [] size = record { size = refl; moved = λ v some. absurd (omega arith); still = λ v none. refl }
 raised_by by [] (z ∷ places) size = absurd (omega arith)
 raised_by by (rank ∷ ranks) [] size = absurd (omega arith)
 raised_by by (zero ∷ ranks) (z ∷ places) size =
-    let rest : IsRaised ranks by places (raise_by by ranks places) = raised_by by ranks places (omega arith) in
-    let rest_size : length (raise_by by ranks places) ≡ length places = rest.size in
-    record { size = omega arith; moved = moved rest; still = still rest }
-  where
-    moved : IsRaised ranks by places (raise_by by ranks places) → (v : ℕ) → 0 < slice_index (zero ∷ ranks) v → place (z ∷ raise_by by ranks places) v ≡ place (z ∷ places) v +ℤ by
-    moved rest zero some = absurd (omega arith)
-    moved rest (suc v) some = rest.moved v some
-
-    still : IsRaised ranks by places (raise_by by ranks places) → (v : ℕ) → slice_index (zero ∷ ranks) v ≡ 0 → place (z ∷ raise_by by ranks places) v ≡ place (z ∷ places) v
-    still rest zero none = refl
-    still rest (suc v) none = rest.still v none
+    raised_cons by z z 0 ranks places (raise_by by ranks places) (raised_by by ranks places (omega arith)) (λ some. absurd (omega arith)) (λ none. refl)
 raised_by by (suc rank ∷ ranks) (z ∷ places) size =
-    let rest : IsRaised ranks by places (raise_by by ranks places) = raised_by by ranks places (omega arith) in
-    let rest_size : length (raise_by by ranks places) ≡ length places = rest.size in
-    record { size = omega arith; moved = moved rest; still = still rest }
-  where
-    moved : IsRaised ranks by places (raise_by by ranks places) → (v : ℕ) → 0 < slice_index (suc rank ∷ ranks) v → place ((z +ℤ by) ∷ raise_by by ranks places) v ≡ place (z ∷ places) v +ℤ by
-    moved rest zero some = refl
-    moved rest (suc v) some = rest.moved v some
-
-    still : IsRaised ranks by places (raise_by by ranks places) → (v : ℕ) → slice_index (suc rank ∷ ranks) v ≡ 0 → place ((z +ℤ by) ∷ raise_by by ranks places) v ≡ place (z ∷ places) v
-    still rest zero none = absurd (omega arith)
-    still rest (suc v) none = rest.still v none
+    raised_cons by z (z +ℤ by) (suc rank) ranks places (raise_by by ranks places) (raised_by by ranks places (omega arith)) (λ some. refl) (λ none. absurd (omega arith))
 
 -- one more variable, at the farthest distance
 pub raised_more : (distance key v rank : ℕ) (ranks entries : List ℕ) (places raised next : List ℤ) → AreRaisedTo distance ranks entries places raised → distance ≤ key
@@ -145,12 +137,7 @@ pub raised_more : (distance key v rank : ℕ) (ranks entries : List ℕ) (places
     → AreRaisedTo key (slice_set ranks v rank) (slice_set entries v key) places next
 raised_more distance key v rank ranks entries places raised next h le raise fresh lt size some = record {
   size = raise.size ∙ h.size;
-  entered = λ u rank_u. elim (cases_eq u v) [
-    | inl e ↦ subst (λ w. slice_index (slice_set entries v key) w ≤ key) (sym e) (let here : slice_index (slice_set entries v key) v ≡ key = get_or-set_same entries v key 0 (omega arith) in omega arith)
-    | inr ne ↦ let rank_is : slice_index (slice_set ranks v rank) u ≡ slice_index ranks u = get_or-set_other ranks v u rank 0 ne in
-        let entry_is : slice_index (slice_set entries v key) u ≡ slice_index entries u = get_or-set_other entries v u key 0 ne in
-        let before : slice_index entries u ≤ distance = h.entered u (omega arith) in omega arith
-  ];
+  entered = grind (arith, common_steps);
   moved = λ u rank_u. elim (cases_eq u v) [
     | inl e ↦ subst (λ w. place next w +ℤ pos (slice_index (slice_set entries v key) w) ≡ place places w +ℤ pos key) (sym e)
         (let here : slice_index (slice_set entries v key) v ≡ key = get_or-set_same entries v key 0 (omega arith) in
@@ -161,22 +148,13 @@ raised_more distance key v rank ranks entries places raised next h le raise fres
         let was : place raised u +ℤ pos (slice_index entries u) ≡ place places u +ℤ pos distance = h.moved u (omega arith) in
         let is : place next u ≡ place raised u +ℤ (pos key -ℤ pos distance) = raise.moved u (omega arith) in omega (arith, ints)
   ];
-  still = λ u none. elim (cases_eq u v) [
-    | inl e ↦ let here : slice_index (slice_set ranks v rank) v ≡ rank = get_or-set_same ranks v rank 0 lt in
-        let there : slice_index (slice_set ranks v rank) u ≡ slice_index (slice_set ranks v rank) v = ap (slice_index (slice_set ranks v rank)) e in absurd (omega arith)
-    | inr ne ↦ let rank_is : slice_index (slice_set ranks v rank) u ≡ slice_index ranks u = get_or-set_other ranks v u rank 0 ne in
-        raise.still u (omega arith) ∙ h.still u (omega arith)
-  ];
+  still = grind (arith, common_steps);
 }
 
 -- the raised places are one list alone
 pub raised_same : (distance : ℕ) (ranks entries : List ℕ) (places raised other : List ℤ) → AreRaisedTo distance ranks entries places raised → AreRaisedTo distance ranks entries places other
     → (v : ℕ) → place raised v ≡ place other v
-raised_same distance ranks entries places raised other h k v = elim (eq-zero-or-pos (slice_index ranks v)) [
-  | inl none ↦ h.still v none ∙ sym (k.still v none)
-  | inr some ↦ let a : place raised v +ℤ pos (slice_index entries v) ≡ place places v +ℤ pos distance = h.moved v some in
-      let b : place other v +ℤ pos (slice_index entries v) ≡ place places v +ℤ pos distance = k.moved v some in omega (arith, ints)
-]
+raised_same distance ranks entries places raised other h k v = grind (arith, ints)
 
 -- the places before the i-th were raised
 pub record AreSettled (i distance : ℕ) (ranks entries : List ℕ) (old new : List ℤ) : Type 0 where
@@ -188,31 +166,8 @@ pub record AreSettled (i distance : ℕ) (ranks entries : List ℕ) (old new : L
 -- a reached place is raised
 pub settled_raised : (i distance : ℕ) (ranks entries : List ℕ) (old new : List ℤ) (z : ℤ) → i < length new → AreSettled i distance ranks entries old new → 0 < slice_index ranks i
     → z +ℤ pos (slice_index entries i) ≡ place new i +ℤ pos distance → AreSettled (i + 1) distance ranks entries old (slice_set new i z)
-settled_raised i distance ranks entries old new z lt h rank is = record {
-  size = length-set new i z ∙ h.size;
-  moved = λ v less rank_v. elim (cases_eq v i) [
-    | inl e ↦ subst (λ u. place (slice_set new i z) u +ℤ pos (slice_index entries u) ≡ place old u +ℤ pos distance) (sym e)
-        (subst (λ p. p +ℤ pos (slice_index entries i) ≡ place old i +ℤ pos distance) (sym (get_or-set_same new i z (pos 0) lt)) (is ∙ ap (λ p. p +ℤ pos distance) (h.rest i (omega arith))))
-    | inr ne ↦ subst (λ p. p +ℤ pos (slice_index entries v) ≡ place old v +ℤ pos distance) (sym (get_or-set_other new i v z (pos 0) ne)) (h.moved v (omega arith) rank_v)
-  ];
-  still = λ v less none. elim (cases_eq v i) [
-    | inl e ↦ absurd (none_both (slice_index ranks i) rank (subst (λ u. slice_index ranks u ≡ 0) e none))
-    | inr ne ↦ get_or-set_other new i v z (pos 0) ne ∙ h.still v (omega arith) none
-  ];
-  rest = λ v le. get_or-set_other new i v z (pos 0) (λ e. omega arith) ∙ h.rest v (omega arith);
-}
+settled_raised i distance ranks entries old new z lt h rank is = grind (arith, common_steps)
 
 -- another is left
 pub settled_still : (i distance : ℕ) (ranks entries : List ℕ) (old new : List ℤ) → AreSettled i distance ranks entries old new → slice_index ranks i ≡ 0 → AreSettled (i + 1) distance ranks entries old new
-settled_still i distance ranks entries old new h none = record {
-  size = h.size;
-  moved = λ v less rank. elim (cases_eq v i) [
-    | inl e ↦ absurd (none_both (slice_index ranks i) (subst (λ u. 0 < slice_index ranks u) e rank) none)
-    | inr ne ↦ h.moved v (omega arith) rank
-  ];
-  still = λ v less no_rank. elim (cases_eq v i) [
-    | inl e ↦ h.rest v (omega arith)
-    | inr ne ↦ h.still v (omega arith) no_rank
-  ];
-  rest = λ v le. h.rest v (omega arith);
-}
+settled_still i distance ranks entries old new h none = grind (arith, common_steps)

@@ -4,6 +4,7 @@ use Rattle.std.specs.List.{sum_by}
 use Rattle.std.proofs.lemmas.Bool.{cases_eq, cases_lt, cases_Bool, both_ways}
 use Rattle.std.proofs.lemmas.List.{get_or_past}
 use Rattle.std.proofs.lemmas.List.Sums.{sum_by-set}
+use Rattle.std.proofs.lemmas.Grind.{common_steps}
 use lib.Signed.{lt_z}
 use borrow.Author.Differences.{ints, lt_out, le_out, at_most_in, below_in, lt-true}
 use Rattle.grove_flow.specs.declared.network.Arc.{Arc}
@@ -21,19 +22,11 @@ le_le a b c h k = at_most_in a c (omega (arith, le_out a b h, le_out b c k))
 
 -- a place that is set to a value above a low place stays above it
 set_below : (low old : List ℤ) (v : ℕ) (most : ℤ) → v < length old → AreBelow low old → place low v ≤ℤ most → AreBelow low (slice_set old v most)
-set_below low old v most lt below le u = elim (cases_eq u v) [
-  | inl e ↦ subst (λ w. place low w ≤ℤ place (slice_set old v most) w) (sym e)
-      (subst (λ z. place low v ≤ℤ z) (sym (get_or-set_same old v most (pos 0) lt)) le)
-  | inr ne ↦ subst (λ z. place low u ≤ℤ z) (sym (get_or-set_other old v u most (pos 0) ne)) (below u)
-]
+set_below low old v most lt below le u = grind (arith, common_steps)
 
 -- a place that is set to less makes no place higher
 set_down : (old : List ℤ) (v : ℕ) (most : ℤ) → v < length old → most ≤ℤ place old v → AreBelow (slice_set old v most) old
-set_down old v most lt le u = elim (cases_eq u v) [
-  | inl e ↦ subst (λ w. place (slice_set old v most) w ≤ℤ place old w) (sym e)
-      (subst (λ z. z ≤ℤ place old v) (sym (get_or-set_same old v most (pos 0) lt)) le)
-  | inr ne ↦ subst (λ z. z ≤ℤ place old u) (sym (get_or-set_other old v u most (pos 0) ne)) (le_same (place old u))
-]
+set_down old v most lt le u = grind (arith, common_steps, ints)
 
 height_less : (low high : ℤ) → negsuc 9223372036854775807 ≤ℤ low → low <ℤ high → height low < height high
 height_less low high held less = omega (arith, le_out (negsuc 9223372036854775807) low held, lt_out low high less)

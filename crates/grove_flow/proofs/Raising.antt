@@ -62,19 +62,15 @@ raised_arc : (arc : Arc) (amount : ℕ) (ranks : List ℕ) (by : ℤ) (old new :
     → ((s : ℤ) → IsStep arc amount old ranks s → by ≤ℤ s) → IsLawful arc amount new
 raised_arc arc amount ranks by old new raised lawful positive least =
     let met : (place old arc.from +ℤ arc.least) ≤ℤ place old arc.to = lawful.met in
+    let tight : 0 < amount → place old arc.from +ℤ arc.least ≡ place old arc.to = lawful.tight in
     elim (eq-zero-or-pos (slice_index ranks arc.from)) [
       | inl no_from ↦ let from_is : place new arc.from ≡ place old arc.from = raised.still arc.from no_from in
           elim (eq-zero-or-pos (slice_index ranks arc.to)) [
-            | inl no_to ↦ let to_is : place new arc.to ≡ place old arc.to = raised.still arc.to no_to in record {
-              met = omega (arith, ints);
-              tight = λ some. let tight : place old arc.from +ℤ arc.least ≡ place old arc.to = lawful.tight some in omega (arith, ints);
-            }
+            | inl no_to ↦ let to_is : place new arc.to ≡ place old arc.to = raised.still arc.to no_to in
+                record { met = omega (arith, ints); tight = λ some. omega (arith, ints, tight some) }
             | inr yes_to ↦ let to_is : place new arc.to ≡ place old arc.to +ℤ by = raised.moved arc.to yes_to in record {
               met = omega (arith, ints);
-              tight = λ some.
-                  let tight : place old arc.from +ℤ arc.least ≡ place old arc.to = lawful.tight some in
-                  let none : by ≤ℤ pos 0 = least (pos 0) (inr (record { leaves = yes_to; arrives = no_from; some = some; none = refl })) in
-                  omega (arith, ints);
+              tight = λ some. omega (arith, ints, tight some, least (pos 0) (inr (record { leaves = yes_to; arrives = no_from; some = some; none = refl })));
             }
           ]
       | inr yes_from ↦ let from_is : place new arc.from ≡ place old arc.from +ℤ by = raised.moved arc.from yes_from in
@@ -82,14 +78,9 @@ raised_arc arc amount ranks by old new raised lawful positive least =
             | inl no_to ↦ let to_is : place new arc.to ≡ place old arc.to = raised.still arc.to no_to in
                 let by_slack : by ≤ℤ (place old arc.to -ℤ (place old arc.from +ℤ arc.least)) =
                 least (place old arc.to -ℤ (place old arc.from +ℤ arc.least)) (inl (record { leaves = yes_from; arrives = no_to; slack_is = omega (arith, ints) })) in
-                record {
-                  met = omega (arith, ints);
-                  tight = λ some. let tight : place old arc.from +ℤ arc.least ≡ place old arc.to = lawful.tight some in omega (arith, ints);
-                }
-            | inr yes_to ↦ let to_is : place new arc.to ≡ place old arc.to +ℤ by = raised.moved arc.to yes_to in record {
-              met = omega (arith, ints);
-              tight = λ some. let tight : place old arc.from +ℤ arc.least ≡ place old arc.to = lawful.tight some in omega (arith, ints);
-            }
+                record { met = omega (arith, ints); tight = λ some. omega (arith, ints, tight some) }
+            | inr yes_to ↦ let to_is : place new arc.to ≡ place old arc.to +ℤ by = raised.moved arc.to yes_to in
+                record { met = omega (arith, ints); tight = λ some. omega (arith, ints, tight some) }
           ]
     ]
 

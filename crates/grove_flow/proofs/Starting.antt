@@ -2,6 +2,7 @@
 use Rattle.std.proofs.Common.{◌≡◌, ℕ, zero, suc, ◌+◌, ◌-◌, ◌*◌, ◌<◌, ◌≤◌, ◌==◌, Bool, true, false, cond, List, [], ◌∷◌, length, slice_index, slice_set, ℤ, pos, negsuc, ◌+ℤ◌, ◌-ℤ◌, ◌≤ℤ◌, refl, sym, ◌∙◌, ap, subst, inl, inr, arith, get_or-set_same, get_or-set_other, length-set}
 use Rattle.std.proofs.lemmas.Bool.{cases_eq, cases_lt}
 use Rattle.std.proofs.lemmas.List.{get_or_past, length-replicate}
+use Rattle.std.proofs.lemmas.Grind.{common_steps}
 use borrow.Author.Differences.{ints, up, down}
 use Rattle.grove_tree.specs.Numbers.{sum_below}
 use Rattle.grove_tree.proofs.Counting.{sum_same}
@@ -177,14 +178,4 @@ pub record AreMovedBelow (i : ℕ) (base : ℤ) (old new : List ℤ) : Type 0 wh
   pub rest : (v : ℕ) → i ≤ v → place new v ≡ place old v
 
 pub moved_more : (i : ℕ) (base : ℤ) (old new : List ℤ) → i < length new → AreMovedBelow i base old new → AreMovedBelow (i + 1) base old (slice_set new i (place new i -ℤ base))
-moved_more i base old new lt h = record {
-  size = length-set new i (place new i -ℤ base) ∙ h.size;
-  done = λ v less. elim (cases_eq v i) [
-    | inl e ↦ subst (λ u. place (slice_set new i (place new i -ℤ base)) u +ℤ base ≡ place old u) (sym e)
-        (let here : place (slice_set new i (place new i -ℤ base)) i ≡ place new i -ℤ base = get_or-set_same new i (place new i -ℤ base) (pos 0) lt in
-        let same : place new i ≡ place old i = h.rest i (omega arith) in
-        omega (arith, ints))
-    | inr ne ↦ subst (λ z. z +ℤ base ≡ place old v) (sym (get_or-set_other new i v (place new i -ℤ base) (pos 0) ne)) (h.done v (omega arith))
-  ];
-  rest = λ v le. get_or-set_other new i v (place new i -ℤ base) (pos 0) (λ e. omega arith) ∙ h.rest v (omega arith);
-}
+moved_more i base old new lt h = grind (arith, common_steps, ints)

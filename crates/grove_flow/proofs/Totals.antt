@@ -1,7 +1,8 @@
 -- What enters and leaves each variable, added up one arc after another.
-use Rattle.std.proofs.Common.{◌≡◌, ℕ, zero, suc, ◌+◌, ◌*◌, ◌<◌, ◌≤◌, ◌==◌, Bool, cond, List, [], ◌∷◌, length, slice_index, slice_set, take, ℤ, refl, sym, ◌∙◌, ap, subst, inl, inr, arith, add-one, eq-eqb, ne_eqb, length-set, get_or-set_same, get_or-set_other}
+use Rattle.std.proofs.Common.{◌≡◌, ℕ, zero, suc, ◌+◌, ◌*◌, ◌<◌, ◌≤◌, ◌==◌, Bool, cond, List, [], ◌∷◌, length, slice_index, slice_set, take, ℤ, refl, sym, ◌∙◌, ap, subst, inl, inr, arith, add-one, below_more, eq-eqb, ne_eqb, length-set, get_or-set_same, get_or-set_other}
 use Rattle.std.proofs.lemmas.Bool.{cases_eq, cond-true, cond-false}
 use Rattle.std.proofs.lemmas.List.{length-replicate}
+use Rattle.std.proofs.lemmas.Grind.{common_steps}
 use Rattle.grove_flow.specs.declared.network.Arc.{Arc}
 use Rattle.grove_flow.specs.Networks.{arc_at, IsLawful}
 use Rattle.grove_flow.specs.Flows.{sent}
@@ -52,13 +53,7 @@ total_more end arcs amounts sums i v lt size v_lt h =
     ])
 
 small_more : (sums : List ℕ) (u amount n v : ℕ) → u < length sums → ((w : ℕ) → slice_index sums w ≤ n) → slice_index (slice_set sums u (slice_index sums u + amount)) v ≤ n + amount
-small_more sums u amount n v lt h = elim (cases_eq v u) [
-  | inl e ↦ subst (λ w. slice_index (slice_set sums u (slice_index sums u + amount)) w ≤ n + amount) (sym e)
-      (let here : slice_index (slice_set sums u (slice_index sums u + amount)) u ≡ slice_index sums u + amount = get_or-set_same sums u (slice_index sums u + amount) 0 lt in
-      let le : slice_index sums u ≤ n = h u in omega arith)
-  | inr ne ↦ let there : slice_index (slice_set sums u (slice_index sums u + amount)) v ≡ slice_index sums v = get_or-set_other sums u v (slice_index sums u + amount) 0 ne in
-      let le : slice_index sums v ≤ n = h v in omega arith
-]
+small_more sums u amount n v lt h = grind (arith, common_steps)
 
 pub summed_more : (arcs : List Arc) (amounts : List ℕ) (places : List ℤ) (most : ℕ) (into out : List ℕ) (i : ℕ) → i < length arcs → length amounts ≡ length arcs
     → (arc_at arcs i).from < length places → (arc_at arcs i).to < length places → slice_index amounts i ≤ most → slice_index amounts i < 18446744073709551616
@@ -75,14 +70,8 @@ summed_more arcs amounts places most into out i lt size from to le fits lawful h
     record {
       into_size = into_same ∙ into_size;
       out_size = out_same ∙ out_size;
-      lawful = λ k less. elim (cases_eq k i) [
-        | inl e ↦ subst (λ j. IsLawful (arc_at arcs j) (slice_index amounts j) places) (sym e) lawful
-        | inr ne ↦ h.lawful k (omega arith)
-      ];
-      bounded = λ k less. elim (cases_eq k i) [
-        | inl e ↦ subst (λ j. slice_index amounts j ≤ most) (sym e) le
-        | inr ne ↦ h.bounded k (omega arith)
-      ];
+      lawful = below_more _ _ h.lawful lawful;
+      bounded = below_more _ _ h.bounded le;
       totals = record {
         into_is = λ v v_lt. total_more (λ arc. arc.to) arcs amounts into i v lt size (omega arith) (h.totals.into_is v (omega arith));
         out_is = λ v v_lt. total_more (λ arc. arc.from) arcs amounts out i v lt size (omega arith) (h.totals.out_is v (omega arith));
