@@ -1,6 +1,6 @@
 -- A search step by step, each of which is a step of a search that raises at once.
-use Rattle.std.proofs.Common.{◌≡◌, ◌≢◌, ℕ, ◌+◌, ◌<◌, ◌≤◌, ◌⊎◌, List, length, slice_index, slice_index_or, slice_set, ℤ, pos, negsuc, ◌+ℤ◌, ◌-ℤ◌, ◌≤ℤ◌, refl, sym, ◌∙◌, ap, subst, inl, inr, ⊎_elim, arith, length-set, get_or-set_same, get_or-set_other}
-use Rattle.std.proofs.lemmas.Bool.{cases_eq}
+use Rattle.std.proofs.Common.{◌≡◌, ◌≢◌, ℕ, ◌+◌, ◌<◌, ◌≤◌, ◌⊎◌, List, length, slice_index, slice_index_or, slice_set, ℤ, pos, negsuc, ◌+ℤ◌, ◌-ℤ◌, ◌≤ℤ◌, refl, sym, ◌∙◌, ap, subst, ⊎_elim, arith, length-set, get_or-set_same, get_or-set_other}
+use Rattle.std.proofs.lemmas.Grind.{common_steps}
 use Rattle.std.proofs.lemmas.List.{ext_get_or, get_or_read, length-replicate}
 use borrow.Author.Differences.{ints}
 use Rattle.grove_flow.specs.declared.network.Arc.{Arc}
@@ -123,10 +123,7 @@ growing_start network state tree new source room state_of sizes lt some read ran
     (start_grown network.needs.items network.arcs.items state.amounts.items state.places.items state.excess.items state.unmet.items tree.vias.items tree.rooms.items n source
     state_of (omega arith) (sizes.vias ∙ sym places_size) (sizes.rooms ∙ sym places_size) (omega arith) some) in
     let only : (v : ℕ) → 0 < slice_index (slice_set (zeros n) source 1) v → slice_index (slice_set tree.entries.items source 0) v ≡ 0 =
-    λ v rank. elim (cases_eq v source) [
-      | inl e ↦ ap (slice_index (slice_set tree.entries.items source 0)) e ∙ first
-      | inr ne ↦ let none : slice_index (slice_set (zeros n) source 1) v ≡ 0 = get_or-set_other (zeros n) source v 1 0 ne ∙ no_ranks n v in absurd (omega arith)
-    ] in
+    λ v rank. let none : slice_index (zeros n) v ≡ 0 = no_ranks n v in grind (arith, common_steps) in
     record {
       tree_of = record {
         ranks = rw ranks_is (length-set (zeros n) source 1 ∙ length-replicate n 0 ∙ n_is);

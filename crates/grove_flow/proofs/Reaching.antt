@@ -186,10 +186,7 @@ start_grown needs arcs amounts places excess unmet vias rooms n source state n_i
         source_rank = omega arith;
         source_room = omega arith;
         counted = omega arith;
-        ranks_le = λ v. elim (cases_eq v source) [
-          | inl e ↦ subst (λ w. slice_index (slice_set (zeros n) source 1) w ≤ 1) (sym e) (omega arith)
-          | inr ne ↦ let none : slice_index (slice_set (zeros n) source 1) v ≡ 0 = get_or-set_other (zeros n) source v 1 0 ne ∙ no_ranks n v in omega arith
-        ];
+        ranks_le = λ v. let none : slice_index (zeros n) v ≡ 0 = no_ranks n v in grind (arith, common_steps);
         low = λ v rank. subst (λ w. place places w ≤ℤ (place places source +ℤ pos (1048576 * slice_index (slice_set (zeros n) source 1) w))) (sym (only v rank)) (omega (arith, ints));
         open_rooms = λ v rank. subst (λ w. 0 < slice_index (slice_set rooms source (slice_index excess source)) w) (sym (only v rank)) (omega arith);
         vias_within = λ v rank other. absurd (other (only v rank));
@@ -201,10 +198,7 @@ start_grown needs arcs amounts places excess unmet vias rooms n source state n_i
     }
   where
     only : (v : ℕ) → 0 < slice_index (slice_set (zeros n) source 1) v → v ≡ source
-    only v rank = elim (cases_eq v source) [
-      | inl e ↦ e
-      | inr ne ↦ let none : slice_index (slice_set (zeros n) source 1) v ≡ 0 = get_or-set_other (zeros n) source v 1 0 ne ∙ no_ranks n v in absurd (omega arith)
-    ]
+    only v rank = let none : slice_index (zeros n) v ≡ 0 = no_ranks n v in grind (arith, common_steps)
 
 -- the chosen arc is tight once the reached places are raised
 chosen_tight : (arc : Arc) (amount : ℕ) (ranks : List ℕ) (by : ℤ) (old new : List ℤ) → IsRaised ranks by old new → IsStep arc amount old ranks by

@@ -1,5 +1,5 @@
 -- What is sent once a way is found, and what is still to be sent.
-use Rattle.std.proofs.Common.{◌≡◌, ◌≢◌, ℕ, ◌+◌, ◌-◌, ◌^◌, ◌<◌, ◌≤◌, ◌==◌, List, length, slice_index, slice_set, ℤ, ◌+ℤ◌, refl, sym, ◌∙◌, ap, subst, inl, inr, arith, eq-eqb, ne_eqb, length-set, get_or-set_same, get_or-set_other}
+use Rattle.std.proofs.Common.{◌≡◌, ◌≢◌, ℕ, ◌+◌, ◌-◌, ◌^◌, ◌<◌, ◌≤◌, ◌==◌, List, length, slice_index, slice_set, ℤ, ◌+ℤ◌, refl, sym, ◌∙◌, ap, subst, inl, inr, arith, eq-eqb, ne_eqb, length-set}
 use Rattle.std.proofs.lemmas.Bool.{cases_eq, cond-true, cond-false}
 use Rattle.std.proofs.lemmas.Grind.{common_steps}
 use Rattle.grove_tree.specs.Numbers.{sum_below}

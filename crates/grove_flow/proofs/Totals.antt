@@ -1,5 +1,5 @@
 -- What enters and leaves each variable, added up one arc after another.
-use Rattle.std.proofs.Common.{◌≡◌, ℕ, zero, suc, ◌+◌, ◌*◌, ◌<◌, ◌≤◌, ◌==◌, Bool, cond, List, [], ◌∷◌, length, slice_index, slice_set, take, ℤ, refl, sym, ◌∙◌, ap, subst, inl, inr, arith, add-one, below_more, eq-eqb, ne_eqb, length-set, get_or-set_same, get_or-set_other}
+use Rattle.std.proofs.Common.{◌≡◌, ℕ, zero, suc, ◌+◌, ◌*◌, ◌<◌, ◌≤◌, ◌==◌, Bool, cond, List, [], ◌∷◌, length, slice_index, slice_set, take, ℤ, refl, sym, ◌∙◌, inl, inr, arith, add-one, below_more, eq-eqb, ne_eqb, length-set}
 use Rattle.std.proofs.lemmas.Bool.{cases_eq, cond-true, cond-false}
 use Rattle.std.proofs.lemmas.List.{length-replicate}
 use Rattle.std.proofs.lemmas.Grind.{common_steps}
@@ -39,17 +39,11 @@ total_more end arcs amounts sums i v lt size v_lt h =
     sent_take (λ arc. end arc == v) arcs amounts i lt size in
     rw (add-one i) (elim (cases_eq v (end (arc_at arcs i))) [
       | inl e ↦
-          let here : slice_index (slice_set sums (end (arc_at arcs i)) (slice_index sums (end (arc_at arcs i)) + slice_index amounts i)) v ≡ slice_index sums (end (arc_at arcs i)) + slice_index amounts i =
-          ap (slice_index (slice_set sums (end (arc_at arcs i)) (slice_index sums (end (arc_at arcs i)) + slice_index amounts i))) e
-          ∙ get_or-set_same sums (end (arc_at arcs i)) (slice_index sums (end (arc_at arcs i)) + slice_index amounts i) 0 (omega arith) in
-          let was : slice_index sums (end (arc_at arcs i)) ≡ slice_index sums v = ap (slice_index sums) (sym e) in
           let is : cond (end (arc_at arcs i) == v) (slice_index amounts i) 0 ≡ slice_index amounts i = cond-true (end (arc_at arcs i) == v) (slice_index amounts i) 0 (eq-eqb (end (arc_at arcs i)) v (sym e)) in
-          omega arith
+          grind (arith, common_steps)
       | inr ne ↦
-          let there : slice_index (slice_set sums (end (arc_at arcs i)) (slice_index sums (end (arc_at arcs i)) + slice_index amounts i)) v ≡ slice_index sums v =
-          get_or-set_other sums (end (arc_at arcs i)) v (slice_index sums (end (arc_at arcs i)) + slice_index amounts i) 0 ne in
           let is : cond (end (arc_at arcs i) == v) (slice_index amounts i) 0 ≡ 0 = cond-false (end (arc_at arcs i) == v) (slice_index amounts i) 0 (ne_eqb (end (arc_at arcs i)) v (λ e. ne (sym e))) in
-          omega arith
+          grind (arith, common_steps)
     ])
 
 small_more : (sums : List ℕ) (u amount n v : ℕ) → u < length sums → ((w : ℕ) → slice_index sums w ≤ n) → slice_index (slice_set sums u (slice_index sums u + amount)) v ≤ n + amount
