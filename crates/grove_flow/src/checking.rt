@@ -75,8 +75,8 @@ fn all_taken(needs: &[i64]) -> u128
     taken
 }
 
-// Each amount is at most so much, and each arc is met, tightly where an amount is sent along it. Adds up what enters and
-// what leaves each variable.
+// Each amount is at most so much, and each arc is met, tightly where an amount is sent along it. Adds up what enters
+// and what leaves each variable.
 fn are_lawful(
     arcs: &[Arc],
     amounts: &[u64],
@@ -122,7 +122,7 @@ fn wide_slack(arc: Arc, places: &[i64]) -> i128
     apart - i128::from(arc.least)
 }
 
-// What enters each variable is what leaves it and what it needs.
+// At each variable what comes in is what goes out and what the variable needs.
 fn are_met(needs: &[i64], into: &[u128], out: &[u128]) -> bool
     requires into { length into.now ≡ length needs.now }
     requires out { length out.now ≡ length needs.now }

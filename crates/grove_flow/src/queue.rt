@@ -39,7 +39,7 @@ impl Queue {
         self.heap.clear();
     }
 
-    pub fn push(&mut self, key: u64, arc: usize) -> Result<(), NoMemory>
+    fn push(&mut self, key: u64, arc: usize) -> Result<(), NoMemory>
         ensures kept { OnOk result ((k a : ℕ) → HasEntry self.old k a → HasEntry self.new k a) }
         ensures added { OnOk result (HasEntry self.new key arc) }
         ensures only { OnOk result ((k a : ℕ) → HasEntry self.new k a → ((k ≡ key) × (a ≡ arc)) ⊎ HasEntry self.old k a) }
@@ -47,7 +47,7 @@ impl Queue {
         Ok(self.heap.push(Reverse((key, arc)))?)
     }
 
-    pub fn pop(&mut self) -> Option<(u64, usize)>
+    fn pop(&mut self) -> Option<(u64, usize)>
         ensures none { IfNone result ((k a : ℕ) → HasEntry self.old k a → ⊥) }
         ensures least { IfSome result (λ e. (k a : ℕ) → HasEntry self.old k a → e.0 ≤ k) }
         ensures taken { IfSome result (λ e. HasEntry self.old e.0 e.1) }

@@ -16,8 +16,8 @@ use std::alloc::Global;
 #[derive(Drop)]
 pub struct Search {
     pub tree: Tree,
-    pub queue: Queue,
-    pub fans: Fans,
+    queue: Queue,
+    fans: Fans,
 }
 
 impl Search {
