@@ -1,6 +1,6 @@
 -- A variable that still has to give has a place that is not far off: between its place and those of the variables that
 -- still have to take, each band of places has a variable.
-use Rattle.std.proofs.Common.{◌≡◌, ℕ, zero, suc, ◌+◌, ◌*◌, ◌<◌, ◌≤◌, ◌⊎◌, Bool, true, List, length, slice_index, ℤ, pos, negsuc, ◌+ℤ◌, ◌≤ℤ◌, eq-zero-or-pos, refl, sym, subst, inl, inr, arith}
+use Rattle.std.proofs.Common.{◌≡◌, ℕ, zero, suc, ◌+◌, ◌*◌, ◌<◌, ◌≤◌, ◌⊎◌, Bool, true, List, length, slice_index, ℤ, pos, negsuc, ◌+ℤ◌, ◌≤ℤ◌, eq-zero-or-pos, sym, subst, inl, inr, arith}
 use Rattle.std.proofs.lemmas.Bool.{cases_eq, cases_Bool, both_ways}
 use Rattle.std.proofs.lemmas.Int.{by_lt_z}
 use lib.Signed.{lt_z}
@@ -11,10 +11,6 @@ use Rattle.grove_flow.specs.declared.network.Arc.{Arc}
 use Rattle.grove_flow.specs.Networks.{arc_at, place, AreArcsOf, AreLawful}
 use Rattle.grove_flow.specs.States.{double, IsFrame, AreBalanced, AreUnmoved}
 use Rattle.grove_flow.proofs.Cuts.{IsClosed, none_to_give}
-
-pub double-is : (n : ℕ) → double n ≡ 2 * n
-double-is zero = refl
-double-is (suc n) = omega (arith, double-is n)
 
 -- a number that passes is counted
 count_some : (n k : ℕ) (test : ℕ → Bool) → k < n → test k ≡ true → 1 ≤ count_below n test

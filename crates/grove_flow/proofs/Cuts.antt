@@ -1,5 +1,5 @@
 -- The counting argument: what a set of variables that no arc leads out of gives and takes.
-use Rattle.std.proofs.Common.{◌≡◌, ℕ, zero, suc, ◌+◌, ◌<◌, ◌≤◌, ◌==◌, Bool, true, false, cond, List, [], ◌∷◌, length, slice_index, ℤ, refl, sym, ◌∙◌, ap, subst, inl, inr, arith, eq-eqb, ne_eqb}
+use Rattle.std.proofs.Common.{◌≡◌, ℕ, zero, suc, ◌+◌, ◌*◌, ◌<◌, ◌≤◌, ◌==◌, Bool, true, false, cond, List, [], ◌∷◌, length, slice_index, ℤ, refl, sym, ◌∙◌, ap, subst, inl, inr, arith, eq-eqb, ne_eqb}
 use Rattle.std.proofs.lemmas.Bool.{cases_Bool, cond-true, cond-false, both_ways}
 use Rattle.grove_tree.specs.Numbers.{sum_below}
 use Rattle.grove_tree.proofs.Counting.{sum_add, sum_same, sum_zero, sum_one, sum_term}
@@ -7,6 +7,10 @@ use Rattle.grove_flow.specs.declared.network.Arc.{Arc}
 use Rattle.grove_flow.specs.Networks.{arc_at, AreArcsOf}
 use Rattle.grove_flow.specs.Flows.{sent, amount_in, amount_out, takes}
 use Rattle.grove_flow.specs.States.{double, gives, ArePaired, IsFrame, AreBalanced}
+
+pub double-is : (n : ℕ) → double n ≡ 2 * n
+double-is zero = refl
+double-is (suc n) = omega (arith, double-is n)
 
 -- f at the chosen variables, and 0 at the others
 abbrev pub chosen : (ℕ → Bool) → (ℕ → ℕ) → ℕ → ℕ
@@ -123,8 +127,10 @@ none_to_give needs arcs amounts excess unmet s frame balanced closed met v lt pi
     let total : sum_below (length needs) (chosen s (gives needs)) + sum_below (length needs) (chosen s (slice_index unmet)) ≡ sum_below (length needs) (chosen s (takes needs)) + sum_below (length needs) (chosen s (slice_index excess)) =
     closed_balance needs arcs amounts excess unmet s arcs_of balanced closed in
     let own : (k : ℕ) → k < frame.rows → s (double k) ≡ true → s (suc (double k)) ≡ true =
-    λ k less is. let arc : (i : ℕ) × (i < length arcs) × ((arc_at arcs i).from ≡ double k) × ((arc_at arcs i).to ≡ suc (double k)) = frame.own k less in
-    subst (λ u. s u ≡ true) arc.3 (closed.leaves arc.0 arc.1 (subst (λ u. s u ≡ true) (sym arc.2) is)) in
+    λ k less is. let arc : (i : ℕ) × (i < length arcs) × ((arc_at arcs i).from ≡ 2 * k) × ((arc_at arcs i).to ≡ 2 * k + 1) = frame.own k less in
+    let e : double k ≡ 2 * k = double-is k in
+    let to : (arc_at arcs arc.0).to ≡ suc (double k) = arc.3 ∙ (let f : 2 * k + 1 ≡ suc (double k) = omega arith in f) in
+    subst (λ u. s u ≡ true) to (closed.leaves arc.0 arc.1 (subst (λ u. s u ≡ true) (sym (arc.2 ∙ sym e)) is)) in
     let le : sum_below (double frame.rows) (chosen s (gives needs)) ≤ sum_below (double frame.rows) (chosen s (takes needs)) = pairs_le frame.rows needs s frame.paired own frame.rows (omega arith) in
     let base : cond (s (double frame.rows)) (gives needs (double frame.rows)) 0 ≡ 0 = ap (λ x. cond (s (double frame.rows)) x 0) frame.paired.base_gives ∙ cond_none (s (double frame.rows)) in
     let all_le : sum_below (length needs) (chosen s (gives needs)) ≤ sum_below (length needs) (chosen s (takes needs)) =

@@ -1,9 +1,14 @@
 pub mod Cuts
 pub mod Bands
 pub mod Lowering
-pub mod Steps
 pub mod Raising
 pub mod Reaching
 pub mod Walks
 pub mod Sending
 pub mod Starting
+pub mod Entries
+pub mod Keys
+pub mod Fitting
+pub mod Offering
+pub mod Growing
+pub mod Totals

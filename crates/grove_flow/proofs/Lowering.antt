@@ -1,13 +1,17 @@
 -- Places that are lowered: what stays below them, and how far they fall.
-use Rattle.std.proofs.Common.{◌≡◌, ℕ, suc, ◌+◌, ◌-◌, ◌<◌, ◌≤◌, Bool, true, false, List, length, slice_index, slice_set, ℤ, pos, negsuc, ◌+ℤ◌, ◌-ℤ◌, ◌≤ℤ◌, ◌<ℤ◌, refl, sym, ◌∙◌, subst, inl, inr, arith, get_or-set_same, get_or-set_other}
+use Rattle.std.proofs.Common.{◌≡◌, ℕ, suc, ◌+◌, ◌-◌, ◌<◌, ◌≤◌, Bool, true, false, List, length, slice_index, slice_set, ℤ, pos, negsuc, ◌+ℤ◌, ◌-ℤ◌, ◌≤ℤ◌, ◌<ℤ◌, refl, sym, ◌∙◌, ap, subst, inl, inr, arith}
 use Rattle.std.specs.List.{sum_by}
 use Rattle.std.proofs.lemmas.Bool.{cases_eq, cases_lt, cases_Bool, both_ways}
 use Rattle.std.proofs.lemmas.List.{get_or_past}
 use Rattle.std.proofs.lemmas.List.Sums.{sum_by-set}
+use Rattle.std.proofs.lemmas.Grind.{common_steps}
 use lib.Signed.{lt_z}
 use borrow.Author.Differences.{ints, lt_out, le_out, at_most_in, below_in, lt-true}
 use Rattle.grove_flow.specs.declared.network.Arc.{Arc}
 use Rattle.grove_flow.specs.Networks.{arc_at, place, IsLawful, AreLawful, AreBelow, IsCandidate, IsLatest}
+use Rattle.grove_flow.specs.declared.settling.Way.{Way}
+use Rattle.grove_flow.specs.declared.settling.Way.TheVariants.{Forward, Backward}
+use Rattle.grove_flow.specs.Ways.{arc_on}
 use Rattle.grove_flow.specs.Floors.{AreHeld, AreHighest, HasFloor, HaveFloor, IsKept, AreKept, IsLoweredAt, height, heights}
 
 le_same : (z : ℤ) → z ≤ℤ z
@@ -18,19 +22,11 @@ le_le a b c h k = at_most_in a c (omega (arith, le_out a b h, le_out b c k))
 
 -- a place that is set to a value above a low place stays above it
 set_below : (low old : List ℤ) (v : ℕ) (most : ℤ) → v < length old → AreBelow low old → place low v ≤ℤ most → AreBelow low (slice_set old v most)
-set_below low old v most lt below le u = elim (cases_eq u v) [
-  | inl e ↦ subst (λ w. place low w ≤ℤ place (slice_set old v most) w) (sym e)
-      (subst (λ z. place low v ≤ℤ z) (sym (get_or-set_same old v most (pos 0) lt)) le)
-  | inr ne ↦ subst (λ z. place low u ≤ℤ z) (sym (get_or-set_other old v u most (pos 0) ne)) (below u)
-]
+set_below low old v most lt below le u = grind (arith, common_steps)
 
 -- a place that is set to less makes no place higher
 set_down : (old : List ℤ) (v : ℕ) (most : ℤ) → v < length old → most ≤ℤ place old v → AreBelow (slice_set old v most) old
-set_down old v most lt le u = elim (cases_eq u v) [
-  | inl e ↦ subst (λ w. place (slice_set old v most) w ≤ℤ place old w) (sym e)
-      (subst (λ z. z ≤ℤ place old v) (sym (get_or-set_same old v most (pos 0) lt)) le)
-  | inr ne ↦ subst (λ z. z ≤ℤ place old u) (sym (get_or-set_other old v u most (pos 0) ne)) (le_same (place old u))
-]
+set_down old v most lt le u = grind (arith, common_steps, ints)
 
 height_less : (low high : ℤ) → negsuc 9223372036854775807 ≤ℤ low → low <ℤ high → height low < height high
 height_less low high held less = omega (arith, le_out (negsuc 9223372036854775807) low held, lt_out low high less)
@@ -114,42 +110,52 @@ kept_kept arcs amounts old mid new h k = record {
 pub kept_floor : (arcs : List Arc) (amounts : List ℕ) (old new : List ℤ) → AreKept arcs amounts old new → HaveFloor arcs amounts old → HaveFloor arcs amounts new
 kept_floor arcs amounts old new h (low, floor) = (low, record { lawful = floor.lawful; below = h.above low floor.lawful floor.below; held = floor.held })
 
--- the first i arcs were looked at
-pub record IsSwept (i : ℕ) (arcs : List Arc) (amounts : List ℕ) (old new : List ℤ) (lowered : Bool) : Type 0 where
+-- so many arcs were looked at
+pub record IsSwept (way : Way) (steps : ℕ) (arcs : List Arc) (amounts : List ℕ) (old new : List ℤ) (lowered : Bool) : Type 0 where
   pub size : length new ≡ length old
   pub kept : AreKept arcs amounts old new
   pub falls : lowered ≡ true → heights new < heights old
   pub still : lowered ≡ false → new ≡ old
-  pub lawful : lowered ≡ false → (k : ℕ) → k < i → IsLawful (arc_at arcs k) (slice_index amounts k) new
+  pub lawful : lowered ≡ false → (k : ℕ) → k < steps → IsLawful (arc_at arcs (arc_on way k (length arcs))) (slice_index amounts (arc_on way k (length arcs))) new
 
 -- an arc that has a place lowered
-pub swept_lowered : (i : ℕ) (arcs : List Arc) (amounts : List ℕ) (old mid new : List ℤ) (lowered : Bool) → i < length arcs → IsSwept i arcs amounts old mid lowered
-    → length new ≡ length mid → IsKept (arc_at arcs i) (slice_index amounts i) mid new → heights new < heights mid → IsSwept (i + 1) arcs amounts old new true
-swept_lowered i arcs amounts old mid new lowered lt h size k less = record {
+pub swept_lowered : (way : Way) (k i : ℕ) (arcs : List Arc) (amounts : List ℕ) (old mid new : List ℤ) (lowered : Bool) → i < length arcs → IsSwept way k arcs amounts old mid lowered
+    → length new ≡ length mid → IsKept (arc_at arcs i) (slice_index amounts i) mid new → heights new < heights mid → IsSwept way (k + 1) arcs amounts old new true
+swept_lowered way k i arcs amounts old mid new lowered lt h size kept less = record {
   size = size ∙ h.size;
-  kept = kept_kept arcs amounts old mid new h.kept (record { above = λ low lawful below. k.above low (lawful i lt) below; down = k.down });
+  kept = kept_kept arcs amounts old mid new h.kept (record { above = λ low lawful below. kept.above low (lawful i lt) below; down = kept.down });
   falls = λ e. elim (cases_Bool lowered) [
     | inl yes_it ↦ let before : heights mid < heights old = h.falls yes_it in omega arith
     | inr no_it ↦ subst (λ xs. heights new < heights xs) (h.still no_it) less
   ];
   still = λ e. absurd (both_ways true e refl);
-  lawful = λ e k lt. absurd (both_ways true e refl);
+  lawful = λ e j lt. absurd (both_ways true e refl);
 }
 
 -- an arc that is lawful
-pub swept_still : (i : ℕ) (arcs : List Arc) (amounts : List ℕ) (old mid new : List ℤ) (lowered : Bool) → IsSwept i arcs amounts old mid lowered
-    → new ≡ mid → IsLawful (arc_at arcs i) (slice_index amounts i) mid → IsSwept (i + 1) arcs amounts old new lowered
-swept_still i arcs amounts old mid new lowered h e lawful =
-    subst (λ xs. IsSwept (i + 1) arcs amounts old xs lowered) (sym e) (record {
+pub swept_still : (way : Way) (k i : ℕ) (arcs : List Arc) (amounts : List ℕ) (old mid new : List ℤ) (lowered : Bool) → i ≡ arc_on way k (length arcs) → IsSwept way k arcs amounts old mid lowered
+    → new ≡ mid → IsLawful (arc_at arcs i) (slice_index amounts i) mid → IsSwept way (k + 1) arcs amounts old new lowered
+swept_still way k i arcs amounts old mid new lowered is h e lawful =
+    subst (λ xs. IsSwept way (k + 1) arcs amounts old xs lowered) (sym e) (record {
       size = h.size;
       kept = h.kept;
       falls = h.falls;
       still = h.still;
-      lawful = λ no_it k lt. elim (cases_eq k i) [
-        | inl here ↦ subst (λ j. IsLawful (arc_at arcs j) (slice_index amounts j) mid) (sym here) lawful
-        | inr other ↦ h.lawful no_it k (omega arith)
+      lawful = λ no_it j lt. elim (cases_eq j k) [
+        | inl here ↦ subst (λ l. IsLawful (arc_at arcs l) (slice_index amounts l) mid) (is ∙ ap (λ l. arc_on way l (length arcs)) (sym here)) lawful
+        | inr other ↦ h.lawful no_it j (omega arith)
       ];
     })
+
+-- each arc has its turn, in either order
+arc_turn : (way : Way) (i n : ℕ) → i < n → (k : ℕ) × (k < n) × (arc_on way k n ≡ i)
+arc_turn Forward i n lt = (i, lt, refl)
+arc_turn Backward i n lt = (n - 1 - i, omega arith, omega arith)
+
+pub swept_lawful : (way : Way) (arcs : List Arc) (amounts : List ℕ) (old new : List ℤ) (lowered : Bool) → IsSwept way (length arcs) arcs amounts old new lowered → lowered ≡ false → AreLawful arcs amounts new
+swept_lawful way arcs amounts old new lowered h e i lt =
+    let (k, k_lt, is) = arc_turn way i (length arcs) lt in
+    subst (λ j. IsLawful (arc_at arcs j) (slice_index amounts j) new) is (h.lawful e k k_lt)
 
 -- the places of a candidate are below the highest ones
 candidate_below : (n : ℕ) (arcs : List Arc) (amounts : List ℕ) (top : ℤ) (low highest : List ℤ) → IsCandidate n arcs amounts top low → AreHighest n top highest → AreBelow low highest

@@ -1,21 +1,14 @@
 -- Places that are raised where they are reached, by the least slack of an arc that leads on.
-use Rattle.std.proofs.Common.{◌≡◌, ◌≢◌, ℕ, ◌+◌, ◌*◌, ◌<◌, ◌≤◌, Bool, ltb, List, length, slice_index, ℤ, pos, negsuc, ◌+ℤ◌, ◌-ℤ◌, ◌≤ℤ◌, eq-zero-or-pos, refl, sym, ◌∙◌, subst, inl, inr, ⊎_elim, arith, lt-ltb, ltb-true, FitsSigned, w64}
+use Rattle.std.proofs.Common.{◌≡◌, ◌≢◌, ℕ, ◌+◌, ◌*◌, ◌<◌, ◌≤◌, Bool, ltb, List, length, slice_index, ℤ, pos, negsuc, ◌+ℤ◌, ◌-ℤ◌, ◌≤ℤ◌, eq-zero-or-pos, refl, sym, ◌∙◌, subst, inl, inr, ⊎_elim, arith, lt-ltb, ltb-true}
 use Rattle.std.specs.List.{sum_by}
 use Rattle.std.proofs.lemmas.Bool.{cases_eq}
 use borrow.Author.Differences.{ints}
 use Rattle.grove_flow.specs.declared.network.Arc.{Arc}
 use Rattle.grove_flow.specs.Networks.{arc_at, place, IsLawful, AreLawful}
 use Rattle.grove_flow.specs.States.{IsFrame, AreUnmoved, AreNear, IsState}
-use Rattle.grove_flow.specs.Searches.{IsStep, AreNoSteps, IsLeastStep, IsReached, IsRaised, IsLink, IsGrown, unranked}
+use Rattle.grove_flow.specs.Reaches.{IsStep, AreNoSteps, IsLeastStep, IsReached, IsRaised, IsLink, IsGrown, unranked}
 use Rattle.grove_flow.proofs.Cuts.{IsClosed, none_to_give}
 use Rattle.grove_flow.proofs.Bands.{excess_low}
-
--- the places before the i-th were raised
-pub record AreRaisedBelow (i : ℕ) (ranks : List ℕ) (by : ℤ) (old new : List ℤ) : Type 0 where
-  pub size : length new ≡ length old
-  pub moved : (v : ℕ) → v < i → 0 < slice_index ranks v → place new v ≡ place old v +ℤ by
-  pub still : (v : ℕ) → v < i → slice_index ranks v ≡ 0 → place new v ≡ place old v
-  pub rest : (v : ℕ) → i ≤ v → place new v ≡ place old v
 
 -- what is reached but the last lacks nothing, and the last doesn't either
 pub all_met : (unmet ranks : List ℕ) (last : ℕ) → ((v : ℕ) → 0 < slice_index ranks v → v ≢ last → slice_index unmet v ≡ 0) → slice_index unmet last ≡ 0
@@ -64,31 +57,20 @@ least_range needs arcs amounts places ranks chosen by frame lawful near least =
     slack_range (arc_at arcs chosen) (slice_index amounts chosen) (length needs) places ranks by (lawful chosen least.within) near
     ((frame.arcs_of chosen least.within).modest.0) least.step
 
--- so the raised places fit
-pub raise_fits : (places : List ℤ) (by : ℤ) → AreNear places → (pos 0 ≤ℤ by) × (by ≤ℤ pos 36028797018963968) → (v : ℕ) → FitsSigned w64 (place places v +ℤ by)
-raise_fits places by near (low, high) v =
-    let under : negsuc 1048575 ≤ℤ place places v = (near v).0 in
-    let over : place places v ≤ℤ pos 18014398509481984 = (near v).1 in
-    omega (arith, ints)
-
 -- a raised arc stays lawful
 raised_arc : (arc : Arc) (amount : ℕ) (ranks : List ℕ) (by : ℤ) (old new : List ℤ) → IsRaised ranks by old new → IsLawful arc amount old → pos 0 ≤ℤ by
     → ((s : ℤ) → IsStep arc amount old ranks s → by ≤ℤ s) → IsLawful arc amount new
 raised_arc arc amount ranks by old new raised lawful positive least =
     let met : (place old arc.from +ℤ arc.least) ≤ℤ place old arc.to = lawful.met in
+    let tight : 0 < amount → place old arc.from +ℤ arc.least ≡ place old arc.to = lawful.tight in
     elim (eq-zero-or-pos (slice_index ranks arc.from)) [
       | inl no_from ↦ let from_is : place new arc.from ≡ place old arc.from = raised.still arc.from no_from in
           elim (eq-zero-or-pos (slice_index ranks arc.to)) [
-            | inl no_to ↦ let to_is : place new arc.to ≡ place old arc.to = raised.still arc.to no_to in record {
-              met = omega (arith, ints);
-              tight = λ some. let tight : place old arc.from +ℤ arc.least ≡ place old arc.to = lawful.tight some in omega (arith, ints);
-            }
+            | inl no_to ↦ let to_is : place new arc.to ≡ place old arc.to = raised.still arc.to no_to in
+                record { met = omega (arith, ints); tight = λ some. omega (arith, ints, tight some) }
             | inr yes_to ↦ let to_is : place new arc.to ≡ place old arc.to +ℤ by = raised.moved arc.to yes_to in record {
               met = omega (arith, ints);
-              tight = λ some.
-                  let tight : place old arc.from +ℤ arc.least ≡ place old arc.to = lawful.tight some in
-                  let none : by ≤ℤ pos 0 = least (pos 0) (inr (record { leaves = yes_to; arrives = no_from; some = some; none = refl })) in
-                  omega (arith, ints);
+              tight = λ some. omega (arith, ints, tight some, least (pos 0) (inr (record { leaves = yes_to; arrives = no_from; some = some; none = refl })));
             }
           ]
       | inr yes_from ↦ let from_is : place new arc.from ≡ place old arc.from +ℤ by = raised.moved arc.from yes_from in
@@ -96,14 +78,9 @@ raised_arc arc amount ranks by old new raised lawful positive least =
             | inl no_to ↦ let to_is : place new arc.to ≡ place old arc.to = raised.still arc.to no_to in
                 let by_slack : by ≤ℤ (place old arc.to -ℤ (place old arc.from +ℤ arc.least)) =
                 least (place old arc.to -ℤ (place old arc.from +ℤ arc.least)) (inl (record { leaves = yes_from; arrives = no_to; slack_is = omega (arith, ints) })) in
-                record {
-                  met = omega (arith, ints);
-                  tight = λ some. let tight : place old arc.from +ℤ arc.least ≡ place old arc.to = lawful.tight some in omega (arith, ints);
-                }
-            | inr yes_to ↦ let to_is : place new arc.to ≡ place old arc.to +ℤ by = raised.moved arc.to yes_to in record {
-              met = omega (arith, ints);
-              tight = λ some. let tight : place old arc.from +ℤ arc.least ≡ place old arc.to = lawful.tight some in omega (arith, ints);
-            }
+                record { met = omega (arith, ints); tight = λ some. omega (arith, ints, tight some) }
+            | inr yes_to ↦ let to_is : place new arc.to ≡ place old arc.to +ℤ by = raised.moved arc.to yes_to in
+                record { met = omega (arith, ints); tight = λ some. omega (arith, ints, tight some) }
           ]
     ]
 

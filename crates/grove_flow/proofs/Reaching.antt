@@ -4,11 +4,12 @@ use Rattle.std.specs.List.{sum_by}
 use Rattle.std.proofs.lemmas.Bool.{cases_eq, cases_lt}
 use Rattle.std.proofs.lemmas.List.{get_or-replicate, get_or_past, length-replicate}
 use Rattle.std.proofs.lemmas.List.Sums.{sum_by-set, sum_by-cons}
+use Rattle.std.proofs.lemmas.Grind.{common_steps}
 use borrow.Author.Differences.{ints}
 use Rattle.grove_flow.specs.declared.network.Arc.{Arc}
 use Rattle.grove_flow.specs.Networks.{arc_at, place, IsModest}
 use Rattle.grove_flow.specs.States.{IsState}
-use Rattle.grove_flow.specs.Searches.{IsStep, IsNew, IsAhead, IsBehind, IsLinkedOn, IsLinkedBack, IsLink, IsReached, IsGrown, IsRaised, IsLeastStep, unranked}
+use Rattle.grove_flow.specs.Reaches.{IsStep, IsAhead, IsBehind, IsLinkedOn, IsLinkedBack, IsLink, IsReached, IsGrown, IsRaised, IsLeastStep, unranked}
 use Rattle.grove_flow.proofs.Raising.{all_met, raised_reached, raised_state}
 
 -- a variable that an arc leads on to, once it has a rank and a room
@@ -17,11 +18,6 @@ pub record IsEntered (arc : Arc) (amount : ℕ) (places : List ℤ) (ranks rooms
   pub some : 0 < room
   pub low : place places v ≤ℤ (place places source +ℤ pos (1048576 * (count + 1)))
   pub link : IsLink arc amount places (slice_set ranks v (count + 1)) (slice_set rooms v room) v
-
--- an arc that leads on leads to a new variable
-pub step_new : (arc : Arc) (amount : ℕ) (places : List ℤ) (ranks : List ℕ) (slack : ℤ) → IsStep arc amount places ranks slack → IsNew arc amount ranks
-step_new arc amount places ranks slack (inl h) = inl (h.leaves, h.arrives)
-step_new arc amount places ranks slack (inr h) = inr (h.leaves, h.arrives, h.some)
 
 pub entered : (arcs : List Arc) (amounts : List ℕ) (places : List ℤ) (excess ranks vias rooms : List ℕ) (source count : ℕ) (arc : Arc) (amount v room : ℕ)
     → IsReached arcs amounts places excess ranks vias rooms source count → IsModest arc.least → place places arc.from +ℤ arc.least ≡ place places arc.to → v < length places
@@ -32,20 +28,15 @@ entered arcs amounts places excess ranks vias rooms source count arc amount v ro
     let other : arc.from ≢ v = λ e. absurd_at (slice_index ranks arc.from) leaves (subst (λ u. slice_index ranks u ≡ 0) (sym e) fresh) in
     let ranks_size : length ranks ≡ length places = h.ranks_size in
     let rooms_size : length rooms ≡ length places = h.rooms_size in
-    let rank_here : slice_index (slice_set ranks v (count + 1)) v ≡ count + 1 = get_or-set_same ranks v (count + 1) 0 (omega arith) in
-    let rank_other : slice_index (slice_set ranks v (count + 1)) arc.from ≡ slice_index ranks arc.from = get_or-set_other ranks v arc.from (count + 1) 0 other in
-    let room_here : slice_index (slice_set rooms v room) v ≡ room = get_or-set_same rooms v room 0 (omega arith) in
-    let room_other : slice_index (slice_set rooms v room) arc.from ≡ slice_index rooms arc.from = get_or-set_other rooms v arc.from room 0 other in
     let rank_le : slice_index ranks arc.from ≤ count = h.ranks_le arc.from in
     let room_is : room ≡ slice_index rooms arc.from = entry.room_is in
-    let open_room : 0 < slice_index rooms arc.from = h.open_rooms arc.from leaves in
     let low : place places arc.from ≤ℤ (place places source +ℤ pos (1048576 * slice_index ranks arc.from)) = h.low arc.from leaves in
     let here : place places arc.to ≡ place places v = ap (place places) entry.here in
     record {
       fresh = fresh;
-      some = omega arith;
+      some = omega (arith, h.open_rooms arc.from leaves);
       low = omega (arith, ints);
-      link = record { tight = tight; end = inl (record { here = entry.here; reached = omega arith; before = omega arith; room = omega arith }) };
+      link = record { tight = tight; end = inl (record { here = entry.here; reached = grind (arith, common_steps); before = grind (arith, common_steps); room = grind (arith, common_steps) }) };
     }
   where
     absurd_at : (n : ℕ) → 0 < n → n ≡ 0 → ⊥
@@ -56,21 +47,17 @@ entered arcs amounts places excess ranks vias rooms source count arc amount v ro
     let other : arc.to ≢ v = λ e. absurd_at (slice_index ranks arc.to) leaves (subst (λ u. slice_index ranks u ≡ 0) (sym e) fresh) in
     let ranks_size : length ranks ≡ length places = h.ranks_size in
     let rooms_size : length rooms ≡ length places = h.rooms_size in
-    let rank_here : slice_index (slice_set ranks v (count + 1)) v ≡ count + 1 = get_or-set_same ranks v (count + 1) 0 (omega arith) in
-    let rank_other : slice_index (slice_set ranks v (count + 1)) arc.to ≡ slice_index ranks arc.to = get_or-set_other ranks v arc.to (count + 1) 0 other in
-    let room_here : slice_index (slice_set rooms v room) v ≡ room = get_or-set_same rooms v room 0 (omega arith) in
-    let room_other : slice_index (slice_set rooms v room) arc.to ≡ slice_index rooms arc.to = get_or-set_other rooms v arc.to room 0 other in
     let rank_le : slice_index ranks arc.to ≤ count = h.ranks_le arc.to in
     let room_is : room ≡ min (slice_index rooms arc.to) amount = entry.room_is in
     let some : 0 < amount = entry.some in
-    let open_room : 0 < slice_index rooms arc.to = h.open_rooms arc.to leaves in
     let low : place places arc.to ≤ℤ (place places source +ℤ pos (1048576 * slice_index ranks arc.to)) = h.low arc.to leaves in
     let here : place places arc.from ≡ place places v = ap (place places) entry.here in
+    let room_le : (room ≤ slice_index rooms arc.to) × (room ≤ amount) = (omega arith, omega arith) in
     record {
       fresh = fresh;
-      some = omega arith;
+      some = omega (arith, h.open_rooms arc.to leaves);
       low = omega (arith, ints);
-      link = record { tight = tight; end = inr (record { here = entry.here; reached = omega arith; before = omega arith; room = omega arith; sent = omega arith }) };
+      link = record { tight = tight; end = inr (record { here = entry.here; reached = grind (arith, common_steps); before = grind (arith, common_steps); room = grind (arith, common_steps); sent = grind (arith, common_steps) }) };
     }
   where
     absurd_at : (n : ℕ) → 0 < n → n ≡ 0 → ⊥
@@ -79,32 +66,19 @@ entered arcs amounts places excess ranks vias rooms source count arc amount v ro
 -- a link of another variable stays one
 link_stays : (arc : Arc) (amount : ℕ) (places : List ℤ) (ranks rooms : List ℕ) (v rank room u : ℕ) → slice_index ranks v ≡ 0 → u ≢ v
     → IsLink arc amount places ranks rooms u → IsLink arc amount places (slice_set ranks v rank) (slice_set rooms v room) u
-link_stays arc amount places ranks rooms v rank room u fresh other link =
-    let rank_here : slice_index (slice_set ranks v rank) u ≡ slice_index ranks u = get_or-set_other ranks v u rank 0 other in
-    let room_here : slice_index (slice_set rooms v room) u ≡ slice_index rooms u = get_or-set_other rooms v u room 0 other in
-    record { tight = link.tight; end = stays rank_here room_here link.end }
+link_stays arc amount places ranks rooms v rank room u fresh other link = record { tight = link.tight; end = stays link.end }
   where
     apart : (w : ℕ) → 0 < slice_index ranks w → w ≢ v
     apart w some e = let none : slice_index ranks w ≡ 0 = subst (λ x. slice_index ranks x ≡ 0) (sym e) fresh in omega arith
 
-    stays : slice_index (slice_set ranks v rank) u ≡ slice_index ranks u → slice_index (slice_set rooms v room) u ≡ slice_index rooms u
-        → IsLinkedOn arc ranks rooms u ⊎ IsLinkedBack arc amount ranks rooms u
-        → IsLinkedOn arc (slice_set ranks v rank) (slice_set rooms v room) u ⊎ IsLinkedBack arc amount (slice_set ranks v rank) (slice_set rooms v room) u
-    stays rank_here room_here (inl h) =
-        let reached : 0 < slice_index ranks arc.from = h.reached in
-        let before : slice_index ranks arc.from < slice_index ranks u = h.before in
-        let room_le : slice_index rooms u ≤ slice_index rooms arc.from = h.room in
-        let rank_there : slice_index (slice_set ranks v rank) arc.from ≡ slice_index ranks arc.from = get_or-set_other ranks v arc.from rank 0 (apart arc.from reached) in
-        let room_there : slice_index (slice_set rooms v room) arc.from ≡ slice_index rooms arc.from = get_or-set_other rooms v arc.from room 0 (apart arc.from reached) in
-        inl (record { here = h.here; reached = omega arith; before = omega arith; room = omega arith })
-    stays rank_here room_here (inr h) =
-        let reached : 0 < slice_index ranks arc.to = h.reached in
-        let before : slice_index ranks arc.to < slice_index ranks u = h.before in
-        let room_le : slice_index rooms u ≤ slice_index rooms arc.to = h.room in
+    stays : IsLinkedOn arc ranks rooms u ⊎ IsLinkedBack arc amount ranks rooms u → IsLinkedOn arc (slice_set ranks v rank) (slice_set rooms v room) u ⊎ IsLinkedBack arc amount (slice_set ranks v rank) (slice_set rooms v room) u
+    stays (inl h) = let from : arc.from ≢ v = apart arc.from h.reached in let reached : 0 < slice_index ranks arc.from = h.reached in
+        let before : slice_index ranks arc.from < slice_index ranks u = h.before in let room_le : slice_index rooms u ≤ slice_index rooms arc.from = h.room in
+        inl (record { here = h.here; reached = grind (arith, common_steps); before = grind (arith, common_steps); room = grind (arith, common_steps) })
+    stays (inr h) = let to : arc.to ≢ v = apart arc.to h.reached in let reached : 0 < slice_index ranks arc.to = h.reached in
+        let before : slice_index ranks arc.to < slice_index ranks u = h.before in let room_le : slice_index rooms u ≤ slice_index rooms arc.to = h.room in
         let sent_le : slice_index rooms u ≤ amount = h.sent in
-        let rank_there : slice_index (slice_set ranks v rank) arc.to ≡ slice_index ranks arc.to = get_or-set_other ranks v arc.to rank 0 (apart arc.to reached) in
-        let room_there : slice_index (slice_set rooms v room) arc.to ≡ slice_index rooms arc.to = get_or-set_other rooms v arc.to room 0 (apart arc.to reached) in
-        inr (record { here = h.here; reached = omega arith; before = omega arith; room = omega arith; sent = omega arith })
+        inr (record { here = h.here; reached = grind (arith, common_steps); before = grind (arith, common_steps); room = grind (arith, common_steps); sent = grind (arith, common_steps) })
 
 -- one variable more
 pub reach_more : (arcs : List Arc) (amounts : List ℕ) (places : List ℤ) (excess ranks vias rooms : List ℕ) (source count i v room : ℕ)
@@ -136,29 +110,15 @@ reach_more arcs amounts places excess ranks vias rooms source count i v room h i
       source_rank = omega arith;
       source_room = omega arith;
       counted = omega arith;
-      ranks_le = λ u. elim (cases_eq u v) [
-        | inl e ↦ subst (λ w. slice_index (slice_set ranks v (count + 1)) w ≤ count + 1) (sym e) (omega arith)
-        | inr ne ↦ let same : slice_index (slice_set ranks v (count + 1)) u ≡ slice_index ranks u = get_or-set_other ranks v u (count + 1) 0 ne in
-            let le : slice_index ranks u ≤ count = h.ranks_le u in omega arith
-      ];
+      ranks_le = λ u. let le : slice_index ranks u ≤ count = h.ranks_le u in grind (arith, common_steps);
       low = λ u some. elim (cases_eq u v) [
         | inl e ↦ subst (λ w. place places w ≤ℤ (place places source +ℤ pos (1048576 * slice_index (slice_set ranks v (count + 1)) w))) (sym e)
             (subst (λ r. place places v ≤ℤ (place places source +ℤ pos (1048576 * r))) (sym rank_here) entry.low)
         | inr ne ↦ let same : slice_index (slice_set ranks v (count + 1)) u ≡ slice_index ranks u = get_or-set_other ranks v u (count + 1) 0 ne in
             subst (λ r. place places u ≤ℤ (place places source +ℤ pos (1048576 * r))) (sym same) (h.low u (omega arith))
       ];
-      open_rooms = λ u some. elim (cases_eq u v) [
-        | inl e ↦ subst (λ w. 0 < slice_index (slice_set rooms v room) w) (sym e) (subst (λ r. 0 < r) (sym room_here) entry.some)
-        | inr ne ↦ let same : slice_index (slice_set ranks v (count + 1)) u ≡ slice_index ranks u = get_or-set_other ranks v u (count + 1) 0 ne in
-            let room_same : slice_index (slice_set rooms v room) u ≡ slice_index rooms u = get_or-set_other rooms v u room 0 ne in
-            let before : 0 < slice_index rooms u = h.open_rooms u (omega arith) in omega arith
-      ];
-      vias_within = λ u some other. elim (cases_eq u v) [
-        | inl e ↦ subst (λ w. slice_index (slice_set vias v i) w < length arcs) (sym e) (subst (λ j. j < length arcs) (sym via_here) i_lt)
-        | inr ne ↦ let same : slice_index (slice_set ranks v (count + 1)) u ≡ slice_index ranks u = get_or-set_other ranks v u (count + 1) 0 ne in
-            let via_same : slice_index (slice_set vias v i) u ≡ slice_index vias u = get_or-set_other vias v u i 0 ne in
-            let before : slice_index vias u < length arcs = h.vias_within u (omega arith) other in omega arith
-      ];
+      open_rooms = λ u some. let entry_some : 0 < room = entry.some in let before : 0 < slice_index ranks u → 0 < slice_index rooms u = h.open_rooms u in grind (arith, common_steps);
+      vias_within = λ u some other. let before : 0 < slice_index ranks u → slice_index vias u < length arcs = λ reached. h.vias_within u reached other in grind (arith, common_steps);
       links = λ u some other. elim (cases_eq u v) [
         | inl e ↦ subst (λ w. IsLink (arc_at arcs (slice_index (slice_set vias v i) w)) (slice_index amounts (slice_index (slice_set vias v i) w)) places (slice_set ranks v (count + 1)) (slice_set rooms v room) w) (sym e)
             (subst (λ j. IsLink (arc_at arcs j) (slice_index amounts j) places (slice_set ranks v (count + 1)) (slice_set rooms v room) v) (sym via_here) entry.link)
@@ -226,10 +186,7 @@ start_grown needs arcs amounts places excess unmet vias rooms n source state n_i
         source_rank = omega arith;
         source_room = omega arith;
         counted = omega arith;
-        ranks_le = λ v. elim (cases_eq v source) [
-          | inl e ↦ subst (λ w. slice_index (slice_set (zeros n) source 1) w ≤ 1) (sym e) (omega arith)
-          | inr ne ↦ let none : slice_index (slice_set (zeros n) source 1) v ≡ 0 = get_or-set_other (zeros n) source v 1 0 ne ∙ no_ranks n v in omega arith
-        ];
+        ranks_le = λ v. let none : slice_index (zeros n) v ≡ 0 = no_ranks n v in grind (arith, common_steps);
         low = λ v rank. subst (λ w. place places w ≤ℤ (place places source +ℤ pos (1048576 * slice_index (slice_set (zeros n) source 1) w))) (sym (only v rank)) (omega (arith, ints));
         open_rooms = λ v rank. subst (λ w. 0 < slice_index (slice_set rooms source (slice_index excess source)) w) (sym (only v rank)) (omega arith);
         vias_within = λ v rank other. absurd (other (only v rank));
@@ -241,10 +198,7 @@ start_grown needs arcs amounts places excess unmet vias rooms n source state n_i
     }
   where
     only : (v : ℕ) → 0 < slice_index (slice_set (zeros n) source 1) v → v ≡ source
-    only v rank = elim (cases_eq v source) [
-      | inl e ↦ e
-      | inr ne ↦ let none : slice_index (slice_set (zeros n) source 1) v ≡ 0 = get_or-set_other (zeros n) source v 1 0 ne ∙ no_ranks n v in absurd (omega arith)
-    ]
+    only v rank = let none : slice_index (zeros n) v ≡ 0 = no_ranks n v in grind (arith, common_steps)
 
 -- the chosen arc is tight once the reached places are raised
 chosen_tight : (arc : Arc) (amount : ℕ) (ranks : List ℕ) (by : ℤ) (old new : List ℤ) → IsRaised ranks by old new → IsStep arc amount old ranks by

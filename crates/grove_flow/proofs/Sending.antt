@@ -1,13 +1,14 @@
 -- What is sent once a way is found, and what is still to be sent.
-use Rattle.std.proofs.Common.{◌≡◌, ◌≢◌, ℕ, ◌+◌, ◌-◌, ◌^◌, ◌<◌, ◌≤◌, ◌==◌, List, length, slice_index, slice_set, ℤ, ◌+ℤ◌, refl, sym, ◌∙◌, subst, inl, inr, arith, eq-eqb, ne_eqb, length-set, get_or-set_same, get_or-set_other}
+use Rattle.std.proofs.Common.{◌≡◌, ◌≢◌, ℕ, ◌+◌, ◌-◌, ◌^◌, ◌<◌, ◌≤◌, ◌==◌, List, length, slice_index, slice_set, ℤ, ◌+ℤ◌, refl, sym, ◌∙◌, ap, subst, inl, inr, arith, eq-eqb, ne_eqb, length-set}
 use Rattle.std.proofs.lemmas.Bool.{cases_eq, cond-true, cond-false}
+use Rattle.std.proofs.lemmas.Grind.{common_steps}
 use Rattle.grove_tree.specs.Numbers.{sum_below}
 use Rattle.grove_tree.proofs.Counting.{sum_add, sum_same, sum_one, sum_term}
 use Rattle.grove_flow.specs.declared.network.Arc.{Arc}
 use Rattle.grove_flow.specs.Networks.{arc_at, place, IsLawful, AreLawful}
 use Rattle.grove_flow.specs.Flows.{amount_in, amount_out, takes}
 use Rattle.grove_flow.specs.States.{at, gives, IsMoved, IsState}
-use Rattle.grove_flow.specs.Searches.{IsReached, IsGrown, AreAlong}
+use Rattle.grove_flow.specs.Reaches.{IsReached, IsGrown, AreAlong}
 
 -- what is sent along tight arcs is lawful
 lawful_along : (arcs : List Arc) (old new : List ℕ) (places : List ℤ) (excess ranks vias rooms : List ℕ) (source count : ℕ)
@@ -29,12 +30,8 @@ at_other v by u ne = cond-false (v == u) by 0 (ne_eqb v u (λ e. ne (sym e)))
 -- an entry that is made less
 set_less : (xs : List ℕ) (v by u : ℕ) → v < length xs → by ≤ slice_index xs v → slice_index (slice_set xs v (slice_index xs v - by)) u + at v by u ≡ slice_index xs u
 set_less xs v by u lt le = elim (cases_eq u v) [
-  | inl e ↦ subst (λ w. slice_index (slice_set xs v (slice_index xs v - by)) w + at v by w ≡ slice_index xs w) (sym e)
-      (let here : slice_index (slice_set xs v (slice_index xs v - by)) v ≡ slice_index xs v - by = get_or-set_same xs v (slice_index xs v - by) 0 lt in
-      let is : at v by v ≡ by = at_here v by in omega arith)
-  | inr ne ↦
-      let there : slice_index (slice_set xs v (slice_index xs v - by)) u ≡ slice_index xs u = get_or-set_other xs v u (slice_index xs v - by) 0 ne in
-      let is : at v by u ≡ 0 = at_other v by u ne in omega arith
+  | inl e ↦ let is : at v by u ≡ by = ap (at v by) e ∙ at_here v by in grind (arith, common_steps)
+  | inr ne ↦ let is : at v by u ≡ 0 = at_other v by u ne in grind (arith, common_steps)
 ]
 
 sum_less : (n : ℕ) (xs : List ℕ) (v by : ℕ) → v < n → v < length xs → by ≤ slice_index xs v

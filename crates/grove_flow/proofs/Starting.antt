@@ -1,16 +1,16 @@
 -- The state that the search begins with, and the solution that it ends with.
-use Rattle.std.proofs.Common.{◌≡◌, ℕ, zero, suc, ◌+◌, ◌-◌, ◌*◌, ◌<◌, ◌≤◌, ◌==◌, Bool, true, false, cond, List, [], ◌∷◌, length, slice_index, slice_set, ℤ, pos, negsuc, ◌+ℤ◌, ◌-ℤ◌, ◌≤ℤ◌, refl, sym, ◌∙◌, ap, subst, inl, inr, arith, get_or-set_same, get_or-set_other, length-set}
-use Rattle.std.proofs.lemmas.Bool.{cases_eq, cases_lt}
+use Rattle.std.proofs.Common.{◌≡◌, ℕ, zero, suc, ◌+◌, ◌-◌, ◌*◌, ◌<◌, ◌≤◌, ◌==◌, Bool, true, false, cond, List, [], ◌∷◌, length, slice_index, slice_set, ℤ, pos, negsuc, ◌+ℤ◌, ◌-ℤ◌, ◌≤ℤ◌, refl, sym, ◌∙◌, ap, subst, inl, inr, arith}
+use Rattle.std.proofs.lemmas.Bool.{cases_lt}
 use Rattle.std.proofs.lemmas.List.{get_or_past, length-replicate}
+use Rattle.std.proofs.lemmas.Grind.{common_steps}
 use borrow.Author.Differences.{ints, up, down}
 use Rattle.grove_tree.specs.Numbers.{sum_below}
 use Rattle.grove_tree.proofs.Counting.{sum_same}
 use Rattle.grove_flow.specs.declared.network.Arc.{Arc}
-use Rattle.grove_flow.specs.Networks.{arc_at, place, AreArcsOf, IsLawful, IsNetwork, IsStart}
+use Rattle.grove_flow.specs.Networks.{arc_at, place, AreArcsOf, IsLawful, HasOwnArcs, IsNetwork, IsStart}
 use Rattle.grove_flow.specs.Flows.{sent, amount_in, amount_out, takes, IsSolution}
-use Rattle.grove_flow.specs.States.{double, gives, ArePaired, HaveOwnArcs, IsFrame, AreNamed, AreRebased, IsState}
-use Rattle.grove_flow.proofs.Cuts.{none_unmet}
-use Rattle.grove_flow.proofs.Bands.{double-is}
+use Rattle.grove_flow.specs.States.{double, gives, ArePaired, IsFrame, AreNamed, AreRebased, IsState}
+use Rattle.grove_flow.proofs.Cuts.{double-is, none_unmet}
 use Rattle.grove_flow.proofs.Reaching.{zeros, no_ranks}
 
 -- each row's lock gives its weight, and its release takes it
@@ -33,12 +33,6 @@ network_paired needs arcs network = record {
     release-is : (k : ℕ) → 2 * k + 1 ≡ suc (double k)
     release-is k = let e : double k ≡ 2 * k = double-is k in omega arith
 
-network_own : (needs : List ℤ) (arcs : List Arc) (network : IsNetwork needs arcs) → HaveOwnArcs network.rows arcs
-network_own needs arcs network k lt =
-    let arc : (i : ℕ) × (i < length arcs) × ((arc_at arcs i).from ≡ 2 * k) × ((arc_at arcs i).to ≡ 2 * k + 1) = network.own k lt in
-    let e : double k ≡ 2 * k = double-is k in
-    (arc.0, arc.1, arc.2 ∙ sym e, arc.3 ∙ (let f : 2 * k + 1 ≡ suc (double k) = omega arith in f))
-
 -- the rows take at most 1000 each
 rows_take : (needs : List ℤ) (arcs : List Arc) (network : IsNetwork needs arcs) (n : ℕ) → n ≤ network.rows → sum_below (double n) (takes needs) ≤ 1000 * n
 rows_take needs arcs network zero le = omega arith
@@ -53,18 +47,17 @@ rows_take needs arcs network (suc n) le =
     omega arith
 
 -- an arc names its ends in 32 bits, so there are not many rows
-few_rows : (arcs : List Arc) (rows : ℕ) → HaveOwnArcs rows arcs → AreNamed arcs → rows ≤ 2147483648
+few_rows : (arcs : List Arc) (rows : ℕ) → HasOwnArcs rows arcs → AreNamed arcs → rows ≤ 2147483648
 few_rows arcs zero own named = omega arith
 few_rows arcs (suc k) own named =
-    let arc : (i : ℕ) × (i < length arcs) × ((arc_at arcs i).from ≡ double k) × ((arc_at arcs i).to ≡ suc (double k)) = own k (omega arith) in
+    let arc : (i : ℕ) × (i < length arcs) × ((arc_at arcs i).from ≡ 2 * k) × ((arc_at arcs i).to ≡ 2 * k + 1) = own k (omega arith) in
     let fits : (arc_at arcs arc.0).to < 4294967296 = named arc.0 arc.1 in
-    let is : (arc_at arcs arc.0).to ≡ suc (double k) = arc.3 in
-    let e : double k ≡ 2 * k = double-is k in
+    let is : (arc_at arcs arc.0).to ≡ 2 * k + 1 = arc.3 in
     omega arith
 
 network_frame : (needs : List ℤ) (arcs : List Arc) → IsNetwork needs arcs → AreNamed arcs → IsFrame needs arcs
 network_frame needs arcs network named =
-    let few : network.rows ≤ 2147483648 = few_rows arcs network.rows (network_own needs arcs network) named in
+    let few : network.rows ≤ 2147483648 = few_rows arcs network.rows network.own named in
     let e : double network.rows ≡ 2 * network.rows = double-is network.rows in
     let size_is : length needs ≡ 2 * network.rows + 1 = network.size in
     let size : length needs ≡ suc (double network.rows) = omega arith in
@@ -76,7 +69,7 @@ network_frame needs arcs network named =
       few = omega arith;
       arcs_of = subst (AreArcsOf arcs) size network.arcs_of;
       paired = network_paired needs arcs network;
-      own = network_own needs arcs network;
+      own = network.own;
       small = subst (λ n. sum_below n (takes needs) ≤ 4398046511104) (sym size) (omega arith);
     }
 
@@ -185,14 +178,4 @@ pub record AreMovedBelow (i : ℕ) (base : ℤ) (old new : List ℤ) : Type 0 wh
   pub rest : (v : ℕ) → i ≤ v → place new v ≡ place old v
 
 pub moved_more : (i : ℕ) (base : ℤ) (old new : List ℤ) → i < length new → AreMovedBelow i base old new → AreMovedBelow (i + 1) base old (slice_set new i (place new i -ℤ base))
-moved_more i base old new lt h = record {
-  size = length-set new i (place new i -ℤ base) ∙ h.size;
-  done = λ v less. elim (cases_eq v i) [
-    | inl e ↦ subst (λ u. place (slice_set new i (place new i -ℤ base)) u +ℤ base ≡ place old u) (sym e)
-        (let here : place (slice_set new i (place new i -ℤ base)) i ≡ place new i -ℤ base = get_or-set_same new i (place new i -ℤ base) (pos 0) lt in
-        let same : place new i ≡ place old i = h.rest i (omega arith) in
-        omega (arith, ints))
-    | inr ne ↦ subst (λ z. z +ℤ base ≡ place old v) (sym (get_or-set_other new i v (place new i -ℤ base) (pos 0) ne)) (h.done v (omega arith))
-  ];
-  rest = λ v le. get_or-set_other new i v (place new i -ℤ base) (pos 0) (λ e. omega arith) ∙ h.rest v (omega arith);
-}
+moved_more i base old new lt h = grind (arith, common_steps, ints)

@@ -1,12 +1,13 @@
 -- What is sent along a way, one arc at a time, from its end back to the source.
 use Rattle.std.proofs.Common.{◌≡◌, ◌≢◌, ℕ, zero, suc, ◌+◌, ◌-◌, ◌<◌, ◌≤◌, ◌⊎◌, ◌==◌, Bool, true, false, cond, List, [], ◌∷◌, length, slice_index, slice_set, refl, sym, ◌∙◌, ap, subst, inl, inr, arith, length-set, get_or-set_same, get_or-set_other, set-set}
 use Rattle.std.proofs.lemmas.Bool.{cases_eq}
+use Rattle.std.proofs.lemmas.Grind.{common_steps}
 use Rattle.std.proofs.lemmas.List.{set-get_or}
 use Rattle.grove_flow.specs.declared.network.Arc.{Arc}
 use Rattle.grove_flow.specs.Networks.{arc_at}
 use Rattle.grove_flow.specs.Flows.{sent, amount_in, amount_out}
 use Rattle.grove_flow.specs.States.{at, IsMoved}
-use Rattle.grove_flow.specs.Searches.{IsLinkedOn, IsLinkedBack, AreWays, AreAlong, IsSentOn, IsSentBack}
+use Rattle.grove_flow.specs.Reaches.{IsLinkedOn, IsLinkedBack, AreWays, AreAlong, IsSentOn, IsSentBack}
 
 -- more along one arc is more for the tests that the arc passes
 sent_more : (test : Arc → Bool) (arcs : List Arc) (amounts : List ℕ) (i x by : ℕ) → i < length arcs → length amounts ≡ length arcs → x ≡ slice_index amounts i + by
@@ -116,12 +117,7 @@ moving_on arcs ranks vias rooms old new next source target by v before ways not_
             let there : at before by u ≡ cond ((arc_at arcs (slice_index vias v)).from == u) by 0 = ap (λ w. at w by u) back in
             let so_far : amount_in arcs new u + amount_out arcs old u + at v by u ≡ amount_in arcs old u + amount_out arcs new u + at target by u = h.moved u in
             omega arith;
-        bounded = λ i. elim (cases_eq i (slice_index vias v)) [
-          | inl e ↦ subst (λ j. slice_index (slice_set new (slice_index vias v) x) j ≤ slice_index old j + by) (sym e)
-              (let is : slice_index (slice_set new (slice_index vias v) x) (slice_index vias v) ≡ x = get_or-set_same new (slice_index vias v) x 0 (omega arith) in omega arith)
-          | inr ne ↦ let is : slice_index (slice_set new (slice_index vias v) x) i ≡ slice_index new i = get_or-set_other new (slice_index vias v) i x 0 ne in
-              let le : slice_index new i ≤ slice_index old i + by = h.bounded i in omega arith
-        ];
+        bounded = λ i. let le : slice_index new i ≤ slice_index old i + by = h.bounded i in grind (arith, common_steps);
         untouched = stays_untouched arcs ranks vias rooms old new source target by v x before ways not_source h less;
         along = stays_along ranks vias old new source v x h.rank not_source h.along;
       }),
@@ -169,11 +165,7 @@ moving_back arcs ranks vias rooms old new next source target by v before ways no
             let there : at before by u ≡ cond ((arc_at arcs (slice_index vias v)).to == u) by 0 = ap (λ w. at w by u) back in
             let so_far : amount_in arcs new u + amount_out arcs old u + at v by u ≡ amount_in arcs old u + amount_out arcs new u + at target by u = h.moved u in
             omega arith;
-        bounded = λ i. elim (cases_eq i (slice_index vias v)) [
-          | inl e ↦ subst (λ j. slice_index (slice_set new (slice_index vias v) x) j ≤ slice_index old j + by) (sym e) (omega arith)
-          | inr ne ↦ let is : slice_index (slice_set new (slice_index vias v) x) i ≡ slice_index new i = get_or-set_other new (slice_index vias v) i x 0 ne in
-              let le : slice_index new i ≤ slice_index old i + by = h.bounded i in omega arith
-        ];
+        bounded = λ i. let le : slice_index new i ≤ slice_index old i + by = h.bounded i in grind (arith, common_steps);
         untouched = stays_untouched arcs ranks vias rooms old new source target by v x before ways not_source h less;
         along = stays_along ranks vias old new source v x h.rank not_source h.along;
       }),

@@ -1,5 +1,11 @@
 pub mod Networks
 pub mod Flows
 pub mod States
-pub mod Floors
+pub mod Reaches
+pub mod Trees
+pub mod Fans
+pub mod Queues
 pub mod Searches
+pub mod Floors
+pub mod Ways
+pub mod Checks

@@ -1,138 +1,30 @@
--- What is reached in a search, and how.
-use Rattle.std.specs.Prelude.{◌≡◌, ◌≢◌, ℕ, zero, suc, ◌+◌, ◌-◌, ◌*◌, ◌<◌, ◌≤◌, min, ◌⊎◌, List, length, slice_index, slice_set, ℤ, pos, ◌+ℤ◌, ◌≤ℤ◌, int_le, Option, Some, None, if◌then◌else◌}
-use Rattle.std.specs.List.{sum_by}
-use Rattle.grove_flow.specs.declared.network.Arc.{Arc}
-use Rattle.grove_flow.specs.declared.searching.Step.{Step}
-use Rattle.grove_flow.specs.Networks.{arc_at, place}
-use Rattle.grove_flow.specs.States.{IsState}
+-- What a search keeps. It serves the proof of `solve` alone.
+use Rattle.std.specs.Prelude.{◌≡◌, ℕ, List, length, slice_index, ℤ}
+use Rattle.grove_flow.specs.declared.network.Network.{Network}
+use Rattle.grove_flow.specs.declared.search.Search.{Search}
+use Rattle.grove_flow.specs.declared.state.State.{State}
+use Rattle.grove_flow.specs.declared.tree.Tree.{Tree}
+use Rattle.grove_flow.specs.Fans.{AreFans}
+use Rattle.grove_flow.specs.Queues.{AreQueued, AreWithin}
+use Rattle.grove_flow.specs.Reaches.{IsGrown}
+use Rattle.grove_flow.specs.Trees.{AreRaisedTo, IsStateOf, IsTreeOf}
 
--- An arc leads on from the reached variables, those with a rank: along it, or back where an amount is sent along it.
-pub record IsForward (arc : Arc) (places : List ℤ) (ranks : List ℕ) (slack : ℤ) : Type 0 where
-  pub leaves : 0 < slice_index ranks arc.from
-  pub arrives : slice_index ranks arc.to ≡ 0
-  pub slack_is : place places arc.from +ℤ arc.least +ℤ slack ≡ place places arc.to
+-- before a search and after it
+pub record IsReady (network : Network) (search : Search) : Type 0 where
+  pub tree : IsTreeOf (length network.needs.items) search.tree
+  pub fans : AreFans network search.fans
 
-pub record IsBackward (arc : Arc) (amount : ℕ) (ranks : List ℕ) (slack : ℤ) : Type 0 where
-  pub leaves : 0 < slice_index ranks arc.to
-  pub arrives : slice_index ranks arc.from ≡ 0
-  pub some : 0 < amount
-  pub none : slack ≡ pos 0
+-- In a search: it was a search that raises at once, had the places been raised. The last variable is the farthest.
+pub record IsGrowing (network : Network) (state : State) (tree : Tree) (source count last : ℕ) : Type 0 where
+  pub tree_of : IsTreeOf (length network.needs.items) tree
+  pub raised : List ℤ
+  pub raised_to : AreRaisedTo (slice_index tree.entries.items last) tree.ranks.items tree.entries.items state.places.items raised
+  pub grown : IsGrown network.needs.items network.arcs.items state.amounts.items raised state.excess.items state.unmet.items tree.ranks.items tree.vias.items tree.rooms.items source count last
+  pub first : slice_index tree.entries.items source ≡ 0
 
-abbrev pub IsStep : Arc → ℕ → List ℤ → List ℕ → ℤ → Type 0
-IsStep arc amount places ranks slack = IsForward arc places ranks slack ⊎ IsBackward arc amount ranks slack
-
--- an arc doesn't lead on
-pub record IsNoStep (arc : Arc) (amount : ℕ) (ranks : List ℕ) : Type 0 where
-  pub leaves : 0 < slice_index ranks arc.from → 0 < slice_index ranks arc.to
-  pub enters : 0 < amount → 0 < slice_index ranks arc.to → 0 < slice_index ranks arc.from
-
-abbrev pub AreNoSteps : ℕ → List Arc → List ℕ → List ℕ → Type 0
-AreNoSteps n arcs amounts ranks = (i : ℕ) → i < n → IsNoStep (arc_at arcs i) (slice_index amounts i) ranks
-
--- the step that is chosen among the first n arcs, of which none has less slack
-pub record IsLeastStep (n : ℕ) (arcs : List Arc) (amounts : List ℕ) (places : List ℤ) (ranks : List ℕ) (chosen : ℕ) (by : ℤ) : Type 0 where
-  pub within : chosen < n
-  pub step : IsStep (arc_at arcs chosen) (slice_index amounts chosen) places ranks by
-  pub least : (i : ℕ) (slack : ℤ) → i < n → IsStep (arc_at arcs i) (slice_index amounts i) places ranks slack → by ≤ℤ slack
-
--- of the step so far and one along an arc, that with the less slack
-abbrev pub better_of : Option Step → ℕ → Option ℤ → Option Step
-better_of best arc None = best
-better_of None arc (Some slack) = Some (record { arc = arc; slack = slack })
-better_of (Some best) arc (Some slack) = if int_le best.slack slack then Some best else Some (record { arc = arc; slack = slack })
-
--- one end of the arc is reached and the other isn't, and is to be
-abbrev pub IsNew : Arc → ℕ → List ℕ → Type 0
-IsNew arc amount ranks =
-    ((0 < slice_index ranks arc.from) × (slice_index ranks arc.to ≡ 0)) ⊎ ((0 < slice_index ranks arc.to) × (slice_index ranks arc.from ≡ 0) × (0 < amount))
-
--- A newly reached variable: the arc leads to it from a reached one, or back to it. The room is what can be sent so far.
-pub record IsAhead (arc : Arc) (ranks rooms : List ℕ) (v room : ℕ) : Type 0 where
-  pub here : arc.to ≡ v
-  pub leaves : 0 < slice_index ranks arc.from
-  pub arrives : slice_index ranks arc.to ≡ 0
-  pub room_is : room ≡ slice_index rooms arc.from
-
-pub record IsBehind (arc : Arc) (amount : ℕ) (ranks rooms : List ℕ) (v room : ℕ) : Type 0 where
-  pub here : arc.from ≡ v
-  pub leaves : 0 < slice_index ranks arc.to
-  pub arrives : slice_index ranks arc.from ≡ 0
-  pub some : 0 < amount
-  pub room_is : room ≡ min (slice_index rooms arc.to) amount
-
--- How a reached variable was reached: along the arc from one of lower rank, or back.
-pub record IsLinkedOn (arc : Arc) (ranks rooms : List ℕ) (v : ℕ) : Type 0 where
-  pub here : arc.to ≡ v
-  pub reached : 0 < slice_index ranks arc.from
-  pub before : slice_index ranks arc.from < slice_index ranks v
-  pub room : slice_index rooms v ≤ slice_index rooms arc.from
-
-pub record IsLinkedBack (arc : Arc) (amount : ℕ) (ranks rooms : List ℕ) (v : ℕ) : Type 0 where
-  pub here : arc.from ≡ v
-  pub reached : 0 < slice_index ranks arc.to
-  pub before : slice_index ranks arc.to < slice_index ranks v
-  pub room : slice_index rooms v ≤ slice_index rooms arc.to
-  pub sent : slice_index rooms v ≤ amount
-
--- the arc is tight, and the variable was reached by it
-pub record IsLink (arc : Arc) (amount : ℕ) (places : List ℤ) (ranks rooms : List ℕ) (v : ℕ) : Type 0 where
-  pub tight : place places arc.from +ℤ arc.least ≡ place places arc.to
-  pub end : IsLinkedOn arc ranks rooms v ⊎ IsLinkedBack arc amount ranks rooms v
-
--- 1 for a variable without a rank
-abbrev pub unranked : ℕ → ℕ
-unranked zero = 1
-unranked (suc rank) = 0
-
--- what was reached from a source, `count` variables, and by which arcs
-pub record IsReached (arcs : List Arc) (amounts : List ℕ) (places : List ℤ) (excess ranks vias rooms : List ℕ) (source count : ℕ) : Type 0 where
-  pub ranks_size : length ranks ≡ length places
-  pub vias_size : length vias ≡ length places
-  pub rooms_size : length rooms ≡ length places
-  pub source_within : source < length places
-  pub source_rank : 0 < slice_index ranks source
-  pub source_room : slice_index rooms source ≤ slice_index excess source
-  pub counted : sum_by unranked ranks + count ≡ length places
-  pub ranks_le : (v : ℕ) → slice_index ranks v ≤ count
-  pub low : (v : ℕ) → 0 < slice_index ranks v → place places v ≤ℤ (place places source +ℤ pos (1048576 * slice_index ranks v))
-  pub open_rooms : (v : ℕ) → 0 < slice_index ranks v → 0 < slice_index rooms v
-  pub vias_within : (v : ℕ) → 0 < slice_index ranks v → v ≢ source → slice_index vias v < length arcs
-  pub links : (v : ℕ) → 0 < slice_index ranks v → v ≢ source → IsLink (arc_at arcs (slice_index vias v)) (slice_index amounts (slice_index vias v)) places ranks rooms v
-
--- the reached places are raised, and no other
-pub record IsRaised (ranks : List ℕ) (by : ℤ) (old new : List ℤ) : Type 0 where
-  pub size : length new ≡ length old
-  pub moved : (v : ℕ) → 0 < slice_index ranks v → place new v ≡ place old v +ℤ by
-  pub still : (v : ℕ) → slice_index ranks v ≡ 0 → place new v ≡ place old v
-
--- what the search keeps: all that is reached but the last variable lacks nothing
-pub record IsGrown (needs : List ℤ) (arcs : List Arc) (amounts : List ℕ) (places : List ℤ) (excess unmet ranks vias rooms : List ℕ) (source count last : ℕ) : Type 0 where
-  pub state : IsState needs arcs amounts places excess unmet
-  pub reached : IsReached arcs amounts places excess ranks vias rooms source count
-  pub within : last < length needs
-  pub rank : 0 < slice_index ranks last
-  pub met : (v : ℕ) → 0 < slice_index ranks v → v ≢ last → slice_index unmet v ≡ 0
-
--- the ways back from what is reached to the source
-pub record AreWays (arcs : List Arc) (amounts ranks vias rooms : List ℕ) (source : ℕ) : Type 0 where
-  pub open_rooms : (v : ℕ) → 0 < slice_index ranks v → 0 < slice_index rooms v
-  pub vias_within : (v : ℕ) → 0 < slice_index ranks v → v ≢ source → slice_index vias v < length arcs
-  pub ends : (v : ℕ) → 0 < slice_index ranks v → v ≢ source
-      → IsLinkedOn (arc_at arcs (slice_index vias v)) ranks rooms v ⊎ IsLinkedBack (arc_at arcs (slice_index vias v)) (slice_index amounts (slice_index vias v)) ranks rooms v
-
--- an amount changes only where a variable was reached
-abbrev pub AreAlong : List ℕ → List ℕ → List ℕ → List ℕ → ℕ → Type 0
-AreAlong ranks vias old new source =
-    (i : ℕ) → (slice_index new i ≡ slice_index old i) ⊎ ((v : ℕ) × (0 < slice_index ranks v) × (v ≢ source) × (slice_index vias v ≡ i))
-
--- more is sent along the arc that leads to v
-pub record IsSentOn (arc : Arc) (via v by before : ℕ) (old new : List ℕ) : Type 0 where
-  pub here : arc.to ≡ v
-  pub back : before ≡ arc.from
-  pub sent : new ≡ slice_set old via (slice_index old via + by)
-
--- less is sent along the arc that leads from v
-pub record IsSentBack (arc : Arc) (via v by before : ℕ) (old new : List ℕ) : Type 0 where
-  pub here : arc.to ≢ v
-  pub back : before ≡ arc.to
-  pub sent : new ≡ slice_set old via (slice_index old via - by)
+pub record IsSearched (network : Network) (state : State) (search : Search) (source count last : ℕ) : Type 0 where
+  pub state_of : IsStateOf network state
+  pub fans : AreFans network search.fans
+  pub growing : IsGrowing network state search.tree source count last
+  pub queued : AreQueued network state search.tree search.queue
+  pub within : AreWithin network search.queue

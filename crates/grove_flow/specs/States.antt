@@ -1,9 +1,9 @@
--- What holds of amounts and places while they are searched for.
+-- What holds of amounts and places while they are searched for. It serves the proof of `solve` alone.
 use Rattle.std.specs.Prelude.{◌≡◌, ℕ, zero, suc, ◌+◌, ◌-◌, ◌<◌, ◌≤◌, ◌==◌, cond, List, length, slice_index, ℤ, pos, negsuc, ◌+ℤ◌, ◌≤ℤ◌}
 use borrow.Author.Differences.{down}
 use Rattle.grove_tree.specs.Numbers.{sum_below}
 use Rattle.grove_flow.specs.declared.network.Arc.{Arc}
-use Rattle.grove_flow.specs.Networks.{arc_at, place, AreLawful, AreArcsOf}
+use Rattle.grove_flow.specs.Networks.{arc_at, place, AreLawful, AreArcsOf, HasOwnArcs}
 use Rattle.grove_flow.specs.Flows.{amount_in, amount_out, takes}
 
 abbrev pub double : ℕ → ℕ
@@ -26,11 +26,6 @@ pub record ArePaired (rows : ℕ) (needs : List ℤ) : Type 0 where
   pub base_gives : gives needs (double rows) ≡ 0
   pub base_takes : takes needs (double rows) ≡ 0
 
--- each row has an arc from its lock to its release
-abbrev pub HaveOwnArcs : ℕ → List Arc → Type 0
-HaveOwnArcs rows arcs =
-    (k : ℕ) → k < rows → (i : ℕ) × (i < length arcs) × ((arc_at arcs i).from ≡ double k) × ((arc_at arcs i).to ≡ suc (double k))
-
 -- what doesn't change in a search
 pub record IsFrame (needs : List ℤ) (arcs : List Arc) : Type 0 where
   pub rows : ℕ
@@ -38,7 +33,7 @@ pub record IsFrame (needs : List ℤ) (arcs : List Arc) : Type 0 where
   pub few : length needs ≤ 4294967297
   pub arcs_of : AreArcsOf arcs (suc (double rows))
   pub paired : ArePaired rows needs
-  pub own : HaveOwnArcs rows arcs
+  pub own : HasOwnArcs rows arcs
   pub small : sum_below (length needs) (takes needs) ≤ 4398046511104
 
 -- what enters and leaves a variable, where it still has to give `excess` and to take `unmet`

@@ -1,6 +1,7 @@
 ghost use Rattle.std.specs.Prelude.{◌≡◌, ◌<◌, ℕ, ◌-◌, ◌+ℤ◌, ◌-ℤ◌, ◌≤ℤ◌, pos, negsuc, length, slice_set, true, false, IfOk};
 ghost use Rattle.grove_flow.specs.Networks.{AreArcsOf, AreLawful, IsArcOf, IsCandidate, IsLatest, IsLawful, IsModest, place};
 ghost use Rattle.grove_flow.specs.Floors.{AreCapped, AreHeld, AreHighest, AreKept, HasFloor, HaveFloor, IsKept, IsLoweredAt, heights};
+ghost use Rattle.grove_flow.specs.Ways.{arc_on};
 
 use crate::{Arc, Network, Solution};
 use grove_tree::NoMemory;
@@ -60,7 +61,35 @@ fn put_base(places: &mut [i64])
     }
 }
 
-// Lowers the places until every arc is lawful.
+// The order in which a sweep looks at the arcs.
+#[derive(Clone, Copy)]
+enum Way {
+    Forward,
+    Backward,
+}
+
+impl Way {
+    fn turned(self) -> Self {
+        match self {
+            Way::Forward => Way::Backward,
+            Way::Backward => Way::Forward,
+        }
+    }
+
+    // Which of so many arcs comes after `step` others.
+    fn arc_at(self, step: usize, count: usize) -> usize
+        requires { step < count }
+        ensures is { result ≡ arc_on self step count }
+        ensures within { result < count }
+    {
+        match self {
+            Way::Forward => step,
+            Way::Backward => count - 1 - step,
+        }
+    }
+}
+
+// Lowers the places until every arc is lawful, by sweeps backward and forward in turn.
 fn settle(arcs: &[Arc], amounts: &[u64], places: &mut [i64])
     requires arcs { AreArcsOf arcs.now (length places.old) }
     requires amounts { length amounts.now ≡ length arcs.now }
@@ -69,11 +98,14 @@ fn settle(arcs: &[Arc], amounts: &[u64], places: &mut [i64])
     ensures lawful { AreLawful arcs.now amounts.now places.new }
     ensures kept { AreKept arcs.now amounts.now places.old places.new }
 {
-    while sweep(arcs, amounts, places) {}
+    let mut way = Way::Backward;
+    while sweep(arcs, amounts, places, way) {
+        way = way.turned();
+    }
 }
 
 // Lowers what a look at each arc in turn lowers, and says whether that was anything.
-fn sweep(arcs: &[Arc], amounts: &[u64], places: &mut [i64]) -> bool
+fn sweep(arcs: &[Arc], amounts: &[u64], places: &mut [i64], way: Way) -> bool
     requires arcs { AreArcsOf arcs.now (length places.old) }
     requires amounts { length amounts.now ≡ length arcs.now }
     requires floor { HaveFloor arcs.now amounts.now places.old }
@@ -83,8 +115,9 @@ fn sweep(arcs: &[Arc], amounts: &[u64], places: &mut [i64]) -> bool
     ensures lawful { result ≡ false → AreLawful arcs.now amounts.now places.new }
 {
     let mut lowered = false;
-    for (i, arc) in arcs.iter().enumerate() {
-        if lower(*arc, amounts[i], places) {
+    for step in 0..arcs.len() {
+        let i = way.arc_at(step, arcs.len());
+        if lower(arcs[i], amounts[i], places) {
             lowered = true;
         }
     }
@@ -136,139 +169,4 @@ fn lower_to(arc: Arc, places: &mut [i64]) -> bool
         places[arc.to as usize] = most;
     }
     lowers
-}
-
-#[cfg(test)]
-mod tests {
-    use super::*;
-    use std::test::Fail;
-
-    #[test]
-    fn stays_where_nothing_may_move(rt: HostRuntime) -> Result<(), Fail> {
-        let alloc = rt.alloc();
-        let arcs = vec![in alloc;
-            Arc {
-                from: 0,
-                to: 2,
-                least: 0
-            },
-            Arc {
-                from: 2,
-                to: 1,
-                least: 1
-            },
-            Arc {
-                from: 0,
-                to: 1,
-                least: 0
-            },
-        ]?;
-        let network = Network {
-            arcs,
-            needs: vec![in alloc; -1, 1, 0]?,
-        };
-        let solution = Solution {
-            amounts: vec![in alloc; 1, 1, 0]?,
-            places: vec![in alloc; 0, 1, 0]?,
-        };
-        let places = latest(alloc, &network, &solution, 1)?;
-        assert_eq!(rt; places.as_slice(), [0, 1, 0].as_slice());
-        Ok(())
-    }
-
-    #[test]
-    fn leaves_the_base_alone(rt: HostRuntime) -> Result<(), Fail> {
-        let alloc = rt.alloc();
-        let network = Network {
-            arcs: vec![in alloc]?,
-            needs: vec![in alloc; 0]?,
-        };
-        let solution = Solution {
-            amounts: vec![in alloc]?,
-            places: vec![in alloc; 0]?,
-        };
-        let places = latest(alloc, &network, &solution, 0)?;
-        assert_eq!(rt; places.as_slice(), [0].as_slice());
-        Ok(())
-    }
-
-    // A root and two leaves, where one leaf is accessed, then the other.
-    #[test]
-    fn holds_a_light_root_late_and_a_heavy_one_short(rt: HostRuntime) -> Result<(), Fail> {
-        let alloc = rt.alloc();
-        let arcs = vec![in alloc;
-            Arc {
-                from: 0,
-                to: 1,
-                least: 0
-            },
-            Arc {
-                from: 0,
-                to: 2,
-                least: 0
-            },
-            Arc {
-                from: 2,
-                to: 1,
-                least: 0
-            },
-            Arc {
-                from: 2,
-                to: 6,
-                least: 0
-            },
-            Arc {
-                from: 6,
-                to: 3,
-                least: 1
-            },
-            Arc {
-                from: 2,
-                to: 3,
-                least: 0
-            },
-            Arc {
-                from: 0,
-                to: 4,
-                least: 0
-            },
-            Arc {
-                from: 4,
-                to: 1,
-                least: 0
-            },
-            Arc {
-                from: 4,
-                to: 6,
-                least: -1
-            },
-            Arc {
-                from: 6,
-                to: 5,
-                least: 2
-            },
-            Arc {
-                from: 4,
-                to: 5,
-                least: 0
-            },
-        ]?;
-        let network = Network {
-            arcs,
-            needs: vec![in alloc; -1, 1, -1, 1, -1, 1, 0]?,
-        };
-        let light = Solution {
-            amounts: vec![in alloc; 0, 1, 0, 2, 1, 0, 0, 1, 0, 1, 0]?,
-            places: vec![in alloc; 0, 0, 0, 1, 0, 2, 0]?,
-        };
-        let places = latest(alloc, &network, &light, 2)?;
-        assert_eq!(rt; places.as_slice(), [0, 1, 0, 1, 1, 2, 0].as_slice());
-        let heavy = Solution {
-            amounts: vec![in alloc; 4, 1, 0, 2, 1, 0, 0, 1, 0, 1, 0]?,
-            places: vec![in alloc; 0, 0, 0, 1, 0, 2, 0]?,
-        };
-        let places = latest(alloc, &network, &heavy, 2)?;
-        assert_eq!(rt; places.as_slice(), [0, 0, 0, 1, 0, 2, 0].as_slice());
-        Ok(())
-    }
 }

@@ -1,0 +1,5 @@
+use Rattle.grove_flow.proofs.Totals.{AreSummed}
+use Rattle.grove_flow.proofs.checking.are_lawful.Given as goal
+
+abbrev pub invariant-loop-i : goal.invariant-loop-i
+invariant-loop-i l = AreSummed l.arcs l.amounts l.places l.most l.into l.out l.i
