@@ -12,7 +12,6 @@ mod answer;
 mod checking;
 mod command;
 mod command_line;
-mod devices;
 mod judging;
 mod planning;
 mod refusal;

@@ -1,6 +1,7 @@
 ghost use Rattle.std.specs.Prelude.{◌≡◌, ℕ, List, IfOk, string_bytes};
 ghost use Rattle.serde_json.specs.View.{view};
 ghost use Rattle.serde_json.specs.Written.{compact_text};
+ghost use Rattle.grove_wire.specs.Forms.{HasArraysWithin};
 ghost use Rattle.grove_access.specs.Lists.{nodes_of, lengths_of, AreNodes};
 ghost use Rattle.grove_plan.specs.Plans.{cost};
 ghost use Rattle.grove_wire.specs.Reading.{document_of};
@@ -26,6 +27,7 @@ pub fn plan_document(alloc: Global, bytes: &[u8]) -> Result<String, Refusal>
 }
 
 fn plan_object(alloc: Global, document: &Value) -> Result<String, Refusal>
+    requires { HasArraysWithin 4194304 (view document.now) }
     ensures { Says (ObjectPlanned (view document.now)) result }
 {
     let (tree, _records) = or_refuse(alloc, read_tree(alloc, document))?;

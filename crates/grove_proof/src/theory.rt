@@ -1,4 +1,4 @@
-ghost use Rattle.grove_proof.specs.Laws.{ForcedAreSpanned, ForcedListIsSpan, LegalMeetsFive, WeakDuality, CertifiedIsLeast, OneChangeIsRefused};
+ghost use Rattle.grove_proof.specs.Laws.{ForcedAreSpanned, ForcedListIsSpan, LegalMeetsFive, WeakDuality, CertifiedIsLeast, OneChangeIsRefused, FaultIsOne, CertifiedIsFaultless};
 
 /// The laws that `check` rests on, proved of every tree, list, plan and flow. The function does nothing.
 pub fn laws()
@@ -8,4 +8,6 @@ pub fn laws()
     ensures bound { WeakDuality }
     ensures least { CertifiedIsLeast }
     ensures changed { OneChangeIsRefused }
+    ensures fault { FaultIsOne }
+    ensures faultless { CertifiedIsFaultless }
 {}

@@ -1,5 +1,5 @@
 -- The forms of rows, accesses and flow rows, as JSON values.
-use Rattle.std.specs.Prelude.{ℕ, ◌^◌, ◌==◌, nat_lt, Bool, false, codes, bytes_eq, ℤ, pos, List, [], ◌∷◌, Option, Some, None, is_some, option_map, option_and_then, unwrap_or, if◌then◌else◌}
+use Rattle.std.specs.Prelude.{◌≡◌, ℕ, ◌≤◌, length, ◌^◌, ◌==◌, nat_lt, Bool, false, codes, bytes_eq, ℤ, pos, List, [], ◌∷◌, Option, Some, None, is_some, option_map, option_and_then, unwrap_or, if◌then◌else◌}
 use Rattle.serde_json.specs.Data.{Data, Items, no_items, item}
 use Rattle.serde_json.specs.Find.{get, as_null, as_number, as_str, as_array, as_i64, as_u64}
 use Rattle.grove_tree.specs.Trees.{NodeRow}
@@ -19,6 +19,10 @@ as_list d = option_map list_items (as_array d)
 -- the items of a member that is an array
 unfoldable pub items_of : List ℕ → Data → Option (List Data)
 items_of name d = option_and_then as_list (get name d)
+
+-- each member that is an array has at most n items
+pub record HasArraysWithin (n : ℕ) (d : Data) : Type 0 where
+  pub within : (name : List ℕ) (ds : List Data) → items_of name d ≡ Some ds → length ds ≤ n
 
 -- a signed number of 64 bits
 abbrev pub as_signed : Data → Option ℤ

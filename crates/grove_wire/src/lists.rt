@@ -1,7 +1,7 @@
 ghost use Rattle.std.specs.Prelude.{◌≡◌, ◌∷◌, [], map, option_map, true, IfOk, None, length, ◌<◌, ◌≤◌};
 ghost use Rattle.serde_json.specs.View.{view};
 ghost use Rattle.grove_access.specs.Lists.{nodes_of, AreNodes, is_length, list_fault_of};
-ghost use Rattle.grove_wire.specs.Forms.{short_form, long_form, timed, form_of, access_form, op_of};
+ghost use Rattle.grove_wire.specs.Forms.{HasArraysWithin, short_form, long_form, timed, form_of, access_form, op_of};
 ghost use Rattle.grove_wire.specs.Outcomes.{Gives, each_from};
 ghost use Rattle.grove_wire.specs.Reading.{node_on, length_on, access_at, access_in, list_in};
 
@@ -22,6 +22,7 @@ const MOST_ACCESSES: usize = 64;
 /// Any other version than 1 or 2 is `Shape` of the whole, before all this.
 #[tactic(auto, unfolding(crate::specs::Reading::list_in))]
 pub fn read_list(alloc: Global, tree: &Tree, document: &Value) -> Result<AccessList, WireFault>
+    requires { HasArraysWithin 4194304 (view document.now) }
     ensures read { Gives (λ list. list) result (list_in tree.now (view document.now)) }
     ensures fitting { IfOk result (λ list. AreNodes tree.now (nodes_of list)) }
 {
