@@ -18,6 +18,7 @@ FAULTS = [
     rb"limit (?:whole|list)",
     rb"shape (?:whole|(?:nodes|list|plan|flow)(?: N)?)",
     rb"no-path (?:list|plan|flow) N",
+    rb"bad-length list N",
     rb"tree (?:empty|too-many)",
     rb"row N (?:bad-parent|too-deep|bad-name|twice-named|bad-weight)",
     rb"step N (?:strange|relock|parent-not-held|not-held|wrong-access|access-not-held)",

@@ -79,6 +79,7 @@ REFUSED = [
     ("judge", ("nodes", 1, "name"), "A", "row 1 bad-name"),
     ("judge", ("nodes", 2, "name"), "a", "row 2 twice-named"),
     ("judge", ("nodes", 0, "weight"), 0, "row 0 bad-weight"),
+    ("judge", ("version",), 3, "shape whole"),
     ("judge", ("list",), None, "shape list"),
     ("judge", ("list",), [["get", "/a"]] * 65, "limit list"),
     ("judge", ("list", 1), ["get"], "shape list 1"),
@@ -106,6 +107,11 @@ REFUSED = [
 ]
 
 
+def too_long() -> dict:
+    """Two leaves, of which the second is read for more slots than there may be."""
+    return two_leaves() | {"version": 2, "list": [["get", "/a", 1000], ["get", "/b", 1001]]}
+
+
 def too_many() -> Asked:
     """More nodes than a tree has, refused. (A run on it takes too many growths to refuse each.)"""
     leaves = [{"parent": 0, "name": f"n{number}", "weight": 1} for number in range(4096)]
@@ -121,6 +127,7 @@ def refused() -> list[Asked]:
         refusal("judge", json.dumps({"nodes": chain(34)}).encode(), "row 33 too-deep"),
         refusal("judge", json.dumps(still_held()).encode(), "node /b still-held"),
         refusal("check", json.dumps(dearer()).encode(), "value 8 3"),
+        refusal("plan", json.dumps(too_long()).encode(), "bad-length list 1"),
     ]
     return kinds + [refusal(command, changed(path, value), text) for command, path, value, text in REFUSED]
 
