@@ -16,3 +16,4 @@ pub mod PathParts
 pub mod Found
 pub mod Paths
 pub mod Unique
+pub mod Weighed
