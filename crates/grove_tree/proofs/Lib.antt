@@ -17,3 +17,4 @@ pub mod Found
 pub mod Paths
 pub mod Unique
 pub mod Weighed
+pub mod Reweighed
