@@ -18,3 +18,4 @@ pub mod Paths
 pub mod Unique
 pub mod Weighed
 pub mod Reweighed
+pub mod Unweighed

@@ -231,8 +231,8 @@ taken_node takes number size row children outline is view all =
     )
 
 -- a weight that stays adds nothing to the count, and one that changes adds one
-pub counts_none : (new old : ℕ) → new ≡ old → ◌≡◌ {A = ℕ} (cond (new == old) 0 1) 0
-counts_none new old e = cond-true (new == old) 0 1 (eq-eqb new old e)
+pub counts_none : (given new old : ℕ) → new ≡ given → new ≡ old → ◌≡◌ {A = ℕ} (cond (given == old) 0 1) 0
+counts_none given new old is same = cond-true (given == old) 0 1 (eq-eqb given old (sym is ∙ same))
 
-pub counts_one : (new old : ℕ) → (new ≡ old → ⊥) → ◌≡◌ {A = ℕ} (cond (new == old) 0 1) 1
-counts_one new old e = cond-false (new == old) 0 1 (ne_eqb new old e)
+pub counts_one : (given new old : ℕ) → new ≡ given → (new ≡ old → ⊥) → ◌≡◌ {A = ℕ} (cond (given == old) 0 1) 1
+counts_one given new old is other = cond-false (given == old) 0 1 (ne_eqb given old (λ same. other (is ∙ same)))

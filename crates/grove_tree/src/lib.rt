@@ -9,6 +9,7 @@ pub use row::Row;
 pub use tree::Tree;
 pub use weighing::Rule;
 
+mod copying;
 #[cfg(test)]
 mod examples;
 mod fault;

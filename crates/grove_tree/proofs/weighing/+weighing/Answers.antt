@@ -41,10 +41,10 @@ weigh-returns-clause-count g t c =
     let below : c.weigh_all-below.result ≡ changes_all f c.outline.inside.children.items = rw c.deref_mut.ensures.value at c.weigh_all-below.ensures.count in
     elim c.if-new-old.branch [
       | weigh-then-new-old w ↦
-          let none = counts_none (f c.outline.inside.number old) old (sym c.weight-new.ensures ∙ w.if-new-old.true) in
+          let none = counts_none (f c.outline.inside.number old) c.weight-new.result old c.weight-new.ensures w.if-new-old.true in
           let is = w.result-is in omega arith
       | weigh-else-new-old w ↦
-          let one = counts_one (f c.outline.inside.number old) old (λ e. w.if-new-old.false (c.weight-new.ensures ∙ e)) in
+          let one = counts_one (f c.outline.inside.number old) c.weight-new.result old c.weight-new.ensures w.if-new-old.false in
           let is = w.result-is in omega arith
     ]
 
