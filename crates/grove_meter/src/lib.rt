@@ -5,4 +5,6 @@ pub use rule::WaitRule;
 pub use weights::{new_weight, reweigh};
 
 mod rule;
+#[cfg(test)]
+mod tests;
 mod weights;

@@ -19,7 +19,13 @@ pub fn new_weight(weight: u32, waits: u32) -> u32
 }
 
 /// Gives each node of the tree its new weight by the waits at its number. The result is the number of weights changed.
-pub fn reweigh<R: Threads + Sync, G: Gate + Sync>(rt: &R, tree: &mut Tree, waits: &[u32], workers: u32, gate: &G) -> u32
+pub fn reweigh<R: Threads + Sync, G: Gate + Sync>(
+    rt: &R,
+    tree: &mut Tree,
+    waits: &[u32],
+    workers: u32,
+    gate: &G,
+) -> u32
     requires workers { (1 ≤ workers) × (workers ≤ 16) }
     requires waits { length waits.now ≡ length tree.old }
     ensures rows { tree.new ≡ reweighed waits.now tree.old }

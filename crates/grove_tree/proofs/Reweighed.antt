@@ -1,10 +1,10 @@
 -- The rows of a tree whose nodes get other weights are those of a tree.
-use Rattle.std.proofs.Common.{◌≡◌, ℕ, zero, suc, add-zero, zero-add, ◌+◌, ◌<◌, ◌≤◌, ◌==◌, not, Bool, true, false, cond, List, [], ◌∷◌, length, Option, Some, None, refl, sym, ◌∙◌, ap, subst, inl, inr, arith}
+use Rattle.std.proofs.Common.{◌≡◌, ℕ, zero, suc, add-zero, zero-add, ◌+◌, ◌<◌, ◌≤◌, ◌==◌, not, Bool, true, false, cond, [], ◌∷◌, length, Option, Some, None, refl, sym, ◌∙◌, ap, inl, inr, arith}
 use Rattle.std.specs.Option.{option_and_then}
 use Rattle.std.proofs.lemmas.Bool.{cases_lt}
 use Rattle.grove_tree.specs.Numbers.{count_below}
-use Rattle.grove_tree.specs.Trees.{Rows, parent_of, name_of, weight_of, depth_of, depth_within, one_more, up, IsAbove, IsTree}
-use Rattle.grove_tree.specs.Rules.{is_name, IsWithinLimits}
+use Rattle.grove_tree.specs.Trees.{Rows, parent_of, name_of, weight_of, depth_of, depth_within, one_more, up, IsTree}
+use Rattle.grove_tree.specs.Rules.{IsWithinLimits}
 use Rattle.grove_tree.specs.Outlines.{Under}
 use Rattle.grove_tree.specs.Weights.{weighed_from, with_weights, changes_from}
 use Rattle.grove_tree.specs.WeighedOutlines.{weighed}
@@ -106,10 +106,10 @@ limits_weighed f rows weights limits =
     let long : length (with_weights f rows) ≡ length rows = length-weighed_from f 0 rows in
     limits_alike rows (with_weights f rows) (alike_weighed f rows)
     (λ node within.
-      let lt : node < length rows = omega arith in
-      let is = weight_of-with_weights f rows node lt in
-      let (low, high) = weights node lt in
-      (omega arith, omega arith))
+    let lt : node < length rows = omega arith in
+    let is = weight_of-with_weights f rows node lt in
+    let (low, high) = weights node lt in
+    (omega arith, omega arith))
     (λ node past. weight_of-past f 0 rows node (omega arith))
     limits
 

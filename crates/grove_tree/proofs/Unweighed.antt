@@ -1,10 +1,9 @@
 -- Rows without their weights: equal where parents and names are.
-use Rattle.std.proofs.Common.{◌≡◌, ℕ, zero, suc, ◌+◌, ◌<◌, List, [], ◌∷◌, length, Option, Some, None, refl, sym, ◌∙◌, ap, arith}
+use Rattle.std.proofs.Common.{◌≡◌, ℕ, zero, suc, ◌<◌, List, [], ◌∷◌, length, Option, refl, sym, ◌∙◌, ap, arith}
 use Rattle.std.specs.List.{slice_get}
 use Rattle.std.specs.Option.{option_map, option_and_then, unwrap_or}
-use Rattle.grove_tree.specs.Trees.{Rows, NodeRow, parent_of, name_of}
+use Rattle.grove_tree.specs.Trees.{Rows, parent_of, name_of}
 use Rattle.grove_tree.specs.Weights.{unweighed, AgreeAt}
-use Rattle.grove_tree.proofs.Lists.{map_length}
 
 pub length-unweighed : (rows : Rows) → length (unweighed rows) ≡ length rows
 length-unweighed [] = refl

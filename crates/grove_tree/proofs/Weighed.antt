@@ -1,12 +1,12 @@
 -- Rows and outlines whose nodes get the weights that a rule gives.
 use Rattle.std.proofs.Common.{◌≡◌, ℕ, zero, suc, add-zero, ◌+◌, ◌<◌, ◌≤◌, ◌==◌, Bool, true, false, cond, List, [], ◌∷◌, ◌++◌, length, Option, Some, None, refl, sym, ◌∙◌, ap, subst, arith, length-append}
 use Rattle.std.specs.List.{slice_get}
-use Rattle.std.specs.Option.{option_map, option_and_then, unwrap_or}
+use Rattle.std.specs.Option.{option_map, unwrap_or}
 use Rattle.std.proofs.lemmas.Option.{same_Some, none-some}
 use Rattle.std.proofs.lemmas.Bool.{cond-true, cond-false, eq-eqb, ne_eqb}
 use Rattle.grove_tree.specs.Trees.{Rows, NodeRow, parent_of, weight_of}
 use Rattle.grove_tree.specs.Outlines.{Under, KeepsInside, put_under, rows_under, total, AreNumbered, IsOutline}
-use Rattle.grove_tree.specs.OutlineFalls.{length-put_under, length-rows_under}
+use Rattle.grove_tree.specs.OutlineFalls.{length-put_under}
 use Rattle.grove_tree.specs.Weights.{weighed_from, changes_from}
 use Rattle.grove_tree.specs.WeighedOutlines.{weighed, weighed_all, changes_all, AreTaken, AllTaken}
 use Rattle.grove_tree.proofs.Lists.{get_append_left, get_append_at}

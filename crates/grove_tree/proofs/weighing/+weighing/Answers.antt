@@ -1,4 +1,4 @@
-use Rattle.std.proofs.Common.{◌≡◌, ◌+◌, ◌∙◌, ap, length, rules, arith, sym}
+use Rattle.std.proofs.Common.{◌≡◌, ◌+◌, ◌∙◌, ap, length, rules, arith}
 use Rattle.std.proofs.lemmas.List.{with_items_is}
 use Rattle.grove_tree.specs.Outlines.{total}
 use Rattle.grove_tree.specs.WeighedOutlines.{weighed_all, changes_all, AllTaken}

@@ -1,4 +1,4 @@
-use Rattle.std.proofs.Common.{◌≡◌, ℕ, ◌<◌, length, refl, sym, true≢false, arith}
+use Rattle.std.proofs.Common.{ℕ, ◌<◌, length, refl, sym, true≢false, arith}
 use Rattle.grove_tree.specs.Weights.{AgreeAt}
 use Rattle.grove_tree.proofs.Unweighed.{unweighed_same, same_unweighed}
 use Rattle.grove_tree.proofs.tree.Tree.same_names.Goals as goal
