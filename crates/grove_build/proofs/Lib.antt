@@ -16,3 +16,6 @@ pub mod Settles
 pub mod Walks
 pub mod Asked
 pub mod Answered
+pub mod Inserted
+pub mod Batched
+pub mod Sorted

@@ -1,0 +1,44 @@
+-- Batches of lists: what holds of each place, as places are added.
+use Rattle.std.proofs.Common.{◌≡◌, ℕ, ◌+◌, ◌<◌, List, [], ◌∷◌, ◌++◌, length, get_or, take, drop, Some, refl, sym, ◌∙◌, ap, ap₂, subst}
+use Rattle.std.specs.List.{AllZip, slice_get}
+use Rattle.std.proofs.lemmas.List.{take_more, take-append-drop}
+use Rattle.std.proofs.lemmas.Option.{get_or_from_slice_get, slice_get_within}
+use Rattle.grove_access.specs.declared.access.Access.{Access}
+use Rattle.grove_access.specs.Lists.{nodes_of}
+use Rattle.grove_access.proofs.Lists.{node_at}
+
+-- two lists whose items go together, after two others
+pub AllZip-append : {A B : Type 0} (R : A → B → Type 0) (xs : List A) (ys : List B) (vs : List A) (ws : List B) → AllZip R xs ys → AllZip R vs ws → AllZip R (xs ++ vs) (ys ++ ws)
+AllZip-append R [] [] vs ws all more = more
+AllZip-append R [] (y ∷ ys) vs ws all more = absurd all
+AllZip-append R (x ∷ xs) [] vs ws all more = absurd all
+AllZip-append R (x ∷ xs) (y ∷ ys) vs ws all more = (all.0, AllZip-append R xs ys vs ws all.1 more)
+
+-- the next item of a list, and what goes with it
+pub AllZip-next : {A B : Type 0} (R : A → B → Type 0) (xs : List A) (ys : List B) (i : ℕ) (x : A) (y : B) → i < length xs → x ≡ get_or xs i x
+    → AllZip R (take i xs) ys → R x y → AllZip R (take (i + 1) xs) (ys ++ y ∷ [])
+AllZip-next R xs ys i x y lt is all one =
+    subst (λ front. AllZip R front (ys ++ y ∷ [])) (ap (λ item. take i xs ++ item ∷ []) is ∙ sym (take_more xs i x lt))
+    (AllZip-append R (take i xs) ys (x ∷ []) (y ∷ []) all (one, tt))
+
+-- the next node of a list's targets
+pub next_target : (list : List Access) (i : ℕ) (access : Access) (targets : List ℕ) → slice_get list i ≡ Some access → targets ≡ take i (nodes_of list)
+    → targets ++ access.node ∷ [] ≡ take (i + 1) (nodes_of list)
+next_target list i access targets at so_far =
+    let there : slice_get (nodes_of list) i ≡ Some access.node = node_at list i access at in
+    ap (λ front. front ++ access.node ∷ []) so_far
+    ∙ ap (λ (node : ℕ). take i (nodes_of list) ++ node ∷ []) (sym (get_or_from_slice_get (nodes_of list) i access.node 0 there))
+    ∙ sym (take_more (nodes_of list) i 0 (slice_get_within (nodes_of list) i access.node there))
+
+-- two halves of a list, and what goes with each
+pub AllZip-halves : {A B : Type 0} (R : A → B → Type 0) (xs first second : List A) (i : ℕ) (ys zs all : List B) → first ≡ take i xs → second ≡ drop i xs
+    → AllZip R first ys → AllZip R second zs → all ≡ ys ++ zs → AllZip R xs all
+AllZip-halves R xs first second i ys zs all front back early late joined =
+    let e : first ++ second ≡ xs = ap₂ (λ a b. a ++ b) front back ∙ take-append-drop i xs in
+    subst (λ items. AllZip R xs items) (sym joined) (subst (λ items. AllZip R items (ys ++ zs)) e (AllZip-append R first ys second zs early late))
+
+pub AllZip-weaker : {A B : Type 0} (R Q : A → B → Type 0) → ((x : A) (y : B) → R x y → Q x y) → (xs : List A) (ys : List B) → AllZip R xs ys → AllZip Q xs ys
+AllZip-weaker R Q weaker [] [] all = tt
+AllZip-weaker R Q weaker [] (y ∷ ys) all = absurd all
+AllZip-weaker R Q weaker (x ∷ xs) [] all = absurd all
+AllZip-weaker R Q weaker (x ∷ xs) (y ∷ ys) all = (weaker x y all.0, AllZip-weaker R Q weaker xs ys all.1)
