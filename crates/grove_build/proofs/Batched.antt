@@ -1,8 +1,8 @@
 -- Batches of lists: what holds of each place, as places are added.
-use Rattle.std.proofs.Common.{◌≡◌, ℕ, ◌+◌, ◌<◌, List, [], ◌∷◌, ◌++◌, length, get_or, take, drop, Some, refl, sym, ◌∙◌, ap, ap₂, subst}
+use Rattle.std.proofs.Common.{◌≡◌, ℕ, zero, suc, ◌+◌, ◌<◌, List, [], ◌∷◌, ◌++◌, length, get_or, take, drop, Some, refl, sym, ◌∙◌, ap, ap₂, subst}
 use Rattle.std.specs.List.{AllZip, slice_get}
 use Rattle.std.proofs.lemmas.List.{take_more, take-append-drop}
-use Rattle.std.proofs.lemmas.Option.{get_or_from_slice_get, slice_get_within}
+use Rattle.std.proofs.lemmas.Option.{get_or_from_slice_get, slice_get_within, same_Some, none-some}
 use Rattle.grove_access.specs.declared.access.Access.{Access}
 use Rattle.grove_access.specs.Lists.{nodes_of}
 use Rattle.grove_access.proofs.Lists.{node_at}
@@ -42,3 +42,18 @@ AllZip-weaker R Q weaker [] [] all = tt
 AllZip-weaker R Q weaker [] (y ∷ ys) all = absurd all
 AllZip-weaker R Q weaker (x ∷ xs) [] all = absurd all
 AllZip-weaker R Q weaker (x ∷ xs) (y ∷ ys) all = (weaker x y all.0, AllZip-weaker R Q weaker xs ys all.1)
+
+-- what goes with the item at a place of the second list, and of the first
+pub some_right : {A B : Type 0} (R : A → B → Type 0) (xs : List A) (ys : List B) (i : ℕ) (y : B) → AllZip R xs ys → slice_get ys i ≡ Some y → (x : A) × (slice_get xs i ≡ Some x) × R x y
+some_right R [] [] i y all at = absurd (none-some y at)
+some_right R [] (z ∷ ys) i y all at = absurd all
+some_right R (x ∷ xs) [] i y all at = absurd all
+some_right R (x ∷ xs) (z ∷ ys) zero y all at = (x, refl, subst (λ w. R x w) (same_Some _ _ at) all.0)
+some_right R (x ∷ xs) (z ∷ ys) (suc i) y all at = some_right R xs ys i y all.1 at
+
+pub some_left : {A B : Type 0} (R : A → B → Type 0) (xs : List A) (ys : List B) (i : ℕ) (x : A) → AllZip R xs ys → slice_get xs i ≡ Some x → (y : B) × (slice_get ys i ≡ Some y) × R x y
+some_left R [] [] i x all at = absurd (none-some x at)
+some_left R [] (y ∷ ys) i x all at = absurd all
+some_left R (z ∷ xs) [] i x all at = absurd all
+some_left R (z ∷ xs) (y ∷ ys) zero x all at = (y, refl, subst (λ w. R w y) (same_Some _ _ at) all.0)
+some_left R (z ∷ xs) (y ∷ ys) (suc i) x all at = some_left R xs ys i x all.1 at
