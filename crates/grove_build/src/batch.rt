@@ -66,7 +66,17 @@ fn plan_parts<R: Threads + Sync, G: Gate + Sync>(
         || -> Result<Vec<Planned>, NoMemory>
             requires { IsSync R.row × IsSync G.row × (number + count < 2 ^ 32) × (length second.now + count / 2 ≡ count) × All (λ part. AreNodes tree.now (nodes_of part.now)) second.now }
             ensures { IfOk result (λ all. AllZip (λ part planned. IsPlanned tree.entry.now part.now planned) second.entry.now all.items) }
-        { plan_parts(rt, alloc, tree, gate, workers - workers / 2, number + (count / 2) as u32, second) },
+        {
+            plan_parts(
+                rt,
+                alloc,
+                tree,
+                gate,
+                workers - workers / 2,
+                number + (count / 2) as u32,
+                second,
+            )
+        },
         || -> Result<Vec<Planned>, NoMemory>
             requires { IsSync R.row × IsSync G.row × (number + length first.now < 2 ^ 32) × All (λ part. AreNodes tree.now (nodes_of part.now)) first.now }
             ensures { IfOk result (λ all. AllZip (λ part planned. IsPlanned tree.entry.now part.now planned) first.entry.now all.items) }

@@ -6,6 +6,8 @@ pub use laws::settled_once;
 pub use planning::{Planned, plan};
 
 mod batch;
+#[cfg(test)]
+mod batch_tests;
 mod flow_rows;
 mod laws;
 mod network;
