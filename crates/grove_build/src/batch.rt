@@ -40,8 +40,8 @@ pub fn plan_batch<R: Threads + Sync, G: Gate + Sync>(
 }
 
 /// Plans the lists, of which the first has the given number. With two workers or more, a slice of two lists or more is cut
-/// in two, and the first half goes to a thread of its own with half of the workers; where no thread can be started, the
-/// first half is planned first.
+/// in two and both halves are planned at once, the first by half of the workers; where no thread can be started, the first
+/// half is planned first.
 #[cycle(halving)]
 fn plan_parts<R: Threads + Sync, G: Gate + Sync>(
     rt: &R,

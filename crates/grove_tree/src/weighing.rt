@@ -40,9 +40,8 @@ pub fn weigh<R: Threads + Sync, U: Rule + Sync, G: Gate + Sync>(
     if new == old { below } else { below + 1 }
 }
 
-/// Does so for a slice of outlines, cut in two as long as there is more than one. With two workers or more the first half
-/// goes to a thread of its own with half of them, and the rest stay with the second; where no thread can be started, the
-/// first half is done first.
+/// Does so for a slice of outlines, cut in two as long as there is more than one. With two workers or more both halves are
+/// done at once, the first by half of the workers; where no thread can be started, the first half is done first.
 #[cycle(weighing)]
 fn weigh_all<R: Threads + Sync, U: Rule + Sync, G: Gate + Sync>(
     rt: &R,
