@@ -16,27 +16,27 @@ use Rattle.grove_wire.specs.Texts.{ProofFaultFits}
 use Rattle.grove.proofs.Faults.{fault_fits}
 
 -- the nodes of a least plan's steps are nodes of the tree
-pub plan_fits : (rows : Rows) (nodes : List ℕ) (plan : List Step) → IsLeast rows nodes plan → PlanFits rows plan
-plan_fits rows nodes plan least place (Lock node) at = least.legal.obeys.locks_nodes place node at
-plan_fits rows nodes plan least place (Unlock node) at =
+pub plan_fits : (rows : Rows) (nodes lengths : List ℕ) (plan : List Step) → IsLeast rows nodes lengths plan → PlanFits rows plan
+plan_fits rows nodes lengths plan least place (Lock node) at = least.legal.obeys.locks_nodes place node at
+plan_fits rows nodes lengths plan least place (Unlock node) at =
     let lock : HeldAt plan node place = held_at plan node place (least.legal.obeys.unlocks_held place node at) in
     least.legal.obeys.locks_nodes lock.at node lock.is_lock
-plan_fits rows nodes plan least place (Access access) at = tt
+plan_fits rows nodes lengths plan least place (Access access) at = tt
 
 -- the nodes of a certificate's rows are forced, so each legal plan locks them
-pub flow_fits : (rows : Rows) (nodes : List ℕ) (plan : List Step) (flow : List FlowRow) (cost : ℕ) → IsLeast rows nodes plan → IsCertificate rows nodes flow cost → FlowFits rows flow
-flow_fits rows nodes plan flow cost least certificate place row at =
+pub flow_fits : (rows : Rows) (nodes lengths : List ℕ) (plan : List Step) (flow : List FlowRow) (cost : ℕ) → IsLeast rows nodes lengths plan → IsCertificate rows nodes lengths flow cost → FlowFits rows flow
+flow_fits rows nodes lengths plan flow cost least certificate place row at =
     let locked : IsLockedBy plan row.node = (certificate.balances.forced.forced row.node).0 (place, get_map node_of flow place row at) plan least.legal in
     least.legal.obeys.locks_nodes locked.0 row.node locked.1
 
 -- what the checker refuses with fits the tree
-pub proof_fault_fits : (rows : Rows) (nodes : List ℕ) (plan : List Step) (flow : List FlowRow) (fault : ProofFault)
-    → (fault ≢ proof.Memory → IsFault rows nodes plan flow fault) → ProofFaultFits rows fault
-proof_fault_fits rows nodes plan flow (proof.Plan fault) first = fault_fits rows nodes plan fault (λ other. first (λ e. absurd (cc)))
-proof_fault_fits rows nodes plan flow (proof.Rows row) first = tt
-proof_fault_fits rows nodes plan flow (proof.Sign row) first = tt
-proof_fault_fits rows nodes plan flow (proof.TooBig row) first = tt
-proof_fault_fits rows nodes plan flow (proof.LockBalance row) first = tt
-proof_fault_fits rows nodes plan flow (proof.ReleaseBalance row) first = tt
-proof_fault_fits rows nodes plan flow (proof.Value cost bound) first = tt
-proof_fault_fits rows nodes plan flow proof.Memory first = tt
+pub proof_fault_fits : (rows : Rows) (nodes lengths : List ℕ) (plan : List Step) (flow : List FlowRow) (fault : ProofFault)
+    → (fault ≢ proof.Memory → IsFault rows nodes lengths plan flow fault) → ProofFaultFits rows fault
+proof_fault_fits rows nodes lengths plan flow (proof.Plan fault) first = fault_fits rows nodes plan fault (λ other. first (λ e. absurd (cc)))
+proof_fault_fits rows nodes lengths plan flow (proof.Rows row) first = tt
+proof_fault_fits rows nodes lengths plan flow (proof.Sign row) first = tt
+proof_fault_fits rows nodes lengths plan flow (proof.TooBig row) first = tt
+proof_fault_fits rows nodes lengths plan flow (proof.LockBalance row) first = tt
+proof_fault_fits rows nodes lengths plan flow (proof.ReleaseBalance row) first = tt
+proof_fault_fits rows nodes lengths plan flow (proof.Value cost bound) first = tt
+proof_fault_fits rows nodes lengths plan flow proof.Memory first = tt

@@ -1,7 +1,9 @@
 pub mod Asking
+pub mod Documents
+pub mod Words
+pub mod Orders
 pub mod Faults
 pub mod Saying
 pub mod Printing
 pub mod Records
-pub mod Writing
 pub mod Fitting

@@ -20,7 +20,6 @@ use Rattle.grove.specs.declared.refusal.Refusal.{Refusal}
 use Rattle.grove.specs.declared.refusal.Refusal.TheVariants.{Fault, Memory}
 use Rattle.grove.specs.Judgements.{IsRefusal}
 use Rattle.grove.specs.Outcomes.{Outcome, IsSaidOf, Says, SaysOne, PrintsOne}
-use Rattle.grove.proofs.Saying.{answer_says}
 
 over_limit : (bytes : List ℕ) → 4194304 < length bytes → document_of bytes ≡ Err (Limit (whole_of Whole))
 unfolding document_of
@@ -86,14 +85,18 @@ says_only that (Ok l) is = sym is
 says_only that (Err (Fault text)) is = sym is
 says_only that (Err Memory) is = tt
 
--- the answer that an order's result makes says what the order says of the whole input
-pub answers_input : {Z : Type 0} (order found : Order) (known later : Option (List ℕ)) (bytes read : List ℕ) (lines : Result (String Z) Refusal) (answer : Result Answer Stop)
-    → found ≡ order → Consumes known later read → (length read ≤ 4194304 → IsAtEnd later) → bytes ≡ read
-    → ((said : Result (List ℕ) (List ℕ)) → MatchResult lines (λ l. said ≡ Ok (string_bytes l)) (IsRefusal said) → IfOk answer (SaysIt said))
-    → Says (IsSaidOf found bytes) lines
-    → IfOk answer (λ a. IfSome known (λ document. SaysOne (IsSaidOf order document) a))
-answers_input order found known later bytes read lines answer is consumed end same tells says =
-    let P : Order → Type 0 = λ o. Says (IsSaidOf o bytes) lines in
-    let Q : List ℕ → Type 0 = λ b. Says (IsSaidOf order b) lines in
-    IfOk-weaker answer _ _ (λ a it. says_of_input (Outcome order) known later read a consumed end it)
-    (answer_says (IsSaidOf order read) lines answer tells (subst Q same (subst P is says)))
+-- an answer of the bytes that were read is one of the whole input
+pub answers_input : (order : Order) (known later : Option (List ℕ)) (bytes read : List ℕ) (answer : Result Answer Stop)
+    → Consumes known later read → (length read ≤ 4194304 → IsAtEnd later) → bytes ≡ read
+    → IfOk answer (SaysOne (IsSaidOf order bytes)) → IfOk answer (λ a. IfSome known (λ document. SaysOne (IsSaidOf order document) a))
+answers_input order known later bytes read answer consumed end same says =
+    let Q : List ℕ → Type 0 = λ b. IfOk answer (SaysOne (IsSaidOf order b)) in
+    IfOk-weaker answer _ _ (λ a it. says_of_input (Outcome order) known later read a consumed end it) (subst Q same says)
+
+-- an answer that is no usage fault doesn't end as one
+pub not_usage : (answer : Result Answer Stop) (status : ℕ) (old new : Option (List ℕ)) (Also : Answer → Type 0) → IfOk answer (λ a. status_of a ≤ 1)
+    → (status ≤ 2 → IsOkAnd answer (λ a. (status ≡ status_of a) × Appends old new (printed a) × Also a)) → status ≡ 2 → ⊥
+not_usage (Ok a) status old new Also few done two =
+    let is : status ≡ status_of a = (done (omega arith)).0 in
+    omega arith
+not_usage (Err why) status old new Also few done two = done (omega arith)

@@ -3,10 +3,10 @@ use Rattle.std.proofs.Common.{◌≡◌, ◌≢◌, ℕ, ℤ, pos, negsuc, false
 use Rattle.std.proofs.lemmas.Result.{IfOk-weaker}
 use Rattle.serde_json.specs.Written.{has_float}
 use Rattle.grove_access.specs.declared.reply.Reply.{Reply}
-use Rattle.grove_access.specs.declared.reply.Reply.TheVariants.{Value, Done, Range}
+use Rattle.grove_access.specs.declared.reply.Reply.TheVariants.{Value, Done, Range, Short}
 use Rattle.grove_tree.specs.Trees.{Rows}
 use Rattle.grove_access.specs.declared.access.Access as access
-use Rattle.grove_access.specs.Lists.{nodes_of}
+use Rattle.grove_access.specs.Lists.{nodes_of, lengths_of}
 use Rattle.grove_plan.specs.declared.step.Step.{Step}
 use Rattle.grove_plan.specs.declared.step.Step.TheVariants.{Lock, Unlock, Access}
 use Rattle.grove_proof.specs.declared.flow.FlowRow.{FlowRow}
@@ -55,6 +55,7 @@ pub refuses : {A : Type 0} (fault : WireFault) (refusal : Refusal) (reading : Re
 refuses wire.BadJson refusal reading use_it is tells = said_by wire.BadJson refusal reading use_it is tells
 refuses (wire.Shape place) refusal reading use_it is tells = said_by (wire.Shape place) refusal reading use_it is tells
 refuses (wire.NoPath place) refusal reading use_it is tells = said_by (wire.NoPath place) refusal reading use_it is tells
+refuses (wire.BadLength place) refusal reading use_it is tells = said_by (wire.BadLength place) refusal reading use_it is tells
 refuses (wire.Limit place) refusal reading use_it is tells = said_by (wire.Limit place) refusal reading use_it is tells
 refuses (wire.Tree fault) refusal reading use_it is tells = said_by (wire.Tree fault) refusal reading use_it is tells
 refuses wire.Memory (Fault text) reading use_it is tells = absurd (tells.1 refl)
@@ -81,6 +82,7 @@ says_fault : {A : Type 0} (Z : Type 0) (fault : WireFault) (refusal : Refusal) (
 says_fault Z wire.BadJson refusal reading IsSaid is tells = faulty Z wire.BadJson refusal reading IsSaid is tells
 says_fault Z (wire.Shape place) refusal reading IsSaid is tells = faulty Z (wire.Shape place) refusal reading IsSaid is tells
 says_fault Z (wire.NoPath place) refusal reading IsSaid is tells = faulty Z (wire.NoPath place) refusal reading IsSaid is tells
+says_fault Z (wire.BadLength place) refusal reading IsSaid is tells = faulty Z (wire.BadLength place) refusal reading IsSaid is tells
 says_fault Z (wire.Limit place) refusal reading IsSaid is tells = faulty Z (wire.Limit place) refusal reading IsSaid is tells
 says_fault Z (wire.Tree fault) refusal reading IsSaid is tells = faulty Z (wire.Tree fault) refusal reading IsSaid is tells
 says_fault Z wire.Memory (Fault text) reading IsSaid is tells = absurd (tells.1 refl)
@@ -109,7 +111,7 @@ says_on {Z} {T} {A} seen given x reading IsSaid result gives is says =
 
 -- a refusal tells the first fault of a plan with a flow
 pub says_proof : (Z : Type 0) (tree : Rows) (list : List access.Access) (plan : List Step) (flow : List FlowRow) (fault : ProofFault) (refusal : Refusal)
-    → TellsProof tree fault refusal → (fault ≢ proof.Memory → IsFault tree (nodes_of list) plan flow fault)
+    → TellsProof tree fault refusal → (fault ≢ proof.Memory → IsFault tree (nodes_of list) (lengths_of list) plan flow fault)
     → Says {Z = Z} (FlowChecked tree list plan flow) (Err refusal)
 says_proof Z tree list plan flow fault (Fault text) told first = (fault, told.1, first told.1, told.0)
 says_proof Z tree list plan flow fault Memory told first = tt
@@ -141,6 +143,7 @@ reply_is_no_float : (reply : Reply) → has_float (reply_data reply) ≡ false
 reply_is_no_float (Value n) = number_is_no_float n
 reply_is_no_float Done = refl
 reply_is_no_float Range = refl
+reply_is_no_float Short = refl
 
 pub numbers_have_no_float : (numbers : List ℤ) → has_float (numbers_data numbers) ≡ false
 numbers_have_no_float [] = refl

@@ -5,7 +5,7 @@ use Rattle.serde_json.specs.Written.{compact_text}
 use Rattle.grove_tree.specs.Trees.{Rows}
 use Rattle.grove_access.specs.declared.access.Access.{Access}
 use Rattle.grove_access.specs.declared.reply.Reply.{Reply}
-use Rattle.grove_access.specs.Lists.{nodes_of}
+use Rattle.grove_access.specs.Lists.{nodes_of, lengths_of}
 use Rattle.grove_access.specs.Effects.{records_after, replies_to}
 use Rattle.grove_plan.specs.declared.step.Step.{Step}
 use Rattle.grove_plan.specs.declared.fault.PlanFault.{PlanFault}
@@ -48,7 +48,7 @@ unless_faulty tree (Some fault) lines = Err (plan_text tree fault)
 abbrev pub plan_judged : Rows → List ℤ → List Access → List Step → Result (List ℕ) (List ℕ)
 plan_judged tree records list plan =
     unless_faulty tree (plan_fault_of tree (nodes_of list) plan)
-    (judge_lines (cost tree plan) (replies_to list records) (records_after list records))
+    (judge_lines (cost tree (lengths_of list) plan) (replies_to list records) (records_after list records))
 
 -- the document's list and plan are read over its tree and judged
 abbrev pub list_judged : Data → Rows → List ℤ → List Access → Result (List ℕ) (List ℕ)

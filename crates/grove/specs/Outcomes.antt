@@ -4,7 +4,7 @@ use Rattle.serde_json.specs.Data.{Data}
 use Rattle.serde_json.specs.Written.{compact_text}
 use Rattle.grove_tree.specs.Trees.{Rows}
 use Rattle.grove_access.specs.declared.access.Access.{Access}
-use Rattle.grove_access.specs.Lists.{nodes_of}
+use Rattle.grove_access.specs.Lists.{nodes_of, lengths_of}
 use Rattle.grove_plan.specs.declared.step.Step.{Step}
 use Rattle.grove_plan.specs.Plans.{IsLeast, cost}
 use Rattle.grove_proof.specs.declared.flow.FlowRow.{FlowRow}
@@ -37,9 +37,10 @@ cost_line cost = codes "cost " ++ decimal cost ++ codes "\n"
 -- a plan with a flow that proves it least has its cost, and any other its first fault
 abbrev pub FlowChecked : Rows → List Access → List Step → List FlowRow → Result (List ℕ) (List ℕ) → Type 0
 FlowChecked tree list plan flow (Ok lines) =
-    IsLeast tree (nodes_of list) plan × IsCertificate tree (nodes_of list) flow (cost tree plan) × (lines ≡ cost_line (cost tree plan))
+    IsLeast tree (nodes_of list) (lengths_of list) plan
+    × IsCertificate tree (nodes_of list) (lengths_of list) flow (cost tree (lengths_of list) plan) × (lines ≡ cost_line (cost tree (lengths_of list) plan))
 FlowChecked tree list plan flow (Err text) =
-    (fault : ProofFault) × (fault ≢ proof.Memory) × IsFault tree (nodes_of list) plan flow fault × (text ≡ proof_text tree fault)
+    (fault : ProofFault) × (fault ≢ proof.Memory) × IsFault tree (nodes_of list) (lengths_of list) plan flow fault × (text ≡ proof_text tree fault)
 
 abbrev pub PlanChecked : Data → Rows → List Access → List Step → Result (List ℕ) (List ℕ) → Type 0
 PlanChecked document tree list plan = ThenSays (flow_in tree document) (FlowChecked tree list plan)
@@ -55,19 +56,20 @@ ObjectChecked document = ThenSays (tree_in document) (TreeChecked document)
 
 -- ---- plan
 
-abbrev pub plan_lines : Rows → List Step → List FlowRow → List ℕ
-plan_lines tree plan flow =
-    codes "cost " ++ decimal (cost tree plan)
+abbrev pub plan_lines : Rows → List Access → List Step → List FlowRow → List ℕ
+plan_lines tree list plan flow =
+    codes "cost " ++ decimal (cost tree (lengths_of list) plan)
     ++ codes "\nplan " ++ compact_text (plan_data tree plan)
     ++ codes "\nflow " ++ compact_text (flow_data tree flow)
     ++ codes "\n"
 
 -- the settled plan, with a flow that proves it least
 abbrev pub IsPlanned : Rows → List Access → List Step → List FlowRow → Type 0
-IsPlanned tree list plan flow = IsSettled tree (nodes_of list) plan × IsCertificate tree (nodes_of list) flow (cost tree plan)
+IsPlanned tree list plan flow = IsSettled tree (nodes_of list) (lengths_of list) plan
+    × IsCertificate tree (nodes_of list) (lengths_of list) flow (cost tree (lengths_of list) plan)
 
 abbrev pub ListPlanned : Rows → List Access → Result (List ℕ) (List ℕ) → Type 0
-ListPlanned tree list said = (plan : List Step) × (flow : List FlowRow) × IsPlanned tree list plan flow × (said ≡ Ok (plan_lines tree plan flow))
+ListPlanned tree list said = (plan : List Step) × (flow : List FlowRow) × IsPlanned tree list plan flow × (said ≡ Ok (plan_lines tree list plan flow))
 
 abbrev pub TreePlanned : Data → Rows × List ℤ → Result (List ℕ) (List ℕ) → Type 0
 TreePlanned document read = ThenSays (list_in read.0 document) (ListPlanned read.0)

@@ -1,9 +1,8 @@
-ghost use Rattle.std.specs.Prelude.{◌≡◌, ◌≤◌, ◌⊎◌, true, false, IfOk, IsOkAnd, OnErr};
+ghost use Rattle.std.specs.Prelude.{◌≡◌, ◌≤◌, ◌⊎◌, true, false, IfOk, IsOkAnd};
 ghost use Rattle.std.specs.Io.KnownBytes.{Appends, Keeps};
-ghost use Rattle.grove.specs.Endings.{status_of, printed, complained, stop_line, IsRefusalLine, SaysRefusal, SaysStop, SaysWhy};
+ghost use Rattle.grove.specs.Endings.{status_of, printed, complained, stop_line, IsRefusalLine, SaysRefusal, SaysWhy};
 
-use crate::devices::write_whole;
-use grove_store::{DeviceFault, Sink};
+use grove_store::{DeviceFault, ReadFault, Sink, write_whole};
 use std::alloc::{AllocError, AllocFailed};
 use std::io;
 
@@ -38,10 +37,10 @@ pub fn end<O: Sink, E: Sink>(answer: Result<Answer, Stop>, out: &mut O, err: &mu
     ensures quiet_errors { result ≤ 1 → Keeps (E.contents err.old) (E.contents err.new) }
     ensures sound_output { result ≤ 2 → O.has_failed out.new ≡ O.has_failed out.old }
     ensures sound_errors { result ≤ 2 → E.has_failed err.new ≡ E.has_failed err.old }
-    ensures told { result ≡ 3 → E.has_failed err.new ≡ false → SaysStop (E.contents err.old) (E.contents err.new) }
     ensures blamed { result ≡ 3 → E.has_failed err.new ≡ false
-        → SaysWhy ((answer ≡ Err Stop.Device) ⊎ (O.has_failed out.new ≡ true)) (E.contents err.old) (E.contents err.new) }
-    ensures unprinted { OnErr answer (Keeps (O.contents out.old) (O.contents out.new)) }
+        → SaysWhy ((answer ≡ Err Stop.Device) ⊎ (O.has_failed out.new ≡ true))
+        ((answer ≡ Err Stop.Memory) × (O.has_failed out.new ≡ O.has_failed out.old)) (E.contents err.old) (E.contents err.new) }
+    ensures unprinted { result ≡ 3 → O.has_failed out.new ≡ false → Keeps (O.contents out.old) (O.contents out.new) }
 {
     match answer {
         Ok(Answer::Done(text)) => tell(&text, 0, out, err),
@@ -58,8 +57,8 @@ fn tell<O: Sink, E: Sink>(text: &str, status: u8, out: &mut O, err: &mut E) -> u
     ensures output { result ≤ 2 → Appends (O.contents out.old) (O.contents out.new) text.now }
     ensures errors { result ≤ 2 → err.new ≡ err.old }
     ensures sound { result ≤ 2 → O.has_failed out.new ≡ O.has_failed out.old }
-    ensures told { result ≡ 3 → E.has_failed err.new ≡ false → SaysStop (E.contents err.old) (E.contents err.new) }
-    ensures blamed { result ≡ 3 → E.has_failed err.new ≡ false → SaysWhy (O.has_failed out.new ≡ true) (E.contents err.old) (E.contents err.new) }
+    ensures failed { result ≡ 3 → O.has_failed out.new ≡ true }
+    ensures told { result ≡ 3 → E.has_failed err.new ≡ false → Appends (E.contents err.old) (E.contents err.new) (stop_line Stop.Device) }
 {
     match write_whole(out, text.as_bytes()) {
         Ok(()) => status,
@@ -95,9 +94,17 @@ fn report<E: Sink>(why: Stop, err: &mut E) -> u8
     3
 }
 
-impl From<DeviceFault> for Stop {
-    fn from(_fault: DeviceFault) -> Stop {
-        Stop::Device
+impl From<ReadFault> for Stop {
+    ghost use Rattle.grove.specs.Endings.{stop_of};
+    ghost use Rattle.std.specs.Prelude.{◌≡◌};
+
+    ghost from_gives = { λ fault stop. stop ≡ stop_of fault };
+
+    fn from(fault: ReadFault) -> Stop {
+        match fault {
+            ReadFault::Device => Stop::Device,
+            ReadFault::Memory => Stop::Memory,
+        }
     }
 }
 
@@ -124,6 +131,13 @@ impl<T: Drop> From<AllocFailed<T>> for Stop {
 }
 
 impl From<io::Error> for Stop {
+    ghost use Rattle.std.specs.Prelude.{◌≡◌, ◌↔◌};
+    ghost use Rattle.std.specs.IoError.{error_kind};
+    ghost use Rattle.std.specs.declared.io.ErrorKind.TheVariants.{OutOfMemory};
+    ghost use Rattle.grove.specs.declared.answer.Stop.TheVariants.{Memory};
+
+    ghost from_gives = { λ error stop. (stop ≡ Memory) ↔ (error_kind error ≡ OutOfMemory) };
+
     fn from(error: io::Error) -> Stop {
         match error.kind() {
             io::ErrorKind::OutOfMemory => Stop::Memory,

@@ -1,5 +1,6 @@
 ghost use Rattle.std.specs.Prelude.{◌≡◌, ℕ, length};
 ghost use Rattle.serde_json.specs.View.{view};
+ghost use Rattle.grove_wire.specs.Forms.{HasArraysWithin};
 ghost use Rattle.grove_access.specs.Lists.{nodes_of, AreNodes};
 ghost use Rattle.grove_wire.specs.Reading.{document_of};
 ghost use Rattle.grove.specs.Outcomes.{FlowChecked, ListChecked, TreeChecked, ObjectChecked, ThenSays, Says};
@@ -22,6 +23,7 @@ pub fn check_document(alloc: Global, bytes: &[u8]) -> Result<String, Refusal>
 }
 
 fn check_object(alloc: Global, document: &Value) -> Result<String, Refusal>
+    requires { HasArraysWithin 4194304 (view document.now) }
     ensures { Says (ObjectChecked (view document.now)) result }
 {
     let (tree, _records) = or_refuse(alloc, read_tree(alloc, document))?;
@@ -36,7 +38,8 @@ fn check_list(
     tree: &Tree,
     list: &AccessList,
 ) -> Result<String, Refusal>
-    requires { AreNodes tree.now (nodes_of list.now) }
+    requires short { HasArraysWithin 4194304 (view document.now) }
+    requires fits { AreNodes tree.now (nodes_of list.now) }
     ensures { Says (ListChecked (view document.now) tree.now list.now) result }
 {
     let plan = or_refuse(alloc, read_plan(alloc, tree, document))?;

@@ -1,22 +1,22 @@
-ghost use Rattle.std.specs.Prelude.{◌≡◌, ◌≢◌, ◌≤◌, ◌⊎◌, length, map, true, false, None, IfOk, IfErr, IfSome, OnOk, string_bytes};
+ghost use Rattle.std.specs.Prelude.{◌≡◌, ◌≢◌, ◌≤◌, ◌⊎◌, length, map, true, false, [], None, IfOk, IfErr, IfSome, OnOk, string_bytes};
 ghost use Rattle.clap.specs.Values.{kind_of};
 ghost use Rattle.std.specs.Io.KnownBytes.{Consumes, IsAtEnd, Keeps};
-ghost use Rattle.grove.specs.Endings.{status_of, IsRefusalLine, SaysRefusal, SaysStop, SaysWhy};
-ghost use Rattle.grove.specs.CommandLines.{AskFor};
+ghost use Rattle.grove.specs.Endings.{status_of, Blames, HasText, IsRefusalLine, SaysRefusal, SaysSomething, SaysWhy};
+ghost use Rattle.grove.specs.CommandLines.{name_of, AreWrong, AskFor, AskToShow, NameDocument};
 ghost use Rattle.grove.specs.Judgements.{judgement, PrintsIt};
 ghost use Rattle.grove.specs.Outcomes.{IsSaidOf, SaysOne, PrintsOne};
 
 use crate::answer::{Answer, Stop, end};
 use crate::checking::check_document;
 use crate::command_line::{Order, command_line, order_of};
-use crate::devices::read_whole;
 use crate::judging::judge_document;
 use crate::planning::plan_document;
 use crate::refusal::answer_of;
 use clap::Error;
 use clap::error::ErrorKind;
-use grove_store::{ReaderSource, Sink, Source};
-use std::alloc::Global;
+use grove_store::{ReaderSource, Sink, Source, read_whole};
+use grove_wire::MOST_BYTES;
+use std::alloc::{AllocError, Global};
 use std::fs;
 use std::rt::Files;
 
@@ -38,10 +38,18 @@ pub fn run_command<R: Files + AllocGlobal, I: Source, O: Sink, E: Sink>(
         PrintsOne (IsSaidOf (Order.Plan None) document) result (O.contents out.old) (O.contents out.new)) }
     ensures status { result ≤ 3 }
     ensures refused { result ≡ 1 → SaysRefusal (O.contents out.old) (O.contents out.new) }
-    ensures unread { result ≡ 2 → I.read_count input.new ≡ I.read_count input.old }
-    ensures told { result ≡ 3 → E.has_failed err.new ≡ false → SaysStop (E.contents err.old) (E.contents err.new) }
-    ensures blamed { (order : Order) → AskFor (map string_bytes words.now) order → result ≡ 3 → E.has_failed err.new ≡ false
-        → SaysWhy ((I.has_failed input.new ≡ true) ⊎ (O.has_failed out.new ≡ true)) (E.contents err.old) (E.contents err.new) }
+    ensures wrong { AreWrong (map string_bytes words.now) → (result ≡ 2) ⊎ (result ≡ 3) }
+    ensures shown { AskToShow (map string_bytes words.now)
+        → ((result ≡ 0) × SaysSomething (O.contents out.old) (O.contents out.new)) ⊎ (result ≡ 3) }
+    ensures taken { (order : Order) → AskFor (map string_bytes words.now) order → result ≢ 2 }
+    ensures complained { result ≡ 2 → SaysSomething (E.contents err.old) (E.contents err.new) }
+    ensures unread { result ≡ 2 → input.new ≡ input.old }
+    ensures apart { (order : Order) → AskFor (map string_bytes words.now) order → name_of order ≢ None → input.new ≡ input.old }
+    ensures blamed { result ≡ 3 → E.has_failed err.new ≡ false
+        → SaysWhy ((I.has_failed input.new ≡ true) ⊎ ((O.has_failed out.new ≡ true) ⊎ NameDocument (map string_bytes words.now)))
+        ((I.has_failed input.new ≡ I.has_failed input.old) × (O.has_failed out.new ≡ O.has_failed out.old))
+        (E.contents err.old) (E.contents err.new) }
+    ensures unprinted { result ≡ 3 → O.has_failed out.new ≡ false → Keeps (O.contents out.old) (O.contents out.new) }
     ensures quiet_output { result ≡ 2 → Keeps (O.contents out.old) (O.contents out.new) }
     ensures quiet_errors { result ≤ 1 → Keeps (E.contents err.old) (E.contents err.new) }
     ensures sound_input { result ≤ 2 → I.has_failed input.new ≡ I.has_failed input.old }
@@ -66,29 +74,55 @@ fn answer<R: Files + AllocGlobal, I: Source>(
     words: &[String],
     input: &mut I,
 ) -> Result<Answer, Stop>
-    ensures said { (order : Order) → AskFor (map string_bytes words.now) order → IfOk result (λ answer.
+    ensures said { (order : Order) → AskFor (map string_bytes words.now) order → name_of order ≡ None → IfOk result (λ answer.
         IfSome (I.remaining input.old) (λ document. SaysOne (IsSaidOf order document) answer)) }
     ensures refused { IfOk result IsRefusalLine }
-    ensures unread { IfOk result (λ answer. status_of answer ≡ 2 → I.read_count input.new ≡ I.read_count input.old) }
+    ensures wrong { AreWrong (map string_bytes words.now) → IfOk result (λ answer. status_of answer ≡ 2) }
+    ensures shown { AskToShow (map string_bytes words.now) → IfOk result (λ answer. (status_of answer ≡ 0) × HasText answer) }
+    ensures taken { (order : Order) → AskFor (map string_bytes words.now) order → IfOk result (λ answer. status_of answer ≤ 1) }
+    ensures usage { IfOk result (λ answer. status_of answer ≡ 2 → HasText answer) }
+    ensures unread { IfOk result (λ answer. status_of answer ≡ 2 → input.new ≡ input.old) }
+    ensures apart { (order : Order) → AskFor (map string_bytes words.now) order → name_of order ≢ None → input.new ≡ input.old }
     ensures sound { OnOk result (I.has_failed input.new ≡ I.has_failed input.old) }
-    ensures blamed { (order : Order) → AskFor (map string_bytes words.now) order → IfErr result (λ stop.
-        stop ≡ Stop.Device → I.has_failed input.new ≡ true) }
+    ensures blamed { IfErr result (Blames ((I.has_failed input.new ≡ true) ⊎ NameDocument (map string_bytes words.now))
+        (I.has_failed input.new ≡ I.has_failed input.old)) }
 {
-    let alloc = rt.alloc();
-    match order_of(alloc, words) {
-        Ok(Order::Judge { document }) => {
-            let bytes = document_bytes(rt, document, input)?;
-            answer_of(alloc, judge_document(alloc, &bytes))
-        }
-        Ok(Order::Check { document }) => {
-            let bytes = document_bytes(rt, document, input)?;
-            answer_of(alloc, check_document(alloc, &bytes))
-        }
-        Ok(Order::Plan { document }) => {
-            let bytes = document_bytes(rt, document, input)?;
-            answer_of(alloc, plan_document(alloc, &bytes))
-        }
-        Err(error) => words_answer(alloc, &error),
+    match order_of(rt.alloc(), words) {
+        Ok(order) => order_answer(rt, order, input),
+        Err(error) => words_answer(rt.alloc(), &error),
+    }
+}
+
+/// What an order says of its document.
+fn order_answer<R: Files + AllocGlobal, I: Source>(
+    rt: &R,
+    order: Order<'_>,
+    input: &mut I,
+) -> Result<Answer, Stop>
+    ensures said { name_of order.entry ≡ None → IfOk result (λ answer.
+        IfSome (I.remaining input.old) (λ document. SaysOne (IsSaidOf order.entry document) answer)) }
+    ensures refused { IfOk result IsRefusalLine }
+    ensures status { IfOk result (λ answer. status_of answer ≤ 1) }
+    ensures apart { name_of order.entry ≢ None → input.new ≡ input.old }
+    ensures sound { OnOk result (I.has_failed input.new ≡ I.has_failed input.old) }
+    ensures blamed { IfErr result (Blames ((I.has_failed input.new ≡ true) ⊎ (name_of order.entry ≢ None))
+        (I.has_failed input.new ≡ I.has_failed input.old)) }
+{
+    let bytes = document_bytes(rt, order.document(), input)?;
+    document_answer(rt.alloc(), order, &bytes)
+}
+
+/// What an order says of the bytes of a document.
+fn document_answer(alloc: Global, order: Order<'_>, bytes: &[u8]) -> Result<Answer, Stop>
+    ensures said { IfOk result (SaysOne (IsSaidOf order.entry bytes.now)) }
+    ensures refused { IfOk result IsRefusalLine }
+    ensures status { IfOk result (λ answer. status_of answer ≤ 1) }
+    ensures memory { IfErr result (λ stop. stop ≡ Stop.Memory) }
+{
+    match order {
+        Order::Judge { .. } => answer_of(alloc, judge_document(alloc, bytes)),
+        Order::Check { .. } => answer_of(alloc, check_document(alloc, bytes)),
+        Order::Plan { .. } => answer_of(alloc, plan_document(alloc, bytes)),
     }
 }
 
@@ -99,15 +133,17 @@ fn document_bytes<R: Files + AllocGlobal, I: Source>(
 ) -> Result<Vec<u8>, Stop>
     ensures input { name.entry ≡ None → IfOk result (λ bytes. Consumes (I.remaining input.old) (I.remaining input.new) bytes.items) }
     ensures end { name.entry ≡ None → IfOk result (λ bytes. length bytes.items ≤ 4194304 → IsAtEnd (I.remaining input.new)) }
+    ensures apart { name.entry ≢ None → input.new ≡ input.old }
     ensures sound { OnOk result (I.has_failed input.new ≡ I.has_failed input.old) }
-    ensures blamed { name.entry ≡ None → IfErr result (λ stop. stop ≡ Stop.Device → I.has_failed input.new ≡ true) }
+    ensures blamed { IfErr result (Blames ((I.has_failed input.new ≡ true) ⊎ (name.entry ≢ None))
+        (I.has_failed input.new ≡ I.has_failed input.old)) }
 {
     match name {
         Some(name) => {
             let mut file = ReaderSource::new(fs::open(rt, name)?);
-            read_whole(rt.alloc(), &mut file)
+            Ok(read_whole(rt.alloc(), &mut file, MOST_BYTES)?)
         }
-        None => read_whole(rt.alloc(), input),
+        None => Ok(read_whole(rt.alloc(), input, MOST_BYTES)?),
     }
 }
 
@@ -118,14 +154,24 @@ fn words_answer(alloc: Global, error: &Error) -> Result<Answer, Stop>
     ensures stopped { IfErr result (λ stop. stop ≡ Stop.Memory) }
     ensures usage { kind_of error.now ≢ ErrorKind.DisplayHelp → kind_of error.now ≢ ErrorKind.DisplayVersion
         → IfOk result (λ answer. status_of answer ≡ 2) }
+    ensures shown { (kind_of error.now ≡ ErrorKind.DisplayHelp) ⊎ (kind_of error.now ≡ ErrorKind.DisplayVersion)
+        → IfOk result (λ answer. status_of answer ≡ 0) }
+    ensures text { IfOk result HasText }
 {
     if error.kind() == ErrorKind::OutOfMemory {
         return Err(Stop::Memory);
     }
-    let text = format!(in alloc; "{error}")?;
+    let text = whole_lines(alloc, &format!(in alloc; "{error}")?)?;
     Ok(if error.use_stderr() {
         Answer::Usage(text)
     } else {
         Answer::Done(text)
     })
+}
+
+/// The text with just one line end behind it.
+fn whole_lines(alloc: Global, text: &str) -> Result<String, AllocError>
+    ensures { IfOk result (λ lines. string_bytes lines ≢ []) }
+{
+    format!(in alloc; "{}\n", text.trim_end())
 }

@@ -1,6 +1,7 @@
 ghost use Rattle.std.specs.Prelude.{◌≡◌, ℕ, length, IfOk, MatchResult, Ok, string_bytes};
 ghost use Rattle.serde_json.specs.View.{view};
 ghost use Rattle.serde_json.specs.Written.{compact_text};
+ghost use Rattle.grove_wire.specs.Forms.{HasArraysWithin};
 ghost use Rattle.grove_access.specs.Lists.{nodes_of, AreNodes};
 ghost use Rattle.grove_wire.specs.Writing.{replies_data, numbers_data};
 ghost use Rattle.grove.specs.Judgements.{judge_lines, plan_judged, tree_judged, object_judged, judgement, IsRefusal};
@@ -24,6 +25,7 @@ pub fn judge_document(alloc: Global, bytes: &[u8]) -> Result<String, Refusal>
 
 #[tactic(auto, using(crate::proofs::Saying::refuses, crate::proofs::Saying::goes_on))]
 fn judge_object(alloc: Global, document: &Value) -> Result<String, Refusal>
+    requires { HasArraysWithin 4194304 (view document.now) }
     ensures { MatchResult result (λ lines. object_judged (view document.now) ≡ Ok (string_bytes lines))
         (IsRefusal (object_judged (view document.now))) }
 {
@@ -39,7 +41,8 @@ fn judge_over(
     tree: &Tree,
     records: Records,
 ) -> Result<String, Refusal>
-    requires { length records ≡ length tree.now }
+    requires short { HasArraysWithin 4194304 (view document.now) }
+    requires records { length records ≡ length tree.now }
     ensures { MatchResult result (λ lines. tree_judged (view document.now) (tree.now, records) ≡ Ok (string_bytes lines))
         (IsRefusal (tree_judged (view document.now) (tree.now, records))) }
 {

@@ -12,12 +12,9 @@ mod answer;
 mod checking;
 mod command;
 mod command_line;
-mod devices;
 mod judging;
 mod planning;
 mod refusal;
-#[cfg(test)]
-mod tests;
 
 fn main(rt: HostRuntime) -> ExitCode {
     let mut input = ReaderSource::new(rt.stdin());

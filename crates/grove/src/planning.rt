@@ -1,7 +1,8 @@
 ghost use Rattle.std.specs.Prelude.{◌≡◌, ℕ, List, IfOk, string_bytes};
 ghost use Rattle.serde_json.specs.View.{view};
 ghost use Rattle.serde_json.specs.Written.{compact_text};
-ghost use Rattle.grove_access.specs.Lists.{nodes_of, AreNodes};
+ghost use Rattle.grove_wire.specs.Forms.{HasArraysWithin};
+ghost use Rattle.grove_access.specs.Lists.{nodes_of, lengths_of, AreNodes};
 ghost use Rattle.grove_plan.specs.Plans.{cost};
 ghost use Rattle.grove_wire.specs.Reading.{document_of};
 ghost use Rattle.grove_wire.specs.Writing.{plan_data, flow_data, PlanFits, FlowFits};
@@ -26,6 +27,7 @@ pub fn plan_document(alloc: Global, bytes: &[u8]) -> Result<String, Refusal>
 }
 
 fn plan_object(alloc: Global, document: &Value) -> Result<String, Refusal>
+    requires { HasArraysWithin 4194304 (view document.now) }
     ensures { Says (ObjectPlanned (view document.now)) result }
 {
     let (tree, _records) = or_refuse(alloc, read_tree(alloc, document))?;
@@ -48,8 +50,8 @@ fn plan_lines(
     planned: &Planned,
 ) -> Result<String, NoMemory>
     requires planned { IsPlanned tree.now list.now planned.now.plan planned.now.flow }
-    requires cost { planned.now.cost ≡ cost tree.now planned.now.plan }
-    ensures { IfOk result (λ lines. string_bytes lines ≡ plan_lines tree.now planned.now.plan planned.now.flow) }
+    requires cost { planned.now.cost ≡ cost tree.now (lengths_of list.now) planned.now.plan }
+    ensures { IfOk result (λ lines. string_bytes lines ≡ plan_lines tree.now list.now planned.now.plan planned.now.flow) }
 {
     let steps = plan_text(alloc, tree, &planned.plan)?;
     let flow = flow_text(alloc, tree, &planned.flow)?;

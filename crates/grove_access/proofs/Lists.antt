@@ -1,10 +1,10 @@
 -- Accesses seen by their nodes.
-use Rattle.std.proofs.Common.{◌≡◌, ℕ, zero, suc, ◌<◌, nat_lt, Bool, true, false, List, [], ◌∷◌, length, drop, slice_get, Option, Some, None, refl, ap, sym, ◌∙◌, subst, inl, inr, option_map, is_some, not, IsTrue, ◌↔◌}
+use Rattle.std.proofs.Common.{◌≡◌, ℕ, zero, suc, ◌<◌, ◌≤◌, nat_lt, Bool, true, false, List, [], ◌∷◌, length, drop, slice_get, Option, Some, None, refl, ap, sym, ◌∙◌, subst, inl, inr, option_map, is_some, not, IsTrue, ◌↔◌}
 use Rattle.std.proofs.Math.Seq.{drop-cons}
 use Rattle.std.proofs.lemmas.Option.{slice_get_within, get_or_from_slice_get, none-some, same_Some}
-use Rattle.std.proofs.lemmas.Bool.{cond-true, cond-false, lt-ltb, le-ltb, cases_lt}
+use Rattle.std.proofs.lemmas.Bool.{cond-true, cond-false, lt-ltb, le-ltb, cases_lt, cases_Bool, and_parts, and_from, leb-true, le-leb}
 use Rattle.grove_access.specs.declared.access.Access.{Access}
-use Rattle.grove_access.specs.Lists.{nodes_of, AreBelow, first_beyond}
+use Rattle.grove_access.specs.Lists.{nodes_of, lengths_of, AreBelow, AreLengths, first_beyond, is_length, first_bad_length}
 
 -- what stands at a place stands first in what is left from there
 pub drop_at : (list : List Access) (place : ℕ) (access : Access) → slice_get list place ≡ Some access → drop place list ≡ access ∷ drop (suc place) list
@@ -38,6 +38,11 @@ below_none n place (node ∷ nodes) found access other at = elim (cases_lt node 
   | inr ge ↦ absurd (none-some place (sym found ∙ cond-false (nat_lt node n) (first_beyond n (suc place) nodes) (Some place) (le-ltb node n ge)))
 ]
 
+-- a place beyond n was found only where some node is not below n
+pub beyond_refused : (n m place : ℕ) (nodes : List ℕ) → m ≡ n → Some place ≡ first_beyond m 0 nodes → ¬ AreBelow n nodes
+beyond_refused n m place nodes size found =
+    λ below. none-some place (sym (none_beyond n 0 nodes below) ∙ sym (found ∙ ap (λ (k : ℕ). first_beyond k 0 nodes) size))
+
 -- nothing was found
 none_from : (found : Option ℕ) → is_some found ≡ false → found ≡ None
 none_from None h = refl
@@ -61,3 +66,42 @@ found_tells n m list seen found false is size same test = (
 pub nodes_length : (list : List Access) → length (nodes_of list) ≡ length list
 nodes_length [] = refl
 nodes_length (access ∷ list) = ap suc (nodes_length list)
+
+-- there are as many lengths as accesses
+pub lengths_length : (list : List Access) → length (lengths_of list) ≡ length list
+lengths_length [] = refl
+lengths_length (access ∷ list) = ap suc (lengths_length list)
+
+-- the length of an access stands at the access's place
+pub length_at : (list : List Access) (place : ℕ) (access : Access) → slice_get list place ≡ Some access → slice_get (lengths_of list) place ≡ Some access.length
+length_at [] place access at = absurd (none-some access at)
+length_at (first ∷ rest) zero access at = ap (λ (o : Option Access). option_map (λ (a : Access). a.length) o) at
+length_at (first ∷ rest) (suc place) access at = length_at rest place access at
+
+-- where none was found that is too short or too long, all are as they are to be
+pub none_bad : (place : ℕ) (lengths : List ℕ) → first_bad_length place lengths ≡ None → AreLengths lengths
+none_bad place [] found access slots at = absurd (none-some slots at)
+none_bad place (first ∷ lengths) found access slots at = elim (cases_Bool (is_length first)) [
+  | inl fine ↦ right access at
+      (none_bad (suc place) lengths (sym (cond-true (is_length first) (first_bad_length (suc place) lengths) (Some place) fine) ∙ found))
+      (is_long fine)
+  | inr bad ↦ absurd (none-some place (sym found ∙ cond-false (is_length first) (first_bad_length (suc place) lengths) (Some place) bad))
+]
+  where
+    is_long : is_length first ≡ true → (1 ≤ first) × (first ≤ 1000)
+    is_long fine = let parts = and_parts _ _ fine in (leb-true 1 first parts.0, leb-true first 1000 parts.1)
+
+    right : (access : ℕ) → slice_get (first ∷ lengths) access ≡ Some slots → AreLengths lengths → (1 ≤ first) × (first ≤ 1000) → (1 ≤ slots) × (slots ≤ 1000)
+    right zero at rest here = subst (λ (k : ℕ). (1 ≤ k) × (k ≤ 1000)) (same_Some first slots at) here
+    right (suc access) at rest here = rest access slots at
+
+-- where all are as they are to be, none is found
+none_found : (place : ℕ) (lengths : List ℕ) → AreLengths lengths → first_bad_length place lengths ≡ None
+none_found place [] are = refl
+none_found place (first ∷ lengths) are =
+    let here : (1 ≤ first) × (first ≤ 1000) = are 0 first refl in
+    cond-true (is_length first) (first_bad_length (suc place) lengths) (Some place) (and_from _ _ (le-leb 1 first here.0) (le-leb first 1000 here.1))
+    ∙ none_found (suc place) lengths (λ access slots at. are (suc access) slots at)
+
+pub bad_refused : (place : ℕ) (lengths : List ℕ) → Some place ≡ first_bad_length 0 lengths → ¬ AreLengths lengths
+bad_refused place lengths found = λ are. none-some place (sym (none_found 0 lengths are) ∙ sym found)

@@ -1,10 +1,10 @@
 -- What accesses do to records, and lists done one after the other.
-use Rattle.std.specs.Prelude.{ℕ, ◌^◌, ℤ, pos, neg_ℤ, ◌+ℤ◌, int_le, int_lt, Bool, ◌&&◌, List, [], ◌∷◌, slice_set, slice_index_or, if◌then◌else◌}
+use Rattle.std.specs.Prelude.{ℕ, ◌^◌, ℤ, pos, neg_ℤ, ◌+ℤ◌, ◌-ℤ◌, int_le, int_lt, Bool, ◌&&◌, List, [], ◌∷◌, slice_set, slice_index_or, if◌then◌else◌}
 use Rattle.grove_access.specs.declared.access.Op.{Op}
-use Rattle.grove_access.specs.declared.access.Op.TheVariants.{Get, Set, Add}
+use Rattle.grove_access.specs.declared.access.Op.TheVariants.{Get, Set, Add, Take}
 use Rattle.grove_access.specs.declared.access.Access.{Access}
 use Rattle.grove_access.specs.declared.reply.Reply.{Reply}
-use Rattle.grove_access.specs.declared.reply.Reply.TheVariants.{Value, Done, Range}
+use Rattle.grove_access.specs.declared.reply.Reply.TheVariants.{Value, Done, Range, Short}
 
 -- the number fits an i64
 abbrev pub fits : ℤ → Bool
@@ -15,12 +15,14 @@ abbrev pub stored : Op → ℤ → ℤ
 stored Get old = old
 stored (Set x) old = x
 stored (Add x) old = if fits (old +ℤ x) then old +ℤ x else old
+stored (Take x) old = if int_lt old x then old else if fits (old -ℤ x) then old -ℤ x else old
 
 -- what an operation replies
 abbrev pub answer : Op → ℤ → Reply
 answer Get old = Value old
 answer (Set x) old = Done
 answer (Add x) old = if fits (old +ℤ x) then Value (old +ℤ x) else Range
+answer (Take x) old = if int_lt old x then Short else if fits (old -ℤ x) then Value (old -ℤ x) else Range
 
 -- the record of a node
 abbrev pub record_at : List ℤ → ℕ → ℤ

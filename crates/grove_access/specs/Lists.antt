@@ -1,14 +1,19 @@
--- Lists of accesses, seen by their nodes.
-use Rattle.std.specs.Prelude.{◌≡◌, ℕ, suc, ◌<◌, nat_lt, List, [], ◌∷◌, length, slice_get, Option, Some, None, if◌then◌else◌}
+-- Lists of accesses, seen by their nodes and their lengths.
+use Rattle.std.specs.Prelude.{◌≡◌, ℕ, suc, ◌<◌, ◌≤◌, Bool, nat_lt, nat_le, ◌&&◌, List, [], ◌∷◌, length, slice_get, Option, Some, None, if◌then◌else◌}
 use Rattle.grove_tree.specs.Trees.{Rows}
 use Rattle.grove_access.specs.declared.access.Access.{Access}
 use Rattle.grove_access.specs.declared.fault.ListFault.{ListFault}
-use Rattle.grove_access.specs.declared.fault.ListFault.TheVariants.{TooLong, NoNode}
+use Rattle.grove_access.specs.declared.fault.ListFault.TheVariants.{TooLong, NoNode, BadLength}
 
 -- the nodes that the accesses name, in order
 abbrev pub nodes_of : List Access → List ℕ
 nodes_of [] = []
 nodes_of (access ∷ accesses) = access.node ∷ nodes_of accesses
+
+-- how many slots each of them takes
+abbrev pub lengths_of : List Access → List ℕ
+lengths_of [] = []
+lengths_of (access ∷ accesses) = access.length ∷ lengths_of accesses
 
 -- each node of the list is below a number
 abbrev pub AreBelow : ℕ → List ℕ → Type 0
@@ -23,10 +28,27 @@ abbrev pub first_beyond : ℕ → ℕ → List ℕ → Option ℕ
 first_beyond n place [] = None
 first_beyond n place (node ∷ nodes) = if nat_lt node n then first_beyond n (suc place) nodes else Some place
 
+-- an access may take from 1 to 1000 slots
+abbrev pub is_length : ℕ → Bool
+is_length slots = nat_le 1 slots && nat_le slots 1000
+
+abbrev pub AreLengths : List ℕ → Type 0
+AreLengths lengths = (access slots : ℕ) → slice_get lengths access ≡ Some slots → (1 ≤ slots) × (slots ≤ 1000)
+
+-- the first place of a list that is none, counted on from a number
+abbrev pub first_bad_length : ℕ → List ℕ → Option ℕ
+first_bad_length place [] = None
+first_bad_length place (slots ∷ lengths) = if is_length slots then first_bad_length (suc place) lengths else Some place
+
 -- why accesses are no list over a tree, want of memory aside
-abbrev pub no_node : Option ℕ → Option ListFault
-no_node None = None
-no_node (Some place) = Some (NoNode place)
+abbrev pub bad_access : Option ℕ → Option ℕ → Option ListFault
+bad_access (Some place) other = Some (NoNode place)
+bad_access None (Some place) = Some (BadLength place)
+bad_access None None = None
 
 abbrev pub list_fault_of : Rows → List Access → Option ListFault
-list_fault_of rows accesses = if nat_lt 64 (length accesses) then Some TooLong else no_node (first_beyond (length rows) 0 (nodes_of accesses))
+list_fault_of rows accesses = if nat_lt 64 (length accesses) then Some TooLong else bad_access (first_beyond (length rows) 0 (nodes_of accesses)) (first_bad_length 0 (lengths_of accesses))
+
+-- accesses that make a list over a tree
+abbrev pub AreListed : Rows → List Access → Type 0
+AreListed rows accesses = (length accesses ≤ 64) × AreNodes rows (nodes_of accesses) × AreLengths (lengths_of accesses)

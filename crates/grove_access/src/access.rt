@@ -9,6 +9,9 @@ pub enum Op {
     Set(i64),
     /// Stores the sum of record and number and replies it; where the sum leaves `i64`, replies so and stores nothing.
     Add(i64),
+    /// Takes the number away from the record and replies what is left; where the record is below the number, or the
+    /// difference leaves `i64`, replies so and stores nothing.
+    Take(i64),
 }
 
 /// One access of a list.
@@ -16,4 +19,6 @@ pub enum Op {
 pub struct Access {
     pub node: Node,
     pub op: Op,
+    /// How many slots it takes.
+    pub length: u32,
 }

@@ -10,6 +10,9 @@ pub enum ListFault {
     /// The access with this number, counted from 0, names no node of the tree; no earlier one does so.
     #[error("access {0} no-node")]
     NoNode(u32),
+    /// The access with this number, counted from 0, has a length of 0 or above 1000; no earlier one does so.
+    #[error("access {0} bad-length")]
+    BadLength(u32),
     /// A growth was refused.
     #[error("memory")]
     Memory,

@@ -14,5 +14,3 @@ mod fault;
 mod list;
 mod records;
 mod reply;
-#[cfg(test)]
-mod tests;

@@ -1,5 +1,6 @@
-ghost use Rattle.std.specs.Prelude.{◌≡◌, ◌≢◌, ◌<◌, ◌≤◌, ◌↔◌, length, IsTrue, IfOk, IfErr, Some, None, slice_get};
-ghost use Rattle.grove_access.specs.Lists.{nodes_of, AreNodes, first_beyond as first_place_beyond, list_fault_of};
+ghost use Rattle.std.specs.Prelude.{◌≡◌, ◌≢◌, ◌<◌, ◌≤◌, ◌↔◌, length, IsTrue, IfOk, IfErr, IsErrOf, Some, None, slice_get};
+ghost use Rattle.grove_access.specs.Lists.{nodes_of, lengths_of, AreNodes, AreLengths, AreListed, first_beyond as first_place_beyond, first_bad_length as first_place_of_no_length, list_fault_of};
+ghost use Rattle.grove_access.specs.Slots.{slots_before};
 
 use crate::{Access, ListFault};
 use grove_tree::Tree;
@@ -8,6 +9,9 @@ use std::marker::Model;
 
 /// The most accesses that a list may have.
 const LIMIT: usize = 64;
+
+/// The most slots that an access may take.
+const LONGEST: u32 = 1000;
 
 /// The accesses of a transaction, at most 64, done in this order.
 #[derive(Debug, Drop)]
@@ -18,12 +22,13 @@ pub struct AccessList {
 impl Model for AccessList {
     ghost use Rattle.std.specs.Prelude.{List, ◌≤◌, length};
     ghost use Rattle.grove_access.specs.declared.access.Access.{Access};
+    ghost use Rattle.grove_access.specs.Lists.{lengths_of, AreLengths};
 
     ghost Value = { List Access };
 
     ghost view = { λ list. list.accesses.items };
 
-    ghost invariant = { λ list. length list.accesses.items ≤ 64 };
+    ghost invariant = { λ list. (length list.accesses.items ≤ 64) × AreLengths (lengths_of list.accesses.items) };
 }
 
 impl AccessList {
@@ -32,12 +37,17 @@ impl AccessList {
         ensures faultless { IfOk result (λ list. list_fault_of tree.now accesses.now ≡ None) }
         ensures fitting { IfOk result (λ list. AreNodes tree.now (nodes_of list)) }
         ensures fault { IfErr result (λ fault. fault ≢ ListFault.Memory → list_fault_of tree.now accesses.now ≡ Some fault) }
+        ensures refused { IfErr result (λ fault. fault ≢ ListFault.Memory → ¬ AreListed tree.now accesses.now) }
+        ensures memory { IsErrOf result ListFault.Memory → list_fault_of tree.now accesses.now ≡ None }
     {
         if accesses.len() > LIMIT {
             return Err(ListFault::TooLong);
         }
         if let Some(access) = first_beyond(accesses, tree.len()) {
             return Err(ListFault::NoNode(access));
+        }
+        if let Some(access) = first_bad_length(accesses) {
+            return Err(ListFault::BadLength(access));
         }
         let accesses = Vec::from_slice(alloc, accesses)?;
         Ok(AccessList { accesses })
@@ -47,6 +57,7 @@ impl AccessList {
     pub fn len(&self) -> u32
         ensures number { result ≡ length self.now }
         ensures few { length self.now ≤ 64 }
+        ensures lengths { AreLengths (lengths_of self.now) }
     {
         self.accesses.len() as u32
     }
@@ -56,6 +67,21 @@ impl AccessList {
         ensures { slice_get self.now access ≡ Some result }
     {
         self.accesses[access as usize]
+    }
+
+    /// How many slots lie before the access: the lengths of those before it, added up.
+    pub fn slots_before(&self, access: u32) -> u32
+        requires { access ≤ length self.now }
+        ensures slots { result ≡ slots_before (lengths_of self.now) access }
+        ensures few { result ≤ 64000 }
+    {
+        // The limits that hold of every list are told with its length.
+        let _accesses = self.len();
+        let mut slots = 0;
+        for earlier in 0..access {
+            slots += self.get(earlier).length;
+        }
+        slots
     }
 
     /// Does each access name a node of the tree?
@@ -73,6 +99,19 @@ fn first_beyond(accesses: &[Access], nodes: u32) -> Option<u32>
 {
     for (place, access) in accesses.iter().enumerate() {
         if access.node.number() >= nodes {
+            return Some(place as u32);
+        }
+    }
+    None
+}
+
+// The first access that takes no slots, or too many.
+fn first_bad_length(accesses: &[Access]) -> Option<u32>
+    requires { length accesses.now ≤ 64 }
+    ensures { result ≡ first_place_of_no_length 0 (lengths_of accesses.now) }
+{
+    for (place, access) in accesses.iter().enumerate() {
+        if access.length == 0 || access.length > LONGEST {
             return Some(place as u32);
         }
     }

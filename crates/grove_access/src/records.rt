@@ -80,5 +80,10 @@ fn done(op: Op, old: i64) -> (i64, Reply)
             Some(sum) => (sum, Reply::Value(sum)),
             None => (old, Reply::Range),
         },
+        Op::Take(number) if old < number => (old, Reply::Short),
+        Op::Take(number) => match old.checked_sub(number) {
+            Some(rest) => (rest, Reply::Value(rest)),
+            None => (old, Reply::Range),
+        },
     }
 }

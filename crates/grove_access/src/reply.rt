@@ -1,10 +1,12 @@
 /// The reply of an access.
 #[derive(Clone, Copy, Debug, PartialEq, Eq)]
 pub enum Reply {
-    /// The record, or the sum that was stored.
+    /// The record, or the sum or difference that was stored.
     Value(i64),
     /// The number is stored.
     Done,
-    /// The sum would leave `i64`; nothing is changed.
+    /// The sum or difference would leave `i64`; nothing is changed.
     Range,
+    /// There is less in the record than is to be taken; nothing is changed.
+    Short,
 }

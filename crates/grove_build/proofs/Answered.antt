@@ -1,17 +1,18 @@
 -- The stays read from the solved network give the settled plan.
-use Rattle.std.proofs.Common.{◌≡◌, ℕ, zero, suc, ◌+◌, ◌-◌, ◌*◌, ◌<◌, ◌≤◌, ◌&&◌, Bool, true, false, not, cond, eqb, ltb, List, [], ◌∷◌, ◌++◌, map, filter, length, get_or, Option, Some, None, ℤ, pos, negsuc, ◌≤ℤ◌, refl, sym, ◌∙◌, ap, ap₂, subst, inl, inr, arith, length-append}
+use Rattle.std.proofs.Common.{◌≡◌, ℕ, zero, suc, ◌+◌, ◌-◌, ◌*◌, ◌<◌, ◌≤◌, ◌&&◌, Bool, true, false, not, cond, eqb, ltb, List, [], ◌∷◌, ◌++◌, map, filter, length, get_or, Option, Some, None, ℤ, pos, refl, sym, ◌∙◌, ap, ap₂, subst, inl, inr, arith, length-append}
 use Rattle.std.specs.Prelude.{slice_index, filter_map}
 use Rattle.std.specs.List.{slice_get, list_any, sum_by, cons_option}
 use Rattle.std.specs.Option.{option_and_then, unwrap_or}
-use Rattle.std.proofs.lemmas.Int.{ints}
 use Rattle.std.proofs.lemmas.Option.{none-some, same_Some, slice_get_within}
 use Rattle.std.proofs.lemmas.Bool.{and_parts, and_from, or_cases, eqb-true, eq-eqb}
 use Rattle.std.proofs.lemmas.List.Sums.{sum_by-cons}
 use borrow.Author.Differences.{up}
 use Rattle.grove_tree.specs.Trees.{Rows, parent_of, weight_of, is_at}
-use Rattle.grove_tree.proofs.Counting.{any_from, any_true, passing_once}
+use Rattle.grove_tree.proofs.Counting.{any_from, any_true, passing_once, least_is, least_same}
 use Rattle.grove_tree.specs.Rules.{IsWithinLimits}
 use Rattle.grove_tree.proofs.Lists.{get_map, get_map_inv, map_length}
+use Rattle.grove_access.specs.Slots.{slots_before}
+use Rattle.grove_tree.specs.Numbers.{least_below}
 use Rattle.grove_access.proofs.Spans.{spanned_within}
 use Rattle.grove_access.specs.Spanned.{is_spanned, spanned_nodes}
 use Rattle.grove_plan.specs.declared.step.Step.{Step}
@@ -26,24 +27,36 @@ use Rattle.grove_build.specs.declared.stays.Stay.{Stay}
 use Rattle.grove_build.specs.declared.steps.Group.TheVariants.{Early, Locks, Late}
 use Rattle.grove_build.specs.Layout.{has_child_in, is_early, gap_steps, steps_below, laid_out}
 use Rattle.grove_build.specs.Settled.{IsSettled}
-use Rattle.grove_build.specs.Networks.{IsSpan, IsSolved, row_width, read_rows}
+use Rattle.grove_build.specs.Networks.{IsSpan, IsSolved, gap_at, row_width, read_rows}
 use Rattle.grove_build.specs.Stays.{has_parent_at, is_needed, is_early_at, stay_of, stays_from, step_in, stay_steps, stay_steps_below, stays_cost}
 use Rattle.grove_build.proofs.Runs.{Has}
 use Rattle.grove_build.proofs.Laying.{any_has}
 use Rattle.grove_build.proofs.Found.{place_found, place_there, row_spanned}
-use Rattle.grove_build.proofs.Latest.{latest_rise, latest_fits}
+use Rattle.grove_build.proofs.Latest.{latest_on, latest_fits}
 use Rattle.grove_build.proofs.Needs.{parent_at}
 use Rattle.grove_build.proofs.Asked.{get_within}
 use Rattle.grove_build.proofs.Settles.{settles, certifies, costs}
 
-ups : (places : List ℤ) (v : ℕ) → slice_index (map up places) v ≡ up (place places v)
-ups [] v = refl
-ups (x ∷ xs) zero = refl
-ups (x ∷ xs) (suc v) = ups xs v
+-- a gap as it is read
+gaps_read : (lengths : List ℕ) (m : ℕ) (places : List ℤ) (v : ℕ)
+    → slice_index (map (gap_at lengths m) places) v ≡ gap_at lengths m (place places v)
+gaps_read lengths m [] v =
+    sym (least_same (suc m) (λ gap. eqb (slots_before lengths gap) 0) 0 (omega arith) refl (λ j lt. absurd (omega arith)))
+gaps_read lengths m (x ∷ xs) zero = refl
+gaps_read lengths m (x ∷ xs) (suc v) = gaps_read lengths m xs v
 
-up_of : (z : ℤ) → pos 0 ≤ℤ z → pos (up z) ≡ z
-up_of (pos n) h = refl
-up_of (negsuc n) h = absurd (omega (arith, ints))
+-- a place that stands between two accesses has its gap
+gap_found : (lengths : List ℕ) (m : ℕ) (z : ℤ) → (i : ℕ) × (i ≤ m) × (z ≡ pos (slots_before lengths i))
+    → (gap_at lengths m z ≤ m) × (pos (slots_before lengths (gap_at lengths m z)) ≡ z)
+gap_found lengths m z on =
+    let test : ℕ → Bool = λ gap. eqb (slots_before lengths gap) (up z) in
+    let le : on.0 ≤ m = on.1 in
+    let x : up z ≡ slots_before lengths on.0 = ap up on.2 in
+    let hit : test on.0 ≡ true = eq-eqb (slots_before lengths on.0) (up z) (sym x) in
+    let l = least_is (suc m) test (any_from (suc m) test on.0 (omega arith) hit) in
+    let lt : least_below (suc m) test < suc m = l.0 in
+    let same : slots_before lengths (least_below (suc m) test) ≡ up z = eqb-true (slots_before lengths (least_below (suc m) test)) (up z) l.1 in
+    (omega arith, ap (λ (n : ℕ). pos n) (same ∙ x) ∙ sym on.2)
 
 any_had : {A : Type 0} (test : A → Bool) (xs : List A) → list_any test xs ≡ true → (x : A) × Has xs x × (test x ≡ true)
 any_had test [] h = absurd (cc)
@@ -73,8 +86,8 @@ group_same f h b p gaps needed e k (row ∷ rows) same =
     ∙ pick (p row.node) f row.node (filter p (map node_of_row rows))
     (filter_map h (stays_from gaps needed (suc k) rows)) rest)
 
-module _ (tree : Rows) (nodes : List ℕ) (rows : List SpanRow) (amounts gaps : List ℕ)
-    (is_span : IsSpan tree nodes rows) (solved : IsSolved tree (length nodes) rows amounts gaps) where
+module _ (tree : Rows) (nodes lengths : List ℕ) (rows : List SpanRow) (amounts gaps : List ℕ)
+    (is_span : IsSpan tree nodes lengths rows) (solved : IsSolved tree lengths (length nodes) rows amounts gaps) where
   abbrev span : List ℕ
   span = spanned_nodes tree nodes
 
@@ -105,18 +118,29 @@ module _ (tree : Rows) (nodes : List ℕ) (rows : List SpanRow) (amounts gaps : 
       → release row.node ≡ slice_index gaps (2 * k + 1)
   release_is k row g = ap (λ n. slice_index gaps (2 * n + 1)) (at_is k row g)
 
-  gap_is : (v : ℕ) → pos (slice_index gaps v) ≡ place solved.places v
+  gap_is : (v : ℕ) → (slice_index gaps v ≤ length nodes)
+      × (pos (slots_before lengths (slice_index gaps v)) ≡ place solved.places v)
   gap_is v =
-      ap (λ l. pos (slice_index l v)) solved.are_gaps
-      ∙ (ap (λ n. pos n) (ups solved.places v)
-      ∙ up_of (place solved.places v) (latest_rise tree nodes rows amounts is_span solved.places solved.latest v))
+      let f = gap_found lengths (length nodes) (place solved.places v)
+      (latest_on tree nodes lengths rows amounts is_span solved.places solved.latest v) in
+      let e : slice_index gaps v ≡ gap_at lengths (length nodes) (place solved.places v) =
+      ap (λ l. slice_index l v) solved.are_gaps ∙ gaps_read lengths (length nodes) solved.places v in
+      let P : ℕ → Type 0 = λ n. (n ≤ length nodes) × (pos (slots_before lengths n) ≡ place solved.places v) in
+      subst P (sym e) f
 
-  pub locks : (k : ℕ) (row : SpanRow) → slice_get rows k ≡ Some row → pos (lock row.node) ≡ place solved.places (2 * k)
-  locks k row g = ap (λ n. pos n) (lock_is k row g) ∙ gap_is (2 * k)
+  pub low : (k : ℕ) (row : SpanRow) → slice_get rows k ≡ Some row
+      → (lock row.node ≤ length nodes) × (release row.node ≤ length nodes)
+  low k row g =
+      let P : ℕ → Type 0 = λ n. n ≤ length nodes in
+      (subst P (sym (lock_is k row g)) (gap_is (2 * k)).0, subst P (sym (release_is k row g)) (gap_is (2 * k + 1)).0)
+
+  pub locks : (k : ℕ) (row : SpanRow) → slice_get rows k ≡ Some row
+      → pos (slots_before lengths (lock row.node)) ≡ place solved.places (2 * k)
+  locks k row g = ap (λ n. pos (slots_before lengths n)) (lock_is k row g) ∙ (gap_is (2 * k)).1
 
   pub releases : (k : ℕ) (row : SpanRow) → slice_get rows k ≡ Some row
-      → pos (release row.node) ≡ place solved.places (2 * k + 1)
-  releases k row g = ap (λ n. pos n) (release_is k row g) ∙ gap_is (2 * k + 1)
+      → pos (slots_before lengths (release row.node)) ≡ place solved.places (2 * k + 1)
+  releases k row g = ap (λ n. pos (slots_before lengths n)) (release_is k row g) ∙ (gap_is (2 * k + 1)).1
 
   -- a child that is locked in the gap of its parent's unlock
   child_same : (k : ℕ) (row : SpanRow) → slice_get rows k ≡ Some row
@@ -156,7 +180,7 @@ module _ (tree : Rows) (nodes : List ℕ) (rows : List SpanRow) (amounts gaps : 
     where
       parent_here : (j : ℕ) (over : SpanRow) → slice_get rows j ≡ Some over → (i : ℕ) (r : SpanRow)
           → slice_get rows i ≡ Some r → is_at j r.parent ≡ is_at over.node (parent_of tree r.node)
-      parent_here = parent_at tree nodes rows amounts solved.solved is_span solved.solution
+      parent_here = parent_at tree nodes lengths rows amounts solved.solved is_span solved.solution
 
   module _ (needed : List Bool) (marked : (j : ℕ) → j < length rows
       → get_or needed j false ≡ is_needed rows gaps (length rows) j) where
@@ -206,28 +230,28 @@ module _ (tree : Rows) (nodes : List ℕ) (rows : List SpanRow) (amounts gaps : 
   cost_same : (needed : List Bool) (k : ℕ) (rs : List SpanRow)
       → ((i : ℕ) (row : SpanRow) → slice_get rs i ≡ Some row → (slice_index gaps (2 * (k + i)) ≡ lock row.node)
       × (slice_index gaps (2 * (k + i) + 1) ≡ release row.node))
-      → stays_cost tree (stays_from gaps needed k rs)
-      ≡ sum_by (λ row. weight_of tree row.node * (release row.node - lock row.node)) rs
+      → stays_cost tree lengths (stays_from gaps needed k rs)
+      ≡ sum_by (λ row. weight_of tree row.node * (slots_before lengths (release row.node) - slots_before lengths (lock row.node))) rs
   cost_same needed k [] h = refl
   cost_same needed k (row ∷ rs) h =
       let e : k ≡ k + 0 = omega arith in
       let here = h 0 row refl in
       let l : slice_index gaps (2 * k) ≡ lock row.node = ap (λ n. slice_index gaps (2 * n)) e ∙ here.0 in
       let r : slice_index gaps (2 * k + 1) ≡ release row.node = ap (λ n. slice_index gaps (2 * n + 1)) e ∙ here.1 in
-      let t : weight_of tree row.node * (slice_index gaps (2 * k + 1) - slice_index gaps (2 * k))
-      ≡ weight_of tree row.node * (release row.node - lock row.node) =
-      ap₂ (λ a b. weight_of tree row.node * (a - b)) r l in
-      sum_by-cons (λ stay. weight_of tree stay.node * (stay.release - stay.lock)) (stay_of gaps needed k row)
+      let t : weight_of tree row.node * (slots_before lengths (slice_index gaps (2 * k + 1)) - slots_before lengths (slice_index gaps (2 * k)))
+      ≡ weight_of tree row.node * (slots_before lengths (release row.node) - slots_before lengths (lock row.node)) =
+      ap₂ (λ a b. weight_of tree row.node * (slots_before lengths a - slots_before lengths b)) r l in
+      sum_by-cons (λ stay. weight_of tree stay.node * (slots_before lengths stay.release - slots_before lengths stay.lock)) (stay_of gaps needed k row)
       (stays_from gaps needed (suc k) rs)
       ∙ (ap₂ (λ a b. a + b) t (cost_same needed (suc k) rs (λ i x g.
       let P : ℕ → Type 0 =
       λ n. (slice_index gaps (2 * n) ≡ lock x.node) × (slice_index gaps (2 * n + 1) ≡ release x.node) in
       let s : k + suc i ≡ suc k + i = omega arith in subst P s (h (suc i) x g)))
-      ∙ sym (sum_by-cons (λ (x : SpanRow). weight_of tree x.node * (release x.node - lock x.node)) row rs))
+      ∙ sym (sum_by-cons (λ (x : SpanRow). weight_of tree x.node * (slots_before lengths (release x.node) - slots_before lengths (lock x.node))) row rs))
 
   pub costs_same : (needed : List Bool)
-      → stays_cost tree (stays_from gaps needed 0 rows)
-      ≡ sum_by (λ row. weight_of tree row.node * (release row.node - lock row.node)) rows
+      → stays_cost tree lengths (stays_from gaps needed 0 rows)
+      ≡ sum_by (λ row. weight_of tree row.node * (slots_before lengths (release row.node) - slots_before lengths (lock row.node))) rows
   costs_same needed = cost_same needed 0 rows (λ i row g.
       let P : ℕ → Type 0 =
       λ n. (slice_index gaps (2 * n) ≡ lock row.node) × (slice_index gaps (2 * n + 1) ≡ release row.node) in
@@ -297,31 +321,31 @@ pub read_length : (rows : List SpanRow) (amounts : List ℕ) (at : ℕ) → leng
 read_length [] amounts at = refl
 read_length (row ∷ rows) amounts at = ap suc (read_length rows amounts (at + row_width row))
 
-module _ (tree : Rows) (nodes : List ℕ) (rows : List SpanRow) (amounts gaps : List ℕ)
-    (is_span : IsSpan tree nodes rows) (solved : IsSolved tree (length nodes) rows amounts gaps)
+module _ (tree : Rows) (nodes lengths : List ℕ) (rows : List SpanRow) (amounts gaps : List ℕ)
+    (is_span : IsSpan tree nodes lengths rows) (solved : IsSolved tree lengths (length nodes) rows amounts gaps)
     (short : length nodes ≤ 64) where
   pub gaps_size : length gaps ≡ 2 * length rows + 1
-  gaps_size = ap length solved.are_gaps ∙ (map_length up solved.places ∙ solved.latest.candidate.size)
+  gaps_size = ap length solved.are_gaps ∙ (map_length (gap_at lengths (length nodes)) solved.places ∙ solved.latest.candidate.size)
 
   pub stay_fits : (needed : List Bool) (i : ℕ) (stay : Stay) → slice_get (stays_from gaps needed 0 rows) i ≡ Some stay
-      → (stay.node < length tree) × (stay.lock ≤ stay.release) × (stay.release ≤ 64)
+      → (stay.node < length tree) × (stay.lock ≤ stay.release) × (stay.release ≤ length nodes)
   stay_fits needed i stay h =
       let r = stay_at gaps needed 0 i rows stay h in
-      let fits = latest_fits tree nodes rows amounts is_span solved.places solved.latest
-      (lock tree nodes rows amounts gaps is_span solved) (release tree nodes rows amounts gaps is_span solved)
-      (locks tree nodes rows amounts gaps is_span solved) (releases tree nodes rows amounts gaps is_span solved) in
-      let sv = row_spanned tree nodes rows is_span i r.0 r.1 in
-      let own : lock tree nodes rows amounts gaps is_span solved (r.0).node
-      ≤ release tree nodes rows amounts gaps is_span solved (r.0).node = fits.own (r.0).node sv in
-      let top : release tree nodes rows amounts gaps is_span solved (r.0).node ≤ length nodes =
+      let fits = latest_fits tree nodes lengths rows amounts is_span solved.places solved.latest
+      (lock tree nodes lengths rows amounts gaps is_span solved) (release tree nodes lengths rows amounts gaps is_span solved)
+      (low tree nodes lengths rows amounts gaps is_span solved) (locks tree nodes lengths rows amounts gaps is_span solved) (releases tree nodes lengths rows amounts gaps is_span solved) in
+      let sv = row_spanned tree nodes lengths rows is_span i r.0 r.1 in
+      let own : lock tree nodes lengths rows amounts gaps is_span solved (r.0).node
+      ≤ release tree nodes lengths rows amounts gaps is_span solved (r.0).node = fits.own (r.0).node sv in
+      let top : release tree nodes lengths rows amounts gaps is_span solved (r.0).node ≤ length nodes =
       fits.top (r.0).node sv in
-      let a : lock tree nodes rows amounts gaps is_span solved (r.0).node ≡ slice_index gaps (2 * i) =
-      lock_is tree nodes rows amounts gaps is_span solved i r.0 r.1 in
-      let b : release tree nodes rows amounts gaps is_span solved (r.0).node ≡ slice_index gaps (2 * i + 1) =
-      release_is tree nodes rows amounts gaps is_span solved i r.0 r.1 in
+      let a : lock tree nodes lengths rows amounts gaps is_span solved (r.0).node ≡ slice_index gaps (2 * i) =
+      lock_is tree nodes lengths rows amounts gaps is_span solved i r.0 r.1 in
+      let b : release tree nodes lengths rows amounts gaps is_span solved (r.0).node ≡ slice_index gaps (2 * i + 1) =
+      release_is tree nodes lengths rows amounts gaps is_span solved i r.0 r.1 in
       let e : stay ≡ stay_of gaps needed i r.0 =
       r.2 ∙ ap (λ n. stay_of gaps needed n r.0) (let z : 0 + i ≡ i = omega arith in z) in
-      let P : Stay → Type 0 = λ x. (x.node < length tree) × (x.lock ≤ x.release) × (x.release ≤ 64) in
+      let P : Stay → Type 0 = λ x. (x.node < length tree) × (x.lock ≤ x.release) × (x.release ≤ length nodes) in
       subst P (sym e) (
         spanned_within tree nodes (r.0).node is_span.is_tree is_span.are_nodes sv,
         omega arith,
@@ -335,30 +359,30 @@ module _ (tree : Rows) (nodes : List ℕ) (rows : List SpanRow) (amounts gaps : 
     steps = stay_steps_below (stays_from gaps needed 0 rows) (length nodes)
         ++ stay_steps (stays_from gaps needed 0 rows) (length nodes)
 
-    laid : steps ≡ laid_out tree (spanned_nodes tree nodes) (lock tree nodes rows amounts gaps is_span solved)
-        (release tree nodes rows amounts gaps is_span solved) (length nodes)
-    laid = laid_same tree nodes rows amounts gaps is_span solved needed marked (length nodes)
+    laid : steps ≡ laid_out tree (spanned_nodes tree nodes) (lock tree nodes lengths rows amounts gaps is_span solved)
+        (release tree nodes lengths rows amounts gaps is_span solved) (length nodes)
+    laid = laid_same tree nodes lengths rows amounts gaps is_span solved needed marked (length nodes)
 
-    pub steps_settle : IsSettled tree nodes steps
+    pub steps_settle : IsSettled tree nodes lengths steps
     steps_settle =
-        let P : List Step → Type 0 = λ p. IsSettled tree nodes p in
-        subst P (sym laid) (settles tree nodes rows amounts solved.solved is_span limits solved.solution solved.places
+        let P : List Step → Type 0 = λ p. IsSettled tree nodes lengths p in
+        subst P (sym laid) (settles tree nodes lengths rows amounts solved.solved is_span limits solved.solution solved.places
         solved.latest
-        (lock tree nodes rows amounts gaps is_span solved) (release tree nodes rows amounts gaps is_span solved)
-        (locks tree nodes rows amounts gaps is_span solved) (releases tree nodes rows amounts gaps is_span solved))
+        (lock tree nodes lengths rows amounts gaps is_span solved) (release tree nodes lengths rows amounts gaps is_span solved)
+        (low tree nodes lengths rows amounts gaps is_span solved) (locks tree nodes lengths rows amounts gaps is_span solved) (releases tree nodes lengths rows amounts gaps is_span solved))
 
-    pub steps_certified : IsCertificate tree nodes (read_rows rows amounts 0) (cost tree steps)
+    pub steps_certified : IsCertificate tree nodes lengths (read_rows rows amounts 0) (cost tree lengths steps)
     steps_certified =
-        let P : List Step → Type 0 = λ p. IsCertificate tree nodes (read_rows rows amounts 0) (cost tree p) in
-        subst P (sym laid) (certifies tree nodes rows amounts solved.solved is_span limits solved.solution
+        let P : List Step → Type 0 = λ p. IsCertificate tree nodes lengths (read_rows rows amounts 0) (cost tree lengths p) in
+        subst P (sym laid) (certifies tree nodes lengths rows amounts solved.solved is_span limits solved.solution
         solved.places solved.latest
-        (lock tree nodes rows amounts gaps is_span solved) (release tree nodes rows amounts gaps is_span solved)
-        (locks tree nodes rows amounts gaps is_span solved) (releases tree nodes rows amounts gaps is_span solved))
+        (lock tree nodes lengths rows amounts gaps is_span solved) (release tree nodes lengths rows amounts gaps is_span solved)
+        (low tree nodes lengths rows amounts gaps is_span solved) (locks tree nodes lengths rows amounts gaps is_span solved) (releases tree nodes lengths rows amounts gaps is_span solved))
 
-    pub steps_cost : stays_cost tree (stays_from gaps needed 0 rows) ≡ cost tree steps
+    pub steps_cost : stays_cost tree lengths (stays_from gaps needed 0 rows) ≡ cost tree lengths steps
     steps_cost =
-        costs_same tree nodes rows amounts gaps is_span solved needed
-        ∙ (sym (costs tree nodes rows amounts solved.solved is_span limits solved.solution solved.places solved.latest
-        (lock tree nodes rows amounts gaps is_span solved) (release tree nodes rows amounts gaps is_span solved)
-        (locks tree nodes rows amounts gaps is_span solved) (releases tree nodes rows amounts gaps is_span solved))
-        ∙ ap (λ p. cost tree p) (sym laid))
+        costs_same tree nodes lengths rows amounts gaps is_span solved needed
+        ∙ (sym (costs tree nodes lengths rows amounts solved.solved is_span limits solved.solution solved.places solved.latest
+        (lock tree nodes lengths rows amounts gaps is_span solved) (release tree nodes lengths rows amounts gaps is_span solved)
+        (low tree nodes lengths rows amounts gaps is_span solved) (locks tree nodes lengths rows amounts gaps is_span solved) (releases tree nodes lengths rows amounts gaps is_span solved))
+        ∙ ap (λ p. cost tree lengths p) (sym laid))

@@ -1,13 +1,14 @@
 -- What the solver asks of the network of a span, and of the places that it begins from.
-use Rattle.std.proofs.Common.{◌≡◌, ℕ, zero, suc, ◌+◌, ◌-◌, ◌*◌, ◌<◌, ◌≤◌, List, [], ◌∷◌, ◌++◌, map, length, Option, Some, None, ℤ, pos, negsuc, neg_ℤ, ◌≤ℤ◌, refl, sym, ◌∙◌, ap, subst, inl, inr, arith}
+use Rattle.std.proofs.Common.{◌≡◌, ℕ, zero, suc, ◌+◌, ◌-◌, ◌*◌, ◌<◌, ◌≤◌, List, [], ◌∷◌, ◌++◌, map, length, Option, Some, None, ℤ, pos, negsuc, neg_ℤ, ◌≤ℤ◌, refl, sym, ◌∙◌, ap, subst, arith}
 use Rattle.std.specs.List.{slice_get}
 use Rattle.std.proofs.lemmas.Int.{ints}
 use Rattle.std.proofs.lemmas.Option.{slice_get_within, get_or_from_slice_get}
-use Rattle.std.proofs.lemmas.Bool.{cases_lt}
 use Rattle.grove_tree.specs.Trees.{Rows, weight_of}
 use Rattle.grove_tree.specs.Rules.{IsWithinLimits}
 use Rattle.grove_access.specs.declared.access.Access.{Access}
 use Rattle.grove_access.specs.Lists.{nodes_of}
+use Rattle.grove_access.specs.Slots.{slots_before}
+use Rattle.grove_access.proofs.Slots.{slots_few}
 use Rattle.grove_access.proofs.Spans.{spanned_within}
 use Rattle.grove_proof.specs.declared.flow.FlowRow.{FlowRow}
 use Rattle.grove_span.specs.declared.row.SpanRow.{SpanRow}
@@ -19,7 +20,7 @@ use Rattle.grove_build.proofs.Runs.{Has, has_left, has_right}
 use Rattle.grove_build.proofs.Fitting.{Fits, AreTight}
 use Rattle.grove_build.proofs.Found.{row_spanned, parent_known}
 use Rattle.grove_build.proofs.Cut.{lowered_rises, lowered_keeps, lowered_most}
-use Rattle.grove_build.proofs.Latest.{places_of, rows_below, cut_candidate, other_candidate}
+use Rattle.grove_build.proofs.Latest.{places_of, rows_on, on_low, cut_candidate, other_candidate, latest_on}
 use Rattle.grove_build.proofs.Needs.{need_lock, need_release, needs_size}
 use Rattle.grove_build.proofs.Settles.{read_at, rows_few}
 
@@ -46,17 +47,17 @@ each_at P (a ∷ arcs) h (suc i) lt = each_at P arcs h.1 i (omega arith)
 modest_zero : IsModest (pos 0)
 modest_zero = (omega (arith, ints), omega (arith, ints))
 
-modest_pos : (l : ℕ) → l ≤ 64 → IsModest (pos l)
+modest_pos : (l : ℕ) → l ≤ 64000 → IsModest (pos l)
 modest_pos l le = (omega (arith, ints), omega (arith, ints))
 
-modest_neg : (f : ℕ) → f ≤ 64 → IsModest (neg_ℤ (pos f))
+modest_neg : (f : ℕ) → f ≤ 64000 → IsModest (neg_ℤ (pos f))
 modest_neg f le = (omega (arith, ints), omega (arith, ints))
 
 -- a row's arcs are between variables of the network
 pub record IsRowWithin (n : ℕ) (row : SpanRow) : Type 0 where
   pub parent : (j : ℕ) → row.parent ≡ Some j → j < n
-  pub first : (f : ℕ) → row.first ≡ Some f → f ≤ 64
-  pub last : (l : ℕ) → row.last ≡ Some l → l + 1 ≤ 64
+  pub first : (f : ℕ) → row.from ≡ Some f → f ≤ 64000
+  pub last : (l : ℕ) → row.until ≡ Some l → l ≤ 64000
 
 parent_each : (n k : ℕ) (o : Option ℕ) → k < n → ((j : ℕ) → o ≡ Some j → j < n)
     → Each (IsArcOf (2 * n + 1)) (parent_arcs k o)
@@ -67,16 +68,16 @@ parent_each n k (Some j) lt h =
       (record { from = omega arith; to = omega arith; modest = modest_zero }, tt),
     )
 
-first_each : (n k : ℕ) (o : Option ℕ) → k < n → ((f : ℕ) → o ≡ Some f → f ≤ 64)
+first_each : (n k : ℕ) (o : Option ℕ) → k < n → ((f : ℕ) → o ≡ Some f → f ≤ 64000)
     → Each (IsArcOf (2 * n + 1)) (first_arcs (2 * n) k o)
 first_each n k None lt h = tt
 first_each n k (Some f) lt h = (record { from = omega arith; to = omega arith; modest = modest_neg f (h f refl) }, tt)
 
-last_each : (n k : ℕ) (o : Option ℕ) → k < n → ((l : ℕ) → o ≡ Some l → l + 1 ≤ 64)
+last_each : (n k : ℕ) (o : Option ℕ) → k < n → ((l : ℕ) → o ≡ Some l → l ≤ 64000)
     → Each (IsArcOf (2 * n + 1)) (last_arcs (2 * n) k o)
 last_each n k None lt h = tt
 last_each n k (Some l) lt h =
-    (record { from = omega arith; to = omega arith; modest = modest_pos (l + 1) (h l refl) }, tt)
+    (record { from = omega arith; to = omega arith; modest = modest_pos l (h l refl) }, tt)
 
 rows_each : (n k : ℕ) (rows : List SpanRow) → k + length rows ≤ n
     → ((i : ℕ) (row : SpanRow) → slice_get rows i ≡ Some row → IsRowWithin n row)
@@ -87,12 +88,12 @@ rows_each n k (row ∷ rows) le h =
     let w : IsRowWithin n row = h 0 row refl in
     each_joined (IsArcOf (2 * n + 1)) (row_arcs (2 * n) k row) (arcs_from (2 * n) (suc k) rows)
     (each_joined (IsArcOf (2 * n + 1)) (parent_arcs k row.parent)
-    (first_arcs (2 * n) k row.first ++ (last_arcs (2 * n) k row.last ++ arc (2 * k) (2 * k + 1) (pos 0) ∷ []))
+    (first_arcs (2 * n) k row.from ++ (last_arcs (2 * n) k row.until ++ arc (2 * k) (2 * k + 1) (pos 0) ∷ []))
     (parent_each n k row.parent lt w.parent)
-    (each_joined (IsArcOf (2 * n + 1)) (first_arcs (2 * n) k row.first)
-    (last_arcs (2 * n) k row.last ++ arc (2 * k) (2 * k + 1) (pos 0) ∷ []) (first_each n k row.first lt w.first)
-    (each_joined (IsArcOf (2 * n + 1)) (last_arcs (2 * n) k row.last) (arc (2 * k) (2 * k + 1) (pos 0) ∷ [])
-    (last_each n k row.last lt w.last)
+    (each_joined (IsArcOf (2 * n + 1)) (first_arcs (2 * n) k row.from)
+    (last_arcs (2 * n) k row.until ++ arc (2 * k) (2 * k + 1) (pos 0) ∷ []) (first_each n k row.from lt w.first)
+    (each_joined (IsArcOf (2 * n + 1)) (last_arcs (2 * n) k row.until) (arc (2 * k) (2 * k + 1) (pos 0) ∷ [])
+    (last_each n k row.until lt w.last)
     (record { from = omega arith; to = omega arith; modest = modest_zero }, tt))))
     (rows_each n (suc k) rows (omega arith) (λ i r g. h (suc i) r g))
 
@@ -104,11 +105,11 @@ own_there base k zero (row ∷ rows) lt =
     let e : k ≡ k + 0 = omega arith in
     let own : Arc = arc (2 * k) (2 * k + 1) (pos 0) in
     subst P e (has_left (row_arcs base k row) (arcs_from base (suc k) rows) (arc (2 * k) (2 * k + 1) (pos 0))
-    (has_right (parent_arcs k row.parent) (first_arcs base k row.first
-    ++ (last_arcs base k row.last ++ arc (2 * k) (2 * k + 1) (pos 0) ∷ [])) (arc (2 * k) (2 * k + 1) (pos 0))
-    (has_right (first_arcs base k row.first) (last_arcs base k row.last ++ arc (2 * k) (2 * k + 1) (pos 0) ∷ [])
+    (has_right (parent_arcs k row.parent) (first_arcs base k row.from
+    ++ (last_arcs base k row.until ++ arc (2 * k) (2 * k + 1) (pos 0) ∷ [])) (arc (2 * k) (2 * k + 1) (pos 0))
+    (has_right (first_arcs base k row.from) (last_arcs base k row.until ++ arc (2 * k) (2 * k + 1) (pos 0) ∷ [])
     (arc (2 * k) (2 * k + 1) (pos 0))
-    (has_right (last_arcs base k row.last) (arc (2 * k) (2 * k + 1) (pos 0) ∷ []) (arc (2 * k) (2 * k + 1) (pos 0))
+    (has_right (last_arcs base k row.until) (arc (2 * k) (2 * k + 1) (pos 0) ∷ []) (arc (2 * k) (2 * k + 1) (pos 0))
     (0, refl)))))
 own_there base k (suc i) (row ∷ rows) lt =
     let P : ℕ → Type 0 = λ n. Has (arcs_from base k (row ∷ rows)) (arc (2 * n) (2 * n + 1) (pos 0)) in
@@ -143,7 +144,7 @@ start_is : (m : ℕ) (rows : List SpanRow) → places_of (λ v. 0) (λ v. m) row
 start_is m [] = refl
 start_is m (r ∷ rows) = ap (λ l. pos 0 ∷ (pos m ∷ l)) (start_is m rows)
 
-start_modest : (m : ℕ) (rows : List SpanRow) → m ≤ 64 → (v : ℕ) → IsModest (place (start_of m rows) v)
+start_modest : (m : ℕ) (rows : List SpanRow) → m ≤ 64000 → (v : ℕ) → IsModest (place (start_of m rows) v)
 start_modest m [] le zero = modest_zero
 start_modest m [] le (suc v) = modest_zero
 start_modest m (r ∷ rows) le zero = modest_zero
@@ -154,39 +155,42 @@ nothing_read : (o : Option ℕ) (at : ℕ) → amount_if o [] at ≡ 0
 nothing_read None at = refl
 nothing_read (Some x) at = refl
 
-past_end : (places : List ℤ) (v : ℕ) → length places ≤ v → place places v ≡ pos 0
-past_end [] v le = refl
-past_end (x ∷ xs) zero le = absurd (omega arith)
-past_end (x ∷ xs) (suc v) le = past_end xs v (omega arith)
+-- a place with so many slots before it is in range
+between : (z : ℤ) (n : ℕ) → z ≡ pos n → n ≤ 64000 → (pos 0 ≤ℤ z) × (z ≤ℤ pos 64000)
+between z n e le = (omega (arith, ints), omega (arith, ints))
 
-low_enough : (z : ℤ) (m : ℕ) → m ≤ 64 → z ≤ℤ pos m → z ≤ℤ pos 64
-low_enough z m le h = omega (arith, ints)
-
-zero_enough : (z : ℤ) → z ≡ pos 0 → z ≤ℤ pos 64
-zero_enough z e = omega (arith, ints)
-
-module _ (tree : Rows) (nodes : List ℕ) (rows : List SpanRow) (is_span : IsSpan tree nodes rows)
+module _ (tree : Rows) (nodes lengths : List ℕ) (rows : List SpanRow) (is_span : IsSpan tree nodes lengths rows)
     (limits : IsWithinLimits tree) (short : length nodes ≤ 64) where
   abbrev m : ℕ
   m = length nodes
 
+  abbrev top : ℕ
+  top = slots_before lengths m
+
+  top_few : top ≤ 64000
+  top_few = let few : slots_before lengths m ≤ 1000 * m = slots_few lengths m is_span.are_lengths in omega arith
+
   few : length rows ≤ length tree
-  few = rows_few tree nodes rows is_span
+  few = rows_few tree nodes lengths rows is_span
 
   pub rows_of_span : AreRowsOf tree rows
   rows_of_span = record {
     few = let a : length rows ≤ length tree = few in let b : length tree ≤ 4096 = limits.few in omega arith;
     nodes = λ i row h. spanned_within tree nodes row.node is_span.is_tree is_span.are_nodes
-        (row_spanned tree nodes rows is_span i row h);
-    parents = λ i j row h e. let p = parent_known tree nodes rows is_span i j row h e in
+        (row_spanned tree nodes lengths rows is_span i row h);
+    parents = λ i j row h e. let p = parent_known tree nodes lengths rows is_span i j row h e in
         slice_get_within rows j p.0 p.1;
   }
 
   rows_within : (i : ℕ) (row : SpanRow) → slice_get rows i ≡ Some row → IsRowWithin (length rows) row
   rows_within i row h = record {
     parent = λ j e. rows_of_span.parents i j row h e;
-    first = λ f e. let b : f ≤ m = (rows_below tree nodes rows [] is_span i row h).first f e in omega arith;
-    last = λ l e. let b : l + 1 ≤ m = (rows_below tree nodes rows [] is_span i row h).last l e in omega arith;
+    first = λ f e.
+        let b : f ≤ top = on_low tree nodes lengths rows [] is_span f ((rows_on tree nodes lengths rows [] is_span i row h).first f e) in
+        let c : top ≤ 64000 = top_few in omega arith;
+    last = λ l e.
+        let b : l ≤ top = on_low tree nodes lengths rows [] is_span l ((rows_on tree nodes lengths rows [] is_span i row h).last l e) in
+        let c : top ≤ 64000 = top_few in omega arith;
   }
 
   pub is_network : IsNetwork (needs_of tree rows) (arcs_from (2 * length rows) 0 rows)
@@ -225,47 +229,47 @@ module _ (tree : Rows) (nodes : List ℕ) (rows : List SpanRow) (is_span : IsSpa
     held = λ i j f g a b child some. let r = read_at rows [] 0 i f a in
         let e = ap (λ (x : FlowRow). x.held) r.3 ∙ nothing_read (r.0).parent (r.1 + 1) in absurd (omega arith);
     first = λ i f a some_access some. let r = read_at rows [] 0 i f a in
-        let e = ap (λ (x : FlowRow). x.first) r.3 ∙ nothing_read (r.0).first _ in absurd (omega arith);
+        let e = ap (λ (x : FlowRow). x.first) r.3 ∙ nothing_read (r.0).from _ in absurd (omega arith);
     last = λ i f a some_access some. let r = read_at rows [] 0 i f a in
-        let e = ap (λ (x : FlowRow). x.last) r.3 ∙ nothing_read (r.0).last _ in absurd (omega arith);
+        let e = ap (λ (x : FlowRow). x.last) r.3 ∙ nothing_read (r.0).until _ in absurd (omega arith);
     own = λ i f a some. let r = read_at rows [] 0 i f a in let e = ap (λ (x : FlowRow). x.own) r.3 in
         absurd (omega arith);
   }
 
-  pub is_start : IsStart (needs_of tree rows) (arcs_from (2 * length rows) 0 rows) (start_of (length nodes) rows)
+  pub is_start : IsStart (needs_of tree rows) (arcs_from (2 * length rows) 0 rows) (start_of (slots_before lengths (length nodes)) rows)
   is_start =
-      let c = other_candidate tree nodes rows [] is_span (λ v. 0) (λ v. length nodes) start_fits start_tight in
+      let c = other_candidate tree nodes lengths rows [] is_span (λ v. 0) (λ v. length nodes) start_fits start_tight in
       let P : List ℤ → Type 0 =
-      λ l. IsCandidate (2 * length rows + 1) (arcs_from (2 * length rows) 0 rows) [] (pos (length nodes)) l in
-      let d = subst P (start_is (length nodes) rows) c in
+      λ l. IsCandidate (2 * length rows + 1) (arcs_from (2 * length rows) 0 rows) [] (pos top) l in
+      let d = subst P (start_is top rows) c in
       record {
         size = d.size ∙ sym (needs_size tree rows);
         met = λ i lt. (d.lawful i lt).met;
-        modest = λ v lt. start_modest (length nodes) rows short v;
+        modest = λ v lt. start_modest top rows top_few v;
       }
 
   pub lowered_candidate : (amounts : List ℕ) (solved : List ℤ)
       → IsSolution (needs_of tree rows) (arcs_from (2 * length rows) 0 rows) amounts solved
-      → IsCandidate (length (needs_of tree rows)) (arcs_from (2 * length rows) 0 rows) amounts (pos (length nodes))
-      (map (lowered (pos (length nodes))) solved)
+      → IsCandidate (length (needs_of tree rows)) (arcs_from (2 * length rows) 0 rows) amounts (pos (slots_before lengths (length nodes)))
+      (map (lowered (pos (slots_before lengths (length nodes)))) solved)
   lowered_candidate amounts solved solution =
-      let P : ℕ → Type 0 = λ n. IsCandidate n (arcs_from (2 * length rows) 0 rows) amounts (pos (length nodes))
-      (map (lowered (pos (length nodes))) solved) in
+      let P : ℕ → Type 0 = λ n. IsCandidate n (arcs_from (2 * length rows) 0 rows) amounts (pos top)
+      (map (lowered (pos top)) solved) in
       let size : length (needs_of tree rows) ≡ 2 * length rows + 1 = needs_size tree rows in
       let e : length (needs_of tree rows) - 1 ≡ 2 * length rows = omega arith in
-      subst P (sym size) (cut_candidate tree nodes rows amounts is_span (lowered (pos (length nodes)))
-      (lowered_rises (length nodes)) (lowered_keeps (length nodes)) solved
+      subst P (sym size) (cut_candidate tree nodes lengths rows amounts is_span (lowered (pos top))
+      (lowered_rises top) (λ a on. lowered_keeps top a (on_low tree nodes lengths rows amounts is_span a on)) solved
       (solution.places_size ∙ size) solution.lawful (ap (λ v. place solved v) (sym e) ∙ solution.base)
-      (λ v lt. lowered_most (length nodes) (place solved v)))
+      (λ v lt. lowered_most top (place solved v)))
 
-  pub latest_low : (amounts : List ℕ) (places : List ℤ)
-      → IsLatest (2 * length rows + 1) (arcs_from (2 * length rows) 0 rows) amounts (pos (length nodes)) places
-      → (v : ℕ) → place places v ≤ℤ pos 64
-  latest_low amounts places latest v = elim (cases_lt v (2 * length rows + 1)) [
-    | inl lt ↦ low_enough (place places v) (length nodes) short (latest.candidate.capped v lt)
-    | inr ge ↦ zero_enough (place places v)
-        (past_end places v (let s : length places ≡ 2 * length rows + 1 = latest.candidate.size in omega arith))
-  ]
+  pub latest_within : (amounts : List ℕ) (places : List ℤ)
+      → IsLatest (2 * length rows + 1) (arcs_from (2 * length rows) 0 rows) amounts (pos (slots_before lengths (length nodes))) places
+      → (v : ℕ) → (pos 0 ≤ℤ place places v) × (place places v ≤ℤ pos 64000)
+  latest_within amounts places latest v =
+      let on = latest_on tree nodes lengths rows amounts is_span places latest v in
+      let few : slots_before lengths on.0 ≤ 1000 * on.0 = slots_few lengths on.0 is_span.are_lengths in
+      let within : on.0 ≤ m = on.1 in
+      between (place places v) (slots_before lengths on.0) on.2 (omega arith)
 
 -- the nodes of a list are as many as its accesses
 pub nodes_length : (list : List Access) → length (nodes_of list) ≡ length list

@@ -1,5 +1,5 @@
 -- A legal plan that costs no more than the bound is tight along the flow.
-use Rattle.std.proofs.Common.{◌≡◌, ℕ, zero, suc, ◌+◌, ◌*◌, ◌<◌, ◌≤◌, List, [], ◌∷◌, Some, refl, sym, ◌∙◌, subst, inl, inr, arith, mul-le-mul_left, mul-suc}
+use Rattle.std.proofs.Common.{◌≡◌, ℕ, zero, suc, true, ◌+◌, ◌*◌, ◌<◌, ◌≤◌, List, [], ◌∷◌, Some, refl, sym, ◌∙◌, subst, inl, inr, arith, mul-le-mul_left, mul-suc}
 use Rattle.std.specs.Prelude.{map}
 use Rattle.std.specs.List.{slice_get, sum_by}
 use Rattle.std.proofs.lemmas.Option.{none-some, same_Some}
@@ -7,18 +7,17 @@ use Rattle.std.proofs.lemmas.Bool.{cases_order}
 use Rattle.std.proofs.lemmas.List.Sums.{sum_by-cons}
 use Rattle.grove_tree.specs.Trees.{Rows, weight_of, IsTree}
 use Rattle.grove_access.specs.Lists.{AreNodes}
-use Rattle.grove_access.specs.Spanned.{first_access, last_end, spanned_nodes}
+use Rattle.grove_access.specs.Slots.{slots_before}
+use Rattle.grove_access.specs.Spanned.{is_accessed, first_access, last_end, spanned_nodes}
 use Rattle.grove_plan.specs.declared.step.Step.{Step}
 use Rattle.grove_plan.specs.Plans.{holding, cost, IsLegal}
-use Rattle.grove_plan.specs.Slots.{lock_slot, release_slot}
 use Rattle.grove_proof.specs.declared.flow.FlowRow.{FlowRow}
-use Rattle.grove_proof.specs.Five.{MeetsFive}
-use Rattle.grove_proof.specs.Flows.{node_of, child_sum, gains, losses, Balances}
+use Rattle.grove_proof.specs.Five.{lock_time, release_time, MeetsFive}
+use Rattle.grove_proof.specs.Flows.{node_of, is_child, child_sum, gains, losses, Balances}
 use Rattle.grove_proof.proofs.Sums.{sums_le}
 use Rattle.grove_proof.proofs.Listed.{forced_list_is_span}
 use Rattle.grove_proof.proofs.Constraints.{meets_five}
 use Rattle.grove_proof.proofs.Duality.{priced, parent_value, priced_locks, priced_releases, child_swap, AreSpanRows, span_rows, at_parent, above_term, held_term, first_term, last_term, own_term, holding_sums, span_cost_le}
-use Rattle.grove_build.proofs.Fitting.{AreTight}
 
 -- where each term is at most another and the sums are the other way round, the terms are the same
 sum_tight : {X : Type 0} (f g : X → ℕ) (xs : List X) → ((i : ℕ) (x : X) → slice_get xs i ≡ Some x → f x ≤ g x)
@@ -66,74 +65,89 @@ slack_sums above locks child_above held first own child_held last last_ends rele
     h2 h3 h4 h5 h6 h7 h8 h9 h10 =
     (omega arith, omega arith, omega arith, omega arith, omega arith)
 
-pub cheap_is_tight : (rows : Rows) (nodes : List ℕ) (flow : List FlowRow) (plan : List Step) → IsTree rows
+-- The times of a plan's locks and releases are tight where the rows of a flow have an amount.
+pub record AreTightInTime (rows : Rows) (nodes lengths : List ℕ) (flow : List FlowRow) (plan : List Step) : Type 0 where
+  pub above : (i j : ℕ) (row parent : FlowRow) → slice_get flow i ≡ Some row → slice_get flow j ≡ Some parent
+      → is_child rows row parent ≡ true → 0 < row.above
+      → lock_time lengths plan parent.node ≡ lock_time lengths plan row.node
+  pub held : (i j : ℕ) (row parent : FlowRow) → slice_get flow i ≡ Some row → slice_get flow j ≡ Some parent
+      → is_child rows row parent ≡ true → 0 < row.held
+      → lock_time lengths plan row.node ≡ release_time lengths plan parent.node
+  pub first : (i : ℕ) (row : FlowRow) → slice_get flow i ≡ Some row → is_accessed nodes row.node ≡ true
+      → 0 < row.first → lock_time lengths plan row.node ≡ slots_before lengths (first_access nodes row.node)
+  pub last : (i : ℕ) (row : FlowRow) → slice_get flow i ≡ Some row → is_accessed nodes row.node ≡ true → 0 < row.last
+      → slots_before lengths (last_end nodes row.node) ≡ release_time lengths plan row.node
+  pub own : (i : ℕ) (row : FlowRow) → slice_get flow i ≡ Some row → 0 < row.own
+      → lock_time lengths plan row.node ≡ release_time lengths plan row.node
+
+pub cheap_is_tight : (rows : Rows) (nodes lengths : List ℕ) (flow : List FlowRow) (plan : List Step) → IsTree rows
     → AreNodes rows nodes → Balances rows nodes flow → IsLegal rows nodes plan
-    → cost rows plan + losses nodes flow ≤ gains nodes flow
-    → AreTight rows nodes flow (lock_slot plan) (release_slot plan)
-cheap_is_tight rows nodes flow plan tree fits balances legal cheap =
+    → cost rows lengths plan + losses nodes lengths flow ≤ gains nodes lengths flow
+    → AreTightInTime rows nodes lengths flow plan
+cheap_is_tight rows nodes lengths flow plan tree fits balances legal cheap =
     let are : AreSpanRows rows nodes flow = span_rows rows nodes flow tree fits balances.forced in
-    let five : MeetsFive rows nodes plan = meets_five rows nodes plan tree legal in
+    let five : MeetsFive rows nodes lengths plan = meets_five rows nodes lengths plan tree legal in
     let listed : map node_of flow ≡ spanned_nodes rows nodes =
     (forced_list_is_span rows nodes (map node_of flow) tree fits).0 balances.forced in
-    let above = above_term rows nodes flow plan are balances.signs five in
-    let held = held_term rows nodes flow plan are balances.signs five in
-    let first = first_term rows nodes flow plan are balances.signs five in
-    let last = last_term rows nodes flow plan are balances.signs five in
-    let own = own_term rows nodes flow plan are balances.signs five in
-    let parents : ℕ = sum_by (λ child. child.above * parent_value rows flow (lock_slot plan) child) flow in
-    let overs : ℕ = sum_by (λ child. child.held * parent_value rows flow (release_slot plan) child) flow in
+    let above = above_term rows nodes lengths flow plan are balances.signs five in
+    let held = held_term rows nodes lengths flow plan are balances.signs five in
+    let first = first_term rows nodes lengths flow plan are balances.signs five in
+    let last = last_term rows nodes lengths flow plan are balances.signs five in
+    let own = own_term rows nodes lengths flow plan are balances.signs five in
+    let parents : ℕ = sum_by (λ child. child.above * parent_value rows flow (lock_time lengths plan) child) flow in
+    let overs : ℕ = sum_by (λ child. child.held * parent_value rows flow (release_time lengths plan) child) flow in
     let slack = slack_sums
-    (priced flow (λ row. row.above) (lock_slot plan))
-    (priced flow (λ row. weight_of rows row.node) (lock_slot plan))
-    (priced flow (child_sum rows (λ child. child.above) flow) (lock_slot plan))
-    (priced flow (λ row. row.held) (lock_slot plan))
-    (priced flow (λ row. row.first) (lock_slot plan))
-    (priced flow (λ row. row.own) (lock_slot plan))
-    (priced flow (child_sum rows (λ child. child.held) flow) (release_slot plan))
-    (priced flow (λ row. row.last) (release_slot plan))
-    (gains nodes flow)
-    (priced flow (λ row. weight_of rows row.node) (release_slot plan))
-    (losses nodes flow)
-    (priced flow (λ row. row.own) (release_slot plan))
-    (priced flow (λ row. weight_of rows row.node) (holding plan))
-    (cost rows plan)
-    (priced_locks rows flow (lock_slot plan) balances.locks)
-    (priced_releases rows flow (release_slot plan) balances.releases)
-    (holding_sums rows nodes flow plan are balances.signs five)
-    (rw (child_swap rows flow (λ child. child.above) (lock_slot plan))
-    (sums_le (λ child. child.above * parent_value rows flow (lock_slot plan) child)
-    (λ row. row.above * lock_slot plan row.node) flow above))
-    (rw (child_swap rows flow (λ child. child.held) (release_slot plan))
-    (sums_le (λ row. row.held * lock_slot plan row.node)
-    (λ child. child.held * parent_value rows flow (release_slot plan) child) flow held))
-    (sums_le (λ row. row.first * lock_slot plan row.node) (λ row. row.first * first_access nodes row.node) flow first)
-    (sums_le (λ row. row.last * last_end nodes row.node) (λ row. row.last * release_slot plan row.node) flow last)
-    (sums_le (λ row. row.own * lock_slot plan row.node) (λ row. row.own * release_slot plan row.node) flow own)
-    (span_cost_le rows nodes flow plan listed)
+    (priced flow (λ row. row.above) (lock_time lengths plan))
+    (priced flow (λ row. weight_of rows row.node) (lock_time lengths plan))
+    (priced flow (child_sum rows (λ child. child.above) flow) (lock_time lengths plan))
+    (priced flow (λ row. row.held) (lock_time lengths plan))
+    (priced flow (λ row. row.first) (lock_time lengths plan))
+    (priced flow (λ row. row.own) (lock_time lengths plan))
+    (priced flow (child_sum rows (λ child. child.held) flow) (release_time lengths plan))
+    (priced flow (λ row. row.last) (release_time lengths plan))
+    (gains nodes lengths flow)
+    (priced flow (λ row. weight_of rows row.node) (release_time lengths plan))
+    (losses nodes lengths flow)
+    (priced flow (λ row. row.own) (release_time lengths plan))
+    (priced flow (λ row. weight_of rows row.node) (holding lengths plan))
+    (cost rows lengths plan)
+    (priced_locks rows flow (lock_time lengths plan) balances.locks)
+    (priced_releases rows flow (release_time lengths plan) balances.releases)
+    (holding_sums rows nodes lengths flow plan are balances.signs five)
+    (rw (child_swap rows flow (λ child. child.above) (lock_time lengths plan))
+    (sums_le (λ child. child.above * parent_value rows flow (lock_time lengths plan) child)
+    (λ row. row.above * lock_time lengths plan row.node) flow above))
+    (rw (child_swap rows flow (λ child. child.held) (release_time lengths plan))
+    (sums_le (λ row. row.held * lock_time lengths plan row.node)
+    (λ child. child.held * parent_value rows flow (release_time lengths plan) child) flow held))
+    (sums_le (λ row. row.first * lock_time lengths plan row.node) (λ row. row.first * slots_before lengths (first_access nodes row.node)) flow first)
+    (sums_le (λ row. row.last * slots_before lengths (last_end nodes row.node)) (λ row. row.last * release_time lengths plan row.node) flow last)
+    (sums_le (λ row. row.own * lock_time lengths plan row.node) (λ row. row.own * release_time lengths plan row.node) flow own)
+    (span_cost_le rows nodes lengths flow plan listed)
     cheap in
     record {
       above = λ i j row parent a b child some.
-          let e = sum_tight (λ c. c.above * parent_value rows flow (lock_slot plan) c)
-          (λ r. r.above * lock_slot plan r.node) flow above
-          (let s = child_swap rows flow (λ c. c.above) (lock_slot plan) in let t = slack.0 in omega arith) i row a in
-          sym (at_parent rows nodes flow (lock_slot plan) are row parent j b child)
-          ∙ cancel row.above (parent_value rows flow (lock_slot plan) row) (lock_slot plan row.node) some e;
+          let e = sum_tight (λ c. c.above * parent_value rows flow (lock_time lengths plan) c)
+          (λ r. r.above * lock_time lengths plan r.node) flow above
+          (let s = child_swap rows flow (λ c. c.above) (lock_time lengths plan) in let t = slack.0 in omega arith) i row a in
+          sym (at_parent rows nodes flow (lock_time lengths plan) are row parent j b child)
+          ∙ cancel row.above (parent_value rows flow (lock_time lengths plan) row) (lock_time lengths plan row.node) some e;
       held = λ i j row parent a b child some.
-          let e = sum_tight (λ r. r.held * lock_slot plan r.node)
-          (λ c. c.held * parent_value rows flow (release_slot plan) c) flow held
-          (let s = child_swap rows flow (λ c. c.held) (release_slot plan) in let t = slack.1 in omega arith) i row a in
-          cancel row.held (lock_slot plan row.node) (parent_value rows flow (release_slot plan) row) some e
-          ∙ at_parent rows nodes flow (release_slot plan) are row parent j b child;
+          let e = sum_tight (λ r. r.held * lock_time lengths plan r.node)
+          (λ c. c.held * parent_value rows flow (release_time lengths plan) c) flow held
+          (let s = child_swap rows flow (λ c. c.held) (release_time lengths plan) in let t = slack.1 in omega arith) i row a in
+          cancel row.held (lock_time lengths plan row.node) (parent_value rows flow (release_time lengths plan) row) some e
+          ∙ at_parent rows nodes flow (release_time lengths plan) are row parent j b child;
       first = λ i row a accessed some.
-          cancel row.first (lock_slot plan row.node) (first_access nodes row.node) some
-          (sum_tight (λ r. r.first * lock_slot plan r.node) (λ r. r.first * first_access nodes r.node) flow first
+          cancel row.first (lock_time lengths plan row.node) (slots_before lengths (first_access nodes row.node)) some
+          (sum_tight (λ r. r.first * lock_time lengths plan r.node) (λ r. r.first * slots_before lengths (first_access nodes r.node)) flow first
           slack.2 i row a);
       last = λ i row a accessed some.
-          cancel row.last (last_end nodes row.node) (release_slot plan row.node) some
-          (sum_tight (λ r. r.last * last_end nodes r.node) (λ r. r.last * release_slot plan r.node) flow last slack.3
+          cancel row.last (slots_before lengths (last_end nodes row.node)) (release_time lengths plan row.node) some
+          (sum_tight (λ r. r.last * slots_before lengths (last_end nodes r.node)) (λ r. r.last * release_time lengths plan r.node) flow last slack.3
           i row a);
       own = λ i row a some.
-          cancel row.own (lock_slot plan row.node) (release_slot plan row.node) some
-          (sum_tight (λ r. r.own * lock_slot plan r.node) (λ r. r.own * release_slot plan r.node) flow own slack.4 i
+          cancel row.own (lock_time lengths plan row.node) (release_time lengths plan row.node) some
+          (sum_tight (λ r. r.own * lock_time lengths plan r.node) (λ r. r.own * release_time lengths plan r.node) flow own slack.4 i
           row a);
     }

@@ -1,21 +1,21 @@
--- Lawful places stay lawful where a rising function that keeps the numbers of accesses is put on each.
-use Rattle.std.proofs.Common.{◌≡◌, ℕ, zero, suc, ◌+◌, ◌*◌, ◌≤◌, ◌⊎◌, true, false, List, [], ◌∷◌, map, Some, ℤ, pos, negsuc, neg_ℤ, ◌+ℤ◌, ◌≤ℤ◌, ◌<ℤ◌, int_lt, refl, sym, ◌∙◌, ap, subst, inl, inr, arith}
+-- Lawful places stay lawful where a rising function that keeps the slots between accesses is put on each.
+use Rattle.std.proofs.Common.{◌≡◌, ℕ, zero, suc, ◌+◌, ◌*◌, ◌≤◌, ◌⊎◌, true, false, List, [], ◌∷◌, map, Some, ℤ, pos, neg_ℤ, ◌+ℤ◌, ◌≤ℤ◌, ◌<ℤ◌, int_lt, int_le, if◌then◌else◌, refl, sym, ◌∙◌, ap, subst, inl, inr, arith}
 use Rattle.std.specs.List.{slice_get}
 use Rattle.std.proofs.lemmas.Int.{ints}
-use Rattle.std.proofs.lemmas.Bool.{cases_Bool, cond-true, cond-false}
+use Rattle.std.proofs.lemmas.Bool.{cases_Bool, cases_order, cond-true, cond-false}
 use Rattle.grove_proof.specs.declared.flow.FlowRow.{FlowRow}
 use Rattle.grove_span.specs.declared.row.SpanRow.{SpanRow}
 use Rattle.grove_flow.specs.Networks.{place, IsLawful}
 use Rattle.grove_build.specs.Networks.{arc, lowered}
 use Rattle.grove_build.proofs.Lawful.{AreRowsLawful}
 
--- the accesses of a row are among so many
-pub record IsRowBelow (top : ℕ) (row : SpanRow) : Type 0 where
-  pub first : (f : ℕ) → row.first ≡ Some f → f ≤ top
-  pub last : (l : ℕ) → row.last ≡ Some l → l + 1 ≤ top
+-- the slots that bound a row are among some
+pub record IsRowOn (on : ℕ → Type 0) (row : SpanRow) : Type 0 where
+  pub first : (f : ℕ) → row.from ≡ Some f → on f
+  pub last : (l : ℕ) → row.until ≡ Some l → on l
 
-abbrev pub AreRowsBelow : ℕ → List SpanRow → Type 0
-AreRowsBelow top rows = (i : ℕ) (row : SpanRow) → slice_get rows i ≡ Some row → IsRowBelow top row
+abbrev pub AreRowsOn : (ℕ → Type 0) → List SpanRow → Type 0
+AreRowsOn on rows = (i : ℕ) (row : SpanRow) → slice_get rows i ≡ Some row → IsRowOn on row
 
 pub place_map : (f : ℤ → ℤ) (places : List ℤ) (v : ℕ) → f (pos 0) ≡ pos 0 → place (map f places) v ≡ f (place places v)
 place_map f [] v e = sym e
@@ -58,10 +58,10 @@ after_from b y y2 l e a h = omega (arith, ints)
 after_back : (b y y2 : ℤ) (l : ℕ) → b ≡ pos 0 → y2 ≡ y → pos l ≡ y → b +ℤ pos l ≡ y2
 after_back b y y2 l e a h = omega (arith, ints)
 
-module _ (f : ℤ → ℤ) (top : ℕ) (rising : (a b : ℤ) → a ≤ℤ b → f a ≤ℤ f b)
-    (keeps : (a : ℕ) → a ≤ top → f (pos a) ≡ pos a) (places : List ℤ) where
+module _ (f : ℤ → ℤ) (on : ℕ → Type 0) (rising : (a b : ℤ) → a ≤ℤ b → f a ≤ℤ f b)
+    (keeps : (a : ℕ) → on a → f (pos a) ≡ pos a) (zero_on : on 0) (places : List ℤ) where
   at : (v : ℕ) → place (map f places) v ≡ f (place places v)
-  at v = place_map f places v (keeps 0 (omega arith))
+  at v = place_map f places v (keeps 0 zero_on)
 
   level : (from to amount : ℕ) → IsLawful (arc from to (pos 0)) amount places
       → IsLawful (arc from to (pos 0)) amount (map f places)
@@ -76,9 +76,9 @@ module _ (f : ℤ → ℤ) (top : ℕ) (rising : (a b : ℤ) → a ≤ℤ b → 
 
   module _ (base : ℕ) (at_base : place places base ≡ pos 0) where
     pub base_stays : place (map f places) base ≡ pos 0
-    base_stays = at base ∙ (ap f at_base ∙ keeps 0 (omega arith))
+    base_stays = at base ∙ (ap f at_base ∙ keeps 0 zero_on)
 
-    before : (from amount x : ℕ) → x ≤ top → IsLawful (arc from base (neg_ℤ (pos x))) amount places
+    before : (from amount x : ℕ) → on x → IsLawful (arc from base (neg_ℤ (pos x))) amount places
         → IsLawful (arc from base (neg_ℤ (pos x))) amount (map f places)
     before from amount x le h = record {
       met =
@@ -93,7 +93,7 @@ module _ (f : ℤ → ℤ) (top : ℕ) (rising : (a b : ℤ) → a ≤ℤ b → 
           (ap f (before_tight (place places from) (place places base) x at_base (h.tight some)) ∙ keeps x le);
     }
 
-    after : (to amount x : ℕ) → x ≤ top → IsLawful (arc base to (pos x)) amount places
+    after : (to amount x : ℕ) → on x → IsLawful (arc base to (pos x)) amount places
         → IsLawful (arc base to (pos x)) amount (map f places)
     after to amount x le h = record {
       met =
@@ -108,7 +108,7 @@ module _ (f : ℤ → ℤ) (top : ℕ) (rising : (a b : ℤ) → a ≤ℤ b → 
     }
 
     -- the rows stay lawful
-    pub rows_cut : (rows : List SpanRow) (flow : List FlowRow) → AreRowsBelow top rows
+    pub rows_cut : (rows : List SpanRow) (flow : List FlowRow) → AreRowsOn on rows
         → AreRowsLawful base 0 rows flow places → AreRowsLawful base 0 rows flow (map f places)
     rows_cut rows flow low h i row amounts g1 g2 =
         let r = h i row amounts g1 g2 in
@@ -116,25 +116,94 @@ module _ (f : ℤ → ℤ) (top : ℕ) (rising : (a b : ℤ) → a ≤ℤ b → 
           above = λ j e. level (2 * j) (2 * (0 + i)) amounts.above (r.above j e);
           held = λ j e. level (2 * (0 + i)) (2 * j + 1) amounts.held (r.held j e);
           first = λ x e. before (2 * (0 + i)) amounts.first x ((low i row g1).first x e) (r.first x e);
-          last = λ x e. after (2 * (0 + i) + 1) amounts.last (x + 1) ((low i row g1).last x e) (r.last x e);
+          last = λ x e. after (2 * (0 + i) + 1) amounts.last x ((low i row g1).last x e) (r.last x e);
           own = level (2 * (0 + i)) (2 * (0 + i) + 1) amounts.own r.own;
         }
 
--- the two functions: what is below 0 is raised to 0, and what is above the top is lowered to it
+-- the two functions: what is above the top is lowered to it, and what is between two slots is raised to the later one
 
-abbrev pub raised : ℤ → ℤ
-raised (pos n) = pos n
-raised (negsuc n) = pos 0
+-- the least of the first slots that a place doesn't come after, or the last of them
+abbrev pub raised : (ℕ → ℕ) → ℕ → ℤ → ℤ
+raised slots zero z = pos (slots zero)
+raised slots (suc i) z = if int_le z (pos (slots i)) then raised slots i z else pos (slots (suc i))
 
-pub raised_rises : (a b : ℤ) → a ≤ℤ b → raised a ≤ℤ raised b
-raised_rises (pos a) (pos b) h = h
-raised_rises (pos a) (negsuc b) h = absurd (omega (arith, ints))
-raised_rises (negsuc a) (pos b) h = omega (arith, ints)
-raised_rises (negsuc a) (negsuc b) h = omega (arith, ints)
+raise_case : (slots : ℕ → ℕ) (i : ℕ) (z : ℤ) → ((z ≤ℤ pos (slots i)) × (raised slots (suc i) z ≡ raised slots i z))
+    ⊎ ((pos (slots i) <ℤ z) × (raised slots (suc i) z ≡ pos (slots (suc i))))
+raise_case slots i z = elim (cases_Bool (int_le z (pos (slots i)))) [
+  | inl e ↦ inl (grind (arith, ints), cond-true (int_le z (pos (slots i))) (raised slots i z) (pos (slots (suc i))) e)
+  | inr e ↦ inr (grind (arith, ints), cond-false (int_le z (pos (slots i))) (raised slots i z) (pos (slots (suc i))) e)
+]
 
-pub raised_least : (a : ℤ) → pos 0 ≤ℤ raised a
-raised_least (pos a) = omega (arith, ints)
-raised_least (negsuc a) = omega (arith, ints)
+module _ (slots : ℕ → ℕ) (rise : (i : ℕ) → slots i ≤ slots (suc i)) where
+  -- it is one of them
+  pub raised_is : (n : ℕ) (z : ℤ) → (i : ℕ) × (i ≤ n) × (raised slots n z ≡ pos (slots i))
+  raised_is zero z = (0, omega arith, refl)
+  raised_is (suc n) z = elim (raise_case slots n z) [
+    | inl low ↦ let r = raised_is n z in let le : r.0 ≤ n = r.1 in (r.0, omega arith, low.1 ∙ r.2)
+    | inr high ↦ (suc n, omega arith, high.1)
+  ]
+
+  -- no greater than the last
+  pub raised_most : (n : ℕ) (z : ℤ) → raised slots n z ≤ℤ pos (slots n)
+  raised_most zero z = omega (arith, ints)
+  raised_most (suc n) z = elim (raise_case slots n z) [
+    | inl low ↦ let e = low.1 in let most : raised slots n z ≤ℤ pos (slots n) = raised_most n z in
+        let up : slots n ≤ slots (suc n) = rise n in omega (arith, ints)
+    | inr high ↦ let e = high.1 in omega (arith, ints)
+  ]
+
+  -- and no less than the place, where that isn't past the last
+  pub raised_least : (n : ℕ) (z : ℤ) → z ≤ℤ pos (slots n) → z ≤ℤ raised slots n z
+  raised_least zero z le = le
+  raised_least (suc n) z le = elim (raise_case slots n z) [
+    | inl low ↦ let e = low.1 in let least : z ≤ℤ raised slots n z = raised_least n z low.0 in omega (arith, ints)
+    | inr high ↦ let e = high.1 in omega (arith, ints)
+  ]
+
+  pub raised_rises : (n : ℕ) (a b : ℤ) → a ≤ℤ b → raised slots n a ≤ℤ raised slots n b
+  raised_rises zero a b le = omega (arith, ints)
+  raised_rises (suc n) a b le = elim (raise_case slots n b) [
+    | inl low ↦ elim (raise_case slots n a) [
+      | inl too ↦ let e = low.1 in let f = too.1 in let up : raised slots n a ≤ℤ raised slots n b = raised_rises n a b le in omega (arith, ints)
+      | inr past ↦ let f = past.0 in let g = low.0 in absurd (omega (arith, ints))
+    ]
+    | inr high ↦ let e = high.1 in let most : raised slots (suc n) a ≤ℤ pos (slots (suc n)) = raised_most (suc n) a in omega (arith, ints)
+  ]
+
+  -- slots stay where they are
+  pub raised_keeps : (n i : ℕ) → i ≤ n → raised slots n (pos (slots i)) ≡ pos (slots i)
+  raised_keeps zero i le = let e : i ≡ 0 = omega arith in ap (λ (k : ℕ). pos (slots k)) (sym e)
+  raised_keeps (suc n) i le = elim (raise_case slots n (pos (slots i))) [
+    | inl low ↦ elim (cases_order i (suc n)) [
+      | inl e ↦
+          let most : raised slots n (pos (slots i)) ≤ℤ pos (slots n) = raised_most n (pos (slots i)) in
+          let least : pos (slots i) ≤ℤ raised slots n (pos (slots i)) = raised_least n (pos (slots i)) low.0 in
+          let up : slots n ≤ slots (suc n) = rise n in
+          let same : slots i ≡ slots (suc n) = ap slots e in
+          let f = low.1 in omega (arith, ints)
+      | inr ne ↦ elim ne [
+        | inl lt ↦ low.1 ∙ raised_keeps n i (omega arith)
+        | inr gt ↦ absurd (omega arith)
+      ]
+    ]
+    | inr high ↦ elim (cases_order i (suc n)) [
+      | inl e ↦ high.1 ∙ ap (λ (k : ℕ). pos (slots k)) (sym e)
+      | inr ne ↦ elim ne [
+        | inl lt ↦ let up : slots i ≤ slots n = rise_far i n (omega arith) in let past = high.0 in absurd (omega (arith, ints))
+        | inr gt ↦ absurd (omega arith)
+      ]
+    ]
+  ]
+    where
+      rise_far : (i n : ℕ) → i ≤ n → slots i ≤ slots n
+      rise_far i zero le = let e : i ≡ 0 = omega arith in rw e (omega arith)
+      rise_far i (suc n) le = elim (cases_order i (suc n)) [
+        | inl e ↦ rw e (omega arith)
+        | inr ne ↦ elim ne [
+          | inl lt ↦ let before : slots i ≤ slots n = rise_far i n (omega arith) in let up : slots n ≤ slots (suc n) = rise n in omega arith
+          | inr gt ↦ absurd (omega arith)
+        ]
+      ]
 
 lower_case : (top : ℕ) (z : ℤ) → ((int_lt (pos top) z ≡ true) × (pos (suc top) ≤ℤ z)
     × (lowered (pos top) z ≡ pos top)) ⊎ ((int_lt (pos top) z ≡ false) × (z ≤ℤ pos top) × (lowered (pos top) z ≡ z))

@@ -1,5 +1,5 @@
 -- The rows of a span: what they say of the tree and the list, and the rows of the flow beside them.
-use Rattle.std.proofs.Common.{◌≡◌, ℕ, zero, suc, ◌+◌, ◌-◌, ◌<◌, ◌≤◌, Bool, true, false, cond, List, [], ◌∷◌, length, Option, Some, None, refl, sym, ◌∙◌, ap, subst, inl, inr, arith, eqb, eqb-true, eq-eqb}
+use Rattle.std.proofs.Common.{◌≡◌, ℕ, zero, suc, ◌+◌, ◌<◌, ◌≤◌, Bool, true, false, cond, List, [], ◌∷◌, length, Option, Some, None, refl, sym, ◌∙◌, ap, subst, inl, inr, arith, eqb, eqb-true, eq-eqb}
 use Rattle.std.specs.List.{slice_get}
 use Rattle.std.specs.Option.{option_map, option_and_then}
 use Rattle.std.proofs.lemmas.Option.{none-some, same_Some, cond_some, option_and_then_some, slice_get_within}
@@ -8,11 +8,12 @@ use Rattle.grove_tree.specs.Trees.{Rows, parent_of}
 use Rattle.grove_tree.proofs.Counting.{any_from, least_is, last_is, last_above}
 use Rattle.grove_tree.proofs.Lists.{get_map, get_map_inv}
 use Rattle.grove_tree.proofs.Tests.{is_at_from}
+use Rattle.grove_access.specs.Slots.{slots_before}
 use Rattle.grove_access.specs.Spanned.{IsSpanned, spanned_nodes, names_at, is_accessed, first_access, last_end}
 use Rattle.grove_access.proofs.Spans.{spanned_listed, listed_spanned}
 use Rattle.grove_proof.specs.declared.flow.FlowRow.{FlowRow}
 use Rattle.grove_span.specs.declared.row.SpanRow.{SpanRow}
-use Rattle.grove_span.specs.SpanRows.{node_of_row, find_place, parent_place, first_of, last_of}
+use Rattle.grove_span.specs.SpanRows.{node_of_row, find_place, parent_place, from_of, until_of}
 use Rattle.grove_build.specs.Networks.{IsSpan, row_width, read_row, read_rows}
 
 -- finding a place
@@ -77,26 +78,23 @@ first_is_least nodes v a h =
       last_above (length nodes) (names_at nodes v) a lt hit,
     )
 
-pub first_known : (nodes : List ℕ) (v x : ℕ) → first_of nodes v ≡ Some x → (is_accessed nodes v ≡ true)
-    × (first_access nodes v ≡ x) × (x < length nodes)
-first_known nodes v x e =
-    let c = cond_some (is_accessed nodes v) (first_access nodes v) x e in
+pub first_known : (nodes lengths : List ℕ) (v x : ℕ) → from_of nodes lengths v ≡ Some x → (is_accessed nodes v ≡ true)
+    × (slots_before lengths (first_access nodes v) ≡ x) × (first_access nodes v < length nodes)
+first_known nodes lengths v x e =
+    let c = cond_some (is_accessed nodes v) (slots_before lengths (first_access nodes v)) x e in
     let l = least_is (length nodes) (names_at nodes v) c.0 in
-    let lt : first_access nodes v < length nodes = l.0 in
-    let same : first_access nodes v ≡ x = c.1 in
-    (c.0, c.1, omega arith)
+    (c.0, c.1, l.0)
 
-pub last_known : (nodes : List ℕ) (v x : ℕ) → last_of nodes v ≡ Some x → (is_accessed nodes v ≡ true)
-    × (last_end nodes v ≡ x + 1) × (x + 1 ≤ length nodes)
-last_known nodes v x e =
-    let c = cond_some (is_accessed nodes v) (last_end nodes v - 1) x e in
+pub last_known : (nodes lengths : List ℕ) (v x : ℕ) → until_of nodes lengths v ≡ Some x → (is_accessed nodes v ≡ true)
+    × (slots_before lengths (last_end nodes v) ≡ x) × (last_end nodes v ≤ length nodes)
+last_known nodes lengths v x e =
+    let c = cond_some (is_accessed nodes v) (slots_before lengths (last_end nodes v)) x e in
     let l = last_is (length nodes) (names_at nodes v) c.0 in
     let is : last_end nodes v ≡ suc l.0 = l.1 in
     let lt : l.0 < length nodes = l.2 in
-    let same : last_end nodes v - 1 ≡ x = c.1 in
-    (c.0, omega arith, omega arith)
+    (c.0, c.1, omega arith)
 
-module _ (tree : Rows) (nodes : List ℕ) (rows : List SpanRow) (is_span : IsSpan tree nodes rows) where
+module _ (tree : Rows) (nodes lengths : List ℕ) (rows : List SpanRow) (is_span : IsSpan tree nodes lengths rows) where
   -- each spanned node has a row
   pub row_of_node : (v : ℕ) → IsSpanned tree nodes v → (k : ℕ) × (row : SpanRow) × (slice_get rows k ≡ Some row)
       × (row.node ≡ v)

@@ -1,13 +1,15 @@
 -- The latest places are the greatest numbers that fit the list and are tight along the flow.
-use Rattle.std.proofs.Common.{◌≡◌, ℕ, zero, suc, ◌+◌, ◌-◌, ◌*◌, ◌<◌, ◌≤◌, true, List, [], ◌∷◌, map, length, Some, None, ℤ, pos, neg_ℤ, ◌+ℤ◌, ◌≤ℤ◌, refl, sym, ◌∙◌, ap, subst, arith}
+use Rattle.std.proofs.Common.{◌≡◌, ℕ, zero, suc, ◌+◌, ◌-◌, ◌*◌, ◌<◌, ◌≤◌, true, List, [], ◌∷◌, map, length, Some, None, ℤ, pos, neg_ℤ, ◌+ℤ◌, ◌≤ℤ◌, refl, sym, ◌∙◌, ap, subst, inl, inr, arith}
 use Rattle.std.specs.List.{slice_get}
 use Rattle.std.proofs.lemmas.Int.{ints}
-use Rattle.std.proofs.lemmas.Option.{none-some, same_Some, slice_get_within}
-use Rattle.std.proofs.lemmas.Bool.{cond-true}
+use Rattle.std.proofs.lemmas.Option.{none-some, same_Some}
+use Rattle.std.proofs.lemmas.Bool.{cond-true, cases_lt}
 use Rattle.grove_tree.specs.Trees.{Rows, parent_of}
 use Rattle.grove_tree.proofs.Counting.{least_is, last_is}
 use Rattle.grove_tree.proofs.Lists.{map_length}
 use Rattle.grove_tree.proofs.Tests.{is_at_true, is_at_from}
+use Rattle.grove_access.specs.Slots.{slots_before}
+use Rattle.grove_access.proofs.Slots.{slots_rise, slots_back, slots_tell}
 use Rattle.grove_access.specs.Spanned.{IsSpanned, names_at, is_accessed, first_access, last_end}
 use Rattle.grove_access.proofs.Spans.{accessed_is_spanned}
 use Rattle.grove_proof.specs.declared.flow.FlowRow.{FlowRow}
@@ -19,7 +21,7 @@ use Rattle.grove_build.specs.Networks.{IsSpan, arcs_from, read_rows}
 use Rattle.grove_build.proofs.Fitting.{Fits, AreTight, ArePlaces}
 use Rattle.grove_build.proofs.Lawful.{IsRowLawful, lawful_rows, rows_lawful}
 use Rattle.grove_build.proofs.Found.{flow_at, row_at, first_is_least, first_known, last_known, row_of_node, row_spanned, parent_found, parent_known}
-use Rattle.grove_build.proofs.Cut.{AreRowsBelow, place_map, rows_cut, base_stays, raised, raised_rises, raised_least}
+use Rattle.grove_build.proofs.Cut.{AreRowsOn, place_map, rows_cut, base_stays, raised, raised_is, raised_most, raised_least, raised_rises, raised_keeps}
 
 -- facts on plain numbers
 
@@ -110,7 +112,15 @@ places_low lock release top (r ∷ rows) h zero = pos_up (lock r.node) top (h 0 
 places_low lock release top (r ∷ rows) h (suc zero) = pos_up (release r.node) top (h 0 r refl).1
 places_low lock release top (r ∷ rows) h (suc (suc v)) = places_low lock release top rows (λ k row g. h (suc k) row g) v
 
-module _ (tree : Rows) (nodes : List ℕ) (rows : List SpanRow) (amounts : List ℕ) (is_span : IsSpan tree nodes rows)
+past_end : (places : List ℤ) (v : ℕ) → length places ≤ v → place places v ≡ pos 0
+past_end [] v le = refl
+past_end (x ∷ xs) zero le = absurd (omega arith)
+past_end (x ∷ xs) (suc v) le = past_end xs v (omega arith)
+
+nothing_low : (z : ℤ) (n : ℕ) → z ≡ pos 0 → z ≤ℤ pos n
+nothing_low z n e = omega (arith, ints)
+
+module _ (tree : Rows) (nodes lengths : List ℕ) (rows : List SpanRow) (amounts : List ℕ) (is_span : IsSpan tree nodes lengths rows)
   where
     abbrev pub m : ℕ
     m = length nodes
@@ -124,32 +134,50 @@ module _ (tree : Rows) (nodes : List ℕ) (rows : List SpanRow) (amounts : List 
     abbrev pub flow : List FlowRow
     flow = read_rows rows amounts 0
 
-    pub rows_below : AreRowsBelow m rows
-    rows_below i row h = record {
+    -- the slots before the end
+    abbrev pub top : ℕ
+    top = slots_before lengths m
+
+    -- so many slots lie before some access, or before the end
+    abbrev pub IsOn : ℕ → Type 0
+    IsOn x = (i : ℕ) × (i ≤ m) × (slots_before lengths i ≡ x)
+
+    zero_on : IsOn 0
+    zero_on = (0, omega arith, refl)
+
+    pub on_low : (x : ℕ) → IsOn x → x ≤ top
+    on_low x on =
+        let rise : slots_before lengths on.0 ≤ top = slots_rise lengths on.0 m on.1 in
+        let e : slots_before lengths on.0 ≡ x = on.2 in omega arith
+
+    pub rows_on : AreRowsOn IsOn rows
+    rows_on i row h = record {
       first = λ f e.
-          let k = first_known nodes row.node f (sym ((is_span.accesses i row h).first) ∙ e) in
-          let lt : f < m = k.2 in omega arith;
-      last = λ l e. (last_known nodes row.node l (sym ((is_span.accesses i row h).last) ∙ e)).2;
+          let k = first_known nodes lengths row.node f (sym ((is_span.accesses i row h).from) ∙ e) in
+          let lt : first_access nodes row.node < m = k.2 in (first_access nodes row.node, omega arith, k.1);
+      last = λ l e.
+          let k = last_known nodes lengths row.node l (sym ((is_span.accesses i row h).until) ∙ e) in
+          (last_end nodes row.node, k.2, k.1);
     }
 
     base_is : base + 1 - 1 ≡ base
     base_is = omega arith
 
     -- places that are cut are a candidate again
-    pub cut_candidate : (f : ℤ → ℤ) → ((a b : ℤ) → a ≤ℤ b → f a ≤ℤ f b) → ((a : ℕ) → a ≤ m → f (pos a) ≡ pos a)
+    pub cut_candidate : (f : ℤ → ℤ) → ((a b : ℤ) → a ≤ℤ b → f a ≤ℤ f b) → ((a : ℕ) → IsOn a → f (pos a) ≡ pos a)
         → (places : List ℤ)
         → length places ≡ base + 1 → AreLawful arcs amounts places → place places base ≡ pos 0
-        → ((v : ℕ) → v < base + 1 → f (place places v) ≤ℤ pos m)
-        → IsCandidate (base + 1) arcs amounts (pos m) (map f places)
+        → ((v : ℕ) → v < base + 1 → f (place places v) ≤ℤ pos top)
+        → IsCandidate (base + 1) arcs amounts (pos top) (map f places)
     cut_candidate f rising keeps places size lawful zero_base low = record {
       size = map_length f places ∙ size;
       lawful = rows_lawful base amounts (map f places) rows
-          (rows_cut f m rising keeps places base zero_base rows flow rows_below
+          (rows_cut f IsOn rising keeps zero_on places base zero_base rows flow rows_on
           (lawful_rows base amounts places rows lawful));
-      base = ap (λ v. place (map f places) v) base_is ∙ base_stays f m rising keeps places base zero_base;
+      base = ap (λ v. place (map f places) v) base_is ∙ base_stays f IsOn rising keeps zero_on places base zero_base;
       capped = λ v lt.
-          let P : ℤ → Type 0 = λ z. z ≤ℤ pos m in
-          subst P (sym (place_map f places v (keeps 0 (omega arith)))) (low v lt);
+          let P : ℤ → Type 0 = λ z. z ≤ℤ pos top in
+          subst P (sym (place_map f places v (keeps 0 zero_on))) (low v lt);
     }
 
     zero_plus : (k : ℕ) → 0 + k ≡ k
@@ -159,76 +187,88 @@ module _ (tree : Rows) (nodes : List ℕ) (rows : List SpanRow) (amounts : List 
 
     module _ (lock2 release2 : ℕ → ℕ) (fits : Fits tree nodes lock2 release2)
         (tight : AreTight tree nodes flow lock2 release2) where
+      abbrev lock_at : ℕ → ℕ
+      lock_at v = slots_before lengths (lock2 v)
+
+      abbrev release_at : ℕ → ℕ
+      release_at v = slots_before lengths (release2 v)
+
       abbrev other : List ℤ
-      other = places_of lock2 release2 rows
+      other = places_of lock_at release_at rows
 
       other_lawful : (i : ℕ) (row : SpanRow) (f : FlowRow) → slice_get rows i ≡ Some row → slice_get flow i ≡ Some f
           → f.node ≡ row.node → IsRowLawful base i row f other
       other_lawful i row f g1 g2 same = record {
         above = λ j e.
-            let q = parent_known tree nodes rows is_span i j row g1 e in
+            let q = parent_known tree nodes lengths rows is_span i j row g1 e in
             let fl = flow_at rows amounts 0 j q.0 q.1 in
             let child : is_child tree f fl.0 ≡ true =
             is_at_from (fl.0).node (parent_of tree f.node)
             (ap (λ n. parent_of tree n) same ∙ (q.2 ∙ ap (λ (n : ℕ). Some n) (sym fl.2))) in
             record {
-              met = level_met (lock2 (q.0).node) (lock2 row.node) (place other (2 * j)) (place other (2 * i))
-                  (place_lock lock2 release2 rows j q.0 q.1) (place_lock lock2 release2 rows i row g1)
-                  (fits.above row.node (q.0).node (row_spanned tree nodes rows is_span i row g1)
-                  (row_spanned tree nodes rows is_span j q.0 q.1) q.2);
-              tight = λ some. level_tight (lock2 (q.0).node) (lock2 row.node) (place other (2 * j))
-                  (place other (2 * i)) (place_lock lock2 release2 rows j q.0 q.1)
-                  (place_lock lock2 release2 rows i row g1)
-                  (ap lock2 (sym fl.2) ∙ (tight.above i j f fl.0 g2 fl.1 child some ∙ ap lock2 same));
+              met = level_met (lock_at (q.0).node) (lock_at row.node) (place other (2 * j)) (place other (2 * i))
+                  (place_lock lock_at release_at rows j q.0 q.1) (place_lock lock_at release_at rows i row g1)
+                  (slots_rise lengths (lock2 (q.0).node) (lock2 row.node)
+                  (fits.above row.node (q.0).node (row_spanned tree nodes lengths rows is_span i row g1)
+                  (row_spanned tree nodes lengths rows is_span j q.0 q.1) q.2));
+              tight = λ some. level_tight (lock_at (q.0).node) (lock_at row.node) (place other (2 * j))
+                  (place other (2 * i)) (place_lock lock_at release_at rows j q.0 q.1)
+                  (place_lock lock_at release_at rows i row g1)
+                  (ap (slots_before lengths) (ap lock2 (sym fl.2) ∙ (tight.above i j f fl.0 g2 fl.1 child some ∙ ap lock2 same)));
             };
         held = λ j e.
-            let q = parent_known tree nodes rows is_span i j row g1 e in
+            let q = parent_known tree nodes lengths rows is_span i j row g1 e in
             let fl = flow_at rows amounts 0 j q.0 q.1 in
             let child : is_child tree f fl.0 ≡ true =
             is_at_from (fl.0).node (parent_of tree f.node)
             (ap (λ n. parent_of tree n) same ∙ (q.2 ∙ ap (λ (n : ℕ). Some n) (sym fl.2))) in
             record {
-              met = level_met (lock2 row.node) (release2 (q.0).node) (place other (2 * i)) (place other (2 * j + 1))
-                  (place_lock lock2 release2 rows i row g1) (place_release lock2 release2 rows j q.0 q.1)
-                  (fits.held row.node (q.0).node (row_spanned tree nodes rows is_span i row g1)
-                  (row_spanned tree nodes rows is_span j q.0 q.1) q.2);
-              tight = λ some. level_tight (lock2 row.node) (release2 (q.0).node) (place other (2 * i))
-                  (place other (2 * j + 1)) (place_lock lock2 release2 rows i row g1)
-                  (place_release lock2 release2 rows j q.0 q.1)
-                  (ap lock2 (sym same) ∙ (tight.held i j f fl.0 g2 fl.1 child some ∙ ap release2 fl.2));
+              met = level_met (lock_at row.node) (release_at (q.0).node) (place other (2 * i)) (place other (2 * j + 1))
+                  (place_lock lock_at release_at rows i row g1) (place_release lock_at release_at rows j q.0 q.1)
+                  (slots_rise lengths (lock2 row.node) (release2 (q.0).node)
+                  (fits.held row.node (q.0).node (row_spanned tree nodes lengths rows is_span i row g1)
+                  (row_spanned tree nodes lengths rows is_span j q.0 q.1) q.2));
+              tight = λ some. level_tight (lock_at row.node) (release_at (q.0).node) (place other (2 * i))
+                  (place other (2 * j + 1)) (place_lock lock_at release_at rows i row g1)
+                  (place_release lock_at release_at rows j q.0 q.1)
+                  (ap (slots_before lengths) (ap lock2 (sym same) ∙ (tight.held i j f fl.0 g2 fl.1 child some ∙ ap release2 fl.2)));
             };
         first = λ x e.
-            let k = first_known nodes row.node x (sym ((is_span.accesses i row g1).first) ∙ e) in
-            let fit : lock2 row.node ≤ first_access nodes row.node = first_fits row.node k.0 in
-            let is : first_access nodes row.node ≡ x = k.1 in
+            let k = first_known nodes lengths row.node x (sym ((is_span.accesses i row g1).from) ∙ e) in
+            let fit : lock_at row.node ≤ slots_before lengths (first_access nodes row.node) =
+            slots_rise lengths (lock2 row.node) (first_access nodes row.node) (first_fits row.node k.0) in
+            let is : slots_before lengths (first_access nodes row.node) ≡ x = k.1 in
             record {
-              met = before_met (lock2 row.node) x (place other (2 * i)) (place other base)
-                  (place_lock lock2 release2 rows i row g1) (place_base lock2 release2 rows) (omega arith);
-              tight = λ some. before_tight (lock2 row.node) x (place other (2 * i)) (place other base)
-                  (place_lock lock2 release2 rows i row g1) (place_base lock2 release2 rows)
-                  (ap lock2 (sym same) ∙ (tight.first i f g2 (ap (λ n. is_accessed nodes n) same ∙ k.0) some
-                  ∙ (ap (λ n. first_access nodes n) same ∙ k.1)));
+              met = before_met (lock_at row.node) x (place other (2 * i)) (place other base)
+                  (place_lock lock_at release_at rows i row g1) (place_base lock_at release_at rows) (omega arith);
+              tight = λ some. before_tight (lock_at row.node) x (place other (2 * i)) (place other base)
+                  (place_lock lock_at release_at rows i row g1) (place_base lock_at release_at rows)
+                  (ap (slots_before lengths) (ap lock2 (sym same)
+                  ∙ (tight.first i f g2 (ap (λ n. is_accessed nodes n) same ∙ k.0) some
+                  ∙ ap (λ n. first_access nodes n) same)) ∙ k.1);
             };
         last = λ x e.
-            let k = last_known nodes row.node x (sym ((is_span.accesses i row g1).last) ∙ e) in
-            let fit : last_end nodes row.node ≤ release2 row.node = last_fits row.node k.0 in
-            let is : last_end nodes row.node ≡ x + 1 = k.1 in
+            let k = last_known nodes lengths row.node x (sym ((is_span.accesses i row g1).until) ∙ e) in
+            let fit : slots_before lengths (last_end nodes row.node) ≤ release_at row.node =
+            slots_rise lengths (last_end nodes row.node) (release2 row.node) (last_fits row.node k.0) in
+            let is : slots_before lengths (last_end nodes row.node) ≡ x = k.1 in
             record {
-              met = after_met (release2 row.node) (x + 1) (place other (2 * i + 1)) (place other base)
-                  (place_release lock2 release2 rows i row g1) (place_base lock2 release2 rows) (omega arith);
-              tight = λ some. after_tight (release2 row.node) (x + 1) (place other (2 * i + 1)) (place other base)
-                  (place_release lock2 release2 rows i row g1) (place_base lock2 release2 rows)
-                  (sym k.1 ∙ (ap (λ n. last_end nodes n) (sym same)
+              met = after_met (release_at row.node) x (place other (2 * i + 1)) (place other base)
+                  (place_release lock_at release_at rows i row g1) (place_base lock_at release_at rows) (omega arith);
+              tight = λ some. after_tight (release_at row.node) x (place other (2 * i + 1)) (place other base)
+                  (place_release lock_at release_at rows i row g1) (place_base lock_at release_at rows)
+                  (sym k.1 ∙ ap (slots_before lengths) (ap (λ n. last_end nodes n) (sym same)
                   ∙ (tight.last i f g2 (ap (λ n. is_accessed nodes n) same ∙ k.0) some ∙ ap release2 same)));
             };
         own = record {
-          met = level_met (lock2 row.node) (release2 row.node) (place other (2 * i)) (place other (2 * i + 1))
-              (place_lock lock2 release2 rows i row g1) (place_release lock2 release2 rows i row g1)
-              (fits.own row.node (row_spanned tree nodes rows is_span i row g1));
-          tight = λ some. level_tight (lock2 row.node) (release2 row.node) (place other (2 * i))
-              (place other (2 * i + 1)) (place_lock lock2 release2 rows i row g1)
-              (place_release lock2 release2 rows i row g1)
-              (ap lock2 (sym same) ∙ (tight.own i f g2 some ∙ ap release2 same));
+          met = level_met (lock_at row.node) (release_at row.node) (place other (2 * i)) (place other (2 * i + 1))
+              (place_lock lock_at release_at rows i row g1) (place_release lock_at release_at rows i row g1)
+              (slots_rise lengths (lock2 row.node) (release2 row.node)
+              (fits.own row.node (row_spanned tree nodes lengths rows is_span i row g1)));
+          tight = λ some. level_tight (lock_at row.node) (release_at row.node) (place other (2 * i))
+              (place other (2 * i + 1)) (place_lock lock_at release_at rows i row g1)
+              (place_release lock_at release_at rows i row g1)
+              (ap (slots_before lengths) (ap lock2 (sym same) ∙ (tight.own i f g2 some ∙ ap release2 same)));
         };
       }
         where
@@ -243,41 +283,84 @@ module _ (tree : Rows) (nodes : List ℕ) (rows : List SpanRow) (amounts : List 
               let P : ℕ → Type 0 = λ n. n ≤ release2 v in
               subst P (sym l.1) (fits.last v l.0 (is_at_true v (slice_get nodes l.0) l.3))
 
-      pub other_candidate : IsCandidate (base + 1) arcs amounts (pos m) other
+      pub other_candidate : IsCandidate (base + 1) arcs amounts (pos top) other
       other_candidate = record {
-        size = places_size lock2 release2 rows;
+        size = places_size lock_at release_at rows;
         lawful = rows_lawful base amounts other rows (λ i row f g1 g2.
             let fl = flow_at rows amounts 0 i row g1 in
             let P : ℕ → Type 0 = λ n. IsRowLawful base n row f other in
             let same : (fl.0).node ≡ f.node = ap (λ (x : FlowRow). x.node) (same_Some fl.0 f (sym fl.1 ∙ g2)) in
             subst P (sym (zero_plus i)) (other_lawful i row f g1 g2 (sym same ∙ fl.2)));
-        base = ap (λ v. place other v) base_is ∙ place_base lock2 release2 rows;
-        capped = λ v lt. places_low lock2 release2 m rows (λ k row g.
-            let s = row_spanned tree nodes rows is_span k row g in
+        base = ap (λ v. place other v) base_is ∙ place_base lock_at release_at rows;
+        capped = λ v lt. places_low lock_at release_at top rows (λ k row g.
+            let s = row_spanned tree nodes lengths rows is_span k row g in
             let a : lock2 row.node ≤ release2 row.node = fits.own row.node s in
             let b : release2 row.node ≤ m = fits.top row.node s in
-            (omega arith, b)) v;
+            (slots_rise lengths (lock2 row.node) m (omega arith), slots_rise lengths (release2 row.node) m b)) v;
       }
 
-    module _ (places : List ℤ) (latest : IsLatest (base + 1) arcs amounts (pos m) places) where
+    module _ (places : List ℤ) (latest : IsLatest (base + 1) arcs amounts (pos top) places) where
       at_base : place places base ≡ pos 0
       at_base = ap (λ v. place places v) (sym base_is) ∙ latest.candidate.base
 
-      -- no latest place is below 0
-      pub latest_rise : (v : ℕ) → pos 0 ≤ℤ place places v
-      latest_rise v =
-          let cand : IsCandidate (base + 1) arcs amounts (pos m) (map raised places) =
-          cut_candidate raised raised_rises (λ a le. refl) places latest.candidate.size latest.candidate.lawful at_base
-          (λ u lt. raised_rises (place places u) (pos m) (latest.candidate.capped u lt)) in
-          let a : place (map raised places) v ≤ℤ place places v = latest.greatest (map raised places) cand v in
-          let b : place (map raised places) v ≡ raised (place places v) = place_map raised places v refl in
-          let c : pos 0 ≤ℤ raised (place places v) = raised_least (place places v) in
-          omega (arith, ints)
+      -- no latest place comes after all slots
+      latest_low : (v : ℕ) → place places v ≤ℤ pos top
+      latest_low v = elim (cases_lt v (base + 1)) [
+        | inl lt ↦ latest.candidate.capped v lt
+        | inr ge ↦ nothing_low (place places v) top
+            (past_end places v (let s : length places ≡ base + 1 = latest.candidate.size in omega arith))
+      ]
+
+      -- each latest place stands between two accesses, before the first one or after the last
+      pub latest_on : (v : ℕ) → (i : ℕ) × (i ≤ m) × (place places v ≡ pos (slots_before lengths i))
+      latest_on v =
+          let slots : ℕ → ℕ = slots_before lengths in
+          let lift : ℤ → ℤ = raised (slots_before lengths) m in
+          let keeps : (a : ℕ) → IsOn a → raised (slots_before lengths) m (pos a) ≡ pos a = λ a on.
+          let P : ℕ → Type 0 = λ x. raised (slots_before lengths) m (pos x) ≡ pos x in
+          subst P on.2 (raised_keeps (slots_before lengths) one_more m on.0 on.1) in
+          let cand : IsCandidate (base + 1) arcs amounts (pos top) (map lift places) =
+          cut_candidate lift (raised_rises (slots_before lengths) one_more m) keeps places latest.candidate.size
+          latest.candidate.lawful at_base (λ u lt. raised_most (slots_before lengths) one_more m (place places u)) in
+          let a : place (map lift places) v ≤ℤ place places v = latest.greatest (map lift places) cand v in
+          let b : place (map lift places) v ≡ raised (slots_before lengths) m (place places v) = place_map lift places v (keeps 0 zero_on) in
+          let c : place places v ≤ℤ raised (slots_before lengths) m (place places v) =
+          raised_least (slots_before lengths) one_more m (place places v) (latest_low v) in
+          let r = raised_is (slots_before lengths) one_more m (place places v) in
+          let same : place places v ≡ raised (slots_before lengths) m (place places v) = omega (arith, ints) in
+          (r.0, r.1, same ∙ r.2)
+        where
+          one_more : (i : ℕ) → slots_before lengths i ≤ slots_before lengths (suc i)
+          one_more i = slots_rise lengths i (suc i) (omega arith)
 
       module _ (lock release : ℕ → ℕ)
-          (locks : (k : ℕ) (row : SpanRow) → slice_get rows k ≡ Some row → pos (lock row.node) ≡ place places (2 * k))
+          (low : (k : ℕ) (row : SpanRow) → slice_get rows k ≡ Some row → (lock row.node ≤ m) × (release row.node ≤ m))
+          (locks : (k : ℕ) (row : SpanRow) → slice_get rows k ≡ Some row
+          → pos (slots_before lengths (lock row.node)) ≡ place places (2 * k))
           (releases : (k : ℕ) (row : SpanRow) → slice_get rows k ≡ Some row
-          → pos (release row.node) ≡ place places (2 * k + 1)) where
+          → pos (slots_before lengths (release row.node)) ≡ place places (2 * k + 1)) where
+        -- the slots before an access tell it
+        back : (a b : ℕ) → a ≤ m → slots_before lengths a ≤ slots_before lengths b → a ≤ b
+        back a b within le =
+            let paired : length lengths ≡ m = is_span.paired in
+            slots_back lengths a b is_span.are_lengths (omega arith) le
+
+        told : (a b : ℕ) → a ≤ m → b ≤ m → slots_before lengths a ≡ slots_before lengths b → a ≡ b
+        told a b i j e =
+            let paired : length lengths ≡ m = is_span.paired in
+            slots_tell lengths a b is_span.are_lengths (omega arith) (omega arith) e
+
+        first_within : (v : ℕ) → is_accessed nodes v ≡ true → first_access nodes v ≤ m
+        first_within v some =
+            let l = least_is (length nodes) (names_at nodes v) some in
+            let lt : first_access nodes v < m = l.0 in omega arith
+
+        last_within : (v : ℕ) → is_accessed nodes v ≡ true → last_end nodes v ≤ m
+        last_within v some =
+            let l = last_is (length nodes) (names_at nodes v) some in
+            let is : last_end nodes v ≡ suc l.0 = l.1 in
+            let lt : l.0 < m = l.2 in omega arith
+
         lawful_at : (k : ℕ) (row : SpanRow) (f : FlowRow) → slice_get rows k ≡ Some row → slice_get flow k ≡ Some f
             → IsRowLawful base k row f places
         lawful_at k row f g1 g2 =
@@ -291,13 +374,17 @@ module _ (tree : Rows) (nodes : List ℕ) (rows : List SpanRow) (amounts : List 
         fits_above k p row g s up =
             let fl = flow_at rows amounts 0 k row g in
             let r = lawful_at k row fl.0 g fl.1 in
-            let q = parent_found tree nodes rows is_span k p row g up s in
+            let q = parent_found tree nodes lengths rows is_span k p row g up s in
             let P : ℕ → Type 0 = λ n. (lock n ≤ lock row.node) × (lock row.node ≤ release n) in
             subst P q.4 (
-              level_le (lock (q.1).node) (lock row.node) (place places (2 * q.0)) (place places (2 * k))
-                  (locks q.0 q.1 q.3) (locks k row g) (r.above q.0 q.2).met,
-              level_le (lock row.node) (release (q.1).node) (place places (2 * k)) (place places (2 * q.0 + 1))
-                  (locks k row g) (releases q.0 q.1 q.3) (r.held q.0 q.2).met,
+              back (lock (q.1).node) (lock row.node) (low q.0 q.1 q.3).0
+                  (level_le (slots_before lengths (lock (q.1).node)) (slots_before lengths (lock row.node))
+                  (place places (2 * q.0)) (place places (2 * k))
+                  (locks q.0 q.1 q.3) (locks k row g) (r.above q.0 q.2).met),
+              back (lock row.node) (release (q.1).node) (low k row g).0
+                  (level_le (slots_before lengths (lock row.node)) (slots_before lengths (release (q.1).node))
+                  (place places (2 * k)) (place places (2 * q.0 + 1))
+                  (locks k row g) (releases q.0 q.1 q.3) (r.held q.0 q.2).met),
             )
 
         fits_access : (k a : ℕ) (row : SpanRow) → slice_get rows k ≡ Some row → slice_get nodes a ≡ Some row.node
@@ -306,18 +393,20 @@ module _ (tree : Rows) (nodes : List ℕ) (rows : List SpanRow) (amounts : List 
             let fl = flow_at rows amounts 0 k row g in
             let r = lawful_at k row fl.0 g fl.1 in
             let l = first_is_least nodes row.node a h in
-            let e : row.first ≡ Some (first_access nodes row.node) =
-            (is_span.accesses k row g).first
-            ∙ cond-true (is_accessed nodes row.node) (Some (first_access nodes row.node)) None l.0 in
-            let f : row.last ≡ Some (last_end nodes row.node - 1) =
-            (is_span.accesses k row g).last
-            ∙ cond-true (is_accessed nodes row.node) (Some (last_end nodes row.node - 1)) None l.0 in
+            let e : row.from ≡ Some (slots_before lengths (first_access nodes row.node)) =
+            (is_span.accesses k row g).from
+            ∙ cond-true (is_accessed nodes row.node) (Some (slots_before lengths (first_access nodes row.node))) None l.0 in
+            let f : row.until ≡ Some (slots_before lengths (last_end nodes row.node)) =
+            (is_span.accesses k row g).until
+            ∙ cond-true (is_accessed nodes row.node) (Some (slots_before lengths (last_end nodes row.node))) None l.0 in
             let x : lock row.node ≤ first_access nodes row.node =
-            before_le (lock row.node) (first_access nodes row.node) (place places (2 * k)) (place places base)
-            (locks k row g) at_base (r.first (first_access nodes row.node) e).met in
-            let y : last_end nodes row.node - 1 + 1 ≤ release row.node =
-            after_le (release row.node) (last_end nodes row.node - 1 + 1) (place places (2 * k + 1)) (place places base)
-            (releases k row g) at_base (r.last (last_end nodes row.node - 1) f).met in
+            back (lock row.node) (first_access nodes row.node) (low k row g).0
+            (before_le (slots_before lengths (lock row.node)) (slots_before lengths (first_access nodes row.node)) (place places (2 * k)) (place places base)
+            (locks k row g) at_base (r.first (slots_before lengths (first_access nodes row.node)) e).met) in
+            let y : last_end nodes row.node ≤ release row.node =
+            back (last_end nodes row.node) (release row.node) (last_within row.node l.0)
+            (after_le (slots_before lengths (release row.node)) (slots_before lengths (last_end nodes row.node)) (place places (2 * k + 1)) (place places base)
+            (releases k row g) at_base (r.last (slots_before lengths (last_end nodes row.node)) f).met) in
             let p : first_access nodes row.node ≤ a = l.1 in
             let q : suc a ≤ last_end nodes row.node = l.2 in
             (omega arith, omega arith)
@@ -326,40 +415,38 @@ module _ (tree : Rows) (nodes : List ℕ) (rows : List SpanRow) (amounts : List 
             × (release row.node ≤ m)
         fits_own k row g =
             let fl = flow_at rows amounts 0 k row g in
-            let r = lawful_at k row fl.0 g fl.1 in
-            let within : k < length rows = slice_get_within rows k row g in
-            let c : place places (2 * k + 1) ≤ℤ pos m = latest.candidate.capped (2 * k + 1) (omega arith) in
-            let e : pos (release row.node) ≡ place places (2 * k + 1) = releases k row g in (
-              level_le (lock row.node) (release row.node) (place places (2 * k)) (place places (2 * k + 1))
-                  (locks k row g) (releases k row g) r.own.met,
-              pos_le (release row.node) m (pos (release row.node)) (pos m) refl refl
-                  (let P : ℤ → Type 0 = λ z. z ≤ℤ pos m in subst P (sym e) c),
+            let r = lawful_at k row fl.0 g fl.1 in (
+              back (lock row.node) (release row.node) (low k row g).0
+                  (level_le (slots_before lengths (lock row.node)) (slots_before lengths (release row.node))
+                  (place places (2 * k)) (place places (2 * k + 1))
+                  (locks k row g) (releases k row g) r.own.met),
+              (low k row g).1,
             )
 
         pub latest_fits : Fits tree nodes lock release
         latest_fits = record {
           above = λ v p sv sp up.
-              let r = row_of_node tree nodes rows is_span v sv in
+              let r = row_of_node tree nodes lengths rows is_span v sv in
               let P : ℕ → Type 0 = λ n. lock p ≤ lock n in
               subst P r.3 (fits_above r.0 p r.1 r.2 sp (ap (λ n. parent_of tree n) r.3 ∙ up)).0;
           held = λ v p sv sp up.
-              let r = row_of_node tree nodes rows is_span v sv in
+              let r = row_of_node tree nodes lengths rows is_span v sv in
               let P : ℕ → Type 0 = λ n. lock n ≤ release p in
               subst P r.3 (fits_above r.0 p r.1 r.2 sp (ap (λ n. parent_of tree n) r.3 ∙ up)).1;
           first = λ v a h.
-              let r = row_of_node tree nodes rows is_span v (accessed_is_spanned tree nodes a v h) in
+              let r = row_of_node tree nodes lengths rows is_span v (accessed_is_spanned tree nodes a v h) in
               let P : ℕ → Type 0 = λ n. lock n ≤ a in
               subst P r.3 (fits_access r.0 a r.1 r.2 (h ∙ ap (λ (n : ℕ). Some n) (sym r.3))).0;
           last = λ v a h.
-              let r = row_of_node tree nodes rows is_span v (accessed_is_spanned tree nodes a v h) in
+              let r = row_of_node tree nodes lengths rows is_span v (accessed_is_spanned tree nodes a v h) in
               let P : ℕ → Type 0 = λ n. suc a ≤ release n in
               subst P r.3 (fits_access r.0 a r.1 r.2 (h ∙ ap (λ (n : ℕ). Some n) (sym r.3))).1;
           own = λ v sv.
-              let r = row_of_node tree nodes rows is_span v sv in
+              let r = row_of_node tree nodes lengths rows is_span v sv in
               let P : ℕ → Type 0 = λ n. lock n ≤ release n in
               subst P r.3 (fits_own r.0 r.1 r.2).0;
           top = λ v sv.
-              let r = row_of_node tree nodes rows is_span v sv in
+              let r = row_of_node tree nodes lengths rows is_span v sv in
               let P : ℕ → Type 0 = λ n. release n ≤ m in
               subst P r.3 (fits_own r.0 r.1 r.2).1;
         }
@@ -375,17 +462,21 @@ module _ (tree : Rows) (nodes : List ℕ) (rows : List SpanRow) (amounts : List 
             let up : parent_of tree (x.0).node ≡ Some g.node =
             ap (λ n. parent_of tree n) (sym x.2) ∙ is_at_true g.node (parent_of tree f.node) child in
             let spanned : IsSpanned tree nodes g.node = let P : ℕ → Type 0 = λ n. IsSpanned tree nodes n in
-            subst P (sym y.2) (row_spanned tree nodes rows is_span j y.0 y.1) in
-            let q = parent_found tree nodes rows is_span i g.node x.0 x.1 up spanned in
+            subst P (sym y.2) (row_spanned tree nodes lengths rows is_span j y.0 y.1) in
+            let q = parent_found tree nodes lengths rows is_span i g.node x.0 x.1 up spanned in
             let r = lawful_at i x.0 f x.1 a in
             let P : ℕ → ℕ → Type 0 = λ u v. (0 < f.above → lock u ≡ lock v) × (0 < f.held → lock v ≡ release u) in
             let Q : ℕ → Type 0 = λ u. P u f.node in
             let R : ℕ → Type 0 = λ v. P (q.1).node v in
             subst Q q.4 (subst R (sym x.2) (
-              λ some. level_eq (lock (q.1).node) (lock (x.0).node) (place places (2 * q.0)) (place places (2 * i))
-                  (locks q.0 q.1 q.3) (locks i x.0 x.1) ((r.above q.0 q.2).tight some),
-              λ some. level_eq (lock (x.0).node) (release (q.1).node) (place places (2 * i))
-                  (place places (2 * q.0 + 1)) (locks i x.0 x.1) (releases q.0 q.1 q.3) ((r.held q.0 q.2).tight some),
+              λ some. told (lock (q.1).node) (lock (x.0).node) (low q.0 q.1 q.3).0 (low i x.0 x.1).0
+                  (level_eq (slots_before lengths (lock (q.1).node)) (slots_before lengths (lock (x.0).node))
+                  (place places (2 * q.0)) (place places (2 * i))
+                  (locks q.0 q.1 q.3) (locks i x.0 x.1) ((r.above q.0 q.2).tight some)),
+              λ some. told (lock (x.0).node) (release (q.1).node) (low i x.0 x.1).0 (low q.0 q.1 q.3).1
+                  (level_eq (slots_before lengths (lock (x.0).node)) (slots_before lengths (release (q.1).node))
+                  (place places (2 * i)) (place places (2 * q.0 + 1))
+                  (locks i x.0 x.1) (releases q.0 q.1 q.3) ((r.held q.0 q.2).tight some)),
             ))
 
         tight_access : (i : ℕ) (f : FlowRow) → slice_get flow i ≡ Some f → is_accessed nodes f.node ≡ true
@@ -396,22 +487,23 @@ module _ (tree : Rows) (nodes : List ℕ) (rows : List SpanRow) (amounts : List 
             let r = lawful_at i x.0 f x.1 a in
             let v : ℕ = (x.0).node in
             let e0 : is_accessed nodes (x.0).node ≡ true = ap (λ n. is_accessed nodes n) (sym x.2) ∙ some in
-            let e : (x.0).first ≡ Some (first_access nodes (x.0).node) =
-            (is_span.accesses i x.0 x.1).first
-            ∙ cond-true (is_accessed nodes (x.0).node) (Some (first_access nodes (x.0).node)) None e0 in
-            let f2 : (x.0).last ≡ Some (last_end nodes (x.0).node - 1) =
-            (is_span.accesses i x.0 x.1).last
-            ∙ cond-true (is_accessed nodes (x.0).node) (Some (last_end nodes (x.0).node - 1)) None e0 in
-            let known = last_known nodes (x.0).node (last_end nodes (x.0).node - 1)
-            (sym ((is_span.accesses i x.0 x.1).last) ∙ f2) in
+            let e : (x.0).from ≡ Some (slots_before lengths (first_access nodes (x.0).node)) =
+            (is_span.accesses i x.0 x.1).from
+            ∙ cond-true (is_accessed nodes (x.0).node) (Some (slots_before lengths (first_access nodes (x.0).node))) None e0 in
+            let f2 : (x.0).until ≡ Some (slots_before lengths (last_end nodes (x.0).node)) =
+            (is_span.accesses i x.0 x.1).until
+            ∙ cond-true (is_accessed nodes (x.0).node) (Some (slots_before lengths (last_end nodes (x.0).node))) None e0 in
             let P : ℕ → Type 0 =
             λ u. (0 < f.first → lock u ≡ first_access nodes u) × (0 < f.last → last_end nodes u ≡ release u) in
             subst P (sym x.2) (
-              λ p. before_eq (lock (x.0).node) (first_access nodes (x.0).node) (place places (2 * i))
-                  (place places base) (locks i x.0 x.1) at_base ((r.first (first_access nodes (x.0).node) e).tight p),
-              λ p. known.1 ∙ after_eq (release (x.0).node) (last_end nodes (x.0).node - 1 + 1)
+              λ p. told (lock (x.0).node) (first_access nodes (x.0).node) (low i x.0 x.1).0 (first_within (x.0).node e0)
+                  (before_eq (slots_before lengths (lock (x.0).node)) (slots_before lengths (first_access nodes (x.0).node))
+                  (place places (2 * i)) (place places base) (locks i x.0 x.1) at_base
+                  ((r.first (slots_before lengths (first_access nodes (x.0).node)) e).tight p)),
+              λ p. told (last_end nodes (x.0).node) (release (x.0).node) (last_within (x.0).node e0) (low i x.0 x.1).1
+                  (after_eq (slots_before lengths (release (x.0).node)) (slots_before lengths (last_end nodes (x.0).node))
                   (place places (2 * i + 1)) (place places base) (releases i x.0 x.1) at_base
-                  ((r.last (last_end nodes (x.0).node - 1) f2).tight p),
+                  ((r.last (slots_before lengths (last_end nodes (x.0).node)) f2).tight p)),
             )
 
         pub latest_tight : AreTight tree nodes flow lock release
@@ -424,27 +516,39 @@ module _ (tree : Rows) (nodes : List ℕ) (rows : List SpanRow) (amounts : List 
               let x = row_at rows amounts 0 i f a in
               let r = lawful_at i x.0 f x.1 a in
               let P : ℕ → Type 0 = λ u. lock u ≡ release u in
-              subst P (sym x.2) (level_eq (lock (x.0).node) (release (x.0).node) (place places (2 * i))
-              (place places (2 * i + 1)) (locks i x.0 x.1) (releases i x.0 x.1) (r.own.tight p));
+              subst P (sym x.2) (told (lock (x.0).node) (release (x.0).node) (low i x.0 x.1).0 (low i x.0 x.1).1
+              (level_eq (slots_before lengths (lock (x.0).node)) (slots_before lengths (release (x.0).node))
+              (place places (2 * i)) (place places (2 * i + 1)) (locks i x.0 x.1) (releases i x.0 x.1) (r.own.tight p)));
         }
 
         -- and no others are greater
         module _ (lock2 release2 : ℕ → ℕ) (fits : Fits tree nodes lock2 release2)
             (tight : AreTight tree nodes flow lock2 release2) where
+          abbrev lock_at2 : ℕ → ℕ
+          lock_at2 v = slots_before lengths (lock2 v)
+
+          abbrev release_at2 : ℕ → ℕ
+          release_at2 v = slots_before lengths (release2 v)
+
           abbrev rival : List ℤ
-          rival = places_of lock2 release2 rows
+          rival = places_of lock_at2 release_at2 rows
 
           pub other_below : (v : ℕ) → IsSpanned tree nodes v → (lock2 v ≤ lock v) × (release2 v ≤ release v)
           other_below v sv =
-              let r = row_of_node tree nodes rows is_span v sv in
+              let r = row_of_node tree nodes lengths rows is_span v sv in
               let P : ℕ → Type 0 = λ n. (lock2 n ≤ lock n) × (release2 n ≤ release n) in
+              let s = row_spanned tree nodes lengths rows is_span r.0 r.1 r.2 in
+              let own : lock2 (r.1).node ≤ release2 (r.1).node = fits.own (r.1).node s in
+              let end : release2 (r.1).node ≤ m = fits.top (r.1).node s in
               subst P r.3 (
-                pos_le (lock2 (r.1).node) (lock (r.1).node) (place rival (2 * r.0)) (place places (2 * r.0))
-                    (place_lock lock2 release2 rows r.0 r.1 r.2) (locks r.0 r.1 r.2)
-                    (latest.greatest rival (other_candidate lock2 release2 fits tight) (2 * r.0)),
-                pos_le (release2 (r.1).node) (release (r.1).node) (place rival (2 * r.0 + 1))
-                    (place places (2 * r.0 + 1)) (place_release lock2 release2 rows r.0 r.1 r.2) (releases r.0 r.1 r.2)
-                    (latest.greatest rival (other_candidate lock2 release2 fits tight) (2 * r.0 + 1)),
+                back (lock2 (r.1).node) (lock (r.1).node) (omega arith)
+                    (pos_le (lock_at2 (r.1).node) (slots_before lengths (lock (r.1).node)) (place rival (2 * r.0)) (place places (2 * r.0))
+                    (place_lock lock_at2 release_at2 rows r.0 r.1 r.2) (locks r.0 r.1 r.2)
+                    (latest.greatest rival (other_candidate lock2 release2 fits tight) (2 * r.0))),
+                back (release2 (r.1).node) (release (r.1).node) end
+                    (pos_le (release_at2 (r.1).node) (slots_before lengths (release (r.1).node)) (place rival (2 * r.0 + 1))
+                    (place places (2 * r.0 + 1)) (place_release lock_at2 release_at2 rows r.0 r.1 r.2) (releases r.0 r.1 r.2)
+                    (latest.greatest rival (other_candidate lock2 release2 fits tight) (2 * r.0 + 1))),
               )
 
         pub latest_are_places : ArePlaces tree nodes flow lock release

@@ -13,8 +13,8 @@ use Rattle.grove_build.specs.Networks.{arc, parent_arcs, first_arcs, last_arcs, 
 pub record IsRowLawful (base k : ℕ) (row : SpanRow) (amounts : FlowRow) (places : List ℤ) : Type 0 where
   pub above : (j : ℕ) → row.parent ≡ Some j → IsLawful (arc (2 * j) (2 * k) (pos 0)) amounts.above places
   pub held : (j : ℕ) → row.parent ≡ Some j → IsLawful (arc (2 * k) (2 * j + 1) (pos 0)) amounts.held places
-  pub first : (f : ℕ) → row.first ≡ Some f → IsLawful (arc (2 * k) base (neg_ℤ (pos f))) amounts.first places
-  pub last : (l : ℕ) → row.last ≡ Some l → IsLawful (arc base (2 * k + 1) (pos (l + 1))) amounts.last places
+  pub first : (f : ℕ) → row.from ≡ Some f → IsLawful (arc (2 * k) base (neg_ℤ (pos f))) amounts.first places
+  pub last : (l : ℕ) → row.until ≡ Some l → IsLawful (arc base (2 * k + 1) (pos l)) amounts.last places
   pub own : IsLawful (arc (2 * k) (2 * k + 1) (pos 0)) amounts.own places
 
 -- the same for each row from place k on
@@ -116,10 +116,10 @@ first_part at base k f (Some i) amounts places e h =
 
 last_part : (at base k f : ℕ) (o : Option ℕ) (amounts : List ℕ) (places : List ℤ) → o ≡ Some f
     → LawfulFrom at (last_arcs base k o) amounts places
-    → IsLawful (arc base (2 * k + 1) (pos (f + 1))) (amount_if o amounts at) places
+    → IsLawful (arc base (2 * k + 1) (pos f)) (amount_if o amounts at) places
 last_part at base k f None amounts places e h = absurd (none-some f e)
 last_part at base k f (Some i) amounts places e h =
-    let P : ℕ → Type 0 = λ n. IsLawful (arc base (2 * k + 1) (pos (n + 1))) (slice_index amounts at) places in
+    let P : ℕ → Type 0 = λ n. IsLawful (arc base (2 * k + 1) (pos n)) (slice_index amounts at) places in
     subst P (same_Some i f e) h.0
 
 parent_from : (at k : ℕ) (o : Option ℕ) (amounts : List ℕ) (places : List ℤ)
@@ -139,7 +139,7 @@ first_from at base k None amounts places a = tt
 first_from at base k (Some f) amounts places a = (a f refl, tt)
 
 last_from : (at base k : ℕ) (o : Option ℕ) (amounts : List ℕ) (places : List ℤ)
-    → ((f : ℕ) → o ≡ Some f → IsLawful (arc base (2 * k + 1) (pos (f + 1))) (amount_if o amounts at) places)
+    → ((f : ℕ) → o ≡ Some f → IsLawful (arc base (2 * k + 1) (pos f)) (amount_if o amounts at) places)
     → LawfulFrom at (last_arcs base k o) amounts places
 last_from at base k None amounts places a = tt
 last_from at base k (Some f) amounts places a = (a f refl, tt)
@@ -149,33 +149,33 @@ module _ (base : ℕ) (amounts : List ℕ) (places : List ℤ) where
       → IsRowLawful base k row (read_row row amounts at) places
   row_is_lawful at k row h =
       let parents : List Arc = parent_arcs k row.parent in
-      let firsts : List Arc = first_arcs base k row.first in
-      let lasts : List Arc = last_arcs base k row.last in
+      let firsts : List Arc = first_arcs base k row.from in
+      let lasts : List Arc = last_arcs base k row.until in
       let owns : List Arc = arc (2 * k) (2 * k + 1) (pos 0) ∷ [] in
       let size1 : length (parent_arcs k row.parent) ≡ width row.parent + width row.parent = parent_size k row.parent in
-      let size2 : length (first_arcs base k row.first) ≡ width row.first = first_size base k row.first in
-      let size3 : length (last_arcs base k row.last) ≡ width row.last = last_size base k row.last in
+      let size2 : length (first_arcs base k row.from) ≡ width row.from = first_size base k row.from in
+      let size3 : length (last_arcs base k row.until) ≡ width row.until = last_size base k row.until in
       let a = lawful_front at (parent_arcs k row.parent)
-      (first_arcs base k row.first ++ (last_arcs base k row.last ++ arc (2 * k) (2 * k + 1) (pos 0) ∷ [])) amounts
+      (first_arcs base k row.from ++ (last_arcs base k row.until ++ arc (2 * k) (2 * k + 1) (pos 0) ∷ [])) amounts
       places h in
       let b = lawful_back at (at + width row.parent + width row.parent) (parent_arcs k row.parent)
-      (first_arcs base k row.first ++ (last_arcs base k row.last ++ arc (2 * k) (2 * k + 1) (pos 0) ∷ [])) amounts
+      (first_arcs base k row.from ++ (last_arcs base k row.until ++ arc (2 * k) (2 * k + 1) (pos 0) ∷ [])) amounts
       places (omega arith) h in
-      let c = lawful_front (at + width row.parent + width row.parent) (first_arcs base k row.first)
-      (last_arcs base k row.last ++ arc (2 * k) (2 * k + 1) (pos 0) ∷ []) amounts places b in
+      let c = lawful_front (at + width row.parent + width row.parent) (first_arcs base k row.from)
+      (last_arcs base k row.until ++ arc (2 * k) (2 * k + 1) (pos 0) ∷ []) amounts places b in
       let d = lawful_back (at + width row.parent + width row.parent)
-      (at + width row.parent + width row.parent + width row.first) (first_arcs base k row.first)
-      (last_arcs base k row.last ++ arc (2 * k) (2 * k + 1) (pos 0) ∷ []) amounts places (omega arith) b in
-      let e = lawful_front (at + width row.parent + width row.parent + width row.first) (last_arcs base k row.last)
+      (at + width row.parent + width row.parent + width row.from) (first_arcs base k row.from)
+      (last_arcs base k row.until ++ arc (2 * k) (2 * k + 1) (pos 0) ∷ []) amounts places (omega arith) b in
+      let e = lawful_front (at + width row.parent + width row.parent + width row.from) (last_arcs base k row.until)
       (arc (2 * k) (2 * k + 1) (pos 0) ∷ []) amounts places d in
-      let f = lawful_back (at + width row.parent + width row.parent + width row.first)
-      (at + width row.parent + width row.parent + width row.first + width row.last) (last_arcs base k row.last)
+      let f = lawful_back (at + width row.parent + width row.parent + width row.from)
+      (at + width row.parent + width row.parent + width row.from + width row.until) (last_arcs base k row.until)
       (arc (2 * k) (2 * k + 1) (pos 0) ∷ []) amounts places (omega arith) d in
       record {
         above = λ j s. parent_above at k j row.parent amounts places s a;
         held = λ j s. parent_held at k j row.parent amounts places s a;
-        first = λ x s. first_part (at + width row.parent + width row.parent) base k x row.first amounts places s c;
-        last = λ x s. last_part (at + width row.parent + width row.parent + width row.first) base k x row.last amounts
+        first = λ x s. first_part (at + width row.parent + width row.parent) base k x row.from amounts places s c;
+        last = λ x s. last_part (at + width row.parent + width row.parent + width row.from) base k x row.until amounts
             places s e;
         own = f.0;
       }
@@ -184,33 +184,33 @@ module _ (base : ℕ) (amounts : List ℕ) (places : List ℤ) where
       → LawfulFrom at (row_arcs base k row) amounts places
   row_from at k row h =
       let size1 : length (parent_arcs k row.parent) ≡ width row.parent + width row.parent = parent_size k row.parent in
-      let size2 : length (first_arcs base k row.first) ≡ width row.first = first_size base k row.first in
-      let size3 : length (last_arcs base k row.last) ≡ width row.last = last_size base k row.last in
+      let size2 : length (first_arcs base k row.from) ≡ width row.from = first_size base k row.from in
+      let size3 : length (last_arcs base k row.until) ≡ width row.until = last_size base k row.until in
       lawful_joined at (at + width row.parent + width row.parent) (parent_arcs k row.parent)
-      (first_arcs base k row.first ++ (last_arcs base k row.last ++ arc (2 * k) (2 * k + 1) (pos 0) ∷ [])) amounts
+      (first_arcs base k row.from ++ (last_arcs base k row.until ++ arc (2 * k) (2 * k + 1) (pos 0) ∷ [])) amounts
       places (omega arith)
       (parent_from at k row.parent amounts places h.above h.held)
       (lawful_joined (at + width row.parent + width row.parent)
-      (at + width row.parent + width row.parent + width row.first) (first_arcs base k row.first)
-      (last_arcs base k row.last ++ arc (2 * k) (2 * k + 1) (pos 0) ∷ []) amounts places (omega arith)
-      (first_from (at + width row.parent + width row.parent) base k row.first amounts places h.first)
-      (lawful_joined (at + width row.parent + width row.parent + width row.first)
-      (at + width row.parent + width row.parent + width row.first + width row.last) (last_arcs base k row.last)
+      (at + width row.parent + width row.parent + width row.from) (first_arcs base k row.from)
+      (last_arcs base k row.until ++ arc (2 * k) (2 * k + 1) (pos 0) ∷ []) amounts places (omega arith)
+      (first_from (at + width row.parent + width row.parent) base k row.from amounts places h.first)
+      (lawful_joined (at + width row.parent + width row.parent + width row.from)
+      (at + width row.parent + width row.parent + width row.from + width row.until) (last_arcs base k row.until)
       (arc (2 * k) (2 * k + 1) (pos 0) ∷ []) amounts places (omega arith)
-      (last_from (at + width row.parent + width row.parent + width row.first) base k row.last amounts places h.last)
+      (last_from (at + width row.parent + width row.parent + width row.from) base k row.until amounts places h.last)
       (h.own, tt)))
 
   pub row_size : (k : ℕ) (row : SpanRow) → length (row_arcs base k row) ≡ row_width row
   row_size k row =
       let size1 : length (parent_arcs k row.parent) ≡ width row.parent + width row.parent = parent_size k row.parent in
-      let size2 : length (first_arcs base k row.first) ≡ width row.first = first_size base k row.first in
-      let size3 : length (last_arcs base k row.last) ≡ width row.last = last_size base k row.last in
+      let size2 : length (first_arcs base k row.from) ≡ width row.from = first_size base k row.from in
+      let size3 : length (last_arcs base k row.until) ≡ width row.until = last_size base k row.until in
       omega (
         arith,
         length-append (parent_arcs k row.parent)
-            (first_arcs base k row.first ++ (last_arcs base k row.last ++ arc (2 * k) (2 * k + 1) (pos 0) ∷ [])),
-        length-append (first_arcs base k row.first) (last_arcs base k row.last ++ arc (2 * k) (2 * k + 1) (pos 0) ∷ []),
-        length-append (last_arcs base k row.last) (arc (2 * k) (2 * k + 1) (pos 0) ∷ []),
+            (first_arcs base k row.from ++ (last_arcs base k row.until ++ arc (2 * k) (2 * k + 1) (pos 0) ∷ [])),
+        length-append (first_arcs base k row.from) (last_arcs base k row.until ++ arc (2 * k) (2 * k + 1) (pos 0) ∷ []),
+        length-append (last_arcs base k row.until) (arc (2 * k) (2 * k + 1) (pos 0) ∷ []),
       )
 
   rows_in : (at k : ℕ) (rows : List SpanRow) → LawfulFrom at (arcs_from base k rows) amounts places

@@ -74,13 +74,13 @@ first_sent test base k (Some f) first = cond (test (arc (2 * k) base (neg_ℤ (p
 
 abbrev pub last_sent : (Arc → Bool) → ℕ → ℕ → Option ℕ → ℕ → ℕ
 last_sent test base k None last = 0
-last_sent test base k (Some l) last = cond (test (arc base (2 * k + 1) (pos (l + 1)))) last 0
+last_sent test base k (Some l) last = cond (test (arc base (2 * k + 1) (pos l))) last 0
 
 abbrev pub row_sent : (Arc → Bool) → ℕ → ℕ → SpanRow → FlowRow → ℕ
 row_sent test base k row f =
     parent_sent test k row.parent f.above f.held
-    + (first_sent test base k row.first f.first
-    + (last_sent test base k row.last f.last + cond (test (arc (2 * k) (2 * k + 1) (pos 0))) f.own 0))
+    + (first_sent test base k row.from f.first
+    + (last_sent test base k row.until f.last + cond (test (arc (2 * k) (2 * k + 1) (pos 0))) f.own 0))
 
 parent_part : (test : Arc → Bool) (at k : ℕ) (o : Option ℕ) (amounts : List ℕ)
     → sent_at test at (parent_arcs k o) amounts
@@ -108,22 +108,22 @@ row_part : (test : Arc → Bool) (at base k : ℕ) (row : SpanRow) (amounts : Li
 row_part test at base k row amounts =
     let own : List Arc = arc (2 * k) (2 * k + 1) (pos 0) ∷ [] in
     let size1 : length (parent_arcs k row.parent) ≡ width row.parent + width row.parent = parent_size k row.parent in
-    let size2 : length (first_arcs base k row.first) ≡ width row.first = first_size base k row.first in
-    let size3 : length (last_arcs base k row.last) ≡ width row.last = last_size base k row.last in
+    let size2 : length (first_arcs base k row.from) ≡ width row.from = first_size base k row.from in
+    let size3 : length (last_arcs base k row.until) ≡ width row.until = last_size base k row.until in
     sent_joined test at (at + width row.parent + width row.parent) (parent_arcs k row.parent)
-    (first_arcs base k row.first ++ (last_arcs base k row.last ++ arc (2 * k) (2 * k + 1) (pos 0) ∷ [])) amounts
+    (first_arcs base k row.from ++ (last_arcs base k row.until ++ arc (2 * k) (2 * k + 1) (pos 0) ∷ [])) amounts
     (omega arith)
     ∙ ap₂ (λ a b. a + b) (parent_part test at k row.parent amounts)
     (sent_joined test (at + width row.parent + width row.parent)
-    (at + width row.parent + width row.parent + width row.first) (first_arcs base k row.first)
-    (last_arcs base k row.last ++ arc (2 * k) (2 * k + 1) (pos 0) ∷ []) amounts (omega arith)
-    ∙ ap₂ (λ a b. a + b) (first_part test (at + width row.parent + width row.parent) base k row.first amounts)
-    (sent_joined test (at + width row.parent + width row.parent + width row.first)
-    (at + width row.parent + width row.parent + width row.first + width row.last) (last_arcs base k row.last)
+    (at + width row.parent + width row.parent + width row.from) (first_arcs base k row.from)
+    (last_arcs base k row.until ++ arc (2 * k) (2 * k + 1) (pos 0) ∷ []) amounts (omega arith)
+    ∙ ap₂ (λ a b. a + b) (first_part test (at + width row.parent + width row.parent) base k row.from amounts)
+    (sent_joined test (at + width row.parent + width row.parent + width row.from)
+    (at + width row.parent + width row.parent + width row.from + width row.until) (last_arcs base k row.until)
     (arc (2 * k) (2 * k + 1) (pos 0) ∷ []) amounts (omega arith)
-    ∙ ap₂ (λ a b. a + b) (last_part test (at + width row.parent + width row.parent + width row.first) base k row.last
+    ∙ ap₂ (λ a b. a + b) (last_part test (at + width row.parent + width row.parent + width row.from) base k row.until
     amounts) (last_one (cond (test (arc (2 * k) (2 * k + 1) (pos 0)))
-    (slice_index amounts (at + width row.parent + width row.parent + width row.first + width row.last)) 0))))
+    (slice_index amounts (at + width row.parent + width row.parent + width row.from + width row.until)) 0))))
   where
     last_one : (x : ℕ) → x + 0 ≡ x
     last_one x = omega arith
@@ -278,12 +278,12 @@ module _ (n j : ℕ) (lt : j < n) (amounts : List ℕ) where
       let f : FlowRow = read_row row amounts at in
       let a = in_lock_parent k row.parent (amount_if row.parent amounts at) (amount_if row.parent amounts (at + 1))
       (absent row.parent at) in
-      let b = in_lock_first k row.first (amount_if row.first amounts (at + width row.parent + width row.parent)) in
-      let c = in_lock_last k row.last (amount_if row.last amounts
-      (at + width row.parent + width row.parent + width row.first)) in
-      let own : ℕ = slice_index amounts (at + width row.parent + width row.parent + width row.first + width row.last) in
+      let b = in_lock_first k row.from (amount_if row.from amounts (at + width row.parent + width row.parent)) in
+      let c = in_lock_last k row.until (amount_if row.until amounts
+      (at + width row.parent + width row.parent + width row.from)) in
+      let own : ℕ = slice_index amounts (at + width row.parent + width row.parent + width row.from + width row.until) in
       let d = told (eqb (2 * k + 1) (2 * j)) false
-      (slice_index amounts (at + width row.parent + width row.parent + width row.first + width row.last))
+      (slice_index amounts (at + width row.parent + width row.parent + width row.from + width row.until))
       (odd_even k j) in
       omega arith
 
@@ -318,12 +318,12 @@ module _ (n j : ℕ) (lt : j < n) (amounts : List ℕ) where
   out_lock_row k at row =
       let a = out_lock_parent k row.parent (amount_if row.parent amounts at) (amount_if row.parent amounts (at + 1))
       (absent row.parent (at + 1)) in
-      let b = out_lock_first k row.first (amount_if row.first amounts (at + width row.parent + width row.parent))
-      (absent row.first (at + width row.parent + width row.parent)) in
-      let c = out_lock_last k row.last
-      (amount_if row.last amounts (at + width row.parent + width row.parent + width row.first)) in
+      let b = out_lock_first k row.from (amount_if row.from amounts (at + width row.parent + width row.parent))
+      (absent row.from (at + width row.parent + width row.parent)) in
+      let c = out_lock_last k row.until
+      (amount_if row.until amounts (at + width row.parent + width row.parent + width row.from)) in
       let d = told (eqb (2 * k) (2 * j)) (eqb k j)
-      (slice_index amounts (at + width row.parent + width row.parent + width row.first + width row.last))
+      (slice_index amounts (at + width row.parent + width row.parent + width row.from + width row.until))
       (even_test k j) in
       omega arith
 
@@ -356,12 +356,12 @@ module _ (n j : ℕ) (lt : j < n) (amounts : List ℕ) where
   in_release_row k at row =
       let a = in_release_parent k row.parent (amount_if row.parent amounts at)
       (amount_if row.parent amounts (at + 1)) in
-      let b = in_release_first k row.first (amount_if row.first amounts (at + width row.parent + width row.parent)) in
-      let c = in_release_last k row.last
-      (amount_if row.last amounts (at + width row.parent + width row.parent + width row.first))
-      (absent row.last (at + width row.parent + width row.parent + width row.first)) in
+      let b = in_release_first k row.from (amount_if row.from amounts (at + width row.parent + width row.parent)) in
+      let c = in_release_last k row.until
+      (amount_if row.until amounts (at + width row.parent + width row.parent + width row.from))
+      (absent row.until (at + width row.parent + width row.parent + width row.from)) in
       let d = told (eqb (2 * k + 1) (2 * j + 1)) (eqb k j)
-      (slice_index amounts (at + width row.parent + width row.parent + width row.first + width row.last))
+      (slice_index amounts (at + width row.parent + width row.parent + width row.from + width row.until))
       (odd_test k j) in
       omega arith
 
@@ -388,11 +388,11 @@ module _ (n j : ℕ) (lt : j < n) (amounts : List ℕ) where
   out_release_row k at row =
       let a = out_release_parent k row.parent (amount_if row.parent amounts at)
       (amount_if row.parent amounts (at + 1)) in
-      let b = out_release_first k row.first (amount_if row.first amounts (at + width row.parent + width row.parent)) in
-      let c = out_release_last k row.last
-      (amount_if row.last amounts (at + width row.parent + width row.parent + width row.first)) in
+      let b = out_release_first k row.from (amount_if row.from amounts (at + width row.parent + width row.parent)) in
+      let c = out_release_last k row.until
+      (amount_if row.until amounts (at + width row.parent + width row.parent + width row.from)) in
       let d = told (eqb (2 * k) (2 * j + 1)) false
-      (slice_index amounts (at + width row.parent + width row.parent + width row.first + width row.last))
+      (slice_index amounts (at + width row.parent + width row.parent + width row.from + width row.until))
       (even_odd k j) in
       omega arith
 
@@ -431,8 +431,8 @@ release_meets i o w z e h zero_out = omega (arith, ints)
 
 -- The balances.
 
-module _ (tree : Rows) (nodes : List ℕ) (rows : List SpanRow) (amounts : List ℕ) (places : List ℤ)
-    (is_span : IsSpan tree nodes rows)
+module _ (tree : Rows) (nodes lengths : List ℕ) (rows : List SpanRow) (amounts : List ℕ) (places : List ℤ)
+    (is_span : IsSpan tree nodes lengths rows)
     (solution : IsSolution (needs_of tree rows) (arcs_from (2 * length rows) 0 rows) amounts places) where
   abbrev n : ℕ
   n = length rows
@@ -449,12 +449,12 @@ module _ (tree : Rows) (nodes : List ℕ) (rows : List SpanRow) (amounts : List 
       → is_at j row.parent ≡ is_at over.node (parent_of tree row.node)
   parent_at j over g i row h = same_tests (is_at j row.parent) (is_at over.node (parent_of tree row.node))
       (λ e.
-      let k = parent_known tree nodes rows is_span i j row h (is_at_true j row.parent e) in
+      let k = parent_known tree nodes lengths rows is_span i j row h (is_at_true j row.parent e) in
       let same : k.0 ≡ over = same_Some k.0 over (sym k.1 ∙ g) in
       is_at_from over.node (parent_of tree row.node) (k.2 ∙ ap (λ (x : SpanRow). Some x.node) same))
       (λ e.
-      let p = parent_found tree nodes rows is_span i over.node row h
-      (is_at_true over.node (parent_of tree row.node) e) (row_spanned tree nodes rows is_span j over g) in
+      let p = parent_found tree nodes lengths rows is_span i over.node row h
+      (is_at_true over.node (parent_of tree row.node) e) (row_spanned tree nodes lengths rows is_span j over g) in
       let P : List ℕ → Type 0 = λ xs. slice_get xs j ≡ Some over.node in
       let Q : List ℕ → Type 0 = λ xs. slice_get xs p.0 ≡ Some over.node in
       let one : p.0 ≡ j = passing_once (length tree) (is_spanned tree nodes) p.0 j over.node

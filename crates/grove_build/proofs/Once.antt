@@ -9,7 +9,7 @@ use Rattle.grove_build.proofs.Runs.{Has}
 use Rattle.grove_build.proofs.Alike.{laid_alike}
 
 pub settled_one : SettledOnce
-settled_one rows nodes plan other h k =
+settled_one rows nodes lengths plan other h k =
     let e : k.list ≡ h.list = forced_lists_same rows nodes k.list h.list k.is_forced_list h.is_forced_list in
     let locks : (v : ℕ) → Has h.list v → lock_slot plan v ≡ lock_slot other v = λ v a.
     let f : IsForced rows nodes v = (h.is_forced_list.forced v).0 a in

@@ -13,12 +13,13 @@ use Rattle.grove_tree.specs.Numbers.{sum_below, passing_below, alone}
 use Rattle.grove_tree.proofs.Counting.{any_from, sum_same}
 use Rattle.grove_tree.proofs.Lists.{map_length}
 use Rattle.grove_tree.proofs.Tests.{is_at_from}
+use Rattle.grove_access.specs.Slots.{slots_before}
 use Rattle.grove_access.specs.Spanned.{IsSpanned, is_spanned, spanned_nodes, is_accessed, first_access, last_end}
 use Rattle.grove_plan.specs.declared.step.Step.{Step}
 use Rattle.grove_plan.specs.Plans.{holding, cost}
 use Rattle.grove_plan.specs.Slots.{lock_slot, release_slot}
 use Rattle.grove_proof.specs.declared.flow.FlowRow.{FlowRow}
-use Rattle.grove_proof.specs.Five.{MeetsFive}
+use Rattle.grove_proof.specs.Five.{lock_time, release_time, MeetsFive}
 use Rattle.grove_proof.specs.Flows.{node_of, is_parent_at, has_parent, is_sign_ok, is_small, AllRows, Balances, IsCertificate}
 use Rattle.grove_proof.proofs.Sums.{sums_same, sums_map, sums_passing}
 use Rattle.grove_proof.proofs.Listed.{forced_list_is_span}
@@ -105,15 +106,15 @@ difference : (a b c : ℕ) → a + b ≡ c → b ≡ c - a
 difference a b c e = omega arith
 
 -- no more rows than nodes
-pub rows_few : (tree : Rows) (nodes : List ℕ) (rows : List SpanRow) → IsSpan tree nodes rows → length rows ≤ length tree
-rows_few tree nodes rows is_span =
+pub rows_few : (tree : Rows) (nodes lengths : List ℕ) (rows : List SpanRow) → IsSpan tree nodes lengths rows → length rows ≤ length tree
+rows_few tree nodes lengths rows is_span =
     let a : length (map node_of_row rows) ≡ length rows = map_length node_of_row rows in
     let b : length (map node_of_row rows) ≡ length (spanned_nodes tree nodes) = ap length is_span.named in
     let c : length (spanned_nodes tree nodes) ≤ length tree = passing_few (length tree) (is_spanned tree nodes) in
     omega arith
 
-module _ (tree : Rows) (nodes : List ℕ) (rows : List SpanRow) (amounts : List ℕ) (solved : List ℤ)
-    (is_span : IsSpan tree nodes rows) (limits : IsWithinLimits tree)
+module _ (tree : Rows) (nodes lengths : List ℕ) (rows : List SpanRow) (amounts : List ℕ) (solved : List ℤ)
+    (is_span : IsSpan tree nodes lengths rows) (limits : IsWithinLimits tree)
     (solution : IsSolution (needs_of tree rows) (arcs_from (2 * length rows) 0 rows) amounts solved) where
   abbrev flow : List FlowRow
   flow = read_rows rows amounts 0
@@ -126,7 +127,7 @@ module _ (tree : Rows) (nodes : List ℕ) (rows : List SpanRow) (amounts : List 
       ≤ length (needs_of tree rows) * 1000 =
       sum_few (length (needs_of tree rows)) (takes (needs_of tree rows)) (takes_few tree rows limits.light) in
       let c : length (needs_of tree rows) ≡ 2 * length rows + 1 = needs_size tree rows in
-      let d : length rows ≤ length tree = rows_few tree nodes rows is_span in
+      let d : length rows ≤ length tree = rows_few tree nodes lengths rows is_span in
       let e : length tree ≤ 4096 = limits.few in
       omega arith
 
@@ -139,12 +140,12 @@ module _ (tree : Rows) (nodes : List ℕ) (rows : List SpanRow) (amounts : List 
       subst P (sym r.3)
       (and_from _ _ (small_enough _ (if_small (r.0).parent amounts r.1 8193000 amounts_few))
       (and_from _ _ (small_enough _ (if_small (r.0).parent amounts (r.1 + 1) 8193000 amounts_few))
-      (and_from _ _ (small_enough _ (if_small (r.0).first amounts (r.1 + width (r.0).parent + width (r.0).parent)
+      (and_from _ _ (small_enough _ (if_small (r.0).from amounts (r.1 + width (r.0).parent + width (r.0).parent)
       8193000 amounts_few))
-      (and_from _ _ (small_enough _ (if_small (r.0).last amounts
-      (r.1 + width (r.0).parent + width (r.0).parent + width (r.0).first) 8193000 amounts_few))
-      (small_enough _ (amounts_few (r.1 + width (r.0).parent + width (r.0).parent + width (r.0).first
-      + width (r.0).last)))))))
+      (and_from _ _ (small_enough _ (if_small (r.0).until amounts
+      (r.1 + width (r.0).parent + width (r.0).parent + width (r.0).from) 8193000 amounts_few))
+      (small_enough _ (amounts_few (r.1 + width (r.0).parent + width (r.0).parent + width (r.0).from
+      + width (r.0).until)))))))
 
   sign_parent : (k at : ℕ) (row : SpanRow) → slice_get rows k ≡ Some row
       → (has_parent tree flow (read_row row amounts at)
@@ -156,7 +157,7 @@ module _ (tree : Rows) (nodes : List ℕ) (rows : List SpanRow) (amounts : List 
         (eq-eqb (amount_if row.parent amounts at) 0 (none_read row.parent amounts at none))
         (eq-eqb (amount_if row.parent amounts (at + 1)) 0 (none_read row.parent amounts (at + 1) none)))
     | inr some ↦
-        let p = parent_known tree nodes rows is_span k some.0 row h some.1 in
+        let p = parent_known tree nodes lengths rows is_span k some.0 row h some.1 in
         let f = flow_at rows amounts 0 some.0 p.0 p.1 in
         or_left (has_parent tree flow (read_row row amounts at))
         (eqb (amount_if row.parent amounts at) 0 && eqb (amount_if row.parent amounts (at + 1)) 0)
@@ -168,20 +169,20 @@ module _ (tree : Rows) (nodes : List ℕ) (rows : List SpanRow) (amounts : List 
 
   sign_access : (k a b : ℕ) (row : SpanRow) → slice_get rows k ≡ Some row
       → (is_accessed nodes row.node
-      || (eqb (amount_if row.first amounts a) 0 && eqb (amount_if row.last amounts b) 0)) ≡ true
+      || (eqb (amount_if row.from amounts a) 0 && eqb (amount_if row.until amounts b) 0)) ≡ true
   sign_access k a b row h = elim (cases_Bool (is_accessed nodes row.node)) [
     | inl some ↦ or_left (is_accessed nodes row.node)
-        (eqb (amount_if row.first amounts a) 0 && eqb (amount_if row.last amounts b) 0) some
+        (eqb (amount_if row.from amounts a) 0 && eqb (amount_if row.until amounts b) 0) some
     | inr none ↦
-        let e : row.first ≡ None = (is_span.accesses k row h).first
-        ∙ cond-false (is_accessed nodes row.node) (Some (first_access nodes row.node)) None none in
-        let f : row.last ≡ None = (is_span.accesses k row h).last
-        ∙ cond-false (is_accessed nodes row.node) (Some (last_end nodes row.node - 1)) None none in
+        let e : row.from ≡ None = (is_span.accesses k row h).from
+        ∙ cond-false (is_accessed nodes row.node) (Some (slots_before lengths (first_access nodes row.node))) None none in
+        let f : row.until ≡ None = (is_span.accesses k row h).until
+        ∙ cond-false (is_accessed nodes row.node) (Some (slots_before lengths (last_end nodes row.node))) None none in
         or_right (is_accessed nodes row.node)
-        (eqb (amount_if row.first amounts a) 0 && eqb (amount_if row.last amounts b) 0)
-        (and_from (eqb (amount_if row.first amounts a) 0) (eqb (amount_if row.last amounts b) 0)
-        (eq-eqb (amount_if row.first amounts a) 0 (none_read row.first amounts a e))
-        (eq-eqb (amount_if row.last amounts b) 0 (none_read row.last amounts b f)))
+        (eqb (amount_if row.from amounts a) 0 && eqb (amount_if row.until amounts b) 0)
+        (and_from (eqb (amount_if row.from amounts a) 0) (eqb (amount_if row.until amounts b) 0)
+        (eq-eqb (amount_if row.from amounts a) 0 (none_read row.from amounts a e))
+        (eq-eqb (amount_if row.until amounts b) 0 (none_read row.until amounts b f)))
   ]
 
   signs : AllRows (is_sign_ok tree nodes flow) flow
@@ -190,7 +191,7 @@ module _ (tree : Rows) (nodes : List ℕ) (rows : List SpanRow) (amounts : List 
       let P : FlowRow → Type 0 = λ g. is_sign_ok tree nodes flow g ≡ true in
       subst P (sym r.3) (and_from _ _ (sign_parent i r.1 r.0 r.2)
       (sign_access i (r.1 + width (r.0).parent + width (r.0).parent)
-      (r.1 + width (r.0).parent + width (r.0).parent + width (r.0).first) r.0 r.2))
+      (r.1 + width (r.0).parent + width (r.0).parent + width (r.0).from) r.0 r.2))
 
   pub balances : Balances tree nodes flow
   balances = record {
@@ -198,53 +199,58 @@ module _ (tree : Rows) (nodes : List ℕ) (rows : List SpanRow) (amounts : List 
         (read_nodes rows amounts 0 ∙ is_span.named);
     signs = signs;
     locks = λ i f h. let r = read_at rows amounts 0 i f h in
-        lock_balanced tree nodes rows amounts solved is_span solution i r.0 f r.2 h (ap node_of r.3);
+        lock_balanced tree nodes lengths rows amounts solved is_span solution i r.0 f r.2 h (ap node_of r.3);
     releases = λ i f h. let r = read_at rows amounts 0 i f h in
-        release_balanced tree nodes rows amounts solved is_span solution i r.0 f r.2 h (ap node_of r.3);
+        release_balanced tree nodes lengths rows amounts solved is_span solution i r.0 f r.2 h (ap node_of r.3);
   }
 
   module _ (places : List ℤ) (latest : IsLatest (2 * length rows + 1) (arcs_from (2 * length rows) 0 rows) amounts
-      (pos (length nodes)) places) (lock release : ℕ → ℕ)
-      (locks : (k : ℕ) (row : SpanRow) → slice_get rows k ≡ Some row → pos (lock row.node) ≡ place places (2 * k))
+      (pos (slots_before lengths (length nodes))) places) (lock release : ℕ → ℕ)
+      (low : (k : ℕ) (row : SpanRow) → slice_get rows k ≡ Some row
+      → (lock row.node ≤ length nodes) × (release row.node ≤ length nodes))
+      (locks : (k : ℕ) (row : SpanRow) → slice_get rows k ≡ Some row
+      → pos (slots_before lengths (lock row.node)) ≡ place places (2 * k))
       (releases : (k : ℕ) (row : SpanRow) → slice_get rows k ≡ Some row
-      → pos (release row.node) ≡ place places (2 * k + 1)) where
+      → pos (slots_before lengths (release row.node)) ≡ place places (2 * k + 1)) where
     are_places : ArePlaces tree nodes flow lock release
-    are_places = latest_are_places tree nodes rows amounts is_span places latest lock release locks releases
+    are_places = latest_are_places tree nodes lengths rows amounts is_span places latest lock release low locks releases
 
     abbrev pub plan : List Step
     plan = laid_out tree (spanned_nodes tree nodes) lock release (length nodes)
 
-    pub settles : IsSettled tree nodes plan
-    settles = Settling.settled tree nodes is_span.is_tree is_span.are_nodes flow lock release balances small are_places
+    pub settles : IsSettled tree nodes lengths plan
+    settles = Settling.settled tree nodes lengths is_span.is_tree is_span.are_nodes is_span.are_lengths is_span.paired flow lock release balances small are_places
 
-    pub certifies : IsCertificate tree nodes flow (cost tree plan)
-    certifies = Settling.certificate tree nodes is_span.is_tree is_span.are_nodes flow lock release balances small
+    pub certifies : IsCertificate tree nodes lengths flow (cost tree lengths plan)
+    certifies = Settling.certificate tree nodes lengths is_span.is_tree is_span.are_nodes is_span.are_lengths is_span.paired flow lock release balances small
         are_places
 
-    holding_is : (v : ℕ) → IsSpanned tree nodes v → holding plan v ≡ release v - lock v
+    holding_is : (v : ℕ) → IsSpanned tree nodes v → holding lengths plan v ≡ slots_before lengths (release v) - slots_before lengths (lock v)
     holding_is v sv =
-        let five : MeetsFive tree nodes plan = meets_five tree nodes plan is_span.is_tree settles.least.legal in
+        let five : MeetsFive tree nodes lengths plan = meets_five tree nodes lengths plan is_span.is_tree settles.least.legal in
         let a : lock_slot plan v ≡ lock v =
-        Settling.lock_is tree nodes is_span.is_tree is_span.are_nodes flow lock release balances small are_places
+        Settling.lock_is tree nodes lengths is_span.is_tree is_span.are_nodes is_span.are_lengths is_span.paired flow lock release balances small are_places
         v sv in
         let b : release_slot plan v ≡ release v =
-        Settling.release_is tree nodes is_span.is_tree is_span.are_nodes flow lock release balances small
+        Settling.release_is tree nodes lengths is_span.is_tree is_span.are_nodes is_span.are_lengths is_span.paired flow lock release balances small
         are_places v sv in
-        let c : lock_slot plan v + holding plan v ≡ release_slot plan v = five.holds v sv in
-        difference (lock v) (holding plan v) (release v) (omega arith)
+        let c : lock_time lengths plan v + holding lengths plan v ≡ release_time lengths plan v = five.holds v sv in
+        let d : lock_time lengths plan v ≡ slots_before lengths (lock v) = ap (slots_before lengths) a in
+        let e : release_time lengths plan v ≡ slots_before lengths (release v) = ap (slots_before lengths) b in
+        difference (slots_before lengths (lock v)) (holding lengths plan v) (slots_before lengths (release v)) (omega arith)
 
     -- the cost, row by row
-    pub costs : cost tree plan ≡ sum_by (λ row. weight_of tree row.node * (release row.node - lock row.node)) rows
+    pub costs : cost tree lengths plan ≡ sum_by (λ row. weight_of tree row.node * (slots_before lengths (release row.node) - slots_before lengths (lock row.node))) rows
     costs =
-        sum_same (length tree) (λ v. weight_of tree v * holding plan v)
-        (λ v. cond (is_spanned tree nodes v) (weight_of tree v * holding plan v) 0)
-        (λ v lt. part_all (is_spanned tree nodes v) (weight_of tree v) (holding plan v)
-        (unspanned_free tree nodes plan v is_span.is_tree (λ i w h. Settling.locks_spanned tree nodes is_span.is_tree
-        is_span.are_nodes flow lock release balances small are_places w (i, h))))
-        ∙ (sym (sums_passing (λ v. weight_of tree v * holding plan v) (length tree) (is_spanned tree nodes))
-        ∙ (ap (λ l. sum_by (λ v. weight_of tree v * holding plan v) l) (sym is_span.named)
-        ∙ (sums_map (λ v. weight_of tree v * holding plan v) node_of_row rows
-        ∙ sums_same (λ (row : SpanRow). weight_of tree row.node * holding plan row.node)
-        (λ row. weight_of tree row.node * (release row.node - lock row.node)) rows
+        sum_same (length tree) (λ v. weight_of tree v * holding lengths plan v)
+        (λ v. cond (is_spanned tree nodes v) (weight_of tree v * holding lengths plan v) 0)
+        (λ v lt. part_all (is_spanned tree nodes v) (weight_of tree v) (holding lengths plan v)
+        (unspanned_free tree nodes lengths plan v is_span.is_tree (λ i w h. Settling.locks_spanned tree nodes lengths is_span.is_tree
+        is_span.are_nodes is_span.are_lengths is_span.paired flow lock release balances small are_places w (i, h))))
+        ∙ (sym (sums_passing (λ v. weight_of tree v * holding lengths plan v) (length tree) (is_spanned tree nodes))
+        ∙ (ap (λ l. sum_by (λ v. weight_of tree v * holding lengths plan v) l) (sym is_span.named)
+        ∙ (sums_map (λ v. weight_of tree v * holding lengths plan v) node_of_row rows
+        ∙ sums_same (λ (row : SpanRow). weight_of tree row.node * holding lengths plan row.node)
+        (λ row. weight_of tree row.node * (slots_before lengths (release row.node) - slots_before lengths (lock row.node))) rows
         (λ k row h. ap (λ n. weight_of tree row.node * n) (holding_is row.node
-        (row_spanned tree nodes rows is_span k row h))))))
+        (row_spanned tree nodes lengths rows is_span k row h))))))

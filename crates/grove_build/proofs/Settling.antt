@@ -6,22 +6,24 @@ use Rattle.std.proofs.lemmas.Option.{same_Some, slice_get_within}
 use Rattle.std.proofs.lemmas.Bool.{cases_Bool}
 use Rattle.grove_tree.specs.Trees.{Rows, parent_of, IsTree}
 use Rattle.grove_tree.specs.Numbers.{numbers_below, passing_below, alone}
-use Rattle.grove_tree.proofs.Counting.{count_mono, numbers_length}
+use Rattle.grove_tree.proofs.Counting.{count_mono, numbers_length, least_is, last_is}
 use Rattle.grove_tree.proofs.Lists.{get_map}
 use Rattle.grove_tree.proofs.Tests.{is_at_true}
 use Rattle.grove_tree.proofs.Ups.{parent_lt, above_le}
-use Rattle.grove_access.specs.Lists.{AreNodes}
-use Rattle.grove_access.specs.Spanned.{IsSpanned, is_spanned, spanned_nodes, is_accessed}
+use Rattle.grove_access.specs.Lists.{AreNodes, AreLengths}
+use Rattle.grove_access.specs.Slots.{slots_before}
+use Rattle.grove_access.proofs.Slots.{slots_tell}
+use Rattle.grove_access.specs.Spanned.{IsSpanned, is_spanned, spanned_nodes, names_at, is_accessed, first_access, last_end}
 use Rattle.grove_access.proofs.Spans.{spanned_listed, listed_spanned, accessed_is_spanned, spanned_step}
 use Rattle.grove_plan.specs.declared.step.Step.{Step}
 use Rattle.grove_plan.specs.Plans.{is_access, accesses_of, cost, IsLegal, IsLeast, IsLockedBy}
 use Rattle.grove_plan.specs.Slots.{accesses_before, lock_slot, release_slot}
 use Rattle.grove_plan.proofs.Holding.{accesses_length}
 use Rattle.grove_proof.specs.declared.flow.FlowRow.{FlowRow}
-use Rattle.grove_proof.specs.Five.{MeetsFive}
+use Rattle.grove_proof.specs.Five.{lock_time, release_time}
 use Rattle.grove_proof.specs.Flows.{node_of, is_small, AllRows, gains, losses, Balances, IsCertificate}
 use Rattle.grove_proof.proofs.Listed.{forced_are_spanned, span_is_forced_list}
-use Rattle.grove_proof.proofs.Constraints.{legal_meets_five}
+use Rattle.grove_proof.proofs.Constraints.{KeepsOrder, keeps_order, legal_meets_five}
 use Rattle.grove_proof.proofs.Duality.{parent_row, has_signs, IsTight, tight_is_certified, certified_is_least}
 use Rattle.grove_build.specs.Layout.{laid_out}
 use Rattle.grove_build.specs.Settled.{IsSettled}
@@ -41,7 +43,8 @@ passing_rise zero test = omega arith
 passing_rise (suc n) test = rises_append itself 0 n (suc n) (passing_below n test) (alone (test n) n)
     (passing_rise n test) (alone_rises (test n) n)
 
-module _ (rows : Rows) (nodes : List ℕ) (is_tree : IsTree rows) (are_nodes : AreNodes rows nodes) where
+module _ (rows : Rows) (nodes lengths : List ℕ) (is_tree : IsTree rows) (are_nodes : AreNodes rows nodes)
+    (are_lengths : AreLengths lengths) (paired : length lengths ≡ length nodes) where
   abbrev span : List ℕ
   span = spanned_nodes rows nodes
 
@@ -54,14 +57,14 @@ module _ (rows : Rows) (nodes : List ℕ) (is_tree : IsTree rows) (are_nodes : A
   -- the slots of a legal plan fit
   pub slots_fit : (plan : List Step) → IsLegal rows nodes plan → Fits rows nodes (lock_slot plan) (release_slot plan)
   slots_fit plan legal =
-      let both = legal_meets_five rows nodes plan is_tree legal in
-      let five : MeetsFive rows nodes plan = both.0 in
+      let both = legal_meets_five rows nodes lengths plan is_tree legal in
+      let order : KeepsOrder rows nodes plan = keeps_order rows nodes plan is_tree legal in
       record {
-        above = five.above;
-        held = five.held;
-        first = five.first;
-        last = five.last;
-        own = five.own;
+        above = order.above;
+        held = order.held;
+        first = order.first;
+        last = order.last;
+        own = order.own;
         top = λ v sv.
             let u = (both.1 v sv).1 in
             let lt : u.0 < length plan = slice_get_within plan u.0 _ u.1 in
@@ -117,16 +120,16 @@ module _ (rows : Rows) (nodes : List ℕ) (is_tree : IsTree rows) (are_nodes : A
     flow_spanned i row h = (forced_are_spanned rows nodes row.node is_tree are_nodes).0
         ((balances.forced.forced row.node).0 (i, get_map node_of flow i row h))
 
-    laid_is_tight : IsTight rows nodes flow plan
+    laid_is_tight : IsTight rows nodes lengths flow plan
     laid_is_tight = record {
       above = λ i row parent h up some. elim (parent_row rows flow row) [
         | inl over ↦
             let e : over.1.node ≡ parent =
             same_Some over.1.node parent (sym (is_at_true over.1.node (parent_of rows row.node) over.3) ∙ up) in
-            let P : ℕ → Type 0 = λ p. lock_slot plan p ≡ lock_slot plan row.node in
-            subst P e (lock_is over.1.node (flow_spanned over.0 over.1 over.2)
+            let P : ℕ → Type 0 = λ p. lock_time lengths plan p ≡ lock_time lengths plan row.node in
+            subst P e (ap (slots_before lengths) (lock_is over.1.node (flow_spanned over.0 over.1 over.2)
             ∙ (places.tight.above i over.0 row over.1 h over.2 over.3 some
-            ∙ sym (lock_is row.node (flow_spanned i row h))))
+            ∙ sym (lock_is row.node (flow_spanned i row h)))))
         | inr none ↦ let z = ((has_signs rows nodes flow row (balances.signs i row h)).top none).0 in
             absurd (omega arith)
       ];
@@ -134,43 +137,64 @@ module _ (rows : Rows) (nodes : List ℕ) (is_tree : IsTree rows) (are_nodes : A
         | inl over ↦
             let e : over.1.node ≡ parent =
             same_Some over.1.node parent (sym (is_at_true over.1.node (parent_of rows row.node) over.3) ∙ up) in
-            let P : ℕ → Type 0 = λ p. lock_slot plan row.node ≡ release_slot plan p in
-            subst P e (lock_is row.node (flow_spanned i row h)
+            let P : ℕ → Type 0 = λ p. lock_time lengths plan row.node ≡ release_time lengths plan p in
+            subst P e (ap (slots_before lengths) (lock_is row.node (flow_spanned i row h)
             ∙ (places.tight.held i over.0 row over.1 h over.2 over.3 some
-            ∙ sym (release_is over.1.node (flow_spanned over.0 over.1 over.2))))
+            ∙ sym (release_is over.1.node (flow_spanned over.0 over.1 over.2)))))
         | inr none ↦ let z = ((has_signs rows nodes flow row (balances.signs i row h)).top none).1 in
             absurd (omega arith)
       ];
       first = λ i row h some. elim (cases_Bool (is_accessed nodes row.node)) [
-        | inl some_access ↦ lock_is row.node (flow_spanned i row h) ∙ places.tight.first i row h some_access some
+        | inl some_access ↦ ap (slots_before lengths) (lock_is row.node (flow_spanned i row h) ∙ places.tight.first i row h some_access some)
         | inr none ↦ let z = ((has_signs rows nodes flow row (balances.signs i row h)).unaccessed none).0 in
             absurd (omega arith)
       ];
       last = λ i row h some. elim (cases_Bool (is_accessed nodes row.node)) [
-        | inl some_access ↦ places.tight.last i row h some_access some
-            ∙ sym (release_is row.node (flow_spanned i row h))
+        | inl some_access ↦ ap (slots_before lengths) (places.tight.last i row h some_access some
+            ∙ sym (release_is row.node (flow_spanned i row h)))
         | inr none ↦ let z = ((has_signs rows nodes flow row (balances.signs i row h)).unaccessed none).1 in
             absurd (omega arith)
       ];
-      own = λ i row h some. lock_is row.node (flow_spanned i row h)
-          ∙ (places.tight.own i row h some ∙ sym (release_is row.node (flow_spanned i row h)));
+      own = λ i row h some. ap (slots_before lengths) (lock_is row.node (flow_spanned i row h)
+          ∙ (places.tight.own i row h some ∙ sym (release_is row.node (flow_spanned i row h))));
     }
 
-    pub certificate : IsCertificate rows nodes flow (cost rows plan)
-    certificate = tight_is_certified rows nodes flow plan is_tree are_nodes legal balances small
+    pub certificate : IsCertificate rows nodes lengths flow (cost rows lengths plan)
+    certificate = tight_is_certified rows nodes lengths flow plan is_tree are_nodes legal balances small
         (λ i v h. locks_spanned v (i, h)) laid_is_tight
 
-    pub least : IsLeast rows nodes plan
-    least = certified_is_least rows nodes flow plan is_tree are_nodes legal certificate
+    pub least : IsLeast rows nodes lengths plan
+    least = certified_is_least rows nodes lengths flow plan is_tree are_nodes legal certificate
 
-    other_tight : (other : List Step) → IsLeast rows nodes other
+    -- accesses with the same slots before them are the same
+    same_slots : (i j : ℕ) → i ≤ m → j ≤ m → slots_before lengths i ≡ slots_before lengths j → i ≡ j
+    same_slots i j a b = slots_tell lengths i j are_lengths (omega arith) (omega arith)
+
+    other_tight : (other : List Step) → IsLeast rows nodes lengths other
         → AreTight rows nodes flow (lock_slot other) (release_slot other)
     other_tight other o =
-        let a : cost rows other ≤ cost rows plan = o.least plan legal in
-        let b : gains nodes flow ≡ cost rows plan + losses nodes flow = certificate.value in
-        cheap_is_tight rows nodes flow other is_tree are_nodes balances o.legal (omega arith)
+        let a : cost rows lengths other ≤ cost rows lengths plan = o.least plan legal in
+        let b : gains nodes lengths flow ≡ cost rows lengths plan + losses nodes lengths flow = certificate.value in
+        let t = cheap_is_tight rows nodes lengths flow other is_tree are_nodes balances o.legal (omega arith) in
+        let fits : Fits rows nodes (lock_slot other) (release_slot other) = slots_fit other o.legal in
+        let low : (v : ℕ) → IsSpanned rows nodes v → lock_slot other v ≤ m = λ v sv.
+        let own : lock_slot other v ≤ release_slot other v = fits.own v sv in
+        let top : release_slot other v ≤ m = fits.top v sv in omega arith in
+        record {
+          above = λ i j row parent g h child some. same_slots _ _ (low parent.node (flow_spanned j parent h)) (low row.node (flow_spanned i row g))
+              (t.above i j row parent g h child some);
+          held = λ i j row parent g h child some. same_slots _ _ (low row.node (flow_spanned i row g)) (fits.top parent.node (flow_spanned j parent h))
+              (t.held i j row parent g h child some);
+          first = λ i row g accessed some. same_slots _ _ (low row.node (flow_spanned i row g))
+              (let l = least_is (length nodes) (names_at nodes row.node) accessed in let lt : first_access nodes row.node < length nodes = l.0 in omega arith)
+              (t.first i row g accessed some);
+          last = λ i row g accessed some. same_slots _ _
+              (let l = last_is (length nodes) (names_at nodes row.node) accessed in let is : last_end nodes row.node ≡ suc l.0 = l.1 in let lt : l.0 < length nodes = l.2 in omega arith)
+              (fits.top row.node (flow_spanned i row g)) (t.last i row g accessed some);
+          own = λ i row g some. same_slots _ _ (low row.node (flow_spanned i row g)) (fits.top row.node (flow_spanned i row g)) (t.own i row g some);
+        }
 
-    pub settled : IsSettled rows nodes plan
+    pub settled : IsSettled rows nodes lengths plan
     settled = record {
       least = least;
       locks = λ v. (

@@ -3,10 +3,11 @@ use Rattle.std.proofs.Common.{◌≡◌, ℕ, zero, suc, ◌+◌, ◌-◌, ◌*�
 use Rattle.std.specs.Prelude.{slice_index}
 use Rattle.std.specs.List.{slice_get}
 use Rattle.std.specs.Option.{option_and_then}
-use Rattle.std.proofs.lemmas.List.{take_more, take_all, drop_all}
+use Rattle.std.proofs.lemmas.List.{take_more, take_all, drop_all, map-append}
 use Rattle.std.proofs.lemmas.List.Edits.{map_over_more}
 use Rattle.std.proofs.lemmas.List.Sums.{sum_by-cons, sum_by-append}
 use Rattle.std.proofs.lemmas.Bool.{cases_eq, and_right, and_from}
+use Rattle.grove_access.specs.Slots.{slots_before}
 use Rattle.grove_tree.specs.Trees.{Rows, weight_of, is_at}
 use Rattle.grove_proof.specs.declared.flow.FlowRow.{FlowRow}
 use Rattle.grove_span.specs.declared.row.SpanRow.{SpanRow}
@@ -26,27 +27,28 @@ difference_le : (a b c : ℕ) → a ≤ c → a - b ≤ c
 difference_le a b c h = omega arith
 
 -- the cost of one more stay
-pub cost_more : (tree : Rows) (stays : List Stay) (i cost a b : ℕ) (stay : Stay) → i < length stays
+pub cost_more : (tree : Rows) (lengths : List ℕ) (stays : List Stay) (i cost a b : ℕ) (stay : Stay) → i < length stays
     → stay ≡ get_or stays i stay
-    → (cost ≡ stays_cost tree (take i stays)) × (cost ≤ 64000 * i) → a ≡ weight_of tree stay.node
-    → b ≡ stay.release - stay.lock → weight_of tree stay.node ≤ 1000 → stay.release ≤ 64
-    → (cost + a * b ≡ stays_cost tree (take (i + 1) stays)) × (cost + a * b ≤ 64000 * (i + 1))
-cost_more tree stays i cost a b stay lt is so_far ea eb light end =
-    let f : Stay → ℕ = λ s. weight_of tree s.node * (s.release - s.lock) in
+    → (cost ≡ stays_cost tree lengths (take i stays)) × (cost ≤ 64000000 * i) → a ≡ weight_of tree stay.node
+    → b ≡ slots_before lengths stay.release - slots_before lengths stay.lock → weight_of tree stay.node ≤ 1000
+    → slots_before lengths stay.release ≤ 64000
+    → (cost + a * b ≡ stays_cost tree lengths (take (i + 1) stays)) × (cost + a * b ≤ 64000000 * (i + 1))
+cost_more tree lengths stays i cost a b stay lt is so_far ea eb light end =
+    let f : Stay → ℕ = λ s. weight_of tree s.node * (slots_before lengths s.release - slots_before lengths s.lock) in
     let t : take (i + 1) stays ≡ take i stays ++ stay ∷ [] =
     take_more stays i stay lt ∙ ap (λ s. take i stays ++ s ∷ []) (sym is) in
-    let u : stays_cost tree (take (i + 1) stays) ≡ stays_cost tree (take i stays ++ stay ∷ []) =
-    ap (λ l. stays_cost tree l) t in
-    let v : a * b ≡ weight_of tree stay.node * (stay.release - stay.lock) = ap₂ (λ x y. x * y) ea eb in
-    let m : weight_of tree stay.node * (stay.release - stay.lock) ≤ 1000 * 64 =
-    product_le (weight_of tree stay.node) 1000 (stay.release - stay.lock) 64 light
-    (difference_le stay.release stay.lock 64 end) in
-    let c : cost ≡ stays_cost tree (take i stays) = so_far.0 in
-    let d : cost ≤ 64000 * i = so_far.1 in (
+    let u : stays_cost tree lengths (take (i + 1) stays) ≡ stays_cost tree lengths (take i stays ++ stay ∷ []) =
+    ap (λ l. stays_cost tree lengths l) t in
+    let v : a * b ≡ weight_of tree stay.node * (slots_before lengths stay.release - slots_before lengths stay.lock) = ap₂ (λ x y. x * y) ea eb in
+    let m : weight_of tree stay.node * (slots_before lengths stay.release - slots_before lengths stay.lock) ≤ 1000 * 64000 =
+    product_le (weight_of tree stay.node) 1000 (slots_before lengths stay.release - slots_before lengths stay.lock) 64000 light
+    (difference_le (slots_before lengths stay.release) (slots_before lengths stay.lock) 64000 end) in
+    let c : cost ≡ stays_cost tree lengths (take i stays) = so_far.0 in
+    let d : cost ≤ 64000000 * i = so_far.1 in (
       omega (
         arith,
-        sum_by-append (λ s. weight_of tree s.node * (s.release - s.lock)) (take i stays) (stay ∷ []),
-        sum_by-cons (λ s. weight_of tree s.node * (s.release - s.lock)) stay [],
+        sum_by-append (λ s. weight_of tree s.node * (slots_before lengths s.release - slots_before lengths s.lock)) (take i stays) (stay ∷ []),
+        sum_by-cons (λ s. weight_of tree s.node * (slots_before lengths s.release - slots_before lengths s.lock)) stay [],
       ),
       omega arith,
     )
@@ -161,3 +163,11 @@ pub take_whole : (xs ys : List ℤ) (n : ℕ) → n ≡ length xs → length ys 
 take_whole xs ys n e f =
     ap (λ l. take n (xs ++ l)) (drop_all (length xs) ys (let a : length ys ≤ length xs = omega arith in a))
     ∙ (ap (λ l. take n l) (append-nil xs) ∙ take_all n xs (let a : length xs ≤ n = omega arith in a))
+
+-- one more gap read
+pub gaps_more : (f : ℤ → ℕ) (places : List ℤ) (i : ℕ) (gaps : List ℕ) (gap : ℕ) (d : ℤ) → i < length places
+    → gaps ≡ map f (take i places) → gap ≡ f (get_or places i d)
+    → gaps ++ gap ∷ [] ≡ map f (take (i + 1) places)
+gaps_more f places i gaps gap d lt so_far is =
+    ap₂ (λ a b. a ++ b ∷ []) so_far is
+    ∙ (sym (map-append f (take i places) (get_or places i d ∷ [])) ∙ ap (map f) (sym (take_more places i d lt)))

@@ -1,9 +1,11 @@
 -- The network of a list's nodes: arcs and needs in the rows' order, and the flow's rows read back from amounts in
 -- that order.
-use Rattle.std.specs.Prelude.{◌≡◌, ℕ, ◌<◌, ◌≤◌, length, slice_get, map, ◌+◌, ◌*◌, suc, List, [], ◌∷◌, ◌++◌, slice_index, Option, Some, None, ℤ, pos, neg_ℤ, int_lt, if◌then◌else◌}
+use Rattle.std.specs.Prelude.{◌≡◌, ℕ, ◌<◌, ◌≤◌, length, slice_get, map, ◌+◌, ◌*◌, suc, List, [], ◌∷◌, ◌++◌, slice_index, Option, Some, None, ℤ, pos, neg_ℤ, int_lt, ◌==◌, if◌then◌else◌}
 use borrow.Author.Differences.{up}
+use Rattle.grove_tree.specs.Numbers.{least_below}
 use Rattle.grove_tree.specs.Trees.{Rows, weight_of, IsTree}
-use Rattle.grove_access.specs.Lists.{AreNodes}
+use Rattle.grove_access.specs.Lists.{AreNodes, AreLengths}
+use Rattle.grove_access.specs.Slots.{slots_before}
 use Rattle.grove_access.specs.Spanned.{spanned_nodes}
 use Rattle.grove_proof.specs.declared.flow.FlowRow.{FlowRow}
 use Rattle.grove_span.specs.declared.row.SpanRow.{SpanRow}
@@ -20,21 +22,21 @@ abbrev pub parent_arcs : ℕ → Option ℕ → List Arc
 parent_arcs k None = []
 parent_arcs k (Some parent) = arc (2 * parent) (2 * k) (pos 0) ∷ (arc (2 * k) (2 * parent + 1) (pos 0) ∷ [])
 
--- the node is locked before its first access
+-- the node is locked before the slots of its first access
 abbrev pub first_arcs : ℕ → ℕ → Option ℕ → List Arc
 first_arcs base k None = []
-first_arcs base k (Some first) = arc (2 * k) base (neg_ℤ (pos first)) ∷ []
+first_arcs base k (Some from) = arc (2 * k) base (neg_ℤ (pos from)) ∷ []
 
--- the node isn't released before its last access is done
+-- the node isn't released before those of its last access are over
 abbrev pub last_arcs : ℕ → ℕ → Option ℕ → List Arc
 last_arcs base k None = []
-last_arcs base k (Some last) = arc base (2 * k + 1) (pos (last + 1)) ∷ []
+last_arcs base k (Some until) = arc base (2 * k + 1) (pos until) ∷ []
 
 -- the arcs of the row at place k
 abbrev pub row_arcs : ℕ → ℕ → SpanRow → List Arc
 row_arcs base k row =
     parent_arcs k row.parent
-    ++ (first_arcs base k row.first ++ (last_arcs base k row.last ++ arc (2 * k) (2 * k + 1) (pos 0) ∷ []))
+    ++ (first_arcs base k row.from ++ (last_arcs base k row.until ++ arc (2 * k) (2 * k + 1) (pos 0) ∷ []))
 
 -- the arcs of the rows from place k on
 abbrev pub arcs_from : ℕ → ℕ → List SpanRow → List Arc
@@ -47,14 +49,18 @@ needs_of tree [] = pos 0 ∷ []
 needs_of tree (row ∷ rows) =
     neg_ℤ (pos (weight_of tree row.node)) ∷ (pos (weight_of tree row.node) ∷ needs_of tree rows)
 
--- the places to begin from: every lock at 0, every release after all accesses
+-- the places to begin from: every lock at 0, every release after all slots
 abbrev pub start_of : ℕ → List SpanRow → List ℤ
-start_of m [] = pos 0 ∷ []
-start_of m (row ∷ rows) = pos 0 ∷ (pos m ∷ start_of m rows)
+start_of slots [] = pos 0 ∷ []
+start_of slots (row ∷ rows) = pos 0 ∷ (pos slots ∷ start_of slots rows)
 
 -- a place, or the top where that is less
 abbrev pub lowered : ℤ → ℤ → ℤ
 lowered top place = if int_lt top place then top else place
+
+-- for how many of the first m accesses a place comes after their slots, where it stands between two accesses
+abbrev pub gap_at : List ℕ → ℕ → ℤ → ℕ
+gap_at lengths m place = least_below (suc m) (λ gap. slots_before lengths gap == up place)
 
 -- the number of arcs that something which may be missing has
 abbrev pub width : Option ℕ → ℕ
@@ -62,7 +68,7 @@ width None = 0
 width (Some x) = 1
 
 abbrev pub row_width : SpanRow → ℕ
-row_width row = width row.parent + width row.parent + width row.first + width row.last + 1
+row_width row = width row.parent + width row.parent + width row.from + width row.until + 1
 
 -- the amount at a place, where there is the arc
 abbrev pub amount_if : Option ℕ → List ℕ → ℕ → ℕ
@@ -75,9 +81,9 @@ read_row row amounts at = record {
   node = row.node;
   above = amount_if row.parent amounts at;
   held = amount_if row.parent amounts (at + 1);
-  first = amount_if row.first amounts (at + width row.parent + width row.parent);
-  last = amount_if row.last amounts (at + width row.parent + width row.parent + width row.first);
-  own = slice_index amounts (at + width row.parent + width row.parent + width row.first + width row.last);
+  first = amount_if row.from amounts (at + width row.parent + width row.parent);
+  last = amount_if row.until amounts (at + width row.parent + width row.parent + width row.from);
+  own = slice_index amounts (at + width row.parent + width row.parent + width row.from + width row.until);
 }
 
 abbrev pub read_rows : List SpanRow → List ℕ → ℕ → List FlowRow
@@ -91,17 +97,19 @@ pub record AreRowsOf (tree : Rows) (rows : List SpanRow) : Type 0 where
   pub parents : (i j : ℕ) (row : SpanRow) → slice_get rows i ≡ Some row → row.parent ≡ Some j → j < length rows
 
 -- the span of a list over a tree
-pub record IsSpan (tree : Rows) (nodes : List ℕ) (rows : List SpanRow) : Type 0 where
+pub record IsSpan (tree : Rows) (nodes lengths : List ℕ) (rows : List SpanRow) : Type 0 where
   pub is_tree : IsTree tree
   pub are_nodes : AreNodes tree nodes
   pub named : map node_of_row rows ≡ spanned_nodes tree nodes
   pub parents : HaveParents tree nodes rows
-  pub accesses : HaveAccesses nodes rows
+  pub accesses : HaveAccesses nodes lengths rows
+  pub are_lengths : AreLengths lengths
+  pub paired : length lengths ≡ length nodes
 
 -- Amounts that meet the needs of the rows' network, and its latest places along them, as gaps.
-pub record IsSolved (tree : Rows) (m : ℕ) (rows : List SpanRow) (amounts gaps : List ℕ) : Type 0 where
+pub record IsSolved (tree : Rows) (lengths : List ℕ) (m : ℕ) (rows : List SpanRow) (amounts gaps : List ℕ) : Type 0 where
   pub solved : List ℤ
   pub solution : IsSolution (needs_of tree rows) (arcs_from (2 * length rows) 0 rows) amounts solved
   pub places : List ℤ
-  pub latest : IsLatest (2 * length rows + 1) (arcs_from (2 * length rows) 0 rows) amounts (pos m) places
-  pub are_gaps : gaps ≡ map up places
+  pub latest : IsLatest (2 * length rows + 1) (arcs_from (2 * length rows) 0 rows) amounts (pos (slots_before lengths m)) places
+  pub are_gaps : gaps ≡ map (gap_at lengths m) places

@@ -25,14 +25,14 @@ fn read_row(row: &SpanRow, amounts: &[u64], at: usize) -> FlowRow
     ensures { result ≡ read_row row.now amounts.now at }
 {
     let first = at + width(row.parent) + width(row.parent);
-    let last = first + width(row.first);
-    let own = last + width(row.last);
+    let last = first + width(row.from);
+    let own = last + width(row.until);
     FlowRow {
         node: row.node,
         above: amount_if(row.parent, amounts, at),
         held: amount_if(row.parent, amounts, at + 1),
-        first: amount_if(row.first, amounts, first),
-        last: amount_if(row.last, amounts, last),
+        first: amount_if(row.from, amounts, first),
+        last: amount_if(row.until, amounts, last),
         own: amounts[own],
     }
 }
@@ -40,7 +40,7 @@ fn read_row(row: &SpanRow, amounts: &[u64], at: usize) -> FlowRow
 fn row_width(row: &SpanRow) -> usize
     ensures { result ≡ row_width row.now }
 {
-    width(row.parent) + width(row.parent) + width(row.first) + width(row.last) + 1
+    width(row.parent) + width(row.parent) + width(row.from) + width(row.until) + 1
 }
 
 fn width(constraint: Option<u32>) -> usize

@@ -2,12 +2,10 @@
 #![tactic(auto)]
 
 pub use batch::plan_batch;
-pub use laws::settled_once;
+pub use laws::settled_laws;
 pub use planning::{Planned, plan};
 
 mod batch;
-#[cfg(test)]
-mod batch_tests;
 mod flow_rows;
 mod laws;
 mod network;
@@ -17,5 +15,3 @@ mod solving;
 mod stays;
 mod steps;
 mod targets;
-#[cfg(test)]
-mod tests;

@@ -35,8 +35,8 @@ fn push_row(arcs: &mut Vec<Arc>, base: u32, k: u32, row: &SpanRow) -> Result<(),
     ensures { OnOk result (arcs.new.items ≡ arcs.old.items ++ row_arcs base k row.now) }
 {
     push_parent(arcs, k, row.parent)?;
-    push_first(arcs, base, k, row.first)?;
-    push_last(arcs, base, k, row.last)?;
+    push_first(arcs, base, k, row.from)?;
+    push_last(arcs, base, k, row.until)?;
     arcs.push(Arc {
         from: 2 * k,
         to: 2 * k + 1,
@@ -65,12 +65,12 @@ fn push_parent(arcs: &mut Vec<Arc>, k: u32, parent: Option<u32>) -> Result<(), N
     Ok(())
 }
 
-fn push_first(arcs: &mut Vec<Arc>, base: u32, k: u32, first: Option<u32>) -> Result<(), NoMemory>
+fn push_first(arcs: &mut Vec<Arc>, base: u32, k: u32, from: Option<u32>) -> Result<(), NoMemory>
     requires place { k < 4096 }
-    ensures { OnOk result (arcs.new.items ≡ arcs.old.items ++ first_arcs base k first) }
+    ensures { OnOk result (arcs.new.items ≡ arcs.old.items ++ first_arcs base k from) }
 {
-    if let Some(first) = first {
-        let least = -i64::from(first);
+    if let Some(from) = from {
+        let least = -i64::from(from);
         arcs.push(Arc {
             from: 2 * k,
             to: base,
@@ -80,12 +80,12 @@ fn push_first(arcs: &mut Vec<Arc>, base: u32, k: u32, first: Option<u32>) -> Res
     Ok(())
 }
 
-fn push_last(arcs: &mut Vec<Arc>, base: u32, k: u32, last: Option<u32>) -> Result<(), NoMemory>
+fn push_last(arcs: &mut Vec<Arc>, base: u32, k: u32, until: Option<u32>) -> Result<(), NoMemory>
     requires place { k < 4096 }
-    ensures { OnOk result (arcs.new.items ≡ arcs.old.items ++ last_arcs base k last) }
+    ensures { OnOk result (arcs.new.items ≡ arcs.old.items ++ last_arcs base k until) }
 {
-    if let Some(last) = last {
-        let least = i64::from(last) + 1;
+    if let Some(until) = until {
+        let least = i64::from(until);
         arcs.push(Arc {
             from: base,
             to: 2 * k + 1,
@@ -109,11 +109,11 @@ fn needs_of(alloc: Global, tree: &Tree, rows: &[SpanRow]) -> Result<Vec<i64>, No
     Ok(needs)
 }
 
-/// The places to begin from: every lock before the first access, every release after the last of `accesses`.
-pub fn start_of(alloc: Global, rows: &[SpanRow], accesses: u32) -> Result<Vec<i64>, NoMemory>
-    ensures { IfOk result (λ start. start.items ≡ start_of accesses rows.now) }
+/// The places to begin from: every lock before the first access, every release after all `slots`.
+pub fn start_of(alloc: Global, rows: &[SpanRow], slots: u32) -> Result<Vec<i64>, NoMemory>
+    ensures { IfOk result (λ start. start.items ≡ start_of slots rows.now) }
 {
-    let end = i64::from(accesses);
+    let end = i64::from(slots);
     let mut start = Vec::new(alloc);
     for _row in rows {
         start.push(0)?;

@@ -1,5 +1,5 @@
 ghost use Rattle.std.specs.Prelude.{◌≡◌, length, IfOk};
-ghost use Rattle.grove_access.specs.Lists.{nodes_of, AreNodes};
+ghost use Rattle.grove_access.specs.Lists.{nodes_of, lengths_of, AreNodes};
 ghost use Rattle.grove_plan.specs.Plans.{IsLeast, cost};
 ghost use Rattle.grove_proof.specs.Flows.{IsCertificate};
 ghost use Rattle.grove_build.specs.Settled.{IsSettled};
@@ -29,13 +29,14 @@ pub struct Planned {
 /// The settled plan of the list. The only refusal is for want of memory.
 pub fn plan(alloc: Global, tree: &Tree, list: &AccessList) -> Result<Planned, NoMemory>
     requires fits { AreNodes tree.now (nodes_of list.now) }
-    ensures settled { IfOk result (λ planned. IsSettled tree.now (nodes_of list.now) planned.plan) }
-    ensures least { IfOk result (λ planned. IsLeast tree.now (nodes_of list.now) planned.plan) }
-    ensures cost { IfOk result (λ planned. planned.cost ≡ cost tree.now planned.plan) }
-    ensures certificate { IfOk result (λ planned. IsCertificate tree.now (nodes_of list.now) planned.flow (cost tree.now planned.plan)) }
+    ensures settled { IfOk result (λ planned. IsSettled tree.now (nodes_of list.now) (lengths_of list.now) planned.plan) }
+    ensures least { IfOk result (λ planned. IsLeast tree.now (nodes_of list.now) (lengths_of list.now) planned.plan) }
+    ensures cost { IfOk result (λ planned. planned.cost ≡ cost tree.now (lengths_of list.now) planned.plan) }
+    ensures certificate { IfOk result (λ planned. IsCertificate tree.now (nodes_of list.now) (lengths_of list.now) planned.flow (cost tree.now (lengths_of list.now) planned.plan)) }
 {
-    // That the rows are a tree's is told with their number.
+    // That the rows are a tree's is told with their number, and that the lengths are lengths with theirs.
     let _nodes = tree.len();
+    let _accesses = list.len();
     let rows = span(alloc, tree, list)?;
     let solved = solve_rows(alloc, tree, list, &rows)?;
     settle(alloc, tree, list, &rows, &solved)
@@ -49,11 +50,11 @@ fn settle(
     rows: &[SpanRow],
     solved: &Solved,
 ) -> Result<Planned, NoMemory>
-    requires span { IsSpan tree.now (nodes_of list.now) rows.now }
-    requires solved { IsSolved tree.now (length (nodes_of list.now)) rows.now solved.now.amounts.items solved.now.gaps.items }
-    ensures settled { IfOk result (λ planned. IsSettled tree.now (nodes_of list.now) planned.plan) }
-    ensures cost { IfOk result (λ planned. planned.cost ≡ cost tree.now planned.plan) }
-    ensures certificate { IfOk result (λ planned. IsCertificate tree.now (nodes_of list.now) planned.flow (cost tree.now planned.plan)) }
+    requires span { IsSpan tree.now (nodes_of list.now) (lengths_of list.now) rows.now }
+    requires solved { IsSolved tree.now (lengths_of list.now) (length (nodes_of list.now)) rows.now solved.now.amounts.items solved.now.gaps.items }
+    ensures settled { IfOk result (λ planned. IsSettled tree.now (nodes_of list.now) (lengths_of list.now) planned.plan) }
+    ensures cost { IfOk result (λ planned. planned.cost ≡ cost tree.now (lengths_of list.now) planned.plan) }
+    ensures certificate { IfOk result (λ planned. IsCertificate tree.now (nodes_of list.now) (lengths_of list.now) planned.flow (cost tree.now (lengths_of list.now) planned.plan)) }
 {
     // The limits that hold of every tree and every list are told with their lengths.
     let _nodes = tree.len();
@@ -62,7 +63,7 @@ fn settle(
     let stays = stays_of(alloc, rows, &solved.gaps, &needed)?;
     let steps = lay_out(alloc, &stays, accesses)?;
     let flow = flow_rows(alloc, rows, &solved.amounts)?;
-    let cost = cost_of(tree, &stays);
+    let cost = cost_of(tree, list, &stays);
     Ok(Planned {
         plan: Plan::new(steps),
         cost,

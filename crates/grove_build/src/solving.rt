@@ -1,5 +1,5 @@
 ghost use Rattle.std.specs.Prelude.{length, IfOk};
-ghost use Rattle.grove_access.specs.Lists.{nodes_of};
+ghost use Rattle.grove_access.specs.Lists.{nodes_of, lengths_of};
 ghost use Rattle.grove_build.specs.Networks.{IsSpan, IsSolved};
 
 use crate::network::{network_of, start_of};
@@ -24,18 +24,18 @@ pub fn solve_rows(
     list: &AccessList,
     rows: &[SpanRow],
 ) -> Result<Solved, NoMemory>
-    requires { IsSpan tree.now (nodes_of list.now) rows.now }
-    ensures { IfOk result (λ solved. IsSolved tree.now (length (nodes_of list.now)) rows.now solved.amounts.items solved.gaps.items) }
+    requires { IsSpan tree.now (nodes_of list.now) (lengths_of list.now) rows.now }
+    ensures { IfOk result (λ solved. IsSolved tree.now (lengths_of list.now) (length (nodes_of list.now)) rows.now solved.amounts.items solved.gaps.items) }
 {
     // The limits that hold of every tree and every list are told with their lengths.
     let _nodes = tree.len();
-    let accesses = list.len();
+    let slots = list.slots_before(list.len());
     let network = network_of(alloc, tree, rows)?;
-    let start = start_of(alloc, rows, accesses)?;
+    let start = start_of(alloc, rows, slots)?;
     let mut solution = solve(alloc, &network, &start)?;
-    lower(&mut solution.places, accesses);
-    let places = latest(alloc, &network, &solution, i64::from(accesses))?;
-    let gaps = gaps_of(alloc, &places)?;
+    lower(&mut solution.places, slots);
+    let places = latest(alloc, &network, &solution, i64::from(slots))?;
+    let gaps = gaps_of(alloc, list, &places)?;
     Ok(Solved {
         amounts: solution.amounts,
         gaps,

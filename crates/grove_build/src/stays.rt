@@ -1,9 +1,11 @@
 ghost use Rattle.std.specs.Prelude.{◌≡◌, ℕ, ◌+◌, ◌*◌, ◌<◌, ◌≤◌, length, slice_get, slice_index_or, Some, false, IfOk};
 ghost use Rattle.grove_tree.specs.Trees.{weight_of};
+ghost use Rattle.grove_access.specs.Lists.{lengths_of};
 ghost use Rattle.grove_build.specs.Networks.{AreRowsOf};
 ghost use Rattle.grove_build.specs.Stays.{is_needed, stays_from, stays_cost};
 ghost use Rattle.grove_build.specs.declared.stays.Stay.{Stay};
 
+use grove_access::AccessList;
 use grove_span::SpanRow;
 use grove_tree::{NoMemory, Node, Tree};
 use std::alloc::Global;
@@ -70,17 +72,18 @@ pub fn stays_of(
 }
 
 /// What the stays cost, in weight times slots.
-pub fn cost_of(tree: &Tree, stays: &[Stay]) -> u64
+pub fn cost_of(tree: &Tree, list: &AccessList, stays: &[Stay]) -> u64
     requires few { length stays.now ≤ 4096 }
     requires light { (v : ℕ) → weight_of tree.now v ≤ 1000 }
     requires nodes { (i : ℕ) (stay : Stay) → slice_get stays.now i ≡ Some stay → stay.node < length tree.now }
     requires own { (i : ℕ) (stay : Stay) → slice_get stays.now i ≡ Some stay → stay.lock ≤ stay.release }
-    requires end { (i : ℕ) (stay : Stay) → slice_get stays.now i ≡ Some stay → stay.release ≤ 64 }
-    ensures { result ≡ stays_cost tree.now stays.now }
+    requires end { (i : ℕ) (stay : Stay) → slice_get stays.now i ≡ Some stay → stay.release ≤ length list.now }
+    ensures { result ≡ stays_cost tree.now (lengths_of list.now) stays.now }
 {
     let mut cost = 0;
     for stay in stays {
-        cost += u64::from(tree.weight(stay.node)) * u64::from(stay.release - stay.lock);
+        let slots = list.slots_before(stay.release) - list.slots_before(stay.lock);
+        cost += u64::from(tree.weight(stay.node)) * u64::from(slots);
     }
     cost
 }

@@ -1,13 +1,11 @@
 -- Small runs worked out by the definitions alone: jobs over a root, 0, with two children, 1 and 2. Nothing cites these:
 -- they show that the definitions say what one expects of them, and that there are runs of which the laws speak.
-use Rattle.std.proofs.Common.{◌≡◌, ◌≢◌, ℕ, ◌<◌, ℤ, pos, Bool, true, false, List, [], ◌∷◌, length, Option, Some, None, refl, ap, subst, arith}
+use Rattle.std.proofs.Common.{◌≡◌, ◌≢◌, ℕ, ℤ, pos, false, List, [], ◌∷◌, length, Some, None, refl, ap, subst}
 use Rattle.std.specs.Prelude.{reverse}
-use Rattle.grove_tree.specs.Trees.{Rows, NodeRow}
-use Rattle.grove_access.specs.declared.access.Access.{Access as Visit}
+use Rattle.grove_tree.specs.Trees.{Rows}
 use Rattle.grove_access.specs.declared.access.Op.{Op}
 use Rattle.grove_access.specs.declared.access.Op.TheVariants.{Get, Set}
-use Rattle.grove_access.specs.declared.reply.Reply.{Reply}
-use Rattle.grove_access.specs.declared.reply.Reply.TheVariants.{Value, Done}
+use Rattle.grove_access.specs.declared.reply.Reply.TheVariants.{Value}
 use Rattle.grove_plan.specs.declared.step.Step.{Step}
 use Rattle.grove_plan.specs.declared.step.Step.TheVariants.{Lock, Unlock, Access}
 use Rattle.grove_core.specs.declared.job.Job.{Job}
@@ -23,7 +21,7 @@ abbrev tree : Rows
 tree = record { parent = None; name = []; weight = 1 } ∷ record { parent = Some 0; name = 97 ∷ []; weight = 1 } ∷ record { parent = Some 0; name = 98 ∷ []; weight = 1 } ∷ []
 
 abbrev one_access : ℕ → Op → Job
-one_access node op = record { list = record { node = node; op = op } ∷ []; plan = Lock node ∷ Access 0 ∷ Unlock node ∷ [] }
+one_access node op = record { list = record { node = node; op = op; length = 1 } ∷ []; plan = Lock node ∷ Access 0 ∷ Unlock node ∷ [] }
 
 -- who reads the old record comes first: job 0 sets it, job 1 reads it, and job 1 is taken whole before
 abbrev reader_first : List Job
@@ -69,7 +67,7 @@ waiting_length = refl
 
 abbrev two_sets : ℤ → Job
 two_sets x = record {
-  list = record { node = 1; op = Set x } ∷ record { node = 2; op = Set x } ∷ [];
+  list = record { node = 1; op = Set x; length = 1 } ∷ record { node = 2; op = Set x; length = 1 } ∷ [];
   plan = Lock 0 ∷ Lock 1 ∷ Access 0 ∷ Unlock 1 ∷ Lock 2 ∷ Unlock 0 ∷ Access 1 ∷ Unlock 2 ∷ [];
 }
 

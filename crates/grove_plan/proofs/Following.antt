@@ -1,18 +1,17 @@
 -- What is known of a plan at a place, and how a step changes it.
-use Rattle.std.proofs.Common.{◌≡◌, ℕ, zero, suc, ◌+◌, ◌*◌, ◌<◌, ◌≤◌, Bool, true, false, not, ◌&&◌, cond, List, length, get_or, set, Option, Some, None, refl, sym, ◌∙◌, ap, inl, inr, arith}
+use Rattle.std.proofs.Common.{◌≡◌, ℕ, zero, suc, ◌+◌, ◌*◌, ◌<◌, ◌≤◌, Bool, true, false, not, cond, List, length, get_or, set, Option, Some, None, refl, sym, ◌∙◌, ap, inl, inr, mul-add, add-mul, zero-mul, zero-add, arith}
 use Rattle.std.specs.List.{slice_get}
-use Rattle.std.proofs.Math.Nat.{mul-suc}
 use Rattle.std.proofs.lemmas.List.{get_or-set_other, get_or-set_same}
-use Rattle.std.proofs.lemmas.Bool.{cases_eq, cases_Bool, cond-true, cond-false, or_right, and_left, and_right, and_from, ne_eqb}
-use Rattle.grove_tree.specs.Numbers.{any_below, count_below, sum_below}
+use Rattle.std.proofs.lemmas.Bool.{cases_eq, cases_Bool, cond-true, cond-false, or_right, ne_eqb}
+use Rattle.grove_tree.specs.Numbers.{any_below, sum_below}
 use Rattle.grove_tree.specs.Trees.{Rows, weight_of}
 use Rattle.grove_tree.specs.Rules.{IsWithinLimits}
-use Rattle.grove_tree.proofs.Counting.{any_from, count_hit, count_miss, sum_same, sum_add, sum_term}
+use Rattle.grove_tree.proofs.Counting.{any_from, sum_same, sum_add, sum_term}
 use Rattle.grove_plan.specs.declared.step.Step.{Step}
 use Rattle.grove_plan.specs.declared.step.Step.TheVariants.{Lock, Unlock, Access}
 use Rattle.grove_plan.specs.declared.watch.Hold.{Hold}
 use Rattle.grove_plan.specs.declared.watch.Hold.TheVariants.{Free, Held, Done}
-use Rattle.grove_plan.specs.Plans.{locks, unlocks, is_access, held}
+use Rattle.grove_plan.specs.Plans.{locks, unlocks, held, slots_of}
 use Rattle.grove_plan.specs.Faults.{is_held}
 use Rattle.grove_plan.specs.Watching.{hold_of, is_free, is_holding, holds_node, held_weight, cost_before}
 use Rattle.grove_plan.proofs.Firsts.{any_miss}
@@ -160,36 +159,43 @@ weight_accessed rows plan place a at =
 
 -- The cost after a step
 
--- the accesses done before a place while a node is held
-abbrev done_holding : List Step → ℕ → ℕ → ℕ
-done_holding plan v place = count_below place (λ i. is_access (slice_get plan i) && held plan v i)
+-- the slots taken before a place while a node is held
+abbrev held_slots : List ℕ → List Step → ℕ → ℕ → ℕ
+held_slots lengths plan v place = sum_below place (λ i. cond (held plan v i) (slots_of lengths (slice_get plan i)) 0)
 
-pub cost_same : (rows : Rows) (plan : List Step) (place : ℕ) → is_access (slice_get plan place) ≡ false → cost_before rows plan (suc place) ≡ cost_before rows plan place
-cost_same rows plan place none =
-    sum_same (length rows) (λ v. weight_of rows v * done_holding plan v (suc place)) (λ v. weight_of rows v * done_holding plan v place)
+nothing_more : (b : Bool) (x n : ℕ) → x ≡ 0 → cond b x 0 + n ≡ n
+nothing_more true x n none = omega arith
+nothing_more false x n none = omega arith
+
+-- a step that takes no slots costs nothing
+pub cost_same : (rows : Rows) (lengths : List ℕ) (plan : List Step) (place : ℕ) → slots_of lengths (slice_get plan place) ≡ 0
+    → cost_before rows lengths plan (suc place) ≡ cost_before rows lengths plan place
+cost_same rows lengths plan place none =
+    sum_same (length rows) (λ v. weight_of rows v * held_slots lengths plan v (suc place)) (λ v. weight_of rows v * held_slots lengths plan v place)
     (λ v less. ap (λ (n : ℕ). weight_of rows v * n)
-    (count_miss place (λ i. is_access (slice_get plan i) && held plan v i) (and_left (is_access (slice_get plan place)) (held plan v place) none)))
+    (nothing_more (held plan v place) (slots_of lengths (slice_get plan place)) (held_slots lengths plan v place) none))
 
-cost_node : (rows : Rows) (plan : List Step) (place v : ℕ) → is_access (slice_get plan place) ≡ true
-    → weight_of rows v * done_holding plan v (suc place) ≡ weight_of rows v * done_holding plan v place + share rows plan place v
-cost_node rows plan place v access = elim (cases_Bool (held plan v place)) [
-  | inl holds ↦ let some : share rows plan place v ≡ weight_of rows v = share_held rows plan v place holds in
-      ap (λ (n : ℕ). weight_of rows v * n)
-      (count_hit place (λ i. is_access (slice_get plan i) && held plan v i) (and_from (is_access (slice_get plan place)) (held plan v place) access holds))
-      ∙ mul-suc (weight_of rows v) (done_holding plan v place) ∙ ap (λ (n : ℕ). weight_of rows v * done_holding plan v place + n) (sym some)
-  | inr free ↦ let none : share rows plan place v ≡ 0 = share_free rows plan v place free in
-      let same : weight_of rows v * done_holding plan v (suc place) ≡ weight_of rows v * done_holding plan v place =
-      ap (λ (n : ℕ). weight_of rows v * n)
-      (count_miss place (λ i. is_access (slice_get plan i) && held plan v i) (and_right (is_access (slice_get plan place)) (held plan v place) free)) in
-      omega arith
-]
+part_more : (h : Bool) (w x n : ℕ) → w * (cond h x 0 + n) ≡ w * n + cond h w 0 * x
+part_more true w x n = let e : w * (x + n) ≡ w * x + w * n = mul-add w x n in omega arith
+part_more false w x n = let e : w * (0 + n) ≡ w * n = ap (λ (k : ℕ). w * k) (zero-add n) in let z : 0 * x ≡ 0 = zero-mul x in omega arith
 
-pub cost_accessed : (rows : Rows) (plan : List Step) (place : ℕ) → is_access (slice_get plan place) ≡ true
-    → cost_before rows plan (suc place) ≡ cost_before rows plan place + held_weight rows plan place
-cost_accessed rows plan place access =
-    sum_same (length rows) (λ v. weight_of rows v * done_holding plan v (suc place)) (λ v. weight_of rows v * done_holding plan v place + share rows plan place v)
-    (λ v less. cost_node rows plan place v access)
-    ∙ sum_add (length rows) (λ v. weight_of rows v * done_holding plan v place) (share rows plan place)
+-- a factor behind each term
+sum_times : (n c : ℕ) (f : ℕ → ℕ) → sum_below n (λ v. f v * c) ≡ sum_below n f * c
+sum_times zero c f = sym (zero-mul c)
+sum_times (suc n) c f =
+    let rest : sum_below n (λ v. f v * c) ≡ sum_below n f * c = sum_times n c f in
+    let both : (f n + sum_below n f) * c ≡ f n * c + sum_below n f * c = add-mul (f n) (sum_below n f) c in
+    omega arith
+
+-- a step costs the weight held for each slot that it takes
+pub cost_accessed : (rows : Rows) (lengths : List ℕ) (plan : List Step) (place : ℕ)
+    → cost_before rows lengths plan (suc place) ≡ cost_before rows lengths plan place + held_weight rows plan place * slots_of lengths (slice_get plan place)
+cost_accessed rows lengths plan place =
+    let slots : ℕ = slots_of lengths (slice_get plan place) in
+    sum_same (length rows) (λ v. weight_of rows v * held_slots lengths plan v (suc place)) (λ v. weight_of rows v * held_slots lengths plan v place + share rows plan place v * slots)
+    (λ v less. part_more (held plan v place) (weight_of rows v) slots (held_slots lengths plan v place))
+    ∙ (sum_add (length rows) (λ v. weight_of rows v * held_slots lengths plan v place) (λ v. share rows plan place v * slots)
+    ∙ ap (λ (n : ℕ). cost_before rows lengths plan place + n) (sum_times (length rows) slots (share rows plan place)))
 
 -- How much may be held
 

@@ -200,7 +200,7 @@ illegal_of rows nodes plan (Err fault) is = λ other legal. none-some fault (sym
 -- What is amiss at the end, as a watch tells it
 
 -- the table tells the lowest node that is held
-first_same : (rows : Rows) (plan : List Step) (place : ℕ) (watch : Watch) → IsWatched rows plan place watch
+first_same : {lengths : List ℕ} (rows : Rows) (plan : List Step) (place : ℕ) (watch : Watch) → IsWatched rows lengths plan place watch
     → first_holding watch.holds.items ≡ cond (any_below (length rows) (λ node. held plan node place)) (Some (least_below (length rows) (λ node. held plan node place))) None
 first_same rows plan place watch watched =
     let nodes : length watch.holds.items ≡ length rows = watched.nodes in
@@ -224,7 +224,7 @@ free_by false n h = refl
 pub end_is : (rows : Rows) (nodes : List ℕ) (plan : List Step) → steps_fault rows nodes plan (length plan) ≡ None → plan_fault_of rows nodes plan ≡ end_fault rows nodes plan
 end_is rows nodes plan none = ap (λ (first : Option PlanFault). fault_or first (end_fault rows nodes plan)) none
 
-pub missing_is : (rows : Rows) (nodes : List ℕ) (plan : List Step) (watch : Watch) → steps_fault rows nodes plan (length plan) ≡ None → IsWatched rows plan (length plan) watch
+pub missing_is : {lengths : List ℕ} (rows : Rows) (nodes : List ℕ) (plan : List Step) (watch : Watch) → steps_fault rows nodes plan (length plan) ≡ None → IsWatched rows lengths plan (length plan) watch
     → watch.accesses < length nodes → plan_fault_of rows nodes plan ≡ Some (AccessMissing watch.accesses)
 missing_is rows nodes plan watch none watched lt =
     let count : watch.accesses ≡ accesses_before plan (length plan) = watched.accesses in
@@ -235,7 +235,7 @@ missing_is rows nodes plan watch none watched lt =
     ∙ ap (λ (n : ℕ). Some (AccessMissing n)) (sym count)
 
 -- what is left of the end's fault where no access is missing
-held_left : (rows : Rows) (nodes : List ℕ) (plan : List Step) (watch : Watch) → steps_fault rows nodes plan (length plan) ≡ None → IsWatched rows plan (length plan) watch
+held_left : {lengths : List ℕ} (rows : Rows) (nodes : List ℕ) (plan : List Step) (watch : Watch) → steps_fault rows nodes plan (length plan) ≡ None → IsWatched rows lengths plan (length plan) watch
     → length nodes ≤ watch.accesses
     → plan_fault_of rows nodes plan ≡ cond (any_below (length rows) (λ node. held plan node (length plan))) (Some (StillHeld (least_below (length rows) (λ node. held plan node (length plan))))) None
 held_left rows nodes plan watch none watched enough =
@@ -245,14 +245,14 @@ held_left rows nodes plan watch none watched enough =
     (cond (any_below (length rows) (λ node. held plan node (length plan))) (Some (StillHeld (least_below (length rows) (λ node. held plan node (length plan))))) None)
     (le-ltb (accesses_before plan (length plan)) (length nodes) (omega arith))
 
-pub still_is : (rows : Rows) (nodes : List ℕ) (plan : List Step) (watch : Watch) (node : ℕ) → steps_fault rows nodes plan (length plan) ≡ None → IsWatched rows plan (length plan) watch
+pub still_is : {lengths : List ℕ} (rows : Rows) (nodes : List ℕ) (plan : List Step) (watch : Watch) (node : ℕ) → steps_fault rows nodes plan (length plan) ≡ None → IsWatched rows lengths plan (length plan) watch
     → length nodes ≤ watch.accesses → first_holding watch.holds.items ≡ Some node → plan_fault_of rows nodes plan ≡ Some (StillHeld node)
 still_is rows nodes plan watch node none watched enough first =
     held_left rows nodes plan watch none watched enough
     ∙ still_by (any_below (length rows) (λ node. held plan node (length plan))) (least_below (length rows) (λ node. held plan node (length plan))) node
     (sym (first_same rows plan (length plan) watch watched) ∙ first)
 
-pub none_is : (rows : Rows) (nodes : List ℕ) (plan : List Step) (watch : Watch) → steps_fault rows nodes plan (length plan) ≡ None → IsWatched rows plan (length plan) watch
+pub none_is : {lengths : List ℕ} (rows : Rows) (nodes : List ℕ) (plan : List Step) (watch : Watch) → steps_fault rows nodes plan (length plan) ≡ None → IsWatched rows lengths plan (length plan) watch
     → length nodes ≤ watch.accesses → first_holding watch.holds.items ≡ None → plan_fault_of rows nodes plan ≡ None
 none_is rows nodes plan watch none watched enough first =
     held_left rows nodes plan watch none watched enough

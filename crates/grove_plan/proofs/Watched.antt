@@ -1,5 +1,6 @@
 -- A watch: what it tells of the next step, and that it goes on with it.
-use Rattle.std.proofs.Common.{◌≡◌, ℕ, suc, ◌+◌, ◌-◌, ◌*◌, ◌<◌, ◌≤◌, Bool, true, false, not, ◌&&◌, ◌||◌, List, length, get_or, set, replicate, Option, Some, None, refl, sym, ◌∙◌, ap, add-one, arith}
+use Rattle.std.proofs.Common.{◌≡◌, ℕ, suc, ◌+◌, ◌-◌, ◌*◌, ◌<◌, ◌≤◌, Bool, true, false, not, ◌&&◌, ◌||◌, List, length, get_or, set, replicate, Option, Some, None, refl, sym, ◌∙◌, ap, add-one, mul-le-mul_left, arith}
+use Rattle.std.specs.Prelude.{slice_index}
 use Rattle.std.specs.List.{slice_get}
 use Rattle.std.proofs.lemmas.List.{length-set, get_or-replicate, length-replicate}
 use Rattle.std.proofs.lemmas.Bool.{and_left, and_right, and_from, both_ways, false_from_ne_true}
@@ -8,12 +9,14 @@ use Rattle.grove_tree.specs.Trees.{Rows, IsTree, parent_of, weight_of}
 use Rattle.grove_tree.specs.Rules.{IsWithinLimits}
 use Rattle.grove_tree.proofs.Counting.{count_hit, count_miss, sum_zero}
 use Rattle.grove_tree.proofs.Ups.{parent_lt}
+use Rattle.grove_access.specs.Lists.{AreLengths}
+use Rattle.grove_access.proofs.Slots.{few_slots}
 use Rattle.grove_plan.specs.declared.step.Step.{Step}
 use Rattle.grove_plan.specs.declared.step.Step.TheVariants.{Lock, Unlock, Access}
 use Rattle.grove_plan.specs.declared.fault.PlanFault.{PlanFault}
 use Rattle.grove_plan.specs.declared.watch.Hold.TheVariants.{Free, Held, Done}
 use Rattle.grove_plan.specs.declared.watch.Watch.{Watch}
-use Rattle.grove_plan.specs.Plans.{locks, is_lock, is_access, held}
+use Rattle.grove_plan.specs.Plans.{locks, is_lock, is_access, held, slots_of}
 use Rattle.grove_plan.specs.Faults.{is_held, is_later, step_fault}
 use Rattle.grove_plan.specs.Watching.{is_free, is_holding, holds_node, held_weight, cost_before, IsWatched}
 use Rattle.grove_plan.proofs.Firsts.{read_at}
@@ -37,35 +40,35 @@ flip : (a b : Bool) → b ≡ not a → a ≡ not b
 flip true b e = rw e refl
 flip false b e = rw e refl
 
-pub locked_by : (rows : Rows) (plan : List Step) (place node : ℕ) (b : Bool) (watch : Watch) → IsWatched rows plan place watch → node < length rows
+pub locked_by : {lengths : List ℕ} (rows : Rows) (plan : List Step) (place node : ℕ) (b : Bool) (watch : Watch) → IsWatched rows lengths plan place watch → node < length rows
     → is_free (get_or watch.holds.items node Free) ≡ b → any_below place (λ i. locks node (slice_get plan i)) ≡ not b
 locked_by rows plan place node b watch watched lt test =
     flip (any_below place (λ i. locks node (slice_get plan i))) b (sym test ∙ ap is_free (watched.each node lt) ∙ free_tells plan node place)
 
-pub held_by : (rows : Rows) (plan : List Step) (place node : ℕ) (b : Bool) (watch : Watch) → IsWatched rows plan place watch → node < length rows
+pub held_by : {lengths : List ℕ} (rows : Rows) (plan : List Step) (place node : ℕ) (b : Bool) (watch : Watch) → IsWatched rows lengths plan place watch → node < length rows
     → is_holding (get_or watch.holds.items node Free) ≡ b → held plan node place ≡ b
 held_by rows plan place node b watch watched lt test = sym (holding_tells plan node place) ∙ sym (ap is_holding (watched.each node lt)) ∙ test
 
 -- a parent is held just where the table says so
-pub parent_by : (rows : Rows) (plan : List Step) (place node : ℕ) (watch : Watch) → IsTree rows → IsWatched rows plan place watch → node < length rows
+pub parent_by : {lengths : List ℕ} (rows : Rows) (plan : List Step) (place node : ℕ) (watch : Watch) → IsTree rows → IsWatched rows lengths plan place watch → node < length rows
     → holds_node watch.holds.items (parent_of rows node) ≡ is_held plan place (parent_of rows node)
 parent_by rows plan place node watch tree watched lt =
     node_tells (length rows) plan place watch.holds.items (parent_of rows node)
     (λ parent is. let less : parent < node = parent_lt rows tree node parent is in omega arith)
     watched.each
 
-pub parent_missed : (rows : Rows) (plan : List Step) (place node : ℕ) (watch : Watch) → IsTree rows → IsWatched rows plan place watch → node < length rows
+pub parent_missed : {lengths : List ℕ} (rows : Rows) (plan : List Step) (place node : ℕ) (watch : Watch) → IsTree rows → IsWatched rows lengths plan place watch → node < length rows
     → watch.later ≡ true → holds_node watch.holds.items (parent_of rows node) ≡ false → (is_later plan place && not (is_held plan place (parent_of rows node))) ≡ true
 parent_missed rows plan place node watch tree watched lt later free =
     and_from (is_later plan place) (not (is_held plan place (parent_of rows node))) (sym watched.later ∙ later)
     (ap not (sym (parent_by rows plan place node watch tree watched lt) ∙ free))
 
-pub parent_kept : (rows : Rows) (plan : List Step) (place node : ℕ) (watch : Watch) → IsTree rows → IsWatched rows plan place watch → node < length rows
+pub parent_kept : {lengths : List ℕ} (rows : Rows) (plan : List Step) (place node : ℕ) (watch : Watch) → IsTree rows → IsWatched rows lengths plan place watch → node < length rows
     → holds_node watch.holds.items (parent_of rows node) ≡ true → (is_later plan place && not (is_held plan place (parent_of rows node))) ≡ false
 parent_kept rows plan place node watch tree watched lt holds =
     and_right (is_later plan place) (not (is_held plan place (parent_of rows node))) (ap not (sym (parent_by rows plan place node watch tree watched lt) ∙ holds))
 
-pub first_kept : (rows : Rows) (plan : List Step) (place node : ℕ) (watch : Watch) → IsWatched rows plan place watch
+pub first_kept : {lengths : List ℕ} (rows : Rows) (plan : List Step) (place node : ℕ) (watch : Watch) → IsWatched rows lengths plan place watch
     → watch.later ≡ false → (is_later plan place && not (is_held plan place (parent_of rows node))) ≡ false
 first_kept rows plan place node watch watched first =
     and_left (is_later plan place) (not (is_held plan place (parent_of rows node))) (sym watched.later ∙ first)
@@ -81,8 +84,8 @@ free_held : (plan : List Step) (v place : ℕ) → any_below place (λ i. locks 
 free_held plan v place none = false_from_ne_true (held plan v place) (λ holds. both_ways (any_below place (λ i. locks v (slice_get plan i))) none (held_locked plan v place holds))
 
 -- before the first step
-pub watch_starts : (rows : Rows) (plan : List Step) (watch : Watch) → watch.holds.items ≡ replicate (length rows) Free → watch.later ≡ false
-    → watch.accesses ≡ 0 → watch.weight ≡ 0 → watch.cost ≡ 0 → IsWatched rows plan 0 watch
+pub watch_starts : {lengths : List ℕ} (rows : Rows) (plan : List Step) (watch : Watch) → watch.holds.items ≡ replicate (length rows) Free → watch.later ≡ false
+    → watch.accesses ≡ 0 → watch.weight ≡ 0 → watch.cost ≡ 0 → IsWatched rows lengths plan 0 watch
 watch_starts rows plan watch holds later accesses weight cost = record {
   nodes = ap length holds ∙ length-replicate (length rows) Free;
   each = λ node lt. rw holds (get_or-replicate (length rows) node Free Free lt);
@@ -108,15 +111,26 @@ lock_access step u at = rw at refl
 unlock_access : (step : Option Step) (u : ℕ) → step ≡ Some (Unlock u) → is_access step ≡ false
 unlock_access step u at = rw at refl
 
+lock_slots : (lengths : List ℕ) (step : Option Step) (u : ℕ) → step ≡ Some (Lock u) → slots_of lengths step ≡ 0
+lock_slots lengths step u at = rw at refl
+
+unlock_slots : (lengths : List ℕ) (step : Option Step) (u : ℕ) → step ≡ Some (Unlock u) → slots_of lengths step ≡ 0
+unlock_slots lengths step u at = rw at refl
+
+-- what an access costs at most
+pub part_small : (weight slots : ℕ) → weight ≤ 4096000 → slots ≤ 1000 → weight * slots ≤ 4096000000
+part_small weight slots light few = let le : weight * slots ≤ weight * 1000 = mul-le-mul_left weight few in omega arith
+
 access_access : (step : Option Step) (a : ℕ) → step ≡ Some (Access a) → is_access step ≡ true
 access_access step a at = rw at refl
 
-next_locked : (rows : Rows) (plan : List Step) (place u : ℕ) (watch after : Watch) → IsWatched rows plan place watch → slice_get plan place ≡ Some (Lock u)
+next_locked : {lengths : List ℕ} (rows : Rows) (plan : List Step) (place u : ℕ) (watch after : Watch) → IsWatched rows lengths plan place watch → slice_get plan place ≡ Some (Lock u)
     → (u < length rows) × (any_below place (λ i. locks u (slice_get plan i)) ≡ false) → after.holds.items ≡ set watch.holds.items u Held → after.later ≡ true → after.accesses ≡ watch.accesses
-    → after.weight ≡ watch.weight + weight_of rows u → after.cost ≡ watch.cost → IsWatched rows plan (suc place) after
-next_locked rows plan place u watch after watched at kept holds later accesses weight cost =
+    → after.weight ≡ watch.weight + weight_of rows u → after.cost ≡ watch.cost → IsWatched rows lengths plan (suc place) after
+next_locked {lengths} rows plan place u watch after watched at kept holds later accesses weight cost =
     let nodes : length watch.holds.items ≡ length rows = watched.nodes in
     let lt : u < length rows = kept.0 in
+    let quick : slots_of lengths (slice_get plan place) ≡ 0 = lock_slots lengths (slice_get plan place) u at in
     let none : is_access (slice_get plan place) ≡ false = lock_access (slice_get plan place) u at in
     let weighed : held_weight rows plan (suc place) ≡ held_weight rows plan place + weight_of rows u = weight_locked rows plan place u at lt (free_held plan u place kept.1) in
     record {
@@ -125,16 +139,17 @@ next_locked rows plan place u watch after watched at kept holds later accesses w
       later = later ∙ sym (later_lock plan place u at);
       accesses = accesses ∙ watched.accesses ∙ sym (count_miss place (λ i. is_access (slice_get plan i)) none);
       weight = weight ∙ ap (λ (w : ℕ). w + weight_of rows u) watched.weight ∙ sym weighed;
-      cost = cost ∙ watched.cost ∙ sym (cost_same rows plan place none);
-      small = let small : watch.cost ≤ 4096000 * place = watched.small in omega arith;
+      cost = cost ∙ watched.cost ∙ sym (cost_same rows lengths plan place quick);
+      small = let small : watch.cost ≤ 4096000000 * place = watched.small in omega arith;
     }
 
-next_unlocked : (rows : Rows) (plan : List Step) (place u : ℕ) (watch after : Watch) → IsWatched rows plan place watch → slice_get plan place ≡ Some (Unlock u)
+next_unlocked : {lengths : List ℕ} (rows : Rows) (plan : List Step) (place u : ℕ) (watch after : Watch) → IsWatched rows lengths plan place watch → slice_get plan place ≡ Some (Unlock u)
     → (u < length rows) × (held plan u place ≡ true) → after.holds.items ≡ set watch.holds.items u Done → after.later ≡ watch.later → after.accesses ≡ watch.accesses
-    → after.weight ≡ watch.weight - weight_of rows u → after.cost ≡ watch.cost → IsWatched rows plan (suc place) after
-next_unlocked rows plan place u watch after watched at kept holds later accesses weight cost =
+    → after.weight ≡ watch.weight - weight_of rows u → after.cost ≡ watch.cost → IsWatched rows lengths plan (suc place) after
+next_unlocked {lengths} rows plan place u watch after watched at kept holds later accesses weight cost =
     let nodes : length watch.holds.items ≡ length rows = watched.nodes in
     let lt : u < length rows = kept.0 in
+    let quick : slots_of lengths (slice_get plan place) ≡ 0 = unlock_slots lengths (slice_get plan place) u at in
     let none : is_access (slice_get plan place) ≡ false = unlock_access (slice_get plan place) u at in
     let weighed : held_weight rows plan place ≡ held_weight rows plan (suc place) + weight_of rows u = weight_unlocked rows plan place u at lt kept.1 in
     let was : watch.weight ≡ held_weight rows plan place = watched.weight in
@@ -144,19 +159,24 @@ next_unlocked rows plan place u watch after watched at kept holds later accesses
       later = later ∙ watched.later ∙ sym (later_unlock plan place u at);
       accesses = accesses ∙ watched.accesses ∙ sym (count_miss place (λ i. is_access (slice_get plan i)) none);
       weight = omega arith;
-      cost = cost ∙ watched.cost ∙ sym (cost_same rows plan place none);
-      small = let small : watch.cost ≤ 4096000 * place = watched.small in omega arith;
+      cost = cost ∙ watched.cost ∙ sym (cost_same rows lengths plan place quick);
+      small = let small : watch.cost ≤ 4096000000 * place = watched.small in omega arith;
     }
 
-next_accessed : (rows : Rows) (plan : List Step) (place a : ℕ) (watch after : Watch) → IsWithinLimits rows → IsWatched rows plan place watch → slice_get plan place ≡ Some (Access a)
+next_accessed : {lengths : List ℕ} (rows : Rows) (plan : List Step) (place a : ℕ) (watch after : Watch) → IsWithinLimits rows → IsWatched rows lengths plan place watch → slice_get plan place ≡ Some (Access a)
     → after.holds.items ≡ watch.holds.items → after.later ≡ watch.later → after.accesses ≡ watch.accesses + 1
-    → after.weight ≡ watch.weight → after.cost ≡ watch.cost + watch.weight → IsWatched rows plan (suc place) after
-next_accessed rows plan place a watch after limits watched at holds later accesses weight cost =
+    → after.weight ≡ watch.weight → AreLengths lengths → after.cost ≡ watch.cost + watch.weight * slice_index lengths a → IsWatched rows lengths plan (suc place) after
+next_accessed {lengths} rows plan place a watch after limits watched at holds later accesses weight are cost =
     let access : is_access (slice_get plan place) ≡ true = access_access (slice_get plan place) a at in
     let light : held_weight rows plan place ≤ 4096000 = weight_small rows plan place limits in
     let was : watch.weight ≡ held_weight rows plan place = watched.weight in
-    let spent : watch.cost ≡ cost_before rows plan place = watched.cost in
-    let costs : cost_before rows plan (suc place) ≡ cost_before rows plan place + held_weight rows plan place = cost_accessed rows plan place access in
+    let spent : watch.cost ≡ cost_before rows lengths plan place = watched.cost in
+    let slots : slots_of lengths (slice_get plan place) ≡ slice_index lengths a = ap (slots_of lengths) at in
+    let costs : cost_before rows lengths plan (suc place) ≡ cost_before rows lengths plan place + held_weight rows plan place * slots_of lengths (slice_get plan place) =
+    cost_accessed rows lengths plan place in
+    let product : watch.weight * slice_index lengths a ≡ held_weight rows plan place * slots_of lengths (slice_get plan place) = rw (was, slots) refl in
+    let few : slice_index lengths a ≤ 1000 = few_slots lengths a are in
+    let small_part : watch.weight * slice_index lengths a ≤ 4096000000 = part_small watch.weight (slice_index lengths a) (omega arith) few in
     record {
       nodes = ap length holds ∙ watched.nodes;
       each = rw holds (each_accessed (length rows) plan place a watch.holds.items at watched.each);
@@ -164,42 +184,42 @@ next_accessed rows plan place a watch after limits watched at holds later access
       accesses = accesses ∙ add-one watch.accesses ∙ ap suc watched.accesses ∙ sym (count_hit place (λ i. is_access (slice_get plan i)) access);
       weight = weight ∙ was ∙ sym (weight_accessed rows plan place a at);
       cost = omega arith;
-      small = let small : watch.cost ≤ 4096000 * place = watched.small in omega arith;
+      small = let small : watch.cost ≤ 4096000000 * place = watched.small in omega arith;
     }
 
 -- The same as the code reads a step and writes the table
 
-pub watch_locked : (rows : Rows) (nodes : List ℕ) (plan : List Step) (place u i : ℕ) (d : Step) (watch after : Watch) → place < length plan → get_or plan place d ≡ Lock u → i ≡ u
-    → IsWatched rows plan place watch → step_fault rows nodes plan place (slice_get plan place) ≡ None → after.holds.items ≡ set watch.holds.items i Held → after.later ≡ true
-    → after.accesses ≡ watch.accesses → after.weight ≡ watch.weight + weight_of rows u → after.cost ≡ watch.cost → IsWatched rows plan (place + 1) after
+pub watch_locked : {lengths : List ℕ} (rows : Rows) (nodes : List ℕ) (plan : List Step) (place u i : ℕ) (d : Step) (watch after : Watch) → place < length plan → get_or plan place d ≡ Lock u → i ≡ u
+    → IsWatched rows lengths plan place watch → step_fault rows nodes plan place (slice_get plan place) ≡ None → after.holds.items ≡ set watch.holds.items i Held → after.later ≡ true
+    → after.accesses ≡ watch.accesses → after.weight ≡ watch.weight + weight_of rows u → after.cost ≡ watch.cost → IsWatched rows lengths plan (place + 1) after
 watch_locked rows nodes plan place u i d watch after within read is watched kept holds later accesses weight cost =
     let rules = lock_kept rows plan place u (kept_read rows nodes plan place (Lock u) d within read kept) in
     rw add-one (next_locked rows plan place u watch after watched (read_at plan place (Lock u) d within read) (rules.0, rules.1)
     (holds ∙ ap (λ (n : ℕ). set watch.holds.items n Held) is) later accesses weight cost)
 
-pub watch_unlocked : (rows : Rows) (nodes : List ℕ) (plan : List Step) (place u i : ℕ) (d : Step) (watch after : Watch) → place < length plan → get_or plan place d ≡ Unlock u → i ≡ u
-    → IsWatched rows plan place watch → step_fault rows nodes plan place (slice_get plan place) ≡ None → after.holds.items ≡ set watch.holds.items i Done → after.later ≡ watch.later
-    → after.accesses ≡ watch.accesses → after.weight ≡ watch.weight - weight_of rows u → after.cost ≡ watch.cost → IsWatched rows plan (place + 1) after
+pub watch_unlocked : {lengths : List ℕ} (rows : Rows) (nodes : List ℕ) (plan : List Step) (place u i : ℕ) (d : Step) (watch after : Watch) → place < length plan → get_or plan place d ≡ Unlock u → i ≡ u
+    → IsWatched rows lengths plan place watch → step_fault rows nodes plan place (slice_get plan place) ≡ None → after.holds.items ≡ set watch.holds.items i Done → after.later ≡ watch.later
+    → after.accesses ≡ watch.accesses → after.weight ≡ watch.weight - weight_of rows u → after.cost ≡ watch.cost → IsWatched rows lengths plan (place + 1) after
 watch_unlocked rows nodes plan place u i d watch after within read is watched kept holds later accesses weight cost =
     rw add-one (next_unlocked rows plan place u watch after watched (read_at plan place (Unlock u) d within read)
     (unlock_kept rows plan place u (kept_read rows nodes plan place (Unlock u) d within read kept))
     (holds ∙ ap (λ (n : ℕ). set watch.holds.items n Done) is) later accesses weight cost)
 
-pub watch_accessed : (rows : Rows) (plan : List Step) (place a : ℕ) (d : Step) (watch after : Watch) → IsWithinLimits rows → place < length plan → get_or plan place d ≡ Access a
-    → IsWatched rows plan place watch → after.holds.items ≡ watch.holds.items → after.later ≡ watch.later → after.accesses ≡ watch.accesses + 1
-    → after.weight ≡ watch.weight → after.cost ≡ watch.cost + watch.weight → IsWatched rows plan (place + 1) after
-watch_accessed rows plan place a d watch after limits within read watched holds later accesses weight cost =
-    rw add-one (next_accessed rows plan place a watch after limits watched (read_at plan place (Access a) d within read) holds later accesses weight cost)
+pub watch_accessed : {lengths : List ℕ} (rows : Rows) (plan : List Step) (place a : ℕ) (d : Step) (watch after : Watch) → IsWithinLimits rows → place < length plan → get_or plan place d ≡ Access a
+    → IsWatched rows lengths plan place watch → after.holds.items ≡ watch.holds.items → after.later ≡ watch.later → after.accesses ≡ watch.accesses + 1
+    → after.weight ≡ watch.weight → AreLengths lengths → after.cost ≡ watch.cost + watch.weight * slice_index lengths a → IsWatched rows lengths plan (place + 1) after
+watch_accessed rows plan place a d watch after limits within read watched holds later accesses weight are cost =
+    rw add-one (next_accessed rows plan place a watch after limits watched (read_at plan place (Access a) d within read) holds later accesses weight are cost)
 
 -- What the watch holds is in range
 
-pub watched_weight : (rows : Rows) (plan : List Step) (place : ℕ) (watch : Watch) → IsWithinLimits rows → IsWatched rows plan place watch → watch.weight ≤ 4096000
+pub watched_weight : {lengths : List ℕ} (rows : Rows) (plan : List Step) (place : ℕ) (watch : Watch) → IsWithinLimits rows → IsWatched rows lengths plan place watch → watch.weight ≤ 4096000
 watched_weight rows plan place watch limits watched =
     let was : watch.weight ≡ held_weight rows plan place = watched.weight in
     let light : held_weight rows plan place ≤ 4096000 = weight_small rows plan place limits in omega arith
 
-pub watched_part : (rows : Rows) (nodes : List ℕ) (plan : List Step) (place u : ℕ) (d : Step) (watch : Watch) → place < length plan → get_or plan place d ≡ Unlock u
-    → IsWatched rows plan place watch → step_fault rows nodes plan place (slice_get plan place) ≡ None → weight_of rows u ≤ watch.weight
+pub watched_part : {lengths : List ℕ} (rows : Rows) (nodes : List ℕ) (plan : List Step) (place u : ℕ) (d : Step) (watch : Watch) → place < length plan → get_or plan place d ≡ Unlock u
+    → IsWatched rows lengths plan place watch → step_fault rows nodes plan place (slice_get plan place) ≡ None → weight_of rows u ≤ watch.weight
 watched_part rows nodes plan place u d watch within read watched kept =
     let rules = unlock_kept rows plan place u (kept_read rows nodes plan place (Unlock u) d within read kept) in
     let was : watch.weight ≡ held_weight rows plan place = watched.weight in

@@ -1,6 +1,6 @@
 -- Lock plans, judged as whole lists of steps by their positions.
-use Rattle.std.specs.Prelude.{◌≡◌, ℕ, ◌*◌, ◌<◌, ◌≤◌, ◌==◌, nat_lt, Bool, true, false, not, ◌&&◌, IsTrue, List, [], ◌∷◌, length, slice_get, Option, Some, None}
-use Rattle.grove_tree.specs.Numbers.{any_below, count_below, sum_below, numbers_below}
+use Rattle.std.specs.Prelude.{◌≡◌, ℕ, ◌*◌, ◌<◌, ◌≤◌, ◌==◌, nat_lt, Bool, true, false, not, ◌&&◌, IsTrue, List, [], ◌∷◌, length, slice_get, slice_index, Option, Some, None, if◌then◌else◌}
+use Rattle.grove_tree.specs.Numbers.{any_below, sum_below, numbers_below}
 use Rattle.grove_tree.specs.Trees.{Rows, parent_of, weight_of}
 use Rattle.grove_plan.specs.declared.step.Step.{Step}
 use Rattle.grove_plan.specs.declared.step.Step.TheVariants.{Lock, Unlock, Access}
@@ -64,18 +64,25 @@ pub record IsLegal (rows : Rows) (nodes : List ℕ) (plan : List Step) : Type 0 
   pub obeys : ObeysTreeProtocol rows plan
   pub performs : Performs nodes plan
 
--- how many accesses a plan does while it holds a node
-abbrev pub holding : List Step → ℕ → ℕ
-holding plan node = count_below (length plan) (λ place. is_access (slice_get plan place) && held plan node place)
+-- how many slots a step takes: an access as many as it is long, another step none
+abbrev pub slots_of : List ℕ → Option Step → ℕ
+slots_of lengths (Some (Lock v)) = 0
+slots_of lengths (Some (Unlock v)) = 0
+slots_of lengths (Some (Access i)) = slice_index lengths i
+slots_of lengths None = 0
 
--- what a plan costs: each node's weight for each access that is done while it is held
-abbrev pub cost : Rows → List Step → ℕ
-cost rows plan = sum_below (length rows) (λ node. weight_of rows node * holding plan node)
+-- for how many slots a plan holds a node: the lengths of the accesses that it does meanwhile, added up
+abbrev pub holding : List ℕ → List Step → ℕ → ℕ
+holding lengths plan node = sum_below (length plan) (λ place. if held plan node place then slots_of lengths (slice_get plan place) else 0)
+
+-- what a plan costs: each node's weight for each slot in which it is held
+abbrev pub cost : Rows → List ℕ → List Step → ℕ
+cost rows lengths plan = sum_below (length rows) (λ node. weight_of rows node * holding lengths plan node)
 
 -- a legal plan than which no legal plan for the list is cheaper
-pub record IsLeast (rows : Rows) (nodes : List ℕ) (plan : List Step) : Type 0 where
+pub record IsLeast (rows : Rows) (nodes lengths : List ℕ) (plan : List Step) : Type 0 where
   pub legal : IsLegal rows nodes plan
-  pub least : (other : List Step) → IsLegal rows nodes other → cost rows plan ≤ cost rows other
+  pub least : (other : List Step) → IsLegal rows nodes other → cost rows lengths plan ≤ cost rows lengths other
 
 abbrev pub IsLockedBy : List Step → ℕ → Type 0
 IsLockedBy plan node = (i : ℕ) × (slice_get plan i ≡ Some (Lock node))

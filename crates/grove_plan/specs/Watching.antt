@@ -1,12 +1,12 @@
 -- What is known of a plan before the step at a place, as it is followed step by step.
-use Rattle.std.specs.Prelude.{◌≡◌, ℕ, ◌*◌, ◌<◌, ◌≤◌, Bool, true, false, ◌&&◌, List, Option, Some, None, length, slice_get, slice_index_or, if◌then◌else◌}
-use Rattle.grove_tree.specs.Numbers.{any_below, count_below, sum_below, least_below}
+use Rattle.std.specs.Prelude.{◌≡◌, ℕ, ◌*◌, ◌<◌, ◌≤◌, Bool, true, false, List, Option, Some, None, length, slice_get, slice_index_or, if◌then◌else◌}
+use Rattle.grove_tree.specs.Numbers.{any_below, sum_below, least_below}
 use Rattle.grove_tree.specs.Trees.{Rows, weight_of}
 use Rattle.grove_plan.specs.declared.step.Step.{Step}
 use Rattle.grove_plan.specs.declared.watch.Hold.{Hold}
 use Rattle.grove_plan.specs.declared.watch.Hold.TheVariants.{Free, Held, Done}
 use Rattle.grove_plan.specs.declared.watch.Watch.{Watch}
-use Rattle.grove_plan.specs.Plans.{locks, is_access, held}
+use Rattle.grove_plan.specs.Plans.{locks, held, slots_of}
 use Rattle.grove_plan.specs.Slots.{accesses_before}
 use Rattle.grove_plan.specs.Faults.{is_later}
 
@@ -42,16 +42,16 @@ abbrev pub held_weight : Rows → List Step → ℕ → ℕ
 held_weight rows plan place = sum_below (length rows) (λ node. if held plan node place then weight_of rows node else 0)
 
 -- what the accesses before a place cost
-abbrev pub cost_before : Rows → List Step → ℕ → ℕ
-cost_before rows plan place =
-    sum_below (length rows) (λ node. weight_of rows node * count_below place (λ i. is_access (slice_get plan i) && held plan node i))
+abbrev pub cost_before : Rows → List ℕ → List Step → ℕ → ℕ
+cost_before rows lengths plan place =
+    sum_below (length rows) (λ node. weight_of rows node * sum_below place (λ i. if held plan node i then slots_of lengths (slice_get plan i) else 0))
 
 -- a watch has followed a plan to a place
-pub record IsWatched (rows : Rows) (plan : List Step) (place : ℕ) (watch : Watch) : Type 0 where
+pub record IsWatched (rows : Rows) (lengths : List ℕ) (plan : List Step) (place : ℕ) (watch : Watch) : Type 0 where
   pub nodes : length watch.holds.items ≡ length rows
   pub each : (node : ℕ) → node < length rows → slice_index_or watch.holds.items node Free ≡ hold_of plan node place
   pub later : watch.later ≡ is_later plan place
   pub accesses : watch.accesses ≡ accesses_before plan place
   pub weight : watch.weight ≡ held_weight rows plan place
-  pub cost : watch.cost ≡ cost_before rows plan place
-  pub small : watch.cost ≤ 4096000 * place
+  pub cost : watch.cost ≡ cost_before rows lengths plan place
+  pub small : watch.cost ≤ 4096000000 * place

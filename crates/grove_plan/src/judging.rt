@@ -1,6 +1,6 @@
 ghost use Rattle.std.specs.Prelude.{◌≡◌, ◌≢◌, ◌<◌, ◌^◌, length, IfOk, OnOk, IfErr, Some, None};
 ghost use Rattle.grove_tree.specs.Rules.{IsWithinLimits};
-ghost use Rattle.grove_access.specs.Lists.{nodes_of, AreNodes};
+ghost use Rattle.grove_access.specs.Lists.{nodes_of, lengths_of, AreNodes, AreLengths};
 ghost use Rattle.grove_plan.specs.Plans.{IsLegal, cost};
 ghost use Rattle.grove_plan.specs.Faults.{steps_fault, plan_fault_of};
 ghost use Rattle.grove_plan.specs.Watching.{IsWatched};
@@ -14,12 +14,14 @@ use std::alloc::Global;
 /// The cost of a legal plan, in weight times slots; else the first step that breaks a rule and the first rule that it breaks.
 pub fn judge(alloc: Global, tree: &Tree, list: &AccessList, plan: &Plan) -> Result<u64, PlanFault>
     requires fits { AreNodes tree.now (nodes_of list.now) }
-    ensures cost { IfOk result (λ sum. sum ≡ cost tree.now plan.now) }
+    ensures cost { IfOk result (λ sum. sum ≡ cost tree.now (lengths_of list.now) plan.now) }
     ensures legal { OnOk result (IsLegal tree.now (nodes_of list.now) plan.now) }
     ensures faultless { OnOk result (plan_fault_of tree.now (nodes_of list.now) plan.now ≡ None) }
     ensures fault { IfErr result (λ fault. fault ≢ PlanFault.Memory → plan_fault_of tree.now (nodes_of list.now) plan.now ≡ Some fault) }
     ensures illegal { IfErr result (λ fault. fault ≢ PlanFault.Memory → ¬ IsLegal tree.now (nodes_of list.now) plan.now) }
 {
+    // The limits that hold of every list are told with its length.
+    let _accesses = list.len();
     let mut watch = Watch::new(alloc, tree.len())?;
     judge_by(&mut watch, tree, list, plan.steps())
 }
@@ -34,8 +36,9 @@ fn judge_by(
     requires fits { AreNodes tree.now (nodes_of list.now) }
     requires few { length plan.now < 2 ^ 32 }
     requires limits { IsWithinLimits tree.now }
-    requires watched { IsWatched tree.now plan.now 0 watch.old }
-    ensures cost { IfOk result (λ sum. sum ≡ cost tree.now plan.now) }
+    requires lengths { AreLengths (lengths_of list.now) }
+    requires watched { IsWatched tree.now (lengths_of list.now) plan.now 0 watch.old }
+    ensures cost { IfOk result (λ sum. sum ≡ cost tree.now (lengths_of list.now) plan.now) }
     ensures faultless { OnOk result (plan_fault_of tree.now (nodes_of list.now) plan.now ≡ None) }
     ensures fault { IfErr result (λ fault. plan_fault_of tree.now (nodes_of list.now) plan.now ≡ Some fault) }
 {
@@ -54,8 +57,9 @@ fn follow(watch: &mut Watch, tree: &Tree, list: &AccessList, plan: &[Step]) -> R
     requires fits { AreNodes tree.now (nodes_of list.now) }
     requires few { length plan.now < 2 ^ 32 }
     requires limits { IsWithinLimits tree.now }
-    requires watched { IsWatched tree.now plan.now 0 watch.old }
-    ensures watched { OnOk result (IsWatched tree.now plan.now (length plan.now) watch.new) }
+    requires lengths { AreLengths (lengths_of list.now) }
+    requires watched { IsWatched tree.now (lengths_of list.now) plan.now 0 watch.old }
+    ensures watched { OnOk result (IsWatched tree.now (lengths_of list.now) plan.now (length plan.now) watch.new) }
     ensures faultless { OnOk result (steps_fault tree.now (nodes_of list.now) plan.now (length plan.now) ≡ None) }
     ensures fault { IfErr result (λ fault. steps_fault tree.now (nodes_of list.now) plan.now (length plan.now) ≡ Some fault) }
 {
@@ -63,7 +67,7 @@ fn follow(watch: &mut Watch, tree: &Tree, list: &AccessList, plan: &[Step]) -> R
         if let Some(fault) = watch.fault_at(tree, list, plan, place) {
             return Err(fault);
         }
-        watch.take(tree, plan, place);
+        watch.take(tree, list, plan, place);
     }
     Ok(())
 }

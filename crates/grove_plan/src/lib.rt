@@ -3,13 +3,13 @@
 
 pub use fault::PlanFault;
 pub use judging::judge;
+pub use laws::plan_laws;
 pub use plan::Plan;
 pub use step::Step;
 
 mod fault;
 mod judging;
+mod laws;
 mod plan;
 mod step;
-#[cfg(test)]
-mod tests;
 mod watch;

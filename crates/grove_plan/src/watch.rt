@@ -1,6 +1,6 @@
 ghost use Rattle.std.specs.Prelude.{◌≡◌, ℕ, List, ◌+◌, ◌<◌, ◌^◌, length, IfOk, IfNone, IfSome, None, slice_get, slice_index_or};
 ghost use Rattle.grove_tree.specs.Rules.{IsWithinLimits};
-ghost use Rattle.grove_access.specs.Lists.{nodes_of, AreNodes};
+ghost use Rattle.grove_access.specs.Lists.{nodes_of, lengths_of, AreNodes, AreLengths};
 ghost use Rattle.grove_plan.specs.Faults.{step_fault, end_fault};
 ghost use Rattle.grove_plan.specs.Watching.{IsWatched, is_free, is_holding, holds_node, first_holding};
 ghost use Rattle.grove_tree.specs.Trees.{Rows, IsTree, parent_of};
@@ -54,7 +54,7 @@ pub struct Watch {
 impl Watch {
     /// Before the first step.
     pub fn new(alloc: Global, nodes: u32) -> Result<Watch, AllocError>
-        ensures { (rows : Rows) (plan : List Step) → length rows ≡ nodes → IfOk result (IsWatched rows plan 0) }
+        ensures { (rows : Rows) (lengths : List ℕ) (plan : List Step) → length rows ≡ nodes → IfOk result (IsWatched rows lengths plan 0) }
     {
         let holds = Vec::from_elem(alloc, Hold::Free, nodes as usize)?;
         Ok(Watch {
@@ -96,7 +96,7 @@ impl Watch {
         requires fits { AreNodes tree.now (nodes_of list.now) }
         requires within { place < length plan.now }
         requires few { length plan.now < 2 ^ 32 }
-        requires watched { IsWatched tree.now plan.now place self.now }
+        requires watched { IsWatched tree.now (lengths_of list.now) plan.now place self.now }
         ensures { result ≡ step_fault tree.now (nodes_of list.now) plan.now place (slice_get plan.now place) }
     {
         let step = place as u32;
@@ -136,13 +136,14 @@ impl Watch {
     }
 
     /// Takes the step at the place, which breaks no rule.
-    pub fn take(&mut self, tree: &Tree, plan: &[Step], place: usize)
+    pub fn take(&mut self, tree: &Tree, list: &AccessList, plan: &[Step], place: usize)
         requires limits { IsWithinLimits tree.now }
+        requires lengths { AreLengths (lengths_of list.now) }
         requires within { place < length plan.now }
         requires few { length plan.now < 2 ^ 32 }
-        requires faultless { (nodes : List ℕ) × (step_fault tree.now nodes plan.now place (slice_get plan.now place) ≡ None) }
-        requires watched { IsWatched tree.now plan.now place self.old }
-        ensures { IsWatched tree.now plan.now (place + 1) self.new }
+        requires faultless { step_fault tree.now (nodes_of list.now) plan.now place (slice_get plan.now place) ≡ None }
+        requires watched { IsWatched tree.now (lengths_of list.now) plan.now place self.old }
+        ensures { IsWatched tree.now (lengths_of list.now) plan.now (place + 1) self.new }
     {
         match plan[place] {
             Step::Lock(node) => {
@@ -154,9 +155,9 @@ impl Watch {
                 self.holds[node.number() as usize] = Hold::Done;
                 self.weight -= u64::from(tree.weight(node));
             }
-            Step::Access(_) => {
+            Step::Access(access) => {
                 self.accesses += 1;
-                self.cost += self.weight;
+                self.cost += self.weight * u64::from(list.get(access).length);
             }
         }
     }

@@ -1,22 +1,26 @@
--- The slots of a legal plan meet the five constraints.
-use Rattle.std.proofs.Common.{◌≡◌, ℕ, suc, ◌+◌, ◌<◌, ◌≤◌, Bool, true, false, ◌&&◌, List, length, Some, refl, sym, ◌∙◌, ap, subst, inl, inr, arith}
+-- The locks and releases of a legal plan meet the five constraints.
+use Rattle.std.proofs.Common.{◌≡◌, ℕ, zero, suc, ◌+◌, ◌<◌, ◌≤◌, true, false, cond, List, length, Option, Some, None, refl, sym, ◌∙◌, ap, subst, inl, inr, zero-add, arith}
+use Rattle.std.specs.Prelude.{slice_index}
 use Rattle.std.specs.List.{slice_get}
 use Rattle.std.proofs.lemmas.Option.{same_Some, slice_get_within}
-use Rattle.std.proofs.lemmas.Bool.{cases_lt, cases_order, cases_Bool, both_ways, and_right}
-use Rattle.grove_tree.specs.Numbers.{any_below, count_below}
+use Rattle.std.proofs.lemmas.Bool.{cases_lt, cases_order, cases_Bool, both_ways, cond-true, cond-false}
+use Rattle.grove_tree.specs.Numbers.{any_below, sum_below}
 use Rattle.grove_tree.specs.Trees.{Rows, parent_of, IsTree}
-use Rattle.grove_tree.proofs.Counting.{any_true, any_from, any_false, count_mono, count_hit, count_miss, count_window, count_stops, least_is}
+use Rattle.grove_tree.proofs.Counting.{any_true, any_from, any_false, count_mono, count_hit, least_is, numbers_got}
 use Rattle.grove_tree.proofs.Ups.{above_le, parent_lt}
 use Rattle.grove_access.specs.Lists.{AreNodes}
+use Rattle.grove_access.specs.Slots.{slots_before}
 use Rattle.grove_access.specs.Spanned.{IsCommon, IsSpanned}
+use Rattle.grove_access.proofs.Slots.{slots_rise}
 use Rattle.grove_access.proofs.Spans.{accessed_is_spanned}
 use Rattle.grove_plan.specs.declared.step.Step.{Step}
-use Rattle.grove_plan.specs.declared.step.Step.TheVariants.{Lock, Unlock}
-use Rattle.grove_plan.specs.Plans.{locks, unlocks, is_access, held, holding, IsLegal, IsLockedBy}
+use Rattle.grove_plan.specs.declared.step.Step.TheVariants.{Lock, Unlock, Access}
+use Rattle.grove_plan.specs.Plans.{locks, unlocks, is_access, held, slots_of, holding, IsLegal, IsLockedBy}
 use Rattle.grove_plan.specs.Slots.{accesses_before, lock_place, release_place, lock_slot, release_slot}
-use Rattle.grove_plan.proofs.Holding.{HeldAt, held_at, held_from, held_not, locks_true, locks_from, unlocks_true, unlocks_from, access_no_unlock}
-use Rattle.grove_proof.specs.Five.{MeetsFive}
+use Rattle.grove_plan.proofs.Holding.{HeldAt, held_at, held_from, held_not, locks_true, locks_from, unlocks_true, unlocks_from, access_no_unlock, access_at}
+use Rattle.grove_proof.specs.Five.{lock_time, release_time, MeetsFive}
 use Rattle.grove_proof.specs.Laws.{LegalMeetsFive}
+use Rattle.grove_proof.proofs.Sums.{sum_window, sum_stops}
 use Rattle.grove_proof.proofs.Chains.{IsPerformed, later_or_first, first_is_common, performed, spanned_is_forced}
 
 -- where a legal plan locks and unlocks a node
@@ -105,15 +109,6 @@ module _ (rows : Rows) (nodes : List ℕ) (plan : List Step) (legal : IsLegal ro
       let done : IsPerformed plan access target = performed rows nodes plan legal access target h in
       legal.obeys.locks_nodes done.held.at target done.held.is_lock
 
--- a test and another that is true
-and_same : (a b : Bool) → b ≡ true → (a && b) ≡ a
-and_same true b h = h
-and_same false b h = refl
-
--- the sums that meet in a holding
-sums_meet : (lock a b hold c d e f release : ℕ) → lock ≡ a → b ≡ a → hold ≡ c → c ≡ d → b + d ≡ e → e ≡ f → release ≡ f → lock + hold ≡ release
-sums_meet lock a b hold c d e f release h1 h2 h3 h4 h5 h6 h7 = omega arith
-
 -- at most, and another number
 less_or_same : (a b : ℕ) → a ≤ b → (a ≡ b → ⊥) → suc a ≤ b
 less_or_same a b le ne = elim (cases_lt a b) [ inl lt ↦ lt | inr ge ↦ absurd (ne (omega arith)) ]
@@ -140,32 +135,63 @@ held_only plan v q at h =
       ],
     )
 
--- a step that is none of an access
-no_access : (plan : List Step) (i : ℕ) (step : Step) → slice_get plan i ≡ Some step → is_access (Some step) ≡ false → accesses_before plan (suc i) ≡ accesses_before plan i
-no_access plan i step h no_one = count_miss i (λ k. is_access (slice_get plan k)) (ap is_access h ∙ no_one)
+-- the sums that meet in a holding
+sums_meet : (lock a b hold c d e f release : ℕ) → lock ≡ a → b ≡ a → hold ≡ c → c ≡ d → b + d ≡ e → e ≡ f → release ≡ f → lock + hold ≡ release
+sums_meet lock a b hold c d e f release h1 h2 h3 h4 h5 h6 h7 = omega arith
 
--- the holding lasts from the lock's slot to the release's
-pub holding_is : (plan : List Step) (v : ℕ) → HasPlaces plan v → lock_slot plan v + holding plan v ≡ release_slot plan v
-holding_is plan v at =
-    let test : ℕ → Bool = λ q. is_access (slice_get plan q) && held plan v q in
+-- The slots that the steps of a legal plan take
+
+step_taken : (lengths : List ℕ) (o : Option Step) (n : ℕ) → ((a : ℕ) → o ≡ Some (Access a) → a ≡ n)
+    → slots_of lengths o + slots_before lengths n ≡ slots_before lengths (cond (is_access o) 1 0 + n)
+step_taken lengths None n next = zero-add (slots_before lengths n) ∙ ap (slots_before lengths) (sym (zero-add n))
+step_taken lengths (Some (Lock v)) n next = zero-add (slots_before lengths n) ∙ ap (slots_before lengths) (sym (zero-add n))
+step_taken lengths (Some (Unlock v)) n next = zero-add (slots_before lengths n) ∙ ap (slots_before lengths) (sym (zero-add n))
+step_taken lengths (Some (Access a)) n next =
+    let more : suc n ≡ 1 + n = omega arith in
+    ap (λ (k : ℕ). slice_index lengths k + slots_before lengths n) (next a refl) ∙ ap (slots_before lengths) more
+
+-- the steps before a place take the slots of the accesses among them
+pub slots_taken : (rows : Rows) (nodes lengths : List ℕ) (plan : List Step) → IsLegal rows nodes plan
+    → (place : ℕ) → sum_below place (λ q. slots_of lengths (slice_get plan q)) ≡ slots_before lengths (accesses_before plan place)
+slots_taken rows nodes lengths plan legal zero = refl
+slots_taken rows nodes lengths plan legal (suc place) =
+    ap (λ (n : ℕ). slots_of lengths (slice_get plan place) + n) (slots_taken rows nodes lengths plan legal place)
+    ∙ step_taken lengths (slice_get plan place) (accesses_before plan place)
+    (λ a is. (numbers_got (length nodes) (accesses_before plan place) a
+    (ap (λ (xs : List ℕ). slice_get xs (accesses_before plan place)) (sym legal.performs.in_order) ∙ access_at plan place a is)).0)
+
+-- a step that takes no slots
+none_taken : (lengths : List ℕ) (plan : List Step) (i : ℕ) (step : Step) → slice_get plan i ≡ Some step → slots_of lengths (Some step) ≡ 0
+    → sum_below (suc i) (λ q. slots_of lengths (slice_get plan q)) ≡ sum_below i (λ q. slots_of lengths (slice_get plan q))
+none_taken lengths plan i step h none =
+    let here : slots_of lengths (slice_get plan i) ≡ 0 = ap (slots_of lengths) h ∙ none in omega arith
+
+-- the holding lasts from the lock's time to the release's
+pub holding_is : (rows : Rows) (nodes lengths : List ℕ) (plan : List Step) (v : ℕ) → IsLegal rows nodes plan → HasPlaces plan v
+    → lock_time lengths plan v + holding lengths plan v ≡ release_time lengths plan v
+holding_is rows nodes lengths plan v legal at =
+    let slots : ℕ → ℕ = λ q. slots_of lengths (slice_get plan q) in
+    let part : ℕ → ℕ = λ q. cond (held plan v q) (slots q) 0 in
     let order : at.lock < at.unlock = at.before in
     let inside : at.unlock < length plan = slice_get_within plan at.unlock (Unlock v) at.is_unlock in
-    let window : accesses_before plan (suc at.lock) + count_below (suc at.unlock) test ≡ accesses_before plan (suc at.unlock) =
-    count_window test (λ q. is_access (slice_get plan q)) (suc at.lock) (suc at.unlock)
-    (λ q lt. and_right (is_access (slice_get plan q)) (held plan v q) (held_not plan v q (λ h. let in_time : (at.lock < q) × (q ≤ at.unlock) = held_only plan v q at h in let low : at.lock < q = in_time.0 in omega arith)))
-    (λ q above below. and_same (is_access (slice_get plan q)) (held plan v q) (held_within plan v q at (omega arith) (omega arith)))
+    let window : sum_below (suc at.lock) slots + sum_below (suc at.unlock) part ≡ sum_below (suc at.unlock) slots =
+    sum_window part slots (suc at.lock) (suc at.unlock)
+    (λ q lt. cond-false (held plan v q) (slots q) 0 (held_not plan v q (λ h. let in_time : (at.lock < q) × (q ≤ at.unlock) = held_only plan v q at h in let low : at.lock < q = in_time.0 in omega arith)))
+    (λ q above below. cond-true (held plan v q) (slots q) 0 (held_within plan v q at (omega arith) (omega arith)))
     (suc at.unlock) (omega arith) (omega arith) in
-    let stops : count_below (length plan) test ≡ count_below (suc at.unlock) test =
-    count_stops test (suc at.unlock)
-    (λ q above. and_right (is_access (slice_get plan q)) (held plan v q) (held_not plan v q (λ h. let in_time : (at.lock < q) × (q ≤ at.unlock) = held_only plan v q at h in let high : q ≤ at.unlock = in_time.1 in omega arith)))
+    let stops : sum_below (length plan) part ≡ sum_below (suc at.unlock) part =
+    sum_stops part (suc at.unlock)
+    (λ q above. cond-false (held plan v q) (slots q) 0 (held_not plan v q (λ h. let in_time : (at.lock < q) × (q ≤ at.unlock) = held_only plan v q at h in let high : q ≤ at.unlock = in_time.1 in omega arith)))
     (length plan) (omega arith) in
-    let first : accesses_before plan (suc at.lock) ≡ accesses_before plan at.lock = no_access plan at.lock (Lock v) at.is_lock refl in
-    let last : accesses_before plan (suc at.unlock) ≡ accesses_before plan at.unlock = no_access plan at.unlock (Unlock v) at.is_unlock refl in
-    let lock : lock_slot plan v ≡ accesses_before plan at.lock = ap (accesses_before plan) at.lock_is in
-    let release : release_slot plan v ≡ accesses_before plan at.unlock = ap (accesses_before plan) at.unlock_is in
-    let all : holding plan v ≡ count_below (length plan) test = refl in
-    sums_meet (lock_slot plan v) (accesses_before plan at.lock) (accesses_before plan (suc at.lock)) (holding plan v) (count_below (length plan) test) (count_below (suc at.unlock) test)
-    (accesses_before plan (suc at.unlock)) (accesses_before plan at.unlock) (release_slot plan v) lock first all stops window last release
+    let first : sum_below (suc at.lock) slots ≡ sum_below at.lock slots = none_taken lengths plan at.lock (Lock v) at.is_lock refl in
+    let last : sum_below (suc at.unlock) slots ≡ sum_below at.unlock slots = none_taken lengths plan at.unlock (Unlock v) at.is_unlock refl in
+    let lock : lock_time lengths plan v ≡ sum_below at.lock slots =
+    ap (λ (i : ℕ). slots_before lengths (accesses_before plan i)) at.lock_is ∙ sym (slots_taken rows nodes lengths plan legal at.lock) in
+    let release : release_time lengths plan v ≡ sum_below at.unlock slots =
+    ap (λ (i : ℕ). slots_before lengths (accesses_before plan i)) at.unlock_is ∙ sym (slots_taken rows nodes lengths plan legal at.unlock) in
+    let all : holding lengths plan v ≡ sum_below (length plan) part = refl in
+    sums_meet (lock_time lengths plan v) (sum_below at.lock slots) (sum_below (suc at.lock) slots) (holding lengths plan v) (sum_below (length plan) part) (sum_below (suc at.unlock) part)
+    (sum_below (suc at.unlock) slots) (sum_below at.unlock slots) (release_time lengths plan v) lock first all stops window last release
 
 -- the places of a spanned node
 pub spanned_places : (rows : Rows) (nodes : List ℕ) (plan : List Step) (v : ℕ) → IsTree rows → IsLegal rows nodes plan → IsSpanned rows nodes v → HasPlaces plan v
@@ -187,9 +213,17 @@ parent_held rows nodes plan v p i tree legal spanned e h = elim (later_or_first 
       absurd (omega arith)
 ]
 
--- in a legal plan the slots meet the five constraints
-pub meets_five : (rows : Rows) (nodes : List ℕ) (plan : List Step) → IsTree rows → IsLegal rows nodes plan → MeetsFive rows nodes plan
-meets_five rows nodes plan tree legal = record {
+-- the same order, by how many accesses are done before each lock and release
+pub record KeepsOrder (rows : Rows) (nodes : List ℕ) (plan : List Step) : Type 0 where
+  pub above : (node parent : ℕ) → IsSpanned rows nodes node → IsSpanned rows nodes parent → parent_of rows node ≡ Some parent → lock_slot plan parent ≤ lock_slot plan node
+  pub held : (node parent : ℕ) → IsSpanned rows nodes node → IsSpanned rows nodes parent → parent_of rows node ≡ Some parent → lock_slot plan node ≤ release_slot plan parent
+  pub first : (node access : ℕ) → slice_get nodes access ≡ Some node → lock_slot plan node ≤ access
+  pub last : (node access : ℕ) → slice_get nodes access ≡ Some node → suc access ≤ release_slot plan node
+  pub own : (node : ℕ) → IsSpanned rows nodes node → lock_slot plan node ≤ release_slot plan node
+
+-- every legal plan keeps it
+pub keeps_order : (rows : Rows) (nodes : List ℕ) (plan : List Step) → IsTree rows → IsLegal rows nodes plan → KeepsOrder rows nodes plan
+keeps_order rows nodes plan tree legal = record {
   above = λ v p sv sp e.
       let at : HasPlaces plan v = spanned_places rows nodes plan v tree legal sv in
       let over : HasPlaces plan p = spanned_places rows nodes plan p tree legal sp in
@@ -223,12 +257,24 @@ meets_five rows nodes plan tree legal = record {
       let at : HasPlaces plan v = spanned_places rows nodes plan v tree legal sv in
       let lt : at.lock < at.unlock = at.before in
       rw (at.lock_is, at.unlock_is) (count_mono at.lock at.unlock (λ k. is_access (slice_get plan k)) (omega arith));
-  holds = λ v sv. holding_is plan v (spanned_places rows nodes plan v tree legal sv);
 }
 
+-- in a legal plan the times meet the five constraints
+pub meets_five : (rows : Rows) (nodes lengths : List ℕ) (plan : List Step) → IsTree rows → IsLegal rows nodes plan → MeetsFive rows nodes lengths plan
+meets_five rows nodes lengths plan tree legal =
+    let order : KeepsOrder rows nodes plan = keeps_order rows nodes plan tree legal in
+    record {
+      above = λ v p sv sp e. slots_rise lengths (lock_slot plan p) (lock_slot plan v) (order.above v p sv sp e);
+      held = λ v p sv sp e. slots_rise lengths (lock_slot plan v) (release_slot plan p) (order.held v p sv sp e);
+      first = λ v access h. slots_rise lengths (lock_slot plan v) access (order.first v access h);
+      last = λ v access h. slots_rise lengths (suc access) (release_slot plan v) (order.last v access h);
+      own = λ v sv. slots_rise lengths (lock_slot plan v) (release_slot plan v) (order.own v sv);
+      holds = λ v sv. holding_is rows nodes lengths plan v legal (spanned_places rows nodes plan v tree legal sv);
+    }
+
 pub legal_meets_five : LegalMeetsFive
-legal_meets_five rows nodes plan tree legal = (
-  meets_five rows nodes plan tree legal,
+legal_meets_five rows nodes lengths plan tree legal = (
+  meets_five rows nodes lengths plan tree legal,
   λ v sv. let at : HasPlaces plan v = spanned_places rows nodes plan v tree legal sv in
       ((at.lock, at.is_lock, ap (accesses_before plan) at.lock_is), (at.unlock, at.is_unlock, ap (accesses_before plan) at.unlock_is)),
 )

@@ -3,23 +3,23 @@ use Rattle.std.proofs.Common.{◌≡◌, ℕ, zero, suc, ◌+◌, ◌*◌, ◌<�
 use Rattle.std.specs.Prelude.{map}
 use Rattle.std.specs.List.{slice_get, sum_by}
 use Rattle.std.proofs.lemmas.Option.{same_Some}
-use Rattle.std.proofs.lemmas.Bool.{cases_order, cases_Bool, both_ways, and_parts, or_cases, eqb-true, false_from_ne_true, cond-true, cond-false, and_right}
+use Rattle.std.proofs.lemmas.Bool.{cases_order, cases_Bool, both_ways, and_parts, or_cases, eqb-true, false_from_ne_true, cond-true, cond-false}
 use Rattle.grove_tree.specs.Numbers.{sum_below, last_below}
 use Rattle.grove_tree.specs.Trees.{Rows, parent_of, weight_of, IsTree}
-use Rattle.grove_tree.proofs.Counting.{any_true, least_is, last_is, sum_le, sum_same, count_none}
+use Rattle.grove_tree.proofs.Counting.{any_true, least_is, last_is, sum_le, sum_same, sum_zero}
 use Rattle.grove_tree.proofs.Lists.{get_map}
 use Rattle.grove_tree.proofs.Tests.{is_at_true}
 use Rattle.grove_access.specs.Lists.{AreNodes}
+use Rattle.grove_access.specs.Slots.{slots_before}
 use Rattle.grove_access.specs.Spanned.{IsSpanned, is_spanned, spanned_nodes, names_at, is_accessed, first_access, last_end}
 use Rattle.grove_access.proofs.Spans.{spanned_get}
 use Rattle.grove_plan.specs.declared.step.Step.{Step}
 use Rattle.grove_plan.specs.declared.step.Step.TheVariants.{Lock}
-use Rattle.grove_plan.specs.Plans.{is_access, held, holding, cost, IsLegal}
-use Rattle.grove_plan.specs.Slots.{lock_slot, release_slot}
+use Rattle.grove_plan.specs.Plans.{held, slots_of, holding, cost, IsLegal}
 use Rattle.grove_plan.proofs.Holding.{held_not}
 use Rattle.grove_proof.specs.declared.flow.FlowRow.{FlowRow}
 use Rattle.grove_proof.specs.Forced.{IsForcedList}
-use Rattle.grove_proof.specs.Five.{MeetsFive}
+use Rattle.grove_proof.specs.Five.{lock_time, release_time, MeetsFive}
 use Rattle.grove_proof.specs.Flows.{node_of, is_child, child_sum, is_parent_at, has_parent, is_sign_ok, is_small, is_lock_balanced, is_release_balanced, AllRows, gains, losses, Balances, IsCertificate}
 use Rattle.grove_proof.specs.Laws.{WeakDuality, CertifiedIsLeast}
 use Rattle.grove_proof.proofs.Sums.{sums_same, sums_le, sums_add, sums_times, sums_scale, sums_swap, sums_one, sums_map, sums_passing}
@@ -176,66 +176,66 @@ free_same a x y e = rw e (zero-mul x ∙ sym (zero-mul y))
 
 -- The five constraints, priced
 
-module _ (rows : Rows) (nodes : List ℕ) (flow : List FlowRow) (plan : List Step) (are : AreSpanRows rows nodes flow)
-    (signs : AllRows (is_sign_ok rows nodes flow) flow) (five : MeetsFive rows nodes plan) where
-  pub above_term : (i : ℕ) (row : FlowRow) → slice_get flow i ≡ Some row → row.above * parent_value rows flow (lock_slot plan) row ≤ row.above * lock_slot plan row.node
+module _ (rows : Rows) (nodes lengths : List ℕ) (flow : List FlowRow) (plan : List Step) (are : AreSpanRows rows nodes flow)
+    (signs : AllRows (is_sign_ok rows nodes flow) flow) (five : MeetsFive rows nodes lengths plan) where
+  pub above_term : (i : ℕ) (row : FlowRow) → slice_get flow i ≡ Some row → row.above * parent_value rows flow (lock_time lengths plan) row ≤ row.above * lock_time lengths plan row.node
   above_term i row is = elim (parent_row rows flow row) [
     | inl over ↦ mul-le-mul_left row.above
-        (rw (at_parent rows nodes flow (lock_slot plan) are row over.1 over.0 over.2 over.3)
+        (rw (at_parent rows nodes flow (lock_time lengths plan) are row over.1 over.0 over.2 over.3)
         (five.above row.node over.1.node (are.spanned i row is) (are.spanned over.0 over.1 over.2) (is_at_true over.1.node (parent_of rows row.node) over.3)))
-    | inr none ↦ free row.above (parent_value rows flow (lock_slot plan) row) (lock_slot plan row.node) ((has_signs rows nodes flow row (signs i row is)).top none).0
+    | inr none ↦ free row.above (parent_value rows flow (lock_time lengths plan) row) (lock_time lengths plan row.node) ((has_signs rows nodes flow row (signs i row is)).top none).0
   ]
 
-  pub held_term : (i : ℕ) (row : FlowRow) → slice_get flow i ≡ Some row → row.held * lock_slot plan row.node ≤ row.held * parent_value rows flow (release_slot plan) row
+  pub held_term : (i : ℕ) (row : FlowRow) → slice_get flow i ≡ Some row → row.held * lock_time lengths plan row.node ≤ row.held * parent_value rows flow (release_time lengths plan) row
   held_term i row is = elim (parent_row rows flow row) [
     | inl over ↦ mul-le-mul_left row.held
-        (rw (at_parent rows nodes flow (release_slot plan) are row over.1 over.0 over.2 over.3)
+        (rw (at_parent rows nodes flow (release_time lengths plan) are row over.1 over.0 over.2 over.3)
         (five.held row.node over.1.node (are.spanned i row is) (are.spanned over.0 over.1 over.2) (is_at_true over.1.node (parent_of rows row.node) over.3)))
-    | inr none ↦ free row.held (lock_slot plan row.node) (parent_value rows flow (release_slot plan) row) ((has_signs rows nodes flow row (signs i row is)).top none).1
+    | inr none ↦ free row.held (lock_time lengths plan row.node) (parent_value rows flow (release_time lengths plan) row) ((has_signs rows nodes flow row (signs i row is)).top none).1
   ]
 
-  pub first_term : (i : ℕ) (row : FlowRow) → slice_get flow i ≡ Some row → row.first * lock_slot plan row.node ≤ row.first * first_access nodes row.node
+  pub first_term : (i : ℕ) (row : FlowRow) → slice_get flow i ≡ Some row → row.first * lock_time lengths plan row.node ≤ row.first * slots_before lengths (first_access nodes row.node)
   first_term i row is = elim (cases_Bool (is_accessed nodes row.node)) [
     | inl some ↦ mul-le-mul_left row.first (five.first row.node (first_access nodes row.node) (first_is nodes row.node some))
-    | inr none ↦ free row.first (lock_slot plan row.node) (first_access nodes row.node) ((has_signs rows nodes flow row (signs i row is)).unaccessed none).0
+    | inr none ↦ free row.first (lock_time lengths plan row.node) (slots_before lengths (first_access nodes row.node)) ((has_signs rows nodes flow row (signs i row is)).unaccessed none).0
   ]
 
-  pub last_term : (i : ℕ) (row : FlowRow) → slice_get flow i ≡ Some row → row.last * last_end nodes row.node ≤ row.last * release_slot plan row.node
+  pub last_term : (i : ℕ) (row : FlowRow) → slice_get flow i ≡ Some row → row.last * slots_before lengths (last_end nodes row.node) ≤ row.last * release_time lengths plan row.node
   last_term i row is = elim (cases_Bool (is_accessed nodes row.node)) [
     | inl some ↦ mul-le-mul_left row.last
         (let end : (g : ℕ) × (last_end nodes row.node ≡ suc g) × (slice_get nodes g ≡ Some row.node) = last_is_end nodes row.node some in
         rw end.1 (five.last row.node end.0 end.2))
-    | inr none ↦ free row.last (last_end nodes row.node) (release_slot plan row.node) ((has_signs rows nodes flow row (signs i row is)).unaccessed none).1
+    | inr none ↦ free row.last (slots_before lengths (last_end nodes row.node)) (release_time lengths plan row.node) ((has_signs rows nodes flow row (signs i row is)).unaccessed none).1
   ]
 
-  pub own_term : (i : ℕ) (row : FlowRow) → slice_get flow i ≡ Some row → row.own * lock_slot plan row.node ≤ row.own * release_slot plan row.node
+  pub own_term : (i : ℕ) (row : FlowRow) → slice_get flow i ≡ Some row → row.own * lock_time lengths plan row.node ≤ row.own * release_time lengths plan row.node
   own_term i row is = mul-le-mul_left row.own (five.own row.node (are.spanned i row is))
 
   -- the weights' releases are their locks and holdings
-  pub holding_sums : priced flow (λ row. weight_of rows row.node) (release_slot plan)
-      ≡ priced flow (λ row. weight_of rows row.node) (lock_slot plan) + priced flow (λ row. weight_of rows row.node) (holding plan)
+  pub holding_sums : priced flow (λ row. weight_of rows row.node) (release_time lengths plan)
+      ≡ priced flow (λ row. weight_of rows row.node) (lock_time lengths plan) + priced flow (λ row. weight_of rows row.node) (holding lengths plan)
   holding_sums =
-      sums_same (λ row. weight_of rows row.node * release_slot plan row.node) (λ row. weight_of rows row.node * lock_slot plan row.node + weight_of rows row.node * holding plan row.node) flow
-      (λ i row is. ap (λ (n : ℕ). weight_of rows row.node * n) (sym (five.holds row.node (are.spanned i row is))) ∙ mul-add (weight_of rows row.node) (lock_slot plan row.node) (holding plan row.node))
-      ∙ sums_add (λ row. weight_of rows row.node * lock_slot plan row.node) (λ row. weight_of rows row.node * holding plan row.node) flow
+      sums_same (λ row. weight_of rows row.node * release_time lengths plan row.node) (λ row. weight_of rows row.node * lock_time lengths plan row.node + weight_of rows row.node * holding lengths plan row.node) flow
+      (λ i row is. ap (λ (n : ℕ). weight_of rows row.node * n) (sym (five.holds row.node (are.spanned i row is))) ∙ mul-add (weight_of rows row.node) (lock_time lengths plan row.node) (holding lengths plan row.node))
+      ∙ sums_add (λ row. weight_of rows row.node * lock_time lengths plan row.node) (λ row. weight_of rows row.node * holding lengths plan row.node) flow
 
 -- the rows' part of the cost
-span_cost : (rows : Rows) (nodes : List ℕ) (flow : List FlowRow) (plan : List Step) → map node_of flow ≡ spanned_nodes rows nodes
-    → priced flow (λ row. weight_of rows row.node) (holding plan) ≡ sum_below (length rows) (λ v. cond (is_spanned rows nodes v) (weight_of rows v * holding plan v) 0)
-span_cost rows nodes flow plan e =
-    sym (sums_map (λ v. weight_of rows v * holding plan v) node_of flow)
-    ∙ (ap (λ (xs : List ℕ). sum_by (λ v. weight_of rows v * holding plan v) xs) e
-    ∙ sums_passing (λ v. weight_of rows v * holding plan v) (length rows) (is_spanned rows nodes))
+span_cost : (rows : Rows) (nodes lengths : List ℕ) (flow : List FlowRow) (plan : List Step) → map node_of flow ≡ spanned_nodes rows nodes
+    → priced flow (λ row. weight_of rows row.node) (holding lengths plan) ≡ sum_below (length rows) (λ v. cond (is_spanned rows nodes v) (weight_of rows v * holding lengths plan v) 0)
+span_cost rows nodes lengths flow plan e =
+    sym (sums_map (λ v. weight_of rows v * holding lengths plan v) node_of flow)
+    ∙ (ap (λ (xs : List ℕ). sum_by (λ v. weight_of rows v * holding lengths plan v) xs) e
+    ∙ sums_passing (λ v. weight_of rows v * holding lengths plan v) (length rows) (is_spanned rows nodes))
 
 part_le : (b : Bool) (x : ℕ) → cond b x 0 ≤ x
 part_le true x = omega arith
 part_le false x = omega arith
 
-pub span_cost_le : (rows : Rows) (nodes : List ℕ) (flow : List FlowRow) (plan : List Step) → map node_of flow ≡ spanned_nodes rows nodes
-    → priced flow (λ row. weight_of rows row.node) (holding plan) ≤ cost rows plan
-span_cost_le rows nodes flow plan e = rw (span_cost rows nodes flow plan e)
-    (sum_le (length rows) (λ v. cond (is_spanned rows nodes v) (weight_of rows v * holding plan v) 0) (λ v. weight_of rows v * holding plan v)
-    (λ v lt. part_le (is_spanned rows nodes v) (weight_of rows v * holding plan v)))
+pub span_cost_le : (rows : Rows) (nodes lengths : List ℕ) (flow : List FlowRow) (plan : List Step) → map node_of flow ≡ spanned_nodes rows nodes
+    → priced flow (λ row. weight_of rows row.node) (holding lengths plan) ≤ cost rows lengths plan
+span_cost_le rows nodes lengths flow plan e = rw (span_cost rows nodes lengths flow plan e)
+    (sum_le (length rows) (λ v. cond (is_spanned rows nodes v) (weight_of rows v * holding lengths plan v) 0) (λ v. weight_of rows v * holding lengths plan v)
+    (λ v lt. part_le (is_spanned rows nodes v) (weight_of rows v * holding lengths plan v)))
 
 -- ten sums: two balances, five priced constraints, the holdings and the cost
 weak_sums : (above locks child_above held first own child_held last last_ends releases firsts own_release hold cost : ℕ)
@@ -245,53 +245,53 @@ weak_sums : (above locks child_above held first own child_held last last_ends re
 weak_sums above locks child_above held first own child_held last last_ends releases firsts own_release hold cost h1 h2 h3 h4 h5 h6 h7 h8 h9 = omega arith
 
 pub weak_duality : WeakDuality
-weak_duality rows nodes flow plan tree fits balances legal =
+weak_duality rows nodes lengths flow plan tree fits balances legal =
     let are : AreSpanRows rows nodes flow = span_rows rows nodes flow tree fits balances.forced in
-    let five : MeetsFive rows nodes plan = meets_five rows nodes plan tree legal in
+    let five : MeetsFive rows nodes lengths plan = meets_five rows nodes lengths plan tree legal in
     let listed : map node_of flow ≡ spanned_nodes rows nodes = (forced_list_is_span rows nodes (map node_of flow) tree fits).0 balances.forced in
     weak_sums
-    (priced flow (λ row. row.above) (lock_slot plan))
-    (priced flow (λ row. weight_of rows row.node) (lock_slot plan))
-    (priced flow (child_sum rows (λ child. child.above) flow) (lock_slot plan))
-    (priced flow (λ row. row.held) (lock_slot plan))
-    (priced flow (λ row. row.first) (lock_slot plan))
-    (priced flow (λ row. row.own) (lock_slot plan))
-    (priced flow (child_sum rows (λ child. child.held) flow) (release_slot plan))
-    (priced flow (λ row. row.last) (release_slot plan))
-    (gains nodes flow)
-    (priced flow (λ row. weight_of rows row.node) (release_slot plan))
-    (losses nodes flow)
-    (priced flow (λ row. row.own) (release_slot plan))
-    (priced flow (λ row. weight_of rows row.node) (holding plan))
-    (cost rows plan)
-    (priced_locks rows flow (lock_slot plan) balances.locks)
-    (priced_releases rows flow (release_slot plan) balances.releases)
-    (holding_sums rows nodes flow plan are balances.signs five)
-    (rw (child_swap rows flow (λ child. child.above) (lock_slot plan))
-    (sums_le (λ child. child.above * parent_value rows flow (lock_slot plan) child) (λ row. row.above * lock_slot plan row.node) flow (above_term rows nodes flow plan are balances.signs five)))
-    (rw (child_swap rows flow (λ child. child.held) (release_slot plan))
-    (sums_le (λ row. row.held * lock_slot plan row.node) (λ child. child.held * parent_value rows flow (release_slot plan) child) flow (held_term rows nodes flow plan are balances.signs five)))
-    (sums_le (λ row. row.first * lock_slot plan row.node) (λ row. row.first * first_access nodes row.node) flow (first_term rows nodes flow plan are balances.signs five))
-    (sums_le (λ row. row.last * last_end nodes row.node) (λ row. row.last * release_slot plan row.node) flow (last_term rows nodes flow plan are balances.signs five))
-    (sums_le (λ row. row.own * lock_slot plan row.node) (λ row. row.own * release_slot plan row.node) flow (own_term rows nodes flow plan are balances.signs five))
-    (span_cost_le rows nodes flow plan listed)
+    (priced flow (λ row. row.above) (lock_time lengths plan))
+    (priced flow (λ row. weight_of rows row.node) (lock_time lengths plan))
+    (priced flow (child_sum rows (λ child. child.above) flow) (lock_time lengths plan))
+    (priced flow (λ row. row.held) (lock_time lengths plan))
+    (priced flow (λ row. row.first) (lock_time lengths plan))
+    (priced flow (λ row. row.own) (lock_time lengths plan))
+    (priced flow (child_sum rows (λ child. child.held) flow) (release_time lengths plan))
+    (priced flow (λ row. row.last) (release_time lengths plan))
+    (gains nodes lengths flow)
+    (priced flow (λ row. weight_of rows row.node) (release_time lengths plan))
+    (losses nodes lengths flow)
+    (priced flow (λ row. row.own) (release_time lengths plan))
+    (priced flow (λ row. weight_of rows row.node) (holding lengths plan))
+    (cost rows lengths plan)
+    (priced_locks rows flow (lock_time lengths plan) balances.locks)
+    (priced_releases rows flow (release_time lengths plan) balances.releases)
+    (holding_sums rows nodes lengths flow plan are balances.signs five)
+    (rw (child_swap rows flow (λ child. child.above) (lock_time lengths plan))
+    (sums_le (λ child. child.above * parent_value rows flow (lock_time lengths plan) child) (λ row. row.above * lock_time lengths plan row.node) flow (above_term rows nodes lengths flow plan are balances.signs five)))
+    (rw (child_swap rows flow (λ child. child.held) (release_time lengths plan))
+    (sums_le (λ row. row.held * lock_time lengths plan row.node) (λ child. child.held * parent_value rows flow (release_time lengths plan) child) flow (held_term rows nodes lengths flow plan are balances.signs five)))
+    (sums_le (λ row. row.first * lock_time lengths plan row.node) (λ row. row.first * slots_before lengths (first_access nodes row.node)) flow (first_term rows nodes lengths flow plan are balances.signs five))
+    (sums_le (λ row. row.last * slots_before lengths (last_end nodes row.node)) (λ row. row.last * release_time lengths plan row.node) flow (last_term rows nodes lengths flow plan are balances.signs five))
+    (sums_le (λ row. row.own * lock_time lengths plan row.node) (λ row. row.own * release_time lengths plan row.node) flow (own_term rows nodes lengths flow plan are balances.signs five))
+    (span_cost_le rows nodes lengths flow plan listed)
 
 pub certified_is_least : CertifiedIsLeast
-certified_is_least rows nodes flow plan tree fits legal certificate = record {
+certified_is_least rows nodes lengths flow plan tree fits legal certificate = record {
   legal = legal;
   least = λ other also.
-      let bound : gains nodes flow ≤ cost rows other + losses nodes flow = weak_duality rows nodes flow other tree fits certificate.balances also in
-      let value : gains nodes flow ≡ cost rows plan + losses nodes flow = certificate.value in
+      let bound : gains nodes lengths flow ≤ cost rows lengths other + losses nodes lengths flow = weak_duality rows nodes lengths flow other tree fits certificate.balances also in
+      let value : gains nodes lengths flow ≡ cost rows lengths plan + losses nodes lengths flow = certificate.value in
       omega arith;
 }
 
--- A tight plan: each constraint with a positive amount is an equation at the plan's slots.
-pub record IsTight (rows : Rows) (nodes : List ℕ) (flow : List FlowRow) (plan : List Step) : Type 0 where
-  pub above : (i : ℕ) (row : FlowRow) (parent : ℕ) → slice_get flow i ≡ Some row → parent_of rows row.node ≡ Some parent → 0 < row.above → lock_slot plan parent ≡ lock_slot plan row.node
-  pub held : (i : ℕ) (row : FlowRow) (parent : ℕ) → slice_get flow i ≡ Some row → parent_of rows row.node ≡ Some parent → 0 < row.held → lock_slot plan row.node ≡ release_slot plan parent
-  pub first : (i : ℕ) (row : FlowRow) → slice_get flow i ≡ Some row → 0 < row.first → lock_slot plan row.node ≡ first_access nodes row.node
-  pub last : (i : ℕ) (row : FlowRow) → slice_get flow i ≡ Some row → 0 < row.last → last_end nodes row.node ≡ release_slot plan row.node
-  pub own : (i : ℕ) (row : FlowRow) → slice_get flow i ≡ Some row → 0 < row.own → lock_slot plan row.node ≡ release_slot plan row.node
+-- A tight plan: each constraint with a positive amount is an equation at the plan's times.
+pub record IsTight (rows : Rows) (nodes lengths : List ℕ) (flow : List FlowRow) (plan : List Step) : Type 0 where
+  pub above : (i : ℕ) (row : FlowRow) (parent : ℕ) → slice_get flow i ≡ Some row → parent_of rows row.node ≡ Some parent → 0 < row.above → lock_time lengths plan parent ≡ lock_time lengths plan row.node
+  pub held : (i : ℕ) (row : FlowRow) (parent : ℕ) → slice_get flow i ≡ Some row → parent_of rows row.node ≡ Some parent → 0 < row.held → lock_time lengths plan row.node ≡ release_time lengths plan parent
+  pub first : (i : ℕ) (row : FlowRow) → slice_get flow i ≡ Some row → 0 < row.first → lock_time lengths plan row.node ≡ slots_before lengths (first_access nodes row.node)
+  pub last : (i : ℕ) (row : FlowRow) → slice_get flow i ≡ Some row → 0 < row.last → slots_before lengths (last_end nodes row.node) ≡ release_time lengths plan row.node
+  pub own : (i : ℕ) (row : FlowRow) → slice_get flow i ≡ Some row → 0 < row.own → lock_time lengths plan row.node ≡ release_time lengths plan row.node
 
 -- an amount prices an equation, or is 0
 tight_term : (a x y : ℕ) → (0 < a → x ≡ y) → a * x ≡ a * y
@@ -299,10 +299,10 @@ tight_term zero x y h = free_same 0 x y refl
 tight_term (suc a) x y h = ap (λ (n : ℕ). suc a * n) (h (omega arith))
 
 -- a plan that locks spanned nodes alone holds no other
-pub unspanned_free : (rows : Rows) (nodes : List ℕ) (plan : List Step) (v : ℕ) → IsTree rows
-    → ((i w : ℕ) → slice_get plan i ≡ Some (Lock w) → IsSpanned rows nodes w) → is_spanned rows nodes v ≡ false → holding plan v ≡ 0
-unspanned_free rows nodes plan v tree alone none = count_none (length plan) (λ q. is_access (slice_get plan q) && held plan v q)
-    (λ q lt. and_right (is_access (slice_get plan q)) (held plan v q) (held_not plan v q
+pub unspanned_free : (rows : Rows) (nodes lengths : List ℕ) (plan : List Step) (v : ℕ) → IsTree rows
+    → ((i w : ℕ) → slice_get plan i ≡ Some (Lock w) → IsSpanned rows nodes w) → is_spanned rows nodes v ≡ false → holding lengths plan v ≡ 0
+unspanned_free rows nodes lengths plan v tree alone none = sum_zero (length plan) (λ q. cond (held plan v q) (slots_of lengths (slice_get plan q)) 0)
+    (λ q lt. cond-false (held plan v q) (slots_of lengths (slice_get plan q)) 0 (held_not plan v q
     (λ at. both_ways (is_spanned rows nodes v) none (spanned_get rows nodes v tree (alone at.at v at.is_lock)))))
 
 part_all : (b : Bool) (w x : ℕ) → (b ≡ false → x ≡ 0) → cond b (w * x) 0 ≡ w * x
@@ -316,55 +316,55 @@ tight_sums : (above locks child_above held first own child_held last last_ends r
 tight_sums above locks child_above held first own child_held last last_ends releases firsts own_release hold cost h1 h2 h3 h4 h5 h6 h7 h8 h9 = omega arith
 
 -- rows that balance, with small amounts, certify a legal plan that locks spanned nodes alone and at whose slots they are tight
-pub tight_is_certified : (rows : Rows) (nodes : List ℕ) (flow : List FlowRow) (plan : List Step) → IsTree rows → AreNodes rows nodes → IsLegal rows nodes plan
-    → Balances rows nodes flow → AllRows is_small flow → ((i v : ℕ) → slice_get plan i ≡ Some (Lock v) → IsSpanned rows nodes v) → IsTight rows nodes flow plan
-    → IsCertificate rows nodes flow (cost rows plan)
-tight_is_certified rows nodes flow plan tree fits legal balances small alone tight =
+pub tight_is_certified : (rows : Rows) (nodes lengths : List ℕ) (flow : List FlowRow) (plan : List Step) → IsTree rows → AreNodes rows nodes → IsLegal rows nodes plan
+    → Balances rows nodes flow → AllRows is_small flow → ((i v : ℕ) → slice_get plan i ≡ Some (Lock v) → IsSpanned rows nodes v) → IsTight rows nodes lengths flow plan
+    → IsCertificate rows nodes lengths flow (cost rows lengths plan)
+tight_is_certified rows nodes lengths flow plan tree fits legal balances small alone tight =
     let are : AreSpanRows rows nodes flow = span_rows rows nodes flow tree fits balances.forced in
-    let five : MeetsFive rows nodes plan = meets_five rows nodes plan tree legal in
+    let five : MeetsFive rows nodes lengths plan = meets_five rows nodes lengths plan tree legal in
     let listed : map node_of flow ≡ spanned_nodes rows nodes = (forced_list_is_span rows nodes (map node_of flow) tree fits).0 balances.forced in
     record {
       balances = balances;
       small = small;
       value = tight_sums
-          (priced flow (λ row. row.above) (lock_slot plan))
-          (priced flow (λ row. weight_of rows row.node) (lock_slot plan))
-          (priced flow (child_sum rows (λ child. child.above) flow) (lock_slot plan))
-          (priced flow (λ row. row.held) (lock_slot plan))
-          (priced flow (λ row. row.first) (lock_slot plan))
-          (priced flow (λ row. row.own) (lock_slot plan))
-          (priced flow (child_sum rows (λ child. child.held) flow) (release_slot plan))
-          (priced flow (λ row. row.last) (release_slot plan))
-          (gains nodes flow)
-          (priced flow (λ row. weight_of rows row.node) (release_slot plan))
-          (losses nodes flow)
-          (priced flow (λ row. row.own) (release_slot plan))
-          (priced flow (λ row. weight_of rows row.node) (holding plan))
-          (cost rows plan)
-          (priced_locks rows flow (lock_slot plan) balances.locks)
-          (priced_releases rows flow (release_slot plan) balances.releases)
-          (holding_sums rows nodes flow plan are balances.signs five)
-          (child_swap rows flow (λ child. child.above) (lock_slot plan)
-          ∙ sums_same (λ child. child.above * parent_value rows flow (lock_slot plan) child) (λ row. row.above * lock_slot plan row.node) flow
+          (priced flow (λ row. row.above) (lock_time lengths plan))
+          (priced flow (λ row. weight_of rows row.node) (lock_time lengths plan))
+          (priced flow (child_sum rows (λ child. child.above) flow) (lock_time lengths plan))
+          (priced flow (λ row. row.held) (lock_time lengths plan))
+          (priced flow (λ row. row.first) (lock_time lengths plan))
+          (priced flow (λ row. row.own) (lock_time lengths plan))
+          (priced flow (child_sum rows (λ child. child.held) flow) (release_time lengths plan))
+          (priced flow (λ row. row.last) (release_time lengths plan))
+          (gains nodes lengths flow)
+          (priced flow (λ row. weight_of rows row.node) (release_time lengths plan))
+          (losses nodes lengths flow)
+          (priced flow (λ row. row.own) (release_time lengths plan))
+          (priced flow (λ row. weight_of rows row.node) (holding lengths plan))
+          (cost rows lengths plan)
+          (priced_locks rows flow (lock_time lengths plan) balances.locks)
+          (priced_releases rows flow (release_time lengths plan) balances.releases)
+          (holding_sums rows nodes lengths flow plan are balances.signs five)
+          (child_swap rows flow (λ child. child.above) (lock_time lengths plan)
+          ∙ sums_same (λ child. child.above * parent_value rows flow (lock_time lengths plan) child) (λ row. row.above * lock_time lengths plan row.node) flow
           (λ i row is. elim (parent_row rows flow row) [
-            | inl over ↦ ap (λ (n : ℕ). row.above * n) (at_parent rows nodes flow (lock_slot plan) are row over.1 over.0 over.2 over.3)
-                ∙ tight_term row.above (lock_slot plan over.1.node) (lock_slot plan row.node) (tight.above i row over.1.node is (is_at_true over.1.node (parent_of rows row.node) over.3))
-            | inr none ↦ free_same row.above (parent_value rows flow (lock_slot plan) row) (lock_slot plan row.node) ((has_signs rows nodes flow row (balances.signs i row is)).top none).0
+            | inl over ↦ ap (λ (n : ℕ). row.above * n) (at_parent rows nodes flow (lock_time lengths plan) are row over.1 over.0 over.2 over.3)
+                ∙ tight_term row.above (lock_time lengths plan over.1.node) (lock_time lengths plan row.node) (tight.above i row over.1.node is (is_at_true over.1.node (parent_of rows row.node) over.3))
+            | inr none ↦ free_same row.above (parent_value rows flow (lock_time lengths plan) row) (lock_time lengths plan row.node) ((has_signs rows nodes flow row (balances.signs i row is)).top none).0
           ]))
-          (sums_same (λ row. row.held * lock_slot plan row.node) (λ child. child.held * parent_value rows flow (release_slot plan) child) flow
+          (sums_same (λ row. row.held * lock_time lengths plan row.node) (λ child. child.held * parent_value rows flow (release_time lengths plan) child) flow
           (λ i row is. elim (parent_row rows flow row) [
-            | inl over ↦ tight_term row.held (lock_slot plan row.node) (release_slot plan over.1.node) (tight.held i row over.1.node is (is_at_true over.1.node (parent_of rows row.node) over.3))
-                ∙ ap (λ (n : ℕ). row.held * n) (sym (at_parent rows nodes flow (release_slot plan) are row over.1 over.0 over.2 over.3))
-            | inr none ↦ free_same row.held (lock_slot plan row.node) (parent_value rows flow (release_slot plan) row) ((has_signs rows nodes flow row (balances.signs i row is)).top none).1
+            | inl over ↦ tight_term row.held (lock_time lengths plan row.node) (release_time lengths plan over.1.node) (tight.held i row over.1.node is (is_at_true over.1.node (parent_of rows row.node) over.3))
+                ∙ ap (λ (n : ℕ). row.held * n) (sym (at_parent rows nodes flow (release_time lengths plan) are row over.1 over.0 over.2 over.3))
+            | inr none ↦ free_same row.held (lock_time lengths plan row.node) (parent_value rows flow (release_time lengths plan) row) ((has_signs rows nodes flow row (balances.signs i row is)).top none).1
           ])
-          ∙ sym (child_swap rows flow (λ child. child.held) (release_slot plan)))
-          (sums_same (λ row. row.first * lock_slot plan row.node) (λ row. row.first * first_access nodes row.node) flow
-          (λ i row is. tight_term row.first (lock_slot plan row.node) (first_access nodes row.node) (tight.first i row is)))
-          (sums_same (λ row. row.last * last_end nodes row.node) (λ row. row.last * release_slot plan row.node) flow
-          (λ i row is. tight_term row.last (last_end nodes row.node) (release_slot plan row.node) (tight.last i row is)))
-          (sums_same (λ row. row.own * lock_slot plan row.node) (λ row. row.own * release_slot plan row.node) flow
-          (λ i row is. tight_term row.own (lock_slot plan row.node) (release_slot plan row.node) (tight.own i row is)))
-          (span_cost rows nodes flow plan listed
-          ∙ sum_same (length rows) (λ v. cond (is_spanned rows nodes v) (weight_of rows v * holding plan v) 0) (λ v. weight_of rows v * holding plan v)
-          (λ v lt. part_all (is_spanned rows nodes v) (weight_of rows v) (holding plan v) (unspanned_free rows nodes plan v tree alone)));
+          ∙ sym (child_swap rows flow (λ child. child.held) (release_time lengths plan)))
+          (sums_same (λ row. row.first * lock_time lengths plan row.node) (λ row. row.first * slots_before lengths (first_access nodes row.node)) flow
+          (λ i row is. tight_term row.first (lock_time lengths plan row.node) (slots_before lengths (first_access nodes row.node)) (tight.first i row is)))
+          (sums_same (λ row. row.last * slots_before lengths (last_end nodes row.node)) (λ row. row.last * release_time lengths plan row.node) flow
+          (λ i row is. tight_term row.last (slots_before lengths (last_end nodes row.node)) (release_time lengths plan row.node) (tight.last i row is)))
+          (sums_same (λ row. row.own * lock_time lengths plan row.node) (λ row. row.own * release_time lengths plan row.node) flow
+          (λ i row is. tight_term row.own (lock_time lengths plan row.node) (release_time lengths plan row.node) (tight.own i row is)))
+          (span_cost rows nodes lengths flow plan listed
+          ∙ sum_same (length rows) (λ v. cond (is_spanned rows nodes v) (weight_of rows v * holding lengths plan v) 0) (λ v. weight_of rows v * holding lengths plan v)
+          (λ v lt. part_all (is_spanned rows nodes v) (weight_of rows v) (holding lengths plan v) (unspanned_free rows nodes lengths plan v tree alone)));
     }

@@ -1,10 +1,12 @@
 -- Sums over lists, term by term.
-use Rattle.std.proofs.Common.{◌≡◌, ℕ, zero, suc, ◌+◌, ◌*◌, ◌≤◌, Bool, true, false, cond, List, [], ◌∷◌, Some, refl, sym, ◌∙◌, ap, arith, zero-mul, mul-zero, add-mul, mul-add, suc-ne-zero, add-zero}
+use Rattle.std.proofs.Common.{◌≡◌, ℕ, zero, suc, ◌+◌, ◌*◌, ◌<◌, ◌≤◌, Bool, true, false, cond, List, [], ◌∷◌, Some, refl, sym, ◌∙◌, ap, arith, zero-mul, mul-zero, add-mul, mul-add, suc-ne-zero, add-zero, zero-add, inl, inr}
+use Rattle.std.proofs.lemmas.Bool.{cases_eq}
 use Rattle.std.specs.Prelude.{map}
 use Rattle.std.specs.List.{slice_get, sum_by}
 use Rattle.std.proofs.lemmas.Option.{none-some, same_Some}
 use Rattle.std.proofs.lemmas.List.Sums.{sum_by-cons, sum_by-append}
 use Rattle.grove_tree.specs.Numbers.{sum_below, passing_below, alone}
+use Rattle.grove_tree.proofs.Counting.{sum_zero}
 
 -- terms that agree
 pub sums_same : {X : Type 0} (f g : X → ℕ) (xs : List X) → ((i : ℕ) (x : X) → slice_get xs i ≡ Some x → f x ≡ g x) → sum_by f xs ≡ sum_by g xs
@@ -92,3 +94,23 @@ sums_passing f (suc n) test =
     let so_far : sum_by f (passing_below n test) ≡ sum_below n (λ k. cond (test k) (f k) 0) = sums_passing f n test in
     let here : sum_by f (alone (test n) n) ≡ cond (test n) (f n) 0 = sum_alone f (test n) n in
     omega (arith, sum_by-append f (passing_below n test) (alone (test n) n))
+
+-- where one function is 0 below i and another one from there to j, the other's sum is its own below i and the one's
+pub sum_window : (f g : ℕ → ℕ) (i j : ℕ) → ((k : ℕ) → k < i → f k ≡ 0) → ((k : ℕ) → i ≤ k → k < j → f k ≡ g k)
+    → (n : ℕ) → i ≤ n → n ≤ j → sum_below i g + sum_below n f ≡ sum_below n g
+sum_window f g i j before within zero le below = let e : i ≡ 0 = omega arith in rw e (zero-add 0)
+sum_window f g i j before within (suc n) le below = elim (cases_eq i (suc n)) [
+  | inl e ↦ let none : sum_below (suc n) f ≡ 0 = sum_zero (suc n) f (λ k lt. before k (omega arith)) in
+      let same : sum_below i g ≡ sum_below (suc n) g = ap (λ (m : ℕ). sum_below m g) e in omega arith
+  | inr ne ↦ let so_far : sum_below i g + sum_below n f ≡ sum_below n g = sum_window f g i j before within n (omega arith) (omega arith) in
+      let step : f n ≡ g n = within n (omega arith) (omega arith) in omega arith
+]
+
+-- a function that is 0 from j on adds no more from there
+pub sum_stops : (f : ℕ → ℕ) (j : ℕ) → ((k : ℕ) → j ≤ k → f k ≡ 0) → (n : ℕ) → j ≤ n → sum_below n f ≡ sum_below j f
+sum_stops f j none zero le = let e : j ≡ 0 = omega arith in rw e refl
+sum_stops f j none (suc n) le = elim (cases_eq j (suc n)) [
+  | inl e ↦ rw e refl
+  | inr ne ↦ let here : f n ≡ 0 = none n (omega arith) in
+      let rest : sum_below n f ≡ sum_below j f = sum_stops f j none n (omega arith) in omega arith
+]

@@ -12,6 +12,7 @@ use Rattle.grove_tree.proofs.Lists.{get_map, get_map_inv}
 use Rattle.grove_tree.proofs.Ups.{above_le, parent_lt}
 use Rattle.grove_tree.proofs.Tests.{is_at_true, is_at_from}
 use Rattle.grove_access.specs.Lists.{AreNodes}
+use Rattle.grove_access.specs.Slots.{slots_before}
 use Rattle.grove_access.specs.Spanned.{IsCommon, IsSpanned, is_spanned, spanned_nodes, names_at, is_accessed, first_access, last_end}
 use Rattle.grove_access.proofs.Spans.{spanned_step, spanned_listed, listed_spanned}
 use Rattle.grove_proof.specs.declared.flow.FlowRow.{FlowRow}
@@ -24,32 +25,32 @@ use Rattle.grove_proof.proofs.ByNode.{visited, read_same}
 use Rattle.grove_proof.proofs.Duality.{has_signs, parent_row}
 
 -- what a row gives to the two halves of the bound
-abbrev pub gain_of : List ℕ → FlowRow → ℕ
-gain_of nodes row = row.last * last_end nodes row.node
+abbrev pub gain_of : List ℕ → List ℕ → FlowRow → ℕ
+gain_of nodes lengths row = row.last * slots_before lengths (last_end nodes row.node)
 
-abbrev pub loss_of : List ℕ → FlowRow → ℕ
-loss_of nodes row = row.first * first_access nodes row.node
+abbrev pub loss_of : List ℕ → List ℕ → FlowRow → ℕ
+loss_of nodes lengths row = row.first * slots_before lengths (first_access nodes row.node)
 
 -- the sum of the terms of the first n rows, none of them great
 pub record IsTotal (term : FlowRow → ℕ) (flow : List FlowRow) (n total : ℕ) : Type 0 where
   pub sum : total ≡ sum_by term (take n flow)
-  pub few : total ≤ n * 2 ^ 71
+  pub few : total ≤ n * 2 ^ 80
 
-pub total_step : (term : FlowRow → ℕ) (flow : List FlowRow) (n total : ℕ) (row : FlowRow) → IsTotal term flow n total → slice_get flow n ≡ Some row → term row ≤ 2 ^ 71
+pub total_step : (term : FlowRow → ℕ) (flow : List FlowRow) (n total : ℕ) (row : FlowRow) → IsTotal term flow n total → slice_get flow n ≡ Some row → term row ≤ 2 ^ 80
     → IsTotal term flow (n + 1) (total + term row)
 total_step term flow n total row so_far there small =
-    let few : total ≤ n * 2 ^ 71 = so_far.few in
+    let few : total ≤ n * 2 ^ 80 = so_far.few in
     record {
       sum = ap (λ (k : ℕ). k + term row) so_far.sum
           ∙ (ap (λ (r : FlowRow). sum_by term (take n flow) + term r) (sym (get_or_from_slice_get flow n row row there)) ∙ sym (sum_by_more term flow n row (slice_get_within flow n row there)));
       few = omega arith;
     }
 
--- a product of an amount and a number of accesses
-pub small_term : (a b : ℕ) → a < 2 ^ 64 → b ≤ 64 → a * b ≤ 2 ^ 71
+-- a product of an amount and a number of slots
+pub small_term : (a b : ℕ) → a < 2 ^ 64 → b ≤ 64000 → a * b ≤ 2 ^ 80
 small_term a b h k =
-    let le : a * b ≤ a * 64 = mul-le-mul_left a k in
-    let less : a * 64 ≤ 2 ^ 64 * 64 = omega arith in
+    let le : a * b ≤ a * 64000 = mul-le-mul_left a k in
+    let less : a * 64000 ≤ 2 ^ 64 * 64000 = omega arith in
     le_trans le (le_trans less (lit≤ tt))
 
 -- Nodes of the rows
@@ -132,32 +133,33 @@ end_few nodes n v visits are = elim (cases_Bool (any_below n (names_at nodes v))
 ]
 
 -- a first access is priced as its visits say, where the signs are right
-pub first_priced : (rows : Rows) (nodes : List ℕ) (flow : List FlowRow) (row : FlowRow) (visits : Visits) → is_sign_ok rows nodes flow row ≡ true → AreVisits nodes (length nodes) row.node visits
-    → row.first * visits.first ≡ loss_of nodes row
-first_priced rows nodes flow row visits sign are = elim (cases_Bool (is_accessed nodes row.node)) [
-  | inl some ↦ ap (λ (k : ℕ). row.first * k) (are.first some)
+pub first_priced : (rows : Rows) (nodes lengths : List ℕ) (flow : List FlowRow) (row : FlowRow) (visits : Visits) → is_sign_ok rows nodes flow row ≡ true → AreVisits nodes (length nodes) row.node visits
+    → row.first * slots_before lengths visits.first ≡ loss_of nodes lengths row
+first_priced rows nodes lengths flow row visits sign are = elim (cases_Bool (is_accessed nodes row.node)) [
+  | inl some ↦ ap (λ (k : ℕ). row.first * slots_before lengths k) (are.first some)
   | inr none ↦ let e : row.first ≡ 0 = ((has_signs rows nodes flow row sign).unaccessed none).0 in
-      ap (λ (k : ℕ). k * visits.first) e ∙ (zero-mul visits.first ∙ sym (ap (λ (k : ℕ). k * first_access nodes row.node) e ∙ zero-mul (first_access nodes row.node)))
+      ap (λ (k : ℕ). k * slots_before lengths visits.first) e
+      ∙ (zero-mul (slots_before lengths visits.first) ∙ sym (ap (λ (k : ℕ). k * slots_before lengths (first_access nodes row.node)) e ∙ zero-mul (slots_before lengths (first_access nodes row.node))))
 ]
 
 -- the sums' steps
-pub gain_step : (nodes : List ℕ) (flow : List FlowRow) (n total : ℕ) (row : FlowRow) (visits : Visits) → IsTotal (gain_of nodes) flow n total → slice_get flow n ≡ Some row
-    → AreVisits nodes (length nodes) row.node visits → length nodes ≤ 64 → row.last < 2 ^ 64 → IsTotal (gain_of nodes) flow (n + 1) (total + row.last * visits.end)
-gain_step nodes flow n total row visits so_far there are short small =
-    let few : visits.end ≤ length nodes = end_few nodes (length nodes) row.node visits are in
-    subst (λ (k : ℕ). IsTotal (gain_of nodes) flow (n + 1) (total + k)) (sym (ap (λ (k : ℕ). row.last * k) are.end))
-    (total_step (gain_of nodes) flow n total row so_far there
-    (subst (λ (k : ℕ). row.last * k ≤ 2 ^ 71) are.end (small_term row.last visits.end small (omega arith))))
+pub gain_step : (nodes lengths : List ℕ) (flow : List FlowRow) (n total slots : ℕ) (row : FlowRow) (visits : Visits) → IsTotal (gain_of nodes lengths) flow n total → slice_get flow n ≡ Some row
+    → AreVisits nodes (length nodes) row.node visits → slots ≡ slots_before lengths visits.end → slots ≤ 64000 → row.last < 2 ^ 64
+    → IsTotal (gain_of nodes lengths) flow (n + 1) (total + row.last * slots)
+gain_step nodes lengths flow n total slots row visits so_far there are is few small =
+    let same : row.last * slots ≡ gain_of nodes lengths row = ap (λ (k : ℕ). row.last * k) (is ∙ ap (slots_before lengths) are.end) in
+    subst (λ (k : ℕ). IsTotal (gain_of nodes lengths) flow (n + 1) (total + k)) (sym same)
+    (total_step (gain_of nodes lengths) flow n total row so_far there
+    (subst (λ (k : ℕ). k ≤ 2 ^ 80) same (small_term row.last slots small few)))
 
-pub loss_step : (rows : Rows) (nodes : List ℕ) (flow : List FlowRow) (n total : ℕ) (row : FlowRow) (visits : Visits) → IsTotal (loss_of nodes) flow n total → slice_get flow n ≡ Some row
-    → is_sign_ok rows nodes flow row ≡ true → AreVisits nodes (length nodes) row.node visits → length nodes ≤ 64 → row.first < 2 ^ 64
-    → IsTotal (loss_of nodes) flow (n + 1) (total + row.first * visits.first)
-loss_step rows nodes flow n total row visits so_far there sign are short small =
-    let few : visits.first ≤ length nodes = are.few in
-    let same : row.first * visits.first ≡ loss_of nodes row = first_priced rows nodes flow row visits sign are in
-    subst (λ (k : ℕ). IsTotal (loss_of nodes) flow (n + 1) (total + k)) (sym same)
-    (total_step (loss_of nodes) flow n total row so_far there
-    (subst (λ (k : ℕ). k ≤ 2 ^ 71) same (small_term row.first visits.first small (omega arith))))
+pub loss_step : (rows : Rows) (nodes lengths : List ℕ) (flow : List FlowRow) (n total slots : ℕ) (row : FlowRow) (visits : Visits) → IsTotal (loss_of nodes lengths) flow n total → slice_get flow n ≡ Some row
+    → is_sign_ok rows nodes flow row ≡ true → AreVisits nodes (length nodes) row.node visits → slots ≡ slots_before lengths visits.first → slots ≤ 64000 → row.first < 2 ^ 64
+    → IsTotal (loss_of nodes lengths) flow (n + 1) (total + row.first * slots)
+loss_step rows nodes lengths flow n total slots row visits so_far there sign are is few small =
+    let same : row.first * slots ≡ loss_of nodes lengths row = ap (λ (k : ℕ). row.first * k) is ∙ first_priced rows nodes lengths flow row visits sign are in
+    subst (λ (k : ℕ). IsTotal (loss_of nodes lengths) flow (n + 1) (total + k)) (sym same)
+    (total_step (loss_of nodes lengths) flow n total row so_far there
+    (subst (λ (k : ℕ). k ≤ 2 ^ 80) same (small_term row.first slots small few)))
 
 -- What a ledger says of a row
 

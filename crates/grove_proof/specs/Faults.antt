@@ -27,8 +27,8 @@ pub record IsFirstBad (test : FlowRow → Bool) (flow : List FlowRow) (i : ℕ) 
   pub before : (j : ℕ) (other : FlowRow) → j < i → slice_get flow j ≡ Some other → test other ≡ true
 
 -- the bound that the rows give; it may be negative
-abbrev pub bound : List ℕ → List FlowRow → ℤ
-bound nodes flow = pos (gains nodes flow) -ℤ pos (losses nodes flow)
+abbrev pub bound : List ℕ → List ℕ → List FlowRow → ℤ
+bound nodes lengths flow = pos (gains nodes lengths flow) -ℤ pos (losses nodes lengths flow)
 
 -- what has been found right before each kind of fault is looked for
 
@@ -48,13 +48,13 @@ abbrev pub PassesReleases : Rows → List ℕ → List Step → List FlowRow →
 PassesReleases rows nodes plan flow = PassesLocks rows nodes plan flow × AllRows (is_release_balanced rows flow) flow
 
 -- the first fault of a plan with a flow, want of memory aside
-abbrev pub IsFault : Rows → List ℕ → List Step → List FlowRow → ProofFault → Type 0
-IsFault rows nodes plan flow (fault.Plan f) = plan_fault_of rows nodes plan ≡ Some f
-IsFault rows nodes plan flow (fault.Rows i) = IsLegal rows nodes plan × IsFirstStranger rows nodes flow i
-IsFault rows nodes plan flow (fault.Sign i) = PassesRows rows nodes plan flow × IsFirstBad (is_sign_ok rows nodes flow) flow i
-IsFault rows nodes plan flow (fault.TooBig i) = PassesSigns rows nodes plan flow × IsFirstBad is_small flow i
-IsFault rows nodes plan flow (fault.LockBalance i) = PassesSizes rows nodes plan flow × IsFirstBad (is_lock_balanced rows flow) flow i
-IsFault rows nodes plan flow (fault.ReleaseBalance i) = PassesLocks rows nodes plan flow × IsFirstBad (is_release_balanced rows flow) flow i
-IsFault rows nodes plan flow (fault.Value c b) =
-    PassesReleases rows nodes plan flow × (c ≡ cost rows plan) × (b ≡ bound nodes flow) × (bound nodes flow ≢ pos (cost rows plan))
-IsFault rows nodes plan flow fault.Memory = Unit {0}
+abbrev pub IsFault : Rows → List ℕ → List ℕ → List Step → List FlowRow → ProofFault → Type 0
+IsFault rows nodes lengths plan flow (fault.Plan f) = plan_fault_of rows nodes plan ≡ Some f
+IsFault rows nodes lengths plan flow (fault.Rows i) = IsLegal rows nodes plan × IsFirstStranger rows nodes flow i
+IsFault rows nodes lengths plan flow (fault.Sign i) = PassesRows rows nodes plan flow × IsFirstBad (is_sign_ok rows nodes flow) flow i
+IsFault rows nodes lengths plan flow (fault.TooBig i) = PassesSigns rows nodes plan flow × IsFirstBad is_small flow i
+IsFault rows nodes lengths plan flow (fault.LockBalance i) = PassesSizes rows nodes plan flow × IsFirstBad (is_lock_balanced rows flow) flow i
+IsFault rows nodes lengths plan flow (fault.ReleaseBalance i) = PassesLocks rows nodes plan flow × IsFirstBad (is_release_balanced rows flow) flow i
+IsFault rows nodes lengths plan flow (fault.Value c b) =
+    PassesReleases rows nodes plan flow × (c ≡ cost rows lengths plan) × (b ≡ bound nodes lengths flow) × (bound nodes lengths flow ≢ pos (cost rows lengths plan))
+IsFault rows nodes lengths plan flow fault.Memory = Unit {0}

@@ -2,10 +2,10 @@
 use Rattle.std.specs.Prelude.{◌≡◌, ℕ, ◌+◌, ◌*◌, ◌^◌, ◌==◌, nat_le, Bool, true, false, ◌&&◌, ◌||◌, List, length, slice_get, map, sum_by, Option, Some, None, if◌then◌else◌}
 use Rattle.grove_tree.specs.Numbers.{any_below}
 use Rattle.grove_tree.specs.Trees.{Rows, parent_of, weight_of, is_at}
+use Rattle.grove_access.specs.Slots.{slots_before}
 use Rattle.grove_access.specs.Spanned.{is_accessed, first_access, last_end}
 use Rattle.grove_proof.specs.declared.flow.FlowRow.{FlowRow}
 use Rattle.grove_proof.specs.Forced.{IsForcedList}
-use Rattle.grove_proof.specs.Five.{slots_before}
 
 abbrev pub node_of : FlowRow → ℕ
 node_of row = row.node
@@ -52,11 +52,11 @@ abbrev pub AllRows : (FlowRow → Bool) → List FlowRow → Type 0
 AllRows test flow = (i : ℕ) (row : FlowRow) → slice_get flow i ≡ Some row → test row ≡ true
 
 -- the two halves of the bound, which is the first less the second
-abbrev pub gains : List ℕ → List FlowRow → ℕ
-gains nodes flow = sum_by (λ row. row.last * slots_before (last_end nodes row.node)) flow
+abbrev pub gains : List ℕ → List ℕ → List FlowRow → ℕ
+gains nodes lengths flow = sum_by (λ row. row.last * slots_before lengths (last_end nodes row.node)) flow
 
-abbrev pub losses : List ℕ → List FlowRow → ℕ
-losses nodes flow = sum_by (λ row. row.first * slots_before (first_access nodes row.node)) flow
+abbrev pub losses : List ℕ → List ℕ → List FlowRow → ℕ
+losses nodes lengths flow = sum_by (λ row. row.first * slots_before lengths (first_access nodes row.node)) flow
 
 -- The rows balance; this is all that the bound needs.
 pub record Balances (rows : Rows) (nodes : List ℕ) (flow : List FlowRow) : Type 0 where
@@ -66,7 +66,7 @@ pub record Balances (rows : Rows) (nodes : List ℕ) (flow : List FlowRow) : Typ
   pub releases : AllRows (is_release_balanced rows flow) flow
 
 -- The certificate of a cost.
-pub record IsCertificate (rows : Rows) (nodes : List ℕ) (flow : List FlowRow) (cost : ℕ) : Type 0 where
+pub record IsCertificate (rows : Rows) (nodes lengths : List ℕ) (flow : List FlowRow) (cost : ℕ) : Type 0 where
   pub balances : Balances rows nodes flow
   pub small : AllRows is_small flow
-  pub value : gains nodes flow ≡ cost + losses nodes flow
+  pub value : gains nodes lengths flow ≡ cost + losses nodes lengths flow

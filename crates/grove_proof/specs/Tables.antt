@@ -104,16 +104,16 @@ pub record PassAll (rows : Rows) (nodes : List ℕ) (flow : List FlowRow) : Type
   pub releases : AllRows (is_release_balanced rows flow) flow
 
 -- the first fault of rows whose nodes are right
-abbrev pub IsRowsFault : Rows → List ℕ → List FlowRow → ℕ → ProofFault → Type 0
-IsRowsFault rows nodes flow sum (fault.Plan f) = ⊥
-IsRowsFault rows nodes flow sum (fault.Rows i) = ⊥
-IsRowsFault rows nodes flow sum (fault.Sign i) = IsFirstBad (is_sign_ok rows nodes flow) flow i
-IsRowsFault rows nodes flow sum (fault.TooBig i) = AllRows (is_sign_ok rows nodes flow) flow × IsFirstBad is_small flow i
-IsRowsFault rows nodes flow sum (fault.LockBalance i) = AllRows (is_sign_ok rows nodes flow) flow × AllRows is_small flow × IsFirstBad (is_lock_balanced rows flow) flow i
-IsRowsFault rows nodes flow sum (fault.ReleaseBalance i) =
+abbrev pub IsRowsFault : Rows → List ℕ → List ℕ → List FlowRow → ℕ → ProofFault → Type 0
+IsRowsFault rows nodes lengths flow sum (fault.Plan f) = ⊥
+IsRowsFault rows nodes lengths flow sum (fault.Rows i) = ⊥
+IsRowsFault rows nodes lengths flow sum (fault.Sign i) = IsFirstBad (is_sign_ok rows nodes flow) flow i
+IsRowsFault rows nodes lengths flow sum (fault.TooBig i) = AllRows (is_sign_ok rows nodes flow) flow × IsFirstBad is_small flow i
+IsRowsFault rows nodes lengths flow sum (fault.LockBalance i) = AllRows (is_sign_ok rows nodes flow) flow × AllRows is_small flow × IsFirstBad (is_lock_balanced rows flow) flow i
+IsRowsFault rows nodes lengths flow sum (fault.ReleaseBalance i) =
     AllRows (is_sign_ok rows nodes flow) flow × AllRows is_small flow × AllRows (is_lock_balanced rows flow) flow × IsFirstBad (is_release_balanced rows flow) flow i
-IsRowsFault rows nodes flow sum (fault.Value c b) = PassAll rows nodes flow × (c ≡ sum) × (b ≡ bound nodes flow) × (bound nodes flow ≢ pos sum)
-IsRowsFault rows nodes flow sum fault.Memory = ⊥
+IsRowsFault rows nodes lengths flow sum (fault.Value c b) = PassAll rows nodes flow × (c ≡ sum) × (b ≡ bound nodes lengths flow) × (bound nodes lengths flow ≢ pos sum)
+IsRowsFault rows nodes lengths flow sum fault.Memory = ⊥
 
 -- a plan's fault as the checker's: want of memory is the outer one
 abbrev pub as_proof_fault : PlanFault → ProofFault
@@ -128,6 +128,6 @@ as_proof_fault (plan.StillHeld v) = fault.Plan (plan.StillHeld v)
 as_proof_fault plan.Memory = fault.Memory
 
 -- what the checker answers
-abbrev pub IsVerdict : Rows → List ℕ → List Step → List FlowRow → Result ℕ ProofFault → Type 0
-IsVerdict rows nodes plan flow (Ok sum) = (sum ≡ cost rows plan) × IsLegal rows nodes plan × IsCertificate rows nodes flow (cost rows plan)
-IsVerdict rows nodes plan flow (Err e) = e ≢ fault.Memory → IsFault rows nodes plan flow e × (IsLegal rows nodes plan → ¬ IsCertificate rows nodes flow (cost rows plan))
+abbrev pub IsVerdict : Rows → List ℕ → List ℕ → List Step → List FlowRow → Result ℕ ProofFault → Type 0
+IsVerdict rows nodes lengths plan flow (Ok sum) = (sum ≡ cost rows lengths plan) × IsLegal rows nodes plan × IsCertificate rows nodes lengths flow (cost rows lengths plan)
+IsVerdict rows nodes lengths plan flow (Err e) = e ≢ fault.Memory → IsFault rows nodes lengths plan flow e × (IsLegal rows nodes plan → ¬ IsCertificate rows nodes lengths flow (cost rows lengths plan))

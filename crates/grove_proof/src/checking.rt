@@ -1,5 +1,5 @@
 ghost use Rattle.std.specs.Prelude.{◌≡◌, ◌≢◌, IfOk, OnOk, IfErr};
-ghost use Rattle.grove_access.specs.Lists.{nodes_of, AreNodes};
+ghost use Rattle.grove_access.specs.Lists.{nodes_of, lengths_of, AreNodes};
 ghost use Rattle.grove_plan.specs.Plans.{IsLegal, IsLeast, cost};
 ghost use Rattle.grove_proof.specs.Flows.{IsCertificate};
 ghost use Rattle.grove_tree.specs.Trees.{IsTree};
@@ -25,12 +25,12 @@ pub fn check(
     flow: &Flow,
 ) -> Result<u64, ProofFault>
     requires fits { AreNodes tree.now (nodes_of list.now) }
-    ensures cost { IfOk result (λ sum. sum ≡ cost tree.now plan.now) }
+    ensures cost { IfOk result (λ sum. sum ≡ cost tree.now (lengths_of list.now) plan.now) }
     ensures legal { OnOk result (IsLegal tree.now (nodes_of list.now) plan.now) }
-    ensures certificate { OnOk result (IsCertificate tree.now (nodes_of list.now) flow.now (cost tree.now plan.now)) }
-    ensures least { OnOk result (IsLeast tree.now (nodes_of list.now) plan.now) }
-    ensures fault { IfErr result (λ fault. fault ≢ ProofFault.Memory → IsFault tree.now (nodes_of list.now) plan.now flow.now fault) }
-    ensures refused { IfErr result (λ fault. fault ≢ ProofFault.Memory → IsLegal tree.now (nodes_of list.now) plan.now → ¬ IsCertificate tree.now (nodes_of list.now) flow.now (cost tree.now plan.now)) }
+    ensures certificate { OnOk result (IsCertificate tree.now (nodes_of list.now) (lengths_of list.now) flow.now (cost tree.now (lengths_of list.now) plan.now)) }
+    ensures least { OnOk result (IsLeast tree.now (nodes_of list.now) (lengths_of list.now) plan.now) }
+    ensures fault { IfErr result (λ fault. fault ≢ ProofFault.Memory → IsFault tree.now (nodes_of list.now) (lengths_of list.now) plan.now flow.now fault) }
+    ensures refused { IfErr result (λ fault. fault ≢ ProofFault.Memory → IsLegal tree.now (nodes_of list.now) plan.now → ¬ IsCertificate tree.now (nodes_of list.now) (lengths_of list.now) flow.now (cost tree.now (lengths_of list.now) plan.now)) }
 {
     examine(alloc, tree, list, plan, flow)
 }
@@ -45,7 +45,7 @@ fn examine(
 ) -> Result<u64, ProofFault>
     requires fits { AreNodes tree.now (nodes_of list.now) }
     ensures tree { IsTree tree.now }
-    ensures verdict { IsVerdict tree.now (nodes_of list.now) plan.now flow.now result }
+    ensures verdict { IsVerdict tree.now (nodes_of list.now) (lengths_of list.now) plan.now flow.now result }
 {
     let _size = tree.len();
     let cost = judge(alloc, tree, list, plan)?;

@@ -1,6 +1,6 @@
 ghost use Rattle.std.specs.Prelude.{◌≡◌, ◌==◌, ◌&&◌, ◌||◌, not, ℕ, ◌<◌, ◌≤◌, ◌*◌, ◌^◌, ℤ, pos, length, slice_get, map, Some, IfOk, MatchOption, MatchResult};
 ghost use Rattle.grove_tree.specs.Trees.{IsTree};
-ghost use Rattle.grove_access.specs.Lists.{AreNodes, nodes_of};
+ghost use Rattle.grove_access.specs.Lists.{AreNodes, nodes_of, lengths_of};
 ghost use Rattle.grove_access.specs.Spanned.{spanned_nodes};
 ghost use Rattle.grove_proof.specs.declared.flow.FlowRow.{FlowRow};
 ghost use Rattle.grove_proof.specs.Flows.{node_of, is_sign_ok, is_small, is_lock_balanced, is_release_balanced, AllRows, gains, losses};
@@ -129,7 +129,7 @@ impl<'a> Ledger<'a> {
     fn first_fault(&self) -> Option<ProofFault>
         requires { IsRight self.now }
         ensures { MatchOption result (PassAll self.now.tree.now (nodes_of self.now.list.now) self.now.rows.now)
-            (λ fault. (sum : ℕ) → IsRowsFault self.now.tree.now (nodes_of self.now.list.now) self.now.rows.now sum fault) }
+            (λ fault. (sum : ℕ) → IsRowsFault self.now.tree.now (nodes_of self.now.list.now) (lengths_of self.now.list.now) self.now.rows.now sum fault) }
     {
         if let Some(row) = self.first_bad(Test::Sign) {
             return Some(ProofFault::Sign(row));
@@ -149,12 +149,13 @@ impl<'a> Ledger<'a> {
     /// What the releases' amounts give to the bound.
     fn gains(&self) -> u128
         requires { IsRight self.now }
-        ensures sum { result ≡ gains (nodes_of self.now.list.now) self.now.rows.now }
-        ensures bounded { result ≤ 2 ^ 110 }
+        ensures sum { result ≡ gains (nodes_of self.now.list.now) (lengths_of self.now.list.now) self.now.rows.now }
+        ensures bounded { result ≤ 2 ^ 112 }
     {
         let mut total: u128 = 0;
         for row in self.rows {
-            total += row.last as u128 * self.visits[row.node.number() as usize].end as u128;
+            let end = self.visits[row.node.number() as usize].end;
+            total += row.last as u128 * self.list.slots_before(end) as u128;
         }
         total
     }
@@ -163,12 +164,13 @@ impl<'a> Ledger<'a> {
     fn losses(&self) -> u128
         requires right { IsRight self.now }
         requires signs { AllRows (is_sign_ok self.now.tree.now (nodes_of self.now.list.now) self.now.rows.now) self.now.rows.now }
-        ensures sum { result ≡ losses (nodes_of self.now.list.now) self.now.rows.now }
-        ensures bounded { result ≤ 2 ^ 110 }
+        ensures sum { result ≡ losses (nodes_of self.now.list.now) (lengths_of self.now.list.now) self.now.rows.now }
+        ensures bounded { result ≤ 2 ^ 112 }
     {
         let mut total: u128 = 0;
         for row in self.rows {
-            total += row.first as u128 * self.visits[row.node.number() as usize].first as u128;
+            let first = self.visits[row.node.number() as usize].first;
+            total += row.first as u128 * self.list.slots_before(first) as u128;
         }
         total
     }
@@ -177,8 +179,8 @@ impl<'a> Ledger<'a> {
     pub fn weigh(&self, cost: u64) -> Result<u64, ProofFault>
         requires { IsRight self.now }
         ensures { MatchResult result
-            (λ sum. (sum ≡ cost) × PassAll self.now.tree.now (nodes_of self.now.list.now) self.now.rows.now × (bound (nodes_of self.now.list.now) self.now.rows.now ≡ pos cost))
-            (λ fault. IsRowsFault self.now.tree.now (nodes_of self.now.list.now) self.now.rows.now cost fault) }
+            (λ sum. (sum ≡ cost) × PassAll self.now.tree.now (nodes_of self.now.list.now) self.now.rows.now × (bound (nodes_of self.now.list.now) (lengths_of self.now.list.now) self.now.rows.now ≡ pos cost))
+            (λ fault. IsRowsFault self.now.tree.now (nodes_of self.now.list.now) (lengths_of self.now.list.now) self.now.rows.now cost fault) }
     {
         if let Some(fault) = self.first_fault() {
             return Err(fault);

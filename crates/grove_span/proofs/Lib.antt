@@ -4,3 +4,4 @@ pub mod Marking
 pub mod Noting
 pub mod Listing
 pub mod Accesses
+pub mod Telling

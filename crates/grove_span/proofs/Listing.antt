@@ -14,9 +14,7 @@ use Rattle.grove_tree.proofs.Counting.{passing_got}
 use Rattle.grove_tree.proofs.Ups.{parent_lt}
 use Rattle.grove_access.specs.Spanned.{is_spanned, spanned_nodes}
 use Rattle.grove_span.specs.declared.row.SpanRow.{SpanRow}
-use Rattle.grove_span.specs.declared.visit.Visits.{Visits}
 use Rattle.grove_span.specs.SpanRows.{node_of_row, find_place, parent_place, HaveParents, HaveAccesses, IsAccessedSo}
-use Rattle.grove_span.specs.Ways.{TellsOf}
 use Rattle.grove_tree.proofs.Lists.{get_set_same, get_set_other}
 
 -- a number put at the end is found there, where it wasn't before
@@ -48,14 +46,14 @@ pub not_yet : (test : ℕ → Bool) (n i : ℕ) → slice_get (passing_below n t
 not_yet test n i h = let lt : n < n = (passing_got n test i n h).0 in omega arith
 
 -- the rows of the spanned nodes below n, and the places of all nodes among them
-pub record IsListedTo (rows : Rows) (nodes : List ℕ) (n count : ℕ) (places : List (Option ℕ)) (items : List SpanRow) : Type 0 where
+pub record IsListedTo (rows : Rows) (nodes lengths : List ℕ) (n count : ℕ) (places : List (Option ℕ)) (items : List SpanRow) : Type 0 where
   pub size : length places ≡ length rows
   pub counted : count ≡ length items
   pub few : count ≤ n
   pub listed : map node_of_row items ≡ passing_below n (is_spanned rows nodes)
   pub found : (v : ℕ) → v < length rows → slice_get places v ≡ Some (find_place v (passing_below n (is_spanned rows nodes)))
   pub parents : HaveParents rows nodes items
-  pub accesses : HaveAccesses nodes items
+  pub accesses : HaveAccesses nodes lengths items
 
 -- the place of a node's parent among the nodes below it is that among all
 parent_later : (rows : Rows) (nodes : List ℕ) (n : ℕ) (o : Option ℕ) → IsTree rows → n < length rows → parent_of rows n ≡ o
@@ -74,11 +72,11 @@ each_more P items last before here i row h = elim (get_append_cases items (last 
 ]
 
 -- one more node that is spanned
-pub list_hit : (rows : Rows) (nodes : List ℕ) (n count : ℕ) (places : List (Option ℕ)) (items : List SpanRow) (row : SpanRow) → IsTree rows → n < length rows
+pub list_hit : (rows : Rows) (nodes lengths : List ℕ) (n count : ℕ) (places : List (Option ℕ)) (items : List SpanRow) (row : SpanRow) → IsTree rows → n < length rows
     → is_spanned rows nodes n ≡ true → row.node ≡ n
-    → row.parent ≡ option_and_then (λ p. find_place p (passing_below n (is_spanned rows nodes))) (parent_of rows n) → IsAccessedSo nodes row
-    → IsListedTo rows nodes n count places items → IsListedTo rows nodes (suc n) (suc count) (set places n (Some count)) (items ++ row ∷ [])
-list_hit rows nodes n count places items row tree lt hit is parent visited so_far =
+    → row.parent ≡ option_and_then (λ p. find_place p (passing_below n (is_spanned rows nodes))) (parent_of rows n) → IsAccessedSo nodes lengths row
+    → IsListedTo rows nodes lengths n count places items → IsListedTo rows nodes lengths (suc n) (suc count) (set places n (Some count)) (items ++ row ∷ [])
+list_hit rows nodes lengths n count places items row tree lt hit is parent visited so_far =
     let size : length places ≡ length rows = so_far.size in
     let counted : count ≡ length items = so_far.counted in
     let few : count ≤ n = so_far.few in
@@ -99,13 +97,13 @@ list_hit rows nodes n count places items row tree lt hit is parent visited so_fa
       ];
       parents = each_more (λ r. r.parent ≡ parent_place rows (spanned_nodes rows nodes) r.node) items row so_far.parents
           (parent ∙ parent_later rows nodes n (parent_of rows n) tree lt refl ∙ ap (λ (v : ℕ). parent_place rows (spanned_nodes rows nodes) v) (sym is));
-      accesses = each_more (IsAccessedSo nodes) items row so_far.accesses visited;
+      accesses = each_more (IsAccessedSo nodes lengths) items row so_far.accesses visited;
     }
 
 -- one more node that is not spanned
-pub list_miss : (rows : Rows) (nodes : List ℕ) (n count : ℕ) (places : List (Option ℕ)) (items : List SpanRow) → is_spanned rows nodes n ≡ false
-    → IsListedTo rows nodes n count places items → IsListedTo rows nodes (suc n) count places items
-list_miss rows nodes n count places items miss so_far =
+pub list_miss : (rows : Rows) (nodes lengths : List ℕ) (n count : ℕ) (places : List (Option ℕ)) (items : List SpanRow) → is_spanned rows nodes n ≡ false
+    → IsListedTo rows nodes lengths n count places items → IsListedTo rows nodes lengths (suc n) count places items
+list_miss rows nodes lengths n count places items miss so_far =
     let same : passing_below (suc n) (is_spanned rows nodes) ≡ passing_below n (is_spanned rows nodes) =
     ap (λ (b : Bool). passing_below n (is_spanned rows nodes) ++ alone b n) miss ∙ append-nil (passing_below n (is_spanned rows nodes)) in
     let few : count ≤ n = so_far.few in
@@ -119,16 +117,12 @@ list_miss rows nodes n count places items miss so_far =
       accesses = so_far.accesses;
     }
 
--- what the table tells of a node at the end is what a row is to tell
-pub visited : (nodes : List ℕ) (visits : Visits) (row : SpanRow) → row.first ≡ visits.first → row.last ≡ visits.last → TellsOf nodes (length nodes) row.node visits → IsAccessedSo nodes row
-visited nodes visits row first last told = record { first = first ∙ told.first; last = last ∙ told.last }
-
 -- the parent's place that the table gives is its place among the nodes so far
-pub placed : (rows : Rows) (nodes : List ℕ) (n count : ℕ) (places : List (Option ℕ)) (items : List SpanRow) → IsTree rows → n < length rows
-    → IsListedTo rows nodes n count places items → (o : Option ℕ) → parent_of rows n ≡ o
+pub placed : (rows : Rows) (nodes lengths : List ℕ) (n count : ℕ) (places : List (Option ℕ)) (items : List SpanRow) → IsTree rows → n < length rows
+    → IsListedTo rows nodes lengths n count places items → (o : Option ℕ) → parent_of rows n ≡ o
     → option_and_then (λ p. unwrap_or (slice_get places p) None) o ≡ option_and_then (λ p. find_place p (passing_below n (is_spanned rows nodes))) o
-placed rows nodes n count places items tree lt so_far None is = refl
-placed rows nodes n count places items tree lt so_far (Some p) is =
+placed rows nodes lengths n count places items tree lt so_far None is = refl
+placed rows nodes lengths n count places items tree lt so_far (Some p) is =
     let less : p < n = parent_lt rows tree n p is in
     ap (λ (o : Option (Option ℕ)). unwrap_or o None) (so_far.found p (omega arith))
 

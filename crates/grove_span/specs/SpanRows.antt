@@ -1,6 +1,7 @@
 -- What the rows of a list's nodes tell of each node.
 use Rattle.std.specs.Prelude.{◌≡◌, ℕ, suc, ◌-◌, ◌==◌, List, [], ◌∷◌, slice_get, Option, Some, None, option_map, option_and_then, if◌then◌else◌}
 use Rattle.grove_tree.specs.Trees.{Rows, parent_of}
+use Rattle.grove_access.specs.Slots.{slots_before}
 use Rattle.grove_access.specs.Spanned.{spanned_nodes, is_accessed, first_access, last_end}
 use Rattle.grove_span.specs.declared.row.SpanRow.{SpanRow}
 
@@ -23,14 +24,23 @@ first_of nodes node = if is_accessed nodes node then Some (first_access nodes no
 abbrev pub last_of : List ℕ → ℕ → Option ℕ
 last_of nodes node = if is_accessed nodes node then Some (last_end nodes node - 1) else None
 
+-- the slots before its first access, and before the end of its last one
+abbrev pub from_of : List ℕ → List ℕ → ℕ → Option ℕ
+from_of nodes lengths node = if is_accessed nodes node then Some (slots_before lengths (first_access nodes node)) else None
+
+abbrev pub until_of : List ℕ → List ℕ → ℕ → Option ℕ
+until_of nodes lengths node = if is_accessed nodes node then Some (slots_before lengths (last_end nodes node)) else None
+
 -- each row has the place of its node's parent among the spanned nodes
 abbrev pub HaveParents : Rows → List ℕ → List SpanRow → Type 0
 HaveParents tree nodes rows = (i : ℕ) (row : SpanRow) → slice_get rows i ≡ Some row → row.parent ≡ parent_place tree (spanned_nodes tree nodes) row.node
 
--- the first and last access of a row's node
-pub record IsAccessedSo (nodes : List ℕ) (row : SpanRow) : Type 0 where
+-- the first and last access of a row's node, and their slots
+pub record IsAccessedSo (nodes lengths : List ℕ) (row : SpanRow) : Type 0 where
   pub first : row.first ≡ first_of nodes row.node
   pub last : row.last ≡ last_of nodes row.node
+  pub from : row.from ≡ from_of nodes lengths row.node
+  pub until : row.until ≡ until_of nodes lengths row.node
 
-abbrev pub HaveAccesses : List ℕ → List SpanRow → Type 0
-HaveAccesses nodes rows = (i : ℕ) (row : SpanRow) → slice_get rows i ≡ Some row → IsAccessedSo nodes row
+abbrev pub HaveAccesses : List ℕ → List ℕ → List SpanRow → Type 0
+HaveAccesses nodes lengths rows = (i : ℕ) (row : SpanRow) → slice_get rows i ≡ Some row → IsAccessedSo nodes lengths row

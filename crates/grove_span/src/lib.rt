@@ -9,7 +9,5 @@ mod marks;
 mod row;
 mod rows;
 mod spanning;
-#[cfg(test)]
-mod tests;
 mod visit;
 mod visits;

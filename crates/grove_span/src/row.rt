@@ -10,4 +10,8 @@ pub struct SpanRow {
     pub first: Option<u32>,
     /// The number of the last access of the node itself, where there is one.
     pub last: Option<u32>,
+    /// How many slots lie before its first access.
+    pub from: Option<u32>,
+    /// How many slots lie before the end of its last access.
+    pub until: Option<u32>,
 }

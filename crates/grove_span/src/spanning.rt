@@ -1,5 +1,5 @@
-ghost use Rattle.std.specs.Prelude.{◌≡◌, ℕ, IfOk, map, slice_get, Some};
-ghost use Rattle.grove_access.specs.Lists.{nodes_of, AreNodes};
+ghost use Rattle.std.specs.Prelude.{◌≡◌, ℕ, length, IsOk, IfOk, map, slice_get, Some};
+ghost use Rattle.grove_access.specs.Lists.{nodes_of, lengths_of, AreNodes};
 ghost use Rattle.grove_access.specs.Spanned.{spanned_nodes};
 ghost use Rattle.grove_span.specs.SpanRows.{node_of_row, HaveParents, HaveAccesses};
 
@@ -19,7 +19,8 @@ pub fn span(alloc: Global, tree: &Tree, list: &AccessList) -> Result<Vec<SpanRow
     requires fits { AreNodes tree.now (nodes_of list.now) }
     ensures nodes { IfOk result (λ rows. map node_of_row rows.items ≡ spanned_nodes tree.now (nodes_of list.now)) }
     ensures parents { IfOk result (λ rows. HaveParents tree.now (nodes_of list.now) rows.items) }
-    ensures accesses { IfOk result (λ rows. HaveAccesses (nodes_of list.now) rows.items) }
+    ensures accesses { IfOk result (λ rows. HaveAccesses (nodes_of list.now) (lengths_of list.now) rows.items) }
+    ensures empty { length list.now ≡ 0 → IsOk result }
 {
     if list.len() == 0 {
         return Ok(Vec::new(alloc));

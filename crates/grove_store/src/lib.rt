@@ -3,10 +3,11 @@
 
 pub use bytes_sink::BytesSink;
 pub use bytes_source::BytesSource;
-pub use fault::DeviceFault;
+pub use fault::{DeviceFault, ReadFault};
 pub use reader_source::ReaderSource;
 pub use sink::Sink;
 pub use source::Source;
+pub use whole::{read_whole, write_whole};
 pub use writer_sink::WriterSink;
 
 mod bytes_sink;
@@ -15,6 +16,5 @@ mod fault;
 mod reader_source;
 mod sink;
 mod source;
-#[cfg(test)]
-mod tests;
+mod whole;
 mod writer_sink;

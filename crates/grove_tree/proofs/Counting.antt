@@ -91,26 +91,6 @@ count_more (suc n) s t h =
           let f : count_below n t ≤ count_below (suc n) t = count_mono n (suc n) t (omega arith) in omega arith
     ]
 
--- a test that is false below i and agrees with another from i to below j counts, up to n, what the other counts from i on
-pub count_window : (s t : ℕ → Bool) (i j : ℕ) → ((k : ℕ) → k < i → s k ≡ false) → ((k : ℕ) → i ≤ k → k < j → s k ≡ t k)
-    → (n : ℕ) → i ≤ n → n ≤ j → count_below i t + count_below n s ≡ count_below n t
-count_window s t i j before within zero le below =
-    let e : i ≡ 0 = omega arith in rw e (zero-add 0)
-count_window s t i j before within (suc n) le below = elim (cases_eq i (suc n)) [
-  | inl e ↦ let none : count_below (suc n) s ≡ 0 = count_none (suc n) s (λ k lt. before k (omega arith)) in
-      let same : count_below i t ≡ count_below (suc n) t = ap (λ (m : ℕ). count_below m t) e in omega arith
-  | inr ne ↦ let so_far : count_below i t + count_below n s ≡ count_below n t = count_window s t i j before within n (omega arith) (omega arith) in
-      let step : ◌≡◌ {A = ℕ} (cond (s n) 1 0) (cond (t n) 1 0) = ap (λ (b : Bool). cond b 1 0) (within n (omega arith) (omega arith)) in omega arith
-]
-
--- a test that is false from j on counts no more from there
-pub count_stops : (test : ℕ → Bool) (j : ℕ) → ((k : ℕ) → j ≤ k → test k ≡ false) → (n : ℕ) → j ≤ n → count_below n test ≡ count_below j test
-count_stops test j none zero le = let e : j ≡ 0 = omega arith in rw e refl
-count_stops test j none (suc n) le = elim (cases_eq j (suc n)) [
-  | inl e ↦ rw e refl
-  | inr ne ↦ count_miss n test (none n (omega arith)) ∙ count_stops test j none n (omega arith)
-]
-
 -- Least and last
 
 -- the least number that passes

@@ -1,19 +1,19 @@
--- Rows without a fault are the rows of a tree within the limits.
-use Rattle.std.proofs.Common.{◌≡◌, ℕ, zero, suc, ◌<◌, ◌≤◌, ◌==◌, Bool, true, false, not, if◌then◌else◌, [], length, Option, Some, None, refl, sym, ◌∙◌, ap, inl, inr, true≢false, arith, bytes_eq}
+-- Rows have no fault exactly where they are the rows of a tree within the limits.
+use Rattle.std.proofs.Common.{◌≡◌, ◌≢◌, ℕ, zero, suc, ◌<◌, ◌≤◌, ◌==◌, Bool, true, false, not, if◌then◌else◌, [], length, Option, Some, None, refl, sym, ◌∙◌, ap, inl, inr, true≢false, arith, bytes_eq}
 use Rattle.std.specs.Option.{is_none, is_some, option_and_then, option_map, unwrap_or}
 use Rattle.std.specs.Prelude.{nat_lt, nat_le}
 use Rattle.std.proofs.lemmas.Option.{none-some, slice_get_past}
-use Rattle.std.proofs.lemmas.Bool.{cases_lt, cases_order, leb-true, ltb-false, and_parts}
+use Rattle.std.proofs.lemmas.Bool.{cases_lt, cases_order, leb-true, ltb-false, le-ltb, le-leb, ne_eqb, and_parts, false_from_ne_true}
 use Rattle.std.proofs.lemmas.Slice.Eq.{bytes_eq-Decides}
 use Rattle.grove_tree.specs.Numbers.{any_below}
 use Rattle.grove_tree.specs.Trees.{Rows, NodeRow, parent_of, name_of, weight_of, depth_of, IsTree}
 use Rattle.grove_tree.specs.declared.fault.TreeFault.{TreeFault}
-use Rattle.grove_tree.specs.declared.fault.TreeFault.TheVariants.{Empty, TooMany}
-use Rattle.grove_tree.specs.Rules.{is_well_placed, is_on_the_way, is_well_named, is_twin, is_weight, row_fault, first_fault, rows_fault, tree_fault_of, IsWithinLimits}
-use Rattle.grove_tree.proofs.Counting.{any_false}
+use Rattle.grove_tree.specs.declared.fault.TreeFault.TheVariants.{Empty, TooMany, BadParent, TooDeep, BadName, TwiceNamed, BadWeight, Memory}
+use Rattle.grove_tree.specs.Rules.{is_well_placed, is_on_the_way, is_well_named, share_parent, is_twin, is_weight, row_fault, first_fault, rows_fault, tree_fault_of, IsWithinLimits, AreTreeRows}
+use Rattle.grove_tree.proofs.Counting.{any_false, any_none}
 use Rattle.grove_tree.proofs.Depths.{depth_root}
 use Rattle.grove_tree.proofs.Ups.{parent_within}
-use Rattle.grove_tree.proofs.Tests.{is_at_from}
+use Rattle.grove_tree.proofs.Tests.{is_at_true, is_at_from, is_above_from}
 use Rattle.grove_tree.proofs.RowTests.{placed_way, less_to}
 
 -- a row that breaks no rule
@@ -165,3 +165,87 @@ faultless_within rows h =
         | inr past ↦ let e : weight_of rows node ≡ 0 = past_weight rows node past in omega arith
       ];
     }
+
+-- The other way round: the rows of a tree within the limits have no fault.
+
+placed_fits : (rows : Rows) (row : ℕ) → IsTree rows → row < length rows → is_well_placed rows row ≡ true
+placed_fits rows zero tree within = ap is_none tree.root
+placed_fits rows (suc before) tree within =
+    let (parent, own, above) = tree.preorder before within in
+    ap (is_on_the_way rows before) own ∙ is_above_from rows parent before tree above
+
+named_fits : (rows : Rows) (row : ℕ) → IsWithinLimits rows → row < length rows → is_well_named rows row ≡ true
+named_fits rows zero limits within = (bytes_eq-Decides (name_of rows 0) []).1 limits.unnamed_root
+named_fits rows (suc before) limits within = limits.names before within
+
+shared_parent : (own other : Option ℕ) → share_parent own other ≡ true → (parent : ℕ) × (own ≡ Some parent) × (other ≡ Some parent)
+shared_parent None other h = absurd (cc)
+shared_parent (Some parent) other h = (parent, refl, is_at_true parent other h)
+
+-- no earlier row is a twin
+alone_fits : (rows : Rows) (row : ℕ) → IsWithinLimits rows → any_below row (is_twin rows row) ≡ false
+alone_fits rows row limits = any_none row (is_twin rows row) (λ other lt. false_from_ne_true (is_twin rows row other) (λ twin.
+    let (shared, named) = and_parts (share_parent (parent_of rows row) (parent_of rows other)) (bytes_eq (name_of rows other) (name_of rows row)) twin in
+    let (parent, own, others) = shared_parent (parent_of rows row) (parent_of rows other) shared in
+    let same : other ≡ row = limits.differ other row parent others own ((bytes_eq-Decides (name_of rows other) (name_of rows row)).0 named) in
+    absurd (omega arith)))
+
+weight_fits : (rows : Rows) (row : ℕ) → IsWithinLimits rows → row < length rows → is_weight (weight_of rows row) ≡ true
+weight_fits rows row limits within =
+    rw (le-leb 1 (weight_of rows row) (limits.weighty row within), le-leb (weight_of rows row) 1000 (limits.light row)) refl
+
+no_row_fault : (a b c d e : Bool) (f g h i j : TreeFault) → a ≡ true → b ≡ false → c ≡ true → d ≡ false → e ≡ true
+    → (if not a then Some f else if b then Some g else if not c then Some h else if d then Some i else if not e then Some j else None) ≡ None
+no_row_fault a b c d e f g h i j placed shallow named alone weighed = rw (placed, shallow, named, alone, weighed) refl
+
+row_fits : (rows : Rows) (row : ℕ) → AreTreeRows rows → row < length rows → row_fault rows row ≡ None
+row_fits rows row (tree, limits) within =
+    no_row_fault (is_well_placed rows row) (nat_lt 32 (depth_of rows row)) (is_well_named rows row) (any_below row (is_twin rows row)) (is_weight (weight_of rows row)) _ _ _ _ _
+    (placed_fits rows row tree within) (le-ltb 32 (depth_of rows row) (limits.shallow row)) (named_fits rows row limits within) (alone_fits rows row limits)
+    (weight_fits rows row limits within)
+
+rows_fit : (rows : Rows) (n : ℕ) → AreTreeRows rows → n ≤ length rows → rows_fault rows n ≡ None
+rows_fit rows zero fit le = refl
+rows_fit rows (suc n) fit le = ap (first_fault rows n) (rows_fit rows n fit (omega arith)) ∙ row_fits rows n fit (omega arith)
+
+no_tree_fault : (a b : Bool) (o : Option TreeFault) → a ≡ false → b ≡ false → (if a then Some Empty else if b then Some TooMany else o) ≡ o
+no_tree_fault a b o some few = rw (some, few) refl
+
+tree_faultless : (rows : Rows) → AreTreeRows rows → tree_fault_of rows ≡ None
+tree_faultless rows (tree, limits) =
+    let some : 0 < length rows = tree.some in
+    no_tree_fault (length rows == 0) (nat_lt 4096 (length rows)) (rows_fault rows (length rows)) (ne_eqb (length rows) 0 (λ e. omega arith)) (le-ltb 4096 (length rows) limits.few)
+    ∙ rows_fit rows (length rows) (tree, limits) (omega arith)
+
+-- so rows with a fault are those of no tree
+pub faulty_refused : (rows : Rows) (fault : TreeFault) → tree_fault_of rows ≡ Some fault → ¬ AreTreeRows rows
+faulty_refused rows fault found = λ fit. none-some fault (sym (tree_faultless rows fit) ∙ found)
+
+-- Want of memory is no fault of rows.
+
+no_rule_is_memory : (a b c d e : Bool) (row : ℕ)
+    → (if not a then Some (BadParent row) else if b then Some (TooDeep row) else if not c then Some (BadName row) else if d then Some (TwiceNamed row)
+    else if not e then Some (BadWeight row) else None) ≡ Some Memory → ⊥
+no_rule_is_memory true false true false true row h = absurd (cc)
+no_rule_is_memory true false true false false row h = absurd (cc)
+no_rule_is_memory true false true true e row h = absurd (cc)
+no_rule_is_memory true false false d e row h = absurd (cc)
+no_rule_is_memory true true c d e row h = absurd (cc)
+no_rule_is_memory false b c d e row h = absurd (cc)
+
+no_first_is_memory : (rows : Rows) (row : ℕ) (o : Option TreeFault) → o ≢ Some Memory → first_fault rows row o ≡ Some Memory → ⊥
+no_first_is_memory rows row None before h =
+    no_rule_is_memory (is_well_placed rows row) (nat_lt 32 (depth_of rows row)) (is_well_named rows row) (any_below row (is_twin rows row)) (is_weight (weight_of rows row)) row h
+no_first_is_memory rows row (Some fault) before h = before h
+
+no_row_is_memory : (rows : Rows) (n : ℕ) → rows_fault rows n ≢ Some Memory
+no_row_is_memory rows zero = λ h. none-some Memory h
+no_row_is_memory rows (suc n) = no_first_is_memory rows n (rows_fault rows n) (no_row_is_memory rows n)
+
+no_tree_is_memory : (a b : Bool) (o : Option TreeFault) → o ≢ Some Memory → (if a then Some Empty else if b then Some TooMany else o) ≡ Some Memory → ⊥
+no_tree_is_memory false false o other h = other h
+no_tree_is_memory false true o other h = absurd (cc)
+no_tree_is_memory true b o other h = absurd (cc)
+
+pub fault_not_memory : (rows : Rows) → tree_fault_of rows ≢ Some Memory
+fault_not_memory rows = no_tree_is_memory (length rows == 0) (nat_lt 4096 (length rows)) (rows_fault rows (length rows)) (no_row_is_memory rows (length rows))

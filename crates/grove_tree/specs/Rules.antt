@@ -2,7 +2,7 @@
 use Rattle.std.specs.Prelude.{◌≡◌, ℕ, zero, suc, ◌≤◌, ◌<◌, ◌==◌, nat_lt, nat_le, Bool, false, not, ◌&&◌, ◌||◌, List, [], length, map, Option, Some, None, is_none, string_bytes, bytes_eq, IsTrue, if◌then◌else◌}
 use Rattle.std.specs.List.{list_all}
 use Rattle.grove_tree.specs.Numbers.{any_below}
-use Rattle.grove_tree.specs.Trees.{Rows, NodeRow, parent_of, name_of, weight_of, depth_of, is_at, is_above}
+use Rattle.grove_tree.specs.Trees.{Rows, NodeRow, IsTree, parent_of, name_of, weight_of, depth_of, is_at, is_above}
 use Rattle.grove_tree.specs.declared.row.Row.{Row}
 use Rattle.grove_tree.specs.declared.fault.TreeFault.{TreeFault}
 use Rattle.grove_tree.specs.declared.fault.TreeFault.TheVariants.{Empty, TooMany, BadParent, TooDeep, BadName, TwiceNamed, BadWeight}
@@ -84,3 +84,7 @@ pub record IsWithinLimits (rows : Rows) : Type 0 where
   pub differ : (first second parent : ℕ) → parent_of rows first ≡ Some parent → parent_of rows second ≡ Some parent → name_of rows first ≡ name_of rows second → first ≡ second
   pub weighty : (node : ℕ) → node < length rows → 1 ≤ weight_of rows node
   pub light : (node : ℕ) → weight_of rows node ≤ 1000
+
+-- rows that a tree can be built from
+abbrev pub AreTreeRows : Rows → Type 0
+AreTreeRows rows = IsTree rows × IsWithinLimits rows

@@ -10,8 +10,6 @@ pub use tree::Tree;
 pub use weighing::Rule;
 
 mod copying;
-#[cfg(test)]
-mod examples;
 mod fault;
 mod finding;
 mod gate;

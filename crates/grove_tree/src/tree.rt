@@ -1,7 +1,7 @@
-ghost use Rattle.std.specs.Prelude.{◌≡◌, ◌≢◌, ℕ, ◌<◌, ◌↔◌, length, IsTrue, IfOk, OnOk, IfErr, IfSome, Some, None, string_bytes};
+ghost use Rattle.std.specs.Prelude.{◌≡◌, ◌≢◌, ℕ, ◌<◌, ◌↔◌, length, IsTrue, IfOk, OnOk, IfErr, IsErrOf, IfSome, Some, None, string_bytes};
 ghost use Rattle.grove_tree.specs.Trees.{IsTree, IsAbove, parent_of, weight_of, depth_of};
 ghost use Rattle.grove_tree.specs.Paths.{path_of, node_at, names_within};
-ghost use Rattle.grove_tree.specs.Rules.{rows_of, tree_fault_of, IsWithinLimits};
+ghost use Rattle.grove_tree.specs.Rules.{rows_of, tree_fault_of, IsWithinLimits, AreTreeRows};
 
 use crate::growing::grow;
 use crate::rules::fault_of;
@@ -36,6 +36,8 @@ impl Tree {
         ensures rows { IfOk result (λ tree. tree ≡ rows_of rows.now) }
         ensures faultless { IfOk result (λ tree. tree_fault_of (rows_of rows.now) ≡ None) }
         ensures fault { IfErr result (λ fault. fault ≢ TreeFault.Memory → tree_fault_of (rows_of rows.now) ≡ Some fault) }
+        ensures refused { IfErr result (λ fault. fault ≢ TreeFault.Memory → ¬ AreTreeRows (rows_of rows.now)) }
+        ensures memory { IsErrOf result TreeFault.Memory → tree_fault_of (rows_of rows.now) ≡ None }
     {
         match fault_of(rows) {
             Some(fault) => Err(fault),

@@ -6,7 +6,7 @@ use Rattle.serde_json.specs.Data.{Data}
 use Rattle.serde_json.specs.View.{view}
 use Rattle.serde_json.specs.declared.value.Value.{Value}
 use Rattle.grove_wire.specs.declared.fault.WireFault.{WireFault}
-use Rattle.grove_wire.specs.declared.fault.WireFault.TheVariants.{BadJson, Shape, NoPath, Limit, Tree, Memory}
+use Rattle.grove_wire.specs.declared.fault.WireFault.TheVariants.{BadJson, Shape, NoPath, BadLength, Limit, Tree, Memory}
 use Rattle.grove_wire.specs.Outcomes.{◌>>=◌, each_from, Fails}
 
 -- a call that fails with the fault that is given fails as is said
@@ -14,6 +14,7 @@ pub fails_so : {A : Type 0} (fault : WireFault) (read : Result A WireFault) → 
 fails_so BadJson read is = is
 fails_so (Shape place) read is = is
 fails_so (NoPath place) read is = is
+fails_so (BadLength place) read is = is
 fails_so (Limit place) read is = is
 fails_so (Tree fault) read is = is
 fails_so Memory read is = tt

@@ -5,3 +5,4 @@ pub mod Columns
 pub mod Shorts
 pub mod Written
 pub mod Below
+pub mod Lengths

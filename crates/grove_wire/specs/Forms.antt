@@ -1,10 +1,12 @@
 -- The forms of rows, accesses and flow rows, as JSON values.
-use Rattle.std.specs.Prelude.{ℕ, ◌^◌, nat_lt, Bool, false, codes, bytes_eq, ℤ, pos, List, [], ◌∷◌, Option, Some, None, is_some, option_map, option_and_then, unwrap_or, if◌then◌else◌}
+use Rattle.std.specs.Prelude.{◌≡◌, ℕ, ◌≤◌, length, ◌^◌, ◌==◌, nat_lt, Bool, false, codes, bytes_eq, ℤ, pos, List, [], ◌∷◌, Option, Some, None, is_some, option_map, option_and_then, unwrap_or, if◌then◌else◌}
 use Rattle.serde_json.specs.Data.{Data, Items, no_items, item}
 use Rattle.serde_json.specs.Find.{get, as_null, as_number, as_str, as_array, as_i64, as_u64}
 use Rattle.grove_tree.specs.Trees.{NodeRow}
 use Rattle.grove_access.specs.declared.access.Op.{Op}
-use Rattle.grove_access.specs.declared.access.Op.TheVariants.{Get, Set, Add}
+use Rattle.grove_wire.specs.declared.versions.Version.{Version}
+use Rattle.grove_wire.specs.declared.versions.Version.TheVariants.{First, Second}
+use Rattle.grove_access.specs.declared.access.Op.TheVariants.{Get, Set, Add, Take}
 
 abbrev pub list_items : Items → List Data
 list_items no_items = []
@@ -17,6 +19,10 @@ as_list d = option_map list_items (as_array d)
 -- the items of a member that is an array
 unfoldable pub items_of : List ℕ → Data → Option (List Data)
 items_of name d = option_and_then as_list (get name d)
+
+-- each member that is an array has at most n items
+pub record HasArraysWithin (n : ℕ) (d : Data) : Type 0 where
+  pub within : (name : List ℕ) (ds : List Data) → items_of name d ≡ Some ds → length ds ≤ n
 
 -- a signed number of 64 bits
 abbrev pub as_signed : Data → Option ℤ
@@ -59,7 +65,17 @@ row_form d =
     (option_and_then as_str (get (codes "name") d)))
     (option_and_then as_parent (get (codes "parent") d))
 
--- ---- accesses: a path and an operation
+-- ---- versions
+
+-- 1 where nothing is told; the first has no lengths, the second may have
+abbrev pub version_numbered : ℕ → Option Version
+version_numbered n = if n == 1 then Some First else if n == 2 then Some Second else None
+
+abbrev pub version_of : Option Data → Option Version
+version_of None = Some First
+version_of (Some d) = option_and_then version_numbered (option_and_then as_u64 (as_number d))
+
+-- ---- accesses: a path, an operation and a length
 
 unfoldable pub short_form : Data → Data → Option (List ℕ × Op)
 short_form word path = if is_word (codes "get") word then option_map (λ text. (text, Get)) (as_str path) else None
@@ -69,6 +85,7 @@ abbrev pub op_of : Data → ℤ → Option Op
 op_of word value =
     if is_word (codes "set") word then Some (Set value)
     else if is_word (codes "add") word then Some (Add value)
+    else if is_word (codes "take") word then Some (Take value)
     else None
 
 unfoldable pub long_form : Data → Data → Data → Option (List ℕ × Op)
@@ -78,15 +95,31 @@ long_form word path value =
     (option_and_then (op_of word) (as_signed value)))
     (as_str path)
 
-abbrev pub form_of : List Data → Option (List ℕ × Op)
-form_of [] = None
-form_of (word ∷ []) = None
-form_of (word ∷ path ∷ []) = short_form word path
-form_of (word ∷ path ∷ value ∷ []) = long_form word path value
-form_of (word ∷ path ∷ value ∷ other ∷ others) = None
+-- an access that tells no length takes one slot
+abbrev pub untimed : List ℕ × Op → List ℕ × Op × ℕ
+untimed form = (form.0, form.1, 1)
 
-unfoldable pub access_form : Data → Option (List ℕ × Op)
-access_form d = option_and_then form_of (as_list d)
+-- the first version has no access that tells one
+abbrev pub timed : Version → Data → List ℕ × Op → Option (List ℕ × Op × ℕ)
+timed First length form = None
+timed Second length form = option_map (λ slots. (form.0, form.1, slots)) (option_and_then as_u64 (as_number length))
+
+-- what the one reads as, or else the other
+abbrev pub or_else : {A : Type 0} → Option A → Option A → Option A
+or_else (Some x) other = Some x
+or_else None other = other
+
+abbrev pub form_of : Version → List Data → Option (List ℕ × Op × ℕ)
+form_of version [] = None
+form_of version (word ∷ []) = None
+form_of version (word ∷ path ∷ []) = option_map untimed (short_form word path)
+form_of version (word ∷ path ∷ third ∷ []) =
+    or_else (option_map untimed (long_form word path third)) (option_and_then (timed version third) (short_form word path))
+form_of version (word ∷ path ∷ value ∷ length ∷ []) = option_and_then (timed version length) (long_form word path value)
+form_of version (word ∷ path ∷ value ∷ length ∷ other ∷ others) = None
+
+unfoldable pub access_form : Version → Data → Option (List ℕ × Op × ℕ)
+access_form version d = option_and_then (form_of version) (as_list d)
 
 -- ---- flow rows: a path and the amounts
 

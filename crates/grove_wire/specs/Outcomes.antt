@@ -2,7 +2,7 @@
 use Rattle.std.specs.Prelude.{◌≡◌, ℕ, suc, List, [], ◌∷◌, Option, Some, None, Result, Ok, Err}
 use Rattle.serde_json.specs.Data.{Data}
 use Rattle.grove_wire.specs.declared.fault.WireFault.{WireFault}
-use Rattle.grove_wire.specs.declared.fault.WireFault.TheVariants.{BadJson, Shape, NoPath, Limit, Tree, Memory}
+use Rattle.grove_wire.specs.declared.fault.WireFault.TheVariants.{BadJson, Shape, NoPath, BadLength, Limit, Tree, Memory}
 
 -- one reading after another, up to the first fault
 infixl 10 ◌>>=◌
@@ -28,6 +28,7 @@ abbrev pub Fails : {A : Type 0} → WireFault → Result A WireFault → Type 0
 Fails BadJson read = read ≡ Err BadJson
 Fails (Shape place) read = read ≡ Err (Shape place)
 Fails (NoPath place) read = read ≡ Err (NoPath place)
+Fails (BadLength place) read = read ≡ Err (BadLength place)
 Fails (Limit place) read = read ≡ Err (Limit place)
 Fails (Tree fault) read = read ≡ Err (Tree fault)
 Fails Memory read = Unit {0}

@@ -2,26 +2,28 @@
 use Rattle.std.specs.Prelude.{ℕ, codes, ℤ, List, [], ◌∷◌, length, map, nat_lt, Option, Some, None, is_some, Result, Ok, Err, if◌then◌else◌}
 use Rattle.std.specs.Str.{is_utf8}
 use Rattle.serde_json.specs.Data.{Data}
-use Rattle.serde_json.specs.Find.{as_object, as_str}
+use Rattle.serde_json.specs.Find.{get, as_object, as_str}
 use Rattle.serde_json.specs.Read.{read}
 use Rattle.grove_tree.specs.Trees.{Rows, NodeRow}
 use Rattle.grove_tree.specs.Paths.{node_at}
 use Rattle.grove_tree.specs.Rules.{tree_fault_of}
 use Rattle.grove_tree.specs.declared.fault.TreeFault.{TreeFault}
 use Rattle.grove_access.specs.declared.access.Access.{Access}
+use Rattle.grove_access.specs.Lists.{is_length}
+use Rattle.grove_wire.specs.declared.versions.Version.{Version}
 use Rattle.grove_plan.specs.declared.step.Step.{Step}
 use Rattle.grove_plan.specs.declared.step.Step.TheVariants as step
 use Rattle.grove_proof.specs.declared.flow.FlowRow.{FlowRow}
 use Rattle.grove_wire.specs.declared.fault.WireFault.{WireFault}
-use Rattle.grove_wire.specs.declared.fault.WireFault.TheVariants.{BadJson, Shape, NoPath, Limit, Tree}
+use Rattle.grove_wire.specs.declared.fault.WireFault.TheVariants.{BadJson, Shape, NoPath, BadLength, Limit, Tree}
 use Rattle.grove_wire.specs.declared.place.Part.{Part}
 use Rattle.grove_wire.specs.declared.place.Part.TheVariants as part
 use Rattle.grove_wire.specs.declared.place.Place.{Place}
 use Rattle.grove_wire.specs.Outcomes.{◌>>=◌, or_fault, each_from}
 use Rattle.grove_wire.specs.Places.{whole_of, item_of, part_word}
-use Rattle.grove_wire.specs.Forms.{items_of, as_list, as_short, is_word, row_form, access_form, FlowForm, flow_form}
+use Rattle.grove_wire.specs.Forms.{version_of, items_of, as_list, as_short, is_word, row_form, access_form, FlowForm, flow_form}
 
--- ---- the document: an object in UTF-8, of few bytes
+-- ---- the document: an object in UTF-8, of few bytes and of a version that there is
 
 abbrev pub value_of : List ℕ → Option Data
 value_of bytes = if is_utf8 bytes then read bytes else None
@@ -29,10 +31,16 @@ value_of bytes = if is_utf8 bytes then read bytes else None
 abbrev pub object_of : Data → Result Data WireFault
 object_of d = if is_some (as_object d) then Ok d else Err (Shape (whole_of part.Whole))
 
+unfoldable pub version_in : Data → Result Version WireFault
+version_in d = or_fault (Shape (whole_of part.Whole)) (version_of (get (codes "version") d))
+
+abbrev pub versioned : Data → Result Data WireFault
+versioned d = version_in d >>= λ version. Ok d
+
 unfoldable pub document_of : List ℕ → Result Data WireFault
 document_of bytes =
     if nat_lt 4194304 (length bytes) then Err (Limit (whole_of part.Whole))
-    else (or_fault BadJson (value_of bytes) >>= object_of)
+    else ((or_fault BadJson (value_of bytes) >>= object_of) >>= versioned)
 
 -- the items of a part of the document
 unfoldable pub items_in : Part → Data → Result (List Data) WireFault
@@ -66,25 +74,32 @@ tree_in d = do
   columns ← columns_of ds
   tree_of columns
 
--- ---- a list: few accesses, each of its form and then with a path of the tree
+-- ---- a list: few accesses, each of its form, then with a path of the tree, and then of a length that there is
 
 abbrev pub node_on : Rows → Place → List ℕ → Result ℕ WireFault
 node_on tree place path = or_fault (NoPath place) (node_at tree path)
 
-unfoldable pub access_at : Rows → Place → Data → Result Access WireFault
-access_at tree place d = do
-  form ← or_fault (Shape place) (access_form d)
+abbrev pub length_on : Place → ℕ → Result ℕ WireFault
+length_on place slots = if is_length slots then Ok slots else Err (BadLength place)
+
+unfoldable pub access_at : Rows → Version → Place → Data → Result Access WireFault
+access_at tree version place d = do
+  form ← or_fault (Shape place) (access_form version d)
   node ← node_on tree place form.0
-  Ok (record { node = node; op = form.1 })
+  slots ← length_on place form.2
+  Ok (record { node = node; op = form.1; length = slots })
 
-abbrev pub access_in : Rows → ℕ → Data → Result Access WireFault
-access_in tree at d = access_at tree (item_of part.List at) d
+abbrev pub access_in : Rows → Version → ℕ → Data → Result Access WireFault
+access_in tree version at d = access_at tree version (item_of part.List at) d
 
-abbrev pub list_of : Rows → List Data → Result (List Access) WireFault
-list_of tree ds = if nat_lt 64 (length ds) then Err (Limit (whole_of part.List)) else each_from (access_in tree) 0 ds
+abbrev pub list_of : Rows → Version → List Data → Result (List Access) WireFault
+list_of tree version ds = if nat_lt 64 (length ds) then Err (Limit (whole_of part.List)) else each_from (access_in tree version) 0 ds
 
 unfoldable pub list_in : Rows → Data → Result (List Access) WireFault
-list_in tree d = items_in part.List d >>= list_of tree
+list_in tree d = do
+  version ← version_in d
+  ds ← items_in part.List d
+  list_of tree version ds
 
 -- ---- a plan: its steps, each of its form and then with a path of the tree
 

@@ -10,7 +10,7 @@ use Rattle.grove_plan.specs.declared.fault.PlanFault.TheVariants as plan
 use Rattle.grove_proof.specs.declared.fault.ProofFault.{ProofFault}
 use Rattle.grove_proof.specs.declared.fault.ProofFault.TheVariants as proof
 use Rattle.grove_wire.specs.declared.fault.WireFault.{WireFault}
-use Rattle.grove_wire.specs.declared.fault.WireFault.TheVariants.{BadJson, Shape, NoPath, Limit, Tree, Memory}
+use Rattle.grove_wire.specs.declared.fault.WireFault.TheVariants.{BadJson, Shape, NoPath, BadLength, Limit, Tree, Memory}
 use Rattle.grove_wire.specs.declared.place.Place.{Place}
 use Rattle.grove_wire.specs.Places.{part_word}
 
@@ -36,6 +36,7 @@ abbrev pub wire_text : WireFault → List ℕ
 wire_text BadJson = codes "bad-json"
 wire_text (Shape place) = codes "shape " ++ place_text place
 wire_text (NoPath place) = codes "no-path " ++ place_text place
+wire_text (BadLength place) = codes "bad-length " ++ place_text place
 wire_text (Limit place) = codes "limit " ++ place_text place
 wire_text (Tree fault) = tree_text fault
 wire_text Memory = codes "memory"

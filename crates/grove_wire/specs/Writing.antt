@@ -6,7 +6,7 @@ use Rattle.serde_json.specs.View.{items_of}
 use Rattle.grove_tree.specs.Trees.{Rows}
 use Rattle.grove_tree.specs.Paths.{path_of}
 use Rattle.grove_access.specs.declared.reply.Reply.{Reply}
-use Rattle.grove_access.specs.declared.reply.Reply.TheVariants.{Value, Done, Range}
+use Rattle.grove_access.specs.declared.reply.Reply.TheVariants.{Value, Done, Range, Short}
 use Rattle.grove_plan.specs.declared.step.Step.{Step}
 use Rattle.grove_plan.specs.declared.step.Step.TheVariants.{Lock, Unlock, Access}
 use Rattle.grove_proof.specs.declared.flow.FlowRow.{FlowRow}
@@ -18,6 +18,7 @@ abbrev pub reply_data : Reply → Data
 reply_data (Value n) = number_data n
 reply_data Done = string (codes "ok")
 reply_data Range = string (codes "range")
+reply_data Short = string (codes "short")
 
 abbrev pub numbers_data : List ℤ → Data
 numbers_data numbers = array (items_of (map number_data numbers))

@@ -1,39 +1,40 @@
-ghost use Rattle.std.specs.Prelude.{◌≡◌, map, option_map};
+ghost use Rattle.std.specs.Prelude.{◌≡◌, ◌≤◌, IfOk, length, map, option_map};
 ghost use Rattle.serde_json.specs.View.{view};
-ghost use Rattle.grove_wire.specs.Forms.{items_of};
+ghost use Rattle.grove_wire.specs.Forms.{items_of, HasArraysWithin};
 ghost use Rattle.grove_wire.specs.Outcomes.{Gives, or_fault};
 ghost use Rattle.grove_wire.specs.Reading.{document_of, value_of, items_in};
 
+use crate::versions::version_of;
 use crate::{Part, Place, WireFault};
 use serde_json::Value;
 use std::alloc::Global;
 
 /// The greatest number of bytes of a document.
-const MOST_BYTES: usize = 4_194_304;
-
-/// The greatest number of items that are counted in 32 bits. No document has as many.
-pub(crate) const MOST_ITEMS: usize = 4_294_967_295;
+pub const MOST_BYTES: usize = 4_194_304;
 
 /// The JSON object that a text of at most 4,194,304 bytes is. More bytes are `Limit`, what isn't UTF-8 or isn't JSON is
-/// `BadJson`, and what is no object is `Shape`, of the whole.
-#[tactic(auto, unfolding(crate::specs::Reading::document_of))]
+/// `BadJson`, and what is no object, or tells another version than 1 or 2, is `Shape`, of the whole. So few bytes hold no
+/// long arrays.
+#[tactic(auto, using(crate::proofs::Lengths::arrays_of_short), unfolding(crate::specs::Reading::document_of))]
 pub fn read_document(alloc: Global, bytes: &[u8]) -> Result<Value, WireFault>
-    ensures { Gives (λ document. view document) result (document_of bytes.now) }
+    ensures read { Gives (λ document. view document) result (document_of bytes.now) }
+    ensures short { IfOk result (λ document. HasArraysWithin 4194304 (view document)) }
 {
     if bytes.len() > MOST_BYTES {
         return Err(WireFault::Limit(Place::whole(Part::Whole)));
     }
     let document = read_value(alloc, bytes)?;
-    if document.is_object() {
-        Ok(document)
-    } else {
-        Err(WireFault::Shape(Place::whole(Part::Whole)))
+    if !document.is_object() {
+        return Err(WireFault::Shape(Place::whole(Part::Whole)));
     }
+    let _version = version_of(&document)?;
+    Ok(document)
 }
 
-#[tactic(auto, using(crate::proofs::Documents::value_read, crate::proofs::Documents::value_refused))]
+#[tactic(auto, using(crate::proofs::Documents::value_read, crate::proofs::Documents::value_refused, crate::proofs::Lengths::arrays_of_text))]
 fn read_value(alloc: Global, bytes: &[u8]) -> Result<Value, WireFault>
-    ensures { Gives (λ value. view value) result (or_fault WireFault.BadJson (value_of bytes.now)) }
+    ensures read { Gives (λ value. view value) result (or_fault WireFault.BadJson (value_of bytes.now)) }
+    ensures short { IfOk result (λ value. HasArraysWithin (length bytes.now) (view value)) }
 {
     match Value::from_slice(alloc, bytes) {
         Ok(value) => Ok(value),
@@ -53,9 +54,11 @@ fn items_of<'v>(document: &'v Value, name: &str) -> Option<&'v [Value]>
 }
 
 /// The items of a part of the document.
-#[tactic(auto, unfolding(crate::specs::Reading::items_in))]
+#[tactic(auto, using(crate::proofs::Lengths::part_within), unfolding(crate::specs::Reading::items_in))]
 pub(crate) fn items_in(document: &Value, part: Part) -> Result<&[Value], WireFault>
-    ensures { Gives (λ items. map view items.now) result (items_in part (view document.now)) }
+    requires { HasArraysWithin 4194304 (view document.now) }
+    ensures items { Gives (λ items. map view items.now) result (items_in part (view document.now)) }
+    ensures few { IfOk result (λ items. length items.now ≤ 4194304) }
 {
     match items_of(document, part.word()) {
         Some(items) => Ok(items),

@@ -15,6 +15,9 @@ pub enum WireFault {
     /// The path there is that of no node of the tree.
     #[error("no-path {0}")]
     NoPath(Place),
+    /// The length there is 0 or above 1000.
+    #[error("bad-length {0}")]
+    BadLength(Place),
     /// There is more of it than is taken.
     #[error("limit {0}")]
     Limit(Place),

@@ -7,8 +7,8 @@ use grove_proof::ProofFault;
 use grove_tree::{NoMemory, Tree, TreeFault};
 use std::alloc::{AllocError, Global};
 
-/// The text of a fault of reading: `bad-json`, `shape list 3`, `no-path plan 0`, `limit whole`, `tree empty`, `row 3 bad-name`,
-/// or `memory`.
+/// The text of a fault of reading: `bad-json`, `shape list 3`, `no-path plan 0`, `bad-length list 1`, `limit whole`,
+/// `tree empty`, `row 3 bad-name`, or `memory`.
 pub fn wire_fault_text(alloc: Global, fault: &WireFault) -> Result<String, NoMemory>
     ensures { IfOk result (λ text. string_bytes text ≡ wire_text fault.now) }
 {
@@ -21,6 +21,10 @@ pub fn wire_fault_text(alloc: Global, fault: &WireFault) -> Result<String, NoMem
         WireFault::NoPath(place) => {
             let place = place_text(alloc, place)?;
             Ok(format!(in alloc; "no-path {place}")?)
+        }
+        WireFault::BadLength(place) => {
+            let place = place_text(alloc, place)?;
+            Ok(format!(in alloc; "bad-length {place}")?)
         }
         WireFault::Limit(place) => {
             let place = place_text(alloc, place)?;

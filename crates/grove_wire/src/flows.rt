@@ -1,10 +1,10 @@
 ghost use Rattle.std.specs.Prelude.{◌≡◌, ◌<◌, ◌^◌, map, option_map, IfOk, length, vec_len};
 ghost use Rattle.serde_json.specs.View.{view};
-ghost use Rattle.grove_wire.specs.Forms.{amount_of, flow_with, flow_form};
+ghost use Rattle.grove_wire.specs.Forms.{HasArraysWithin, amount_of, flow_with, flow_form};
 ghost use Rattle.grove_wire.specs.Outcomes.{Gives, each_from};
 ghost use Rattle.grove_wire.specs.Reading.{flow_row_at, flow_row_in, flow_in};
 
-use crate::document::{MOST_ITEMS, items_in};
+use crate::document::items_in;
 use crate::lists::node_on;
 use crate::{Part, Place, WireFault};
 use grove_proof::{Flow, FlowRow};
@@ -13,15 +13,13 @@ use serde_json::Value;
 use std::alloc::Global;
 
 /// The rows of the document's `flow`, over the tree. They are read in order, each first for its `Shape` and then for its
-/// `NoPath`. More rows than a flow can have (2^32 - 1; no document has as many) are refused for memory.
+/// `NoPath`.
 #[tactic(auto, unfolding(crate::specs::Reading::flow_in))]
 pub fn read_flow(alloc: Global, tree: &Tree, document: &Value) -> Result<Flow, WireFault>
+    requires { HasArraysWithin 4194304 (view document.now) }
     ensures { Gives (λ flow. flow) result (flow_in tree.now (view document.now)) }
 {
     let items = items_in(document, Part::Flow)?;
-    if items.len() > MOST_ITEMS {
-        return Err(WireFault::Memory);
-    }
     let rows = read_flow_rows(alloc, tree, items)?;
     Ok(Flow::new(rows))
 }

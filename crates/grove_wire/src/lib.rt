@@ -1,7 +1,7 @@
 //! JSON documents and requests, read and written, and the texts of faults.
 #![tactic(auto)]
 
-pub use document::read_document;
+pub use document::{MOST_BYTES, read_document};
 pub use fault::WireFault;
 pub use fault_texts::{plan_fault_text, proof_fault_text, wire_fault_text};
 pub use flows::read_flow;
@@ -23,5 +23,4 @@ mod place;
 mod plan_values;
 mod plans;
 mod replies;
-#[cfg(test)]
-mod tests;
+mod versions;

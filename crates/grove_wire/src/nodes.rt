@@ -1,11 +1,11 @@
 ghost use Rattle.std.specs.Prelude.{◌≡◌, ◌<◌, ◌^◌, map, option_map, IfOk, length, vec_len};
 ghost use Rattle.serde_json.specs.View.{view};
 ghost use Rattle.grove_tree.specs.Rules.{row_of, rows_of, tree_fault_of};
-ghost use Rattle.grove_wire.specs.Forms.{as_parent, as_record, row_with, row_form};
+ghost use Rattle.grove_wire.specs.Forms.{HasArraysWithin, as_parent, as_record, row_with, row_form};
 ghost use Rattle.grove_wire.specs.Outcomes.{Gives};
 ghost use Rattle.grove_wire.specs.Reading.{row_at, columns_of, unless_fault, tree_in};
 
-use crate::document::{MOST_ITEMS, items_in};
+use crate::document::items_in;
 use crate::forms::short_number;
 use crate::{Part, Place, WireFault};
 use grove_access::Records;
@@ -14,16 +14,14 @@ use serde_json::Value;
 use std::alloc::Global;
 
 /// The tree of the document's `nodes`, and the record of each node. Each row's `Shape` comes first, in order, and then what
-/// `Tree::build` says of the rows. More rows than 2^32 - 1 (no document has as many) are refused for memory.
+/// `Tree::build` says of the rows.
 #[tactic(auto, unfolding(crate::specs::Reading::tree_in))]
 pub fn read_tree(alloc: Global, document: &Value) -> Result<(Tree, Records), WireFault>
+    requires { HasArraysWithin 4194304 (view document.now) }
     ensures read { Gives (λ read. (read.0, read.1)) result (tree_in (view document.now)) }
     ensures fits { IfOk result (λ read. length read.1 ≡ length read.0) }
 {
     let items = items_in(document, Part::Nodes)?;
-    if items.len() > MOST_ITEMS {
-        return Err(WireFault::Memory);
-    }
     let (rows, values) = read_rows(alloc, items)?;
     let tree = build_tree(alloc, &rows)?;
     let records = Records::new(alloc, &values)?;

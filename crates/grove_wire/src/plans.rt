@@ -1,9 +1,10 @@
 ghost use Rattle.std.specs.Prelude.{◌≡◌, ◌<◌, ◌^◌, map, IfOk, length, vec_len};
 ghost use Rattle.serde_json.specs.View.{view};
+ghost use Rattle.grove_wire.specs.Forms.{HasArraysWithin};
 ghost use Rattle.grove_wire.specs.Outcomes.{Gives, each_from};
 ghost use Rattle.grove_wire.specs.Reading.{path_at, step_of, step_at, step_in, plan_in};
 
-use crate::document::{MOST_ITEMS, items_in};
+use crate::document::items_in;
 use crate::forms::{is_word, list_items, short_number};
 use crate::lists::node_on;
 use crate::{Part, Place, WireFault};
@@ -13,15 +14,13 @@ use serde_json::Value;
 use std::alloc::Global;
 
 /// The steps of the document's `plan`, over the tree. They are read in order, each first for its `Shape` and then for its
-/// `NoPath`. More steps than a plan can have (2^32 - 1; no document has as many) are refused for memory.
+/// `NoPath`.
 #[tactic(auto, unfolding(crate::specs::Reading::plan_in))]
 pub fn read_plan(alloc: Global, tree: &Tree, document: &Value) -> Result<Plan, WireFault>
+    requires { HasArraysWithin 4194304 (view document.now) }
     ensures { Gives (λ plan. plan) result (plan_in tree.now (view document.now)) }
 {
     let items = items_in(document, Part::Plan)?;
-    if items.len() > MOST_ITEMS {
-        return Err(WireFault::Memory);
-    }
     let steps = read_steps(alloc, tree, items)?;
     Ok(Plan::new(steps))
 }

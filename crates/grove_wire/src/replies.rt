@@ -7,7 +7,7 @@ use grove_tree::NoMemory;
 use serde_json::Value;
 use std::alloc::Global;
 
-/// The array of the replies: each a number, `"ok"` or `"range"`.
+/// The array of the replies: each a number, `"ok"`, `"range"` or `"short"`.
 pub fn replies_value(alloc: Global, replies: &[Reply]) -> Result<Value, NoMemory>
     ensures { IfOk result (λ value. view value ≡ replies_data replies.now) }
 {
@@ -25,6 +25,7 @@ fn reply_value(alloc: Global, reply: Reply) -> Result<Value, NoMemory>
         Reply::Value(number) => Ok(Value::from(number)),
         Reply::Done => Ok(Value::String(String::from_str(alloc, "ok")?)),
         Reply::Range => Ok(Value::String(String::from_str(alloc, "range")?)),
+        Reply::Short => Ok(Value::String(String::from_str(alloc, "short")?)),
     }
 }
 

@@ -5,7 +5,7 @@ use Rattle.grove.proofs.checking.check_document.Goals as goal
 
 pub returns-in_err-document : goal.returns-in_err-document
 returns-in_err-document c =
-    says_refusal view c.read_document.result _ _ ObjectChecked c.from_residual.result c.read_document.ensures c.in_err-document.ensures.err c.from_residual.ensures.1
+    says_refusal view c.read_document.result _ _ ObjectChecked c.from_residual.result c.read_document.ensures.read c.in_err-document.ensures.err c.from_residual.ensures.1
 
 pub returns : goal.returns
-returns c = says_on view c.read_document.result _ _ ObjectChecked _ c.read_document.ensures c.in_ok-document.ensures.ok c.check_object.ensures
+returns c = says_on view c.read_document.result _ _ ObjectChecked _ c.read_document.ensures.read c.in_ok-document.ensures.ok c.check_object.ensures

@@ -1,24 +1,31 @@
-use Rattle.std.proofs.Common.{rules, ◌≡◌, ◌∙◌, ap, map, string_bytes}
-use Rattle.clap.specs.Words.{App, app_of, is_simple, subcommand_of, takes}
+use Rattle.std.proofs.Common.{rules, [], ◌≡◌, ◌∙◌, ap, sym, subst, map, string_bytes}
+use Rattle.clap.specs.Words.{App, HasKind, app_of, is_simple, is_simple_and_free, subcommand_of, subcommand_rows_of, fault_of}
 use Rattle.grove.specs.CommandLines.{grove_command}
-use Rattle.grove.proofs.Asking.{is_simple_line, takes_order, finds_order}
+use Rattle.grove.proofs.Asking.{is_simple_line, is_free_line, line_reads}
 use Rattle.grove.proofs.command_line.order_of.Goals as goal
 
 pub returns-clause-asked : goal.returns-clause-asked
-returns-clause-asked c order asks =
+returns-clause-asked c =
+    let words = map string_bytes c.args.words.now in
     let line : app_of c.in_ok-command_line.field-0 ≡ grove_command = c.in_ok-command_line.ensures in
-    let found = c.in_ok-matches.ensures.matches (ap is_simple line ∙ is_simple_line) in
-    finds_order (map string_bytes c.args.words.now) order c.order_in.result _
-    (found.1 ∙ ap (λ (app : App). subcommand_of app (map string_bytes c.args.words.now)) line)
+    let matches = c.in_ok-matches.ensures.matches (ap is_simple line ∙ is_simple_line) in
+    let rows : subcommand_rows_of c.in_ok-matches.matches ≡ subcommand_of grove_command words = matches.1 ∙ ap (λ (app : App). subcommand_of app words) line in
+    let taken : fault_of grove_command words ≡ [] =
+    ap (λ (app : App). fault_of app words) (sym line) ∙ c.in_ok-matches.ensures.kinds (ap is_simple_and_free line ∙ is_free_line) in
+    line_reads words taken c.order_in.result
     (record {
-      bare = c.order_in.ensures.bare;
-      judge = c.order_in.ensures.judge;
-      check = c.order_in.ensures.check;
-      plan = c.order_in.ensures.plan;
-    }) asks
+      bare = λ none. c.order_in.ensures.bare (rows ∙ none);
+      judge = λ below at. c.order_in.ensures.judge below (rows ∙ at);
+      check = λ below at. c.order_in.ensures.check below (rows ∙ at);
+      plan = λ below at. c.order_in.ensures.plan below (rows ∙ at);
+      document = λ word below at. c.order_in.ensures.document word below (rows ∙ at);
+    })
 
-pub returns-in_err-matches-clause-certain : goal.returns-in_err-matches-clause-certain
-returns-in_err-matches-clause-certain c order asks =
+pub returns-in_err-matches-clause-refused : goal.returns-in_err-matches-clause-refused
+returns-in_err-matches-clause-refused c =
     let line : app_of c.in_ok-command_line.field-0 ≡ grove_command = c.in_ok-command_line.ensures in
-    let kind = c.in_err-matches.ensures.passes (ap (λ (app : App). takes app (map string_bytes c.args.words.now)) line ∙ takes_order (map string_bytes c.args.words.now) order asks) in
+    let words = map string_bytes c.args.words.now in
+    let kinds = c.in_err-matches.ensures.kinds (ap is_simple_and_free line ∙ is_free_line) in
+    let refused : HasKind (fault_of grove_command words) c.in_err-matches.field-0.0 =
+    subst (λ (app : App). HasKind (fault_of app words) c.in_err-matches.field-0.0) line kinds in
     search rules

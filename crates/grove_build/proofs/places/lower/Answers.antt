@@ -13,22 +13,22 @@ loop-place-preserved c =
     let same = read_self c.loop-place.places c.loop-place.place-index (pos 0) within in
     elim c.if-from-place.branch [
       | then-from-place w ↦
-          let more : pos c.args.accesses <ℤ get_or c.loop-place.places c.loop-place.place-index (pos 0) =
+          let more : pos c.args.slots <ℤ get_or c.loop-place.places c.loop-place.place-index (pos 0) =
           grind (arith, ints) in
-          let end : pos c.args.accesses ≡ to_z w64 (of_z w64 w.from-then-from-place.result) = omega (arith, ints) in
-          rw w.places-is (lower_set (pos c.args.accesses) c.args.places.now c.loop-place.places
+          let end : pos c.args.slots ≡ to_z w64 (of_z w64 w.from-then-from-place.result) = omega (arith, ints) in
+          rw w.places-is (lower_set (pos c.args.slots) c.args.places.now c.loop-place.places
           c.loop-place.place-index (get_or c.loop-place.places c.loop-place.place-index (pos 0)) _
           c.loop-place-test.true c.loop-place.invariant same
-          (lowered_more c.args.accesses (get_or c.loop-place.places c.loop-place.place-index (pos 0)) more ∙ end))
+          (lowered_more c.args.slots (get_or c.loop-place.places c.loop-place.place-index (pos 0)) more ∙ end))
       | else-from-place w ↦
-          let less : get_or c.loop-place.places c.loop-place.place-index (pos 0) ≤ℤ pos c.args.accesses =
+          let less : get_or c.loop-place.places c.loop-place.place-index (pos 0) ≤ℤ pos c.args.slots =
           grind (arith, ints) in
-          rw w.places-is (lower_set (pos c.args.accesses) c.args.places.now c.loop-place.places
+          rw w.places-is (lower_set (pos c.args.slots) c.args.places.now c.loop-place.places
           c.loop-place.place-index (get_or c.loop-place.places c.loop-place.place-index (pos 0)) _
           c.loop-place-test.true c.loop-place.invariant same
-          (lowered_less c.args.accesses (get_or c.loop-place.places c.loop-place.place-index (pos 0)) less))
+          (lowered_less c.args.slots (get_or c.loop-place.places c.loop-place.place-index (pos 0)) less))
     ]
 
 pub returns : goal.returns
-returns c = lower_done (pos c.args.accesses) c.args.places.now c.loop-place.places c.loop-place.place-index
+returns c = lower_done (pos c.args.slots) c.args.places.now c.loop-place.places c.loop-place.place-index
     c.loop-place-test.false c.loop-place.invariant

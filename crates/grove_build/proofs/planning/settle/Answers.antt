@@ -1,6 +1,6 @@
 use Rattle.std.proofs.Common.{◌≡◌, ℕ, ◌≤◌, ◌<◌, ◌++◌, List, length, Some, false, ap, ap₂, sym, ◌∙◌, subst, arith, get_or}
 use Rattle.std.specs.List.{slice_get}
-use Rattle.grove_access.specs.Lists.{nodes_of}
+use Rattle.grove_access.specs.Lists.{nodes_of, lengths_of}
 use Rattle.grove_plan.specs.declared.step.Step.{Step}
 use Rattle.grove_plan.specs.Plans.{cost}
 use Rattle.grove_proof.specs.declared.flow.FlowRow.{FlowRow}
@@ -18,7 +18,7 @@ needed_of-requires-clause-rows c =
     let size : length (nodes_of c.args.list.now) ≡ length c.args.list.now = nodes_length c.args.list.now in
     let few : length c.args.list.now ≤ 64 = c.len-accesses.ensures.few in
     let short : length (nodes_of c.args.list.now) ≤ 64 = omega arith in
-    rows_of_span c.args.tree.now (nodes_of c.args.list.now) c.args.rows.now c.requires.span c.len-nodes.ensures.limits
+    rows_of_span c.args.tree.now (nodes_of c.args.list.now) (lengths_of c.args.list.now) c.args.rows.now c.requires.span c.len-nodes.ensures.limits
     short
 
 pub needed_of-requires-clause-gaps : goal.needed_of-requires-clause-gaps
@@ -26,7 +26,7 @@ needed_of-requires-clause-gaps c =
     let size : length (nodes_of c.args.list.now) ≡ length c.args.list.now = nodes_length c.args.list.now in
     let few : length c.args.list.now ≤ 64 = c.len-accesses.ensures.few in
     let short : length (nodes_of c.args.list.now) ≤ 64 = omega arith in
-    ap length c.deref.ensures.value ∙ gaps_size c.args.tree.now (nodes_of c.args.list.now) c.args.rows.now
+    ap length c.deref.ensures.value ∙ gaps_size c.args.tree.now (nodes_of c.args.list.now) (lengths_of c.args.list.now) c.args.rows.now
     c.args.solved.now.amounts.items c.args.solved.now.gaps.items c.requires.span c.requires.solved short
 
 pub stays_of-requires-clause-few : goal.stays_of-requires-clause-few
@@ -35,7 +35,7 @@ stays_of-requires-clause-few c =
     let few : length c.args.list.now ≤ 64 = c.len-accesses.ensures.few in
     let short : length (nodes_of c.args.list.now) ≤ 64 = omega arith in
     let of : AreRowsOf c.args.tree.now c.args.rows.now =
-    rows_of_span c.args.tree.now (nodes_of c.args.list.now) c.args.rows.now c.requires.span
+    rows_of_span c.args.tree.now (nodes_of c.args.list.now) (lengths_of c.args.list.now) c.args.rows.now c.requires.span
     c.len-nodes.ensures.limits short in
     of.few
 
@@ -45,7 +45,7 @@ stays_of-requires-clause-gaps c =
     let few : length c.args.list.now ≤ 64 = c.len-accesses.ensures.few in
     let short : length (nodes_of c.args.list.now) ≤ 64 = omega arith in
     ap length c.deref-2.ensures.value
-    ∙ gaps_size c.args.tree.now (nodes_of c.args.list.now) c.args.rows.now c.args.solved.now.amounts.items
+    ∙ gaps_size c.args.tree.now (nodes_of c.args.list.now) (lengths_of c.args.list.now) c.args.rows.now c.args.solved.now.amounts.items
     c.args.solved.now.gaps.items c.requires.span c.requires.solved short
 
 pub cost_of-cost-requires-clause-few : goal.cost_of-cost-requires-clause-few
@@ -54,7 +54,7 @@ cost_of-cost-requires-clause-few c =
     let few : length c.args.list.now ≤ 64 = c.len-accesses.ensures.few in
     let short : length (nodes_of c.args.list.now) ≤ 64 = omega arith in
     let of : AreRowsOf c.args.tree.now c.args.rows.now =
-    rows_of_span c.args.tree.now (nodes_of c.args.list.now) c.args.rows.now c.requires.span
+    rows_of_span c.args.tree.now (nodes_of c.args.list.now) (lengths_of c.args.list.now) c.args.rows.now c.requires.span
     c.len-nodes.ensures.limits short in
     let stays : c.in_ok-stays.stays.items
     ≡ stays_from c.args.solved.now.gaps.items c.in_ok-needed.needed.items 0 c.args.rows.now =
@@ -78,7 +78,7 @@ cost_of-cost-requires-clause-nodes c =
     ∙ ap₂ (λ g n. stays_from g n 0 c.args.rows.now) c.deref-2.ensures.value c.deref-3.ensures.value in
     let lent : c.deref-6.result.now ≡ stays_from c.args.solved.now.gaps.items c.in_ok-needed.needed.items 0
     c.args.rows.now = c.deref-6.ensures.value ∙ stays in
-    (λ i stay h. (stay_fits c.args.tree.now (nodes_of c.args.list.now) c.args.rows.now c.args.solved.now.amounts.items
+    (λ i stay h. (stay_fits c.args.tree.now (nodes_of c.args.list.now) (lengths_of c.args.list.now) c.args.rows.now c.args.solved.now.amounts.items
     c.args.solved.now.gaps.items c.requires.span c.requires.solved short c.in_ok-needed.needed.items i stay
     (let P : List Stay → Type 0 = λ l. slice_get l i ≡ Some stay in subst P lent h)).0)
 
@@ -93,7 +93,7 @@ cost_of-cost-requires-clause-own c =
     ∙ ap₂ (λ g n. stays_from g n 0 c.args.rows.now) c.deref-2.ensures.value c.deref-3.ensures.value in
     let lent : c.deref-6.result.now ≡ stays_from c.args.solved.now.gaps.items c.in_ok-needed.needed.items 0
     c.args.rows.now = c.deref-6.ensures.value ∙ stays in
-    (λ i stay h. (stay_fits c.args.tree.now (nodes_of c.args.list.now) c.args.rows.now c.args.solved.now.amounts.items
+    (λ i stay h. (stay_fits c.args.tree.now (nodes_of c.args.list.now) (lengths_of c.args.list.now) c.args.rows.now c.args.solved.now.amounts.items
     c.args.solved.now.gaps.items c.requires.span c.requires.solved short c.in_ok-needed.needed.items i stay
     (let P : List Stay → Type 0 = λ l. slice_get l i ≡ Some stay in subst P lent h)).1)
 
@@ -108,9 +108,10 @@ cost_of-cost-requires-clause-end c =
     ∙ ap₂ (λ g n. stays_from g n 0 c.args.rows.now) c.deref-2.ensures.value c.deref-3.ensures.value in
     let lent : c.deref-6.result.now ≡ stays_from c.args.solved.now.gaps.items c.in_ok-needed.needed.items 0
     c.args.rows.now = c.deref-6.ensures.value ∙ stays in
-    (λ i stay h. (stay_fits c.args.tree.now (nodes_of c.args.list.now) c.args.rows.now c.args.solved.now.amounts.items
+    (λ i stay h. let end : stay.release ≤ length (nodes_of c.args.list.now) = (stay_fits c.args.tree.now (nodes_of c.args.list.now) (lengths_of c.args.list.now) c.args.rows.now c.args.solved.now.amounts.items
     c.args.solved.now.gaps.items c.requires.span c.requires.solved short c.in_ok-needed.needed.items i stay
-    (let P : List Stay → Type 0 = λ l. slice_get l i ≡ Some stay in subst P lent h)).2)
+    (let P : List Stay → Type 0 = λ l. slice_get l i ≡ Some stay in subst P lent h)).2 in
+    omega arith)
 
 pub new-requires : goal.new-requires
 new-requires c =
@@ -118,7 +119,7 @@ new-requires c =
     let few : length c.args.list.now ≤ 64 = c.len-accesses.ensures.few in
     let short : length (nodes_of c.args.list.now) ≤ 64 = omega arith in
     let of : AreRowsOf c.args.tree.now c.args.rows.now =
-    rows_of_span c.args.tree.now (nodes_of c.args.list.now) c.args.rows.now c.requires.span
+    rows_of_span c.args.tree.now (nodes_of c.args.list.now) (lengths_of c.args.list.now) c.args.rows.now c.requires.span
     c.len-nodes.ensures.limits short in
     let stays : c.in_ok-stays.stays.items
     ≡ stays_from c.args.solved.now.gaps.items c.in_ok-needed.needed.items 0 c.args.rows.now =
@@ -146,7 +147,7 @@ new-requires-2 c =
     let few : length c.args.list.now ≤ 64 = c.len-accesses.ensures.few in
     let short : length (nodes_of c.args.list.now) ≤ 64 = omega arith in
     let of : AreRowsOf c.args.tree.now c.args.rows.now =
-    rows_of_span c.args.tree.now (nodes_of c.args.list.now) c.args.rows.now c.requires.span
+    rows_of_span c.args.tree.now (nodes_of c.args.list.now) (lengths_of c.args.list.now) c.args.rows.now c.requires.span
     c.len-nodes.ensures.limits short in
     let flow : c.in_ok-flow.flow.items ≡ read_rows c.args.rows.now c.args.solved.now.amounts.items 0 =
     c.in_ok-flow.ensures ∙ ap (λ l. read_rows c.args.rows.now l 0) c.deref-5.ensures.value in
@@ -184,21 +185,22 @@ returns c =
     c.in_ok-flow.ensures ∙ ap (λ l. read_rows c.args.rows.now l 0) c.deref-5.ensures.value in
     let plan = c.new.ensures ∙ laid in
     let rows = c.new-2.ensures ∙ flow in
-    let P : List Step → Type 0 = λ p. IsSettled c.args.tree.now (nodes_of c.args.list.now) p in
-    let Q : List Step → Type 0 = λ p. IsCertificate c.args.tree.now (nodes_of c.args.list.now)
-    (read_rows c.args.rows.now c.args.solved.now.amounts.items 0) (cost c.args.tree.now p) in
+    let P : List Step → Type 0 = λ p. IsSettled c.args.tree.now (nodes_of c.args.list.now) (lengths_of c.args.list.now) p in
+    let Q : List Step → Type 0 = λ p. IsCertificate c.args.tree.now (nodes_of c.args.list.now) (lengths_of c.args.list.now)
+    (read_rows c.args.rows.now c.args.solved.now.amounts.items 0) (cost c.args.tree.now (lengths_of c.args.list.now) p) in
     let R : List FlowRow → Type 0 =
-    λ f. IsCertificate c.args.tree.now (nodes_of c.args.list.now) f (cost c.args.tree.now c.new.result) in
+    λ f. IsCertificate c.args.tree.now (nodes_of c.args.list.now) (lengths_of c.args.list.now) f
+    (cost c.args.tree.now (lengths_of c.args.list.now) c.new.result) in
     record {
-      settled = subst P (sym plan) (steps_settle c.args.tree.now (nodes_of c.args.list.now) c.args.rows.now
+      settled = subst P (sym plan) (steps_settle c.args.tree.now (nodes_of c.args.list.now) (lengths_of c.args.list.now) c.args.rows.now
           c.args.solved.now.amounts.items c.args.solved.now.gaps.items c.requires.span c.requires.solved short
           c.len-nodes.ensures.limits c.in_ok-needed.needed.items marked);
-      cost = c.cost_of-cost.ensures ∙ (ap (λ s. stays_cost c.args.tree.now s) lent
-          ∙ (steps_cost c.args.tree.now (nodes_of c.args.list.now) c.args.rows.now c.args.solved.now.amounts.items
+      cost = c.cost_of-cost.ensures ∙ (ap (λ s. stays_cost c.args.tree.now (lengths_of c.args.list.now) s) lent
+          ∙ (steps_cost c.args.tree.now (nodes_of c.args.list.now) (lengths_of c.args.list.now) c.args.rows.now c.args.solved.now.amounts.items
           c.args.solved.now.gaps.items c.requires.span c.requires.solved short c.len-nodes.ensures.limits
-          c.in_ok-needed.needed.items marked ∙ ap (λ p. cost c.args.tree.now p) (sym plan)));
+          c.in_ok-needed.needed.items marked ∙ ap (λ p. cost c.args.tree.now (lengths_of c.args.list.now) p) (sym plan)));
       certificate = subst R (sym rows)
-          (subst Q (sym plan) (steps_certified c.args.tree.now (nodes_of c.args.list.now) c.args.rows.now
+          (subst Q (sym plan) (steps_certified c.args.tree.now (nodes_of c.args.list.now) (lengths_of c.args.list.now) c.args.rows.now
           c.args.solved.now.amounts.items c.args.solved.now.gaps.items c.requires.span c.requires.solved short
           c.len-nodes.ensures.limits c.in_ok-needed.needed.items marked));
     }

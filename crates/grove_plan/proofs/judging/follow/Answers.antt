@@ -16,4 +16,4 @@ loop-place-preserved c =
     (c.take.ensures, rw add-one next)
 
 pub take-requires-clause-faultless : goal.take-requires-clause-faultless
-take-requires-clause-faultless c = (nodes_of c.args.list.now, sym c.fault_at.ensures ∙ c.in_default.is)
+take-requires-clause-faultless c = sym c.fault_at.ensures ∙ c.in_default.is

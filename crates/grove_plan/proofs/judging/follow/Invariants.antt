@@ -1,9 +1,9 @@
 use Rattle.std.proofs.Common.{◌≡◌, None}
-use Rattle.grove_access.specs.Lists.{nodes_of}
+use Rattle.grove_access.specs.Lists.{nodes_of, lengths_of}
 use Rattle.grove_plan.specs.Faults.{steps_fault}
 use Rattle.grove_plan.specs.Watching.{IsWatched}
 use Rattle.grove_plan.proofs.judging.follow.Given as goal
 
 abbrev pub invariant-loop-place : goal.invariant-loop-place
 invariant-loop-place l =
-    IsWatched l.tree l.plan l.place l.watch × (steps_fault l.tree (nodes_of l.list) l.plan l.place ≡ None)
+    IsWatched l.tree (lengths_of l.list) l.plan l.place l.watch × (steps_fault l.tree (nodes_of l.list) l.plan l.place ≡ None)

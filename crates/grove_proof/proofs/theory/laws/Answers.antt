@@ -2,6 +2,8 @@
 use Rattle.grove_proof.proofs.Listed.{forced_are_spanned, forced_list_is_span}
 use Rattle.grove_proof.proofs.Constraints.{legal_meets_five}
 use Rattle.grove_proof.proofs.Duality.{weak_duality, certified_is_least}
+use Rattle.grove_proof.proofs.OneFault.{fault_is_one, certified_is_faultless}
+use Rattle.grove_proof.proofs.Changing.{one_change_is_refused}
 use Rattle.grove_proof.proofs.theory.laws.Goals as goal
 
 pub returns : goal.returns
@@ -10,5 +12,8 @@ returns c = record {
   span = forced_list_is_span;
   constraints = legal_meets_five;
   bound = weak_duality;
+  changed = one_change_is_refused;
   least = certified_is_least;
+  fault = fault_is_one;
+  faultless = certified_is_faultless;
 }

@@ -1,7 +1,8 @@
 -- What the ledger says of the row at hand.
-use Rattle.std.proofs.Common.{◌≡◌, ◌<◌, length, Some, arith}
+use Rattle.std.proofs.Common.{◌≡◌, ◌<◌, ◌≤◌, length, Some, arith}
 use Rattle.std.specs.List.{slice_get}
-use Rattle.grove_access.specs.Lists.{nodes_of}
+use Rattle.grove_access.specs.Lists.{nodes_of, lengths_of}
+use Rattle.grove_access.proofs.Lists.{nodes_length}
 use Rattle.grove_proof.specs.Tables.{AreVisits}
 use Rattle.grove_proof.proofs.ByNode.{item_at}
 use Rattle.grove_proof.proofs.Totals.{IsInTables, node_in, visits_read, loss_step, rows_in_tree}
@@ -15,6 +16,16 @@ index-requires c =
     let inside : c.row-item.result.node < length c.args.self.now.visits.items = is.in_visits in
     omega arith
 
+pub slots_before-requires : goal.slots_before-requires
+slots_before-requires c =
+    let there : slice_get c.args.self.now.rows.now c.loop-row.row-index ≡ Some c.row-item.result = item_at c.args.self.now.rows.now c.loop-row.row-index c.row-item.result (omega arith) c.row-item.is in
+    let are : AreVisits (nodes_of c.args.self.now.list.now) (length (nodes_of c.args.self.now.list.now)) c.row-item.result.node c.index.result.now =
+    visits_read (nodes_of c.args.self.now.list.now) c.args.self.now.tree.now c.args.self.now.visits.items c.row-item.result.node c.number.result c.index.result.now c.requires.right.visits_right
+    (rows_in_tree c.args.self.now.tree.now (nodes_of c.args.self.now.list.now) c.args.self.now.rows.now c.requires.right.listed c.loop-row.row-index c.row-item.result there)
+    c.number.ensures.is_it c.index.ensures in
+    let few : c.index.result.now.first ≤ length (nodes_of c.args.self.now.list.now) = are.few in
+    omega (arith, nodes_length c.args.self.now.list.now)
+
 pub loop-row-preserved : goal.loop-row-preserved
 loop-row-preserved c =
     let there : slice_get c.args.self.now.rows.now c.loop-row.row-index ≡ Some c.row-item.result = item_at c.args.self.now.rows.now c.loop-row.row-index c.row-item.result (omega arith) c.row-item.is in
@@ -22,5 +33,5 @@ loop-row-preserved c =
     visits_read (nodes_of c.args.self.now.list.now) c.args.self.now.tree.now c.args.self.now.visits.items c.row-item.result.node c.number.result c.index.result.now c.requires.right.visits_right
     (rows_in_tree c.args.self.now.tree.now (nodes_of c.args.self.now.list.now) c.args.self.now.rows.now c.requires.right.listed c.loop-row.row-index c.row-item.result there)
     c.number.ensures.is_it c.index.ensures in
-    loss_step c.args.self.now.tree.now (nodes_of c.args.self.now.list.now) c.args.self.now.rows.now c.loop-row.row-index c.loop-row.total c.row-item.result c.index.result.now c.loop-row.invariant there
-    (c.requires.signs c.loop-row.row-index c.row-item.result there) are c.requires.right.short (omega arith)
+    loss_step c.args.self.now.tree.now (nodes_of c.args.self.now.list.now) (lengths_of c.args.self.now.list.now) c.args.self.now.rows.now c.loop-row.row-index c.loop-row.total c.slots_before.result c.row-item.result
+    c.index.result.now c.loop-row.invariant there (c.requires.signs c.loop-row.row-index c.row-item.result there) are c.slots_before.ensures.slots c.slots_before.ensures.few (omega arith)

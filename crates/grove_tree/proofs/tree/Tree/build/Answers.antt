@@ -1,7 +1,9 @@
-use Rattle.std.proofs.Common.{sym, subst}
+use Rattle.std.proofs.Common.{◌≡◌, Some, sym, ◌∙◌, ap, subst}
+use Rattle.grove_tree.specs.declared.fault.TreeFault.{TreeFault}
+use Rattle.grove_tree.specs.declared.fault.TreeFault.TheVariants.{Memory}
 use Rattle.grove_tree.specs.Trees.{Rows, IsTree}
 use Rattle.grove_tree.specs.Rules.{rows_of, IsWithinLimits}
-use Rattle.grove_tree.proofs.Faultless.{faultless_tree, faultless_within}
+use Rattle.grove_tree.proofs.Faultless.{faultless_tree, faultless_within, faulty_refused, fault_not_memory}
 use Rattle.grove_tree.proofs.Grown.{grown_whole}
 use Rattle.grove_tree.proofs.tree.Tree.build.Goals as goal
 
@@ -21,3 +23,11 @@ invariant_of-result c =
 pub returns-in_ok-root-in-None-clause-rows : goal.returns-in_ok-root-in-None-clause-rows
 returns-in_ok-root-in-None-clause-rows c =
     grown_whole (rows_of c.args.rows.now) c.in_ok-root-in-None.root (faultless_tree (rows_of c.args.rows.now) (sym c.in-None.ensures.fault)) c.in_ok-root-in-None.ensures
+
+pub returns-in-Some-clause-refused : goal.returns-in-Some-clause-refused
+returns-in-Some-clause-refused c = λ other. faulty_refused (rows_of c.args.rows.now) c.in-Some.fault (sym c.in-Some.ensures.fault)
+
+pub returns-in-Some-clause-memory : goal.returns-in-Some-clause-memory
+returns-in-Some-clause-memory c = λ want.
+    let is : c.in-Some.fault ≡ Memory = cc in
+    absurd (fault_not_memory (rows_of c.args.rows.now) (sym c.in-Some.ensures.fault ∙ ap (λ (fault : TreeFault). Some fault) is))

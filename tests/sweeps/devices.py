@@ -1,0 +1,188 @@
+"""Devices that fail or come in pieces: `device` and status 3 where one was needed, else the whole answer."""
+
+from __future__ import annotations
+
+import os
+import select
+import shutil
+import threading
+from dataclasses import replace
+from functools import partial
+
+from sweeps.documents import EXAMPLES, Asked, certified_examples, examples, helped, wrong_words
+from sweeps.program import DEVICE, Ran, Tally, Try, run
+
+TRIED = "runs with a device that is closed, full, of another kind, or in pieces"
+NOBODY = 65534
+# Where standard error fails too, nothing can be said.
+SILENT = Ran(3, b"", b"")
+
+
+def tries(program: str, room: str) -> list[Try]:
+    fixed = [
+        Try("standard output", partial(failing_output, program)),
+        Try("standard error while there is an answer", partial(unused_errors, program)),
+        Try("standard error while there is something to tell", partial(failing_errors, program)),
+        Try("standard output and standard error", partial(failing_both, program)),
+        Try("standard input", partial(failing_input, program)),
+        Try("standard input beside a named file", partial(unused_input, program)),
+        Try("a name that is no readable file", partial(unreadable_names, program)),
+        Try("a file without leave to read", partial(forbidden, program, room)),
+        Try("an endless input", partial(endless, program)),
+    ]
+    pieces = [Try(f"{it.name}, in pieces", partial(in_pieces, program, it)) for it in examples() + certified_examples()]
+    return fixed + pieces
+
+
+def answered() -> list[Asked]:
+    """Runs that end with something on standard output."""
+    return examples() + named_examples() + helped()
+
+
+def failing_output(program: str, tally: Tally) -> None:
+    for asked in answered():
+        with open("/dev/full", "wb") as full:
+            tally.compare(f"{asked.name}, full", run(program, *asked.words, text=asked.text, stdout=full), DEVICE)
+        tally.compare(f"{asked.name}, closed", closing(program, ">&-", asked), DEVICE)
+        with unread() as pipe:
+            ran = run(program, *asked.words, text=asked.text, stdout=pipe)
+            tally.compare(f"{asked.name}, a pipe that nobody reads", ran, DEVICE)
+
+
+def unused_errors(program: str, tally: Tally) -> None:
+    for asked in answered():
+        with open("/dev/full", "wb") as full:
+            ran = run(program, *asked.words, text=asked.text, stderr=full)
+            tally.note(f"{asked.name}, full", asked.fault(ran))
+        tally.note(f"{asked.name}, closed", asked.fault(closing(program, "2>&-", asked)))
+
+
+def failing_errors(program: str, tally: Tally) -> None:
+    for asked in wrong_words() + [Asked("no such file", ("judge", "no-such-file"), b"", 3)]:
+        with open("/dev/full", "wb") as full:
+            tally.compare(f"{asked.name}, full", run(program, *asked.words, stderr=full), SILENT)
+        tally.compare(f"{asked.name}, closed", closing(program, "2>&-", asked), SILENT)
+
+
+def failing_both(program: str, tally: Tally) -> None:
+    for asked in answered():
+        with open("/dev/full", "wb") as full:
+            ran = run(program, *asked.words, text=asked.text, stdout=full, stderr=full)
+            tally.compare(f"{asked.name}, full", ran, SILENT)
+        tally.compare(f"{asked.name}, closed", closing(program, ">&- 2>&-", asked), SILENT)
+
+
+def failing_input(program: str, tally: Tally) -> None:
+    for words in ((), ("judge",), ("check",), ("plan",)):
+        asked = Asked(" ".join(words) or "no words", words, b"", 3)
+        tally.compare(f"{asked.name}, closed", closing(program, "<&-", asked), DEVICE)
+        with opened(str(EXAMPLES), os.O_RDONLY) as folder:
+            tally.compare(f"{asked.name}, a folder", run(program, *words, text=None, stdin=folder), DEVICE)
+        with opened("/dev/null", os.O_WRONLY) as sink:
+            tally.compare(f"{asked.name}, only for writing", run(program, *words, text=None, stdin=sink), DEVICE)
+        tally.compare(f"{asked.name}, all closed", closing(program, "<&- >&- 2>&-", asked), SILENT)
+
+
+def unused_input(program: str, tally: Tally) -> None:
+    """Runs on a named file, which need no standard input."""
+    for asked in named_examples():
+        tally.note(f"{asked.name}, closed", asked.fault(closing(program, "<&-", asked)))
+        with opened(str(EXAMPLES), os.O_RDONLY) as folder:
+            tally.note(f"{asked.name}, a folder", asked.fault(run(program, *asked.words, text=None, stdin=folder)))
+
+
+def named_examples() -> list[Asked]:
+    """The examples, each as a named file and with a standard input of nothing."""
+    return [named(it) for it in examples()]
+
+
+def named(asked: Asked) -> Asked:
+    command, file = asked.name.split()
+    return replace(asked, name=f"{asked.name} by name", words=(command, str(EXAMPLES / file)), text=b"")
+
+
+def unreadable_names(program: str, tally: Tally) -> None:
+    for command in ("judge", "check", "plan"):
+        for name in (str(EXAMPLES), f"{EXAMPLES}/two-leaves.json/below", "no-such-file", "-", "", "n" * 5000):
+            tally.compare(f"{command} {name[:60]!r}", run(program, command, name), DEVICE)
+
+
+def forbidden(program: str, room: str, tally: Tally) -> None:
+    """A file that whoever runs the program may not read; root may read all, so the program then runs as nobody."""
+    os.chmod(room, 0o711)
+    own = shutil.copy(program, f"{room}/program")
+    for asked in named_examples():
+        file = shutil.copy(asked.words[1], room)
+        as_nobody = {"user": NOBODY, "group": NOBODY, "extra_groups": []} if os.geteuid() == 0 else {}
+        os.chmod(file, 0o644)
+        tally.note(f"{asked.name}, with leave", asked.fault(run(own, asked.words[0], file, cwd="/", **as_nobody)))
+        os.chmod(file, 0)
+        tally.compare(f"{asked.name}, without leave", run(own, asked.words[0], file, cwd="/", **as_nobody), DEVICE)
+        os.remove(file)
+
+
+def endless(program: str, tally: Tally) -> None:
+    """An input that never ends is read until it is over the limit, and no further."""
+    wanted = Ran(1, b"refused limit whole\n", b"")
+    for command in ("judge", "check", "plan"):
+        tally.compare(f"{command}, named", run(program, command, "/dev/zero"), wanted)
+        with opened("/dev/zero", os.O_RDONLY) as zeros:
+            tally.compare(f"{command}, standard input", run(program, command, text=None, stdin=zeros), wanted)
+
+
+def in_pieces(program: str, asked: Asked, tally: Tally) -> None:
+    for size in (1, 7):
+        tally.note(f"of {size}", asked.fault(run_on_pieces(program, asked, size)))
+
+
+def run_on_pieces(program: str, asked: Asked, size: int) -> Ran:
+    """Runs the program on a pipe that keeps pieces apart: a read gives one of them at most."""
+    ends, starts = os.pipe2(os.O_DIRECT | os.O_CLOEXEC)
+    pieces = [asked.text[at : at + size] for at in range(0, len(asked.text), size)]
+    writer = threading.Thread(target=write_pieces, args=(starts, pieces))
+    writer.start()
+    try:
+        return run(program, *asked.words, text=None, stdin=ends)
+    finally:
+        # (a writer of more than was read is let go)
+        os.close(ends)
+        writer.join()
+
+
+def write_pieces(starts: int, pieces: list[bytes]) -> None:
+    try:
+        for piece in pieces:
+            os.write(starts, piece)
+    except BrokenPipeError:
+        pass
+    finally:
+        os.close(starts)
+
+
+def closing(program: str, streams: str, asked: Asked) -> Ran:
+    """Runs the program with streams closed, as the shell's words for it say."""
+    return run("sh", "-c", f'exec "$@" {streams}', "sh", program, *asked.words, text=asked.text)
+
+
+class opened:
+    """An open file as a descriptor, closed at the end."""
+
+    def __init__(self, path: str, flags: int) -> None:
+        self.descriptor = os.open(path, flags | os.O_CLOEXEC)
+
+    def __enter__(self) -> int:
+        return self.descriptor
+
+    def __exit__(self, *_) -> None:
+        os.close(self.descriptor)
+
+
+class unread(opened):
+    """The end for writing of a pipe whose end for reading is closed, also in a run that is just being started."""
+
+    def __init__(self) -> None:
+        ends, self.descriptor = os.pipe()
+        os.close(ends)
+        poll = select.poll()
+        poll.register(self.descriptor, 0)
+        poll.poll(1000)
