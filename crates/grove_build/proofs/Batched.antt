@@ -1,11 +1,8 @@
 -- Batches of lists: what holds of each place, as places are added.
-use Rattle.std.proofs.Common.{◌≡◌, ℕ, zero, suc, ◌+◌, ◌<◌, List, [], ◌∷◌, ◌++◌, length, get_or, take, drop, Some, refl, sym, ◌∙◌, ap, ap₂, subst}
+use Rattle.std.proofs.Common.{◌≡◌, ℕ, zero, suc, ◌+◌, ◌<◌, List, [], ◌∷◌, ◌++◌, length, get_or, take, drop, map, Some, refl, sym, ◌∙◌, ap, ap₂, subst}
 use Rattle.std.specs.List.{AllZip, slice_get}
-use Rattle.std.proofs.lemmas.List.{take_more, take-append-drop}
+use Rattle.std.proofs.lemmas.List.{take_more, take-append-drop, map-append}
 use Rattle.std.proofs.lemmas.Option.{get_or_from_slice_get, slice_get_within, same_Some, none-some}
-use Rattle.grove_access.specs.declared.access.Access.{Access}
-use Rattle.grove_access.specs.Lists.{nodes_of}
-use Rattle.grove_access.proofs.Lists.{node_at}
 
 -- two lists whose items go together, after two others
 pub AllZip-append : {A B : Type 0} (R : A → B → Type 0) (xs : List A) (ys : List B) (vs : List A) (ws : List B) → AllZip R xs ys → AllZip R vs ws → AllZip R (xs ++ vs) (ys ++ ws)
@@ -21,14 +18,14 @@ AllZip-next R xs ys i x y lt is all one =
     subst (λ front. AllZip R front (ys ++ y ∷ [])) (ap (λ item. take i xs ++ item ∷ []) is ∙ sym (take_more xs i x lt))
     (AllZip-append R (take i xs) ys (x ∷ []) (y ∷ []) all (one, tt))
 
--- the next node of a list's targets
-pub next_target : (list : List Access) (i : ℕ) (access : Access) (targets : List ℕ) → slice_get list i ≡ Some access → targets ≡ take i (nodes_of list)
-    → targets ++ access.node ∷ [] ≡ take (i + 1) (nodes_of list)
-next_target list i access targets at so_far =
-    let there : slice_get (nodes_of list) i ≡ Some access.node = node_at list i access at in
-    ap (λ front. front ++ access.node ∷ []) so_far
-    ∙ ap (λ (node : ℕ). take i (nodes_of list) ++ node ∷ []) (sym (get_or_from_slice_get (nodes_of list) i access.node 0 there))
-    ∙ sym (take_more (nodes_of list) i 0 (slice_get_within (nodes_of list) i access.node there))
+-- one more item, of which a function gives the next number of a list
+pub next_mapped : {A : Type 0} (f : A → ℕ) (items : List A) (wanted : List ℕ) (i : ℕ) (item : A) → slice_get wanted i ≡ Some (f item) → map f items ≡ take i wanted
+    → map f (items ++ item ∷ []) ≡ take (i + 1) wanted
+next_mapped f items wanted i item at so_far =
+    map-append f items (item ∷ [])
+    ∙ ap (λ front. front ++ f item ∷ []) so_far
+    ∙ ap (λ (n : ℕ). take i wanted ++ n ∷ []) (sym (get_or_from_slice_get wanted i (f item) 0 at))
+    ∙ sym (take_more wanted i 0 (slice_get_within wanted i (f item) at))
 
 -- two halves of a list, and what goes with each
 pub AllZip-halves : {A B : Type 0} (R : A → B → Type 0) (xs first second : List A) (i : ℕ) (ys zs all : List B) → first ≡ take i xs → second ≡ drop i xs

@@ -6,32 +6,32 @@ use Rattle.std.specs.Map.{keys_of}
 use Rattle.std.proofs.lemmas.Option.{same_Some, none-some}
 use Rattle.indexmap.specs.IndexMap.{insert_entry}
 
-module _ {K V : Type 0} (targets : K → List ℕ) (nodes : V → List ℕ) where
+module _ {K V T : Type 0} (targets : K → T) (named : V → T) where
   -- each key has the targets of its value
   abbrev pub AreKeyed : List (K × V) → Type 0
-  AreKeyed entries = (place : ℕ) (entry : K × V) → slice_get entries place ≡ Some entry → targets entry.0 ≡ nodes entry.1
+  AreKeyed entries = (place : ℕ) (entry : K × V) → slice_get entries place ≡ Some entry → targets entry.0 ≡ named entry.1
 
   -- the key at a place has these targets
-  abbrev pub HasKey : List (K × V) → List ℕ → ℕ → Type 0
+  abbrev pub HasKey : List (K × V) → T → ℕ → Type 0
   HasKey entries wanted place = (entry : K × V) × (slice_get entries place ≡ Some entry) × (targets entry.0 ≡ wanted)
 
   module _ (eq : K → K → Bool) (same : (a b : K) → eq a b ≡ true → targets a ≡ targets b) (key : K) (value : V) where
-    pub keyed_inserted : (entries : List (K × V)) → AreKeyed entries → targets key ≡ nodes value → AreKeyed (insert_entry eq entries key value)
+    pub keyed_inserted : (entries : List (K × V)) → AreKeyed entries → targets key ≡ named value → AreKeyed (insert_entry eq entries key value)
     keyed_inserted [] keyed own = one
       where
         one : AreKeyed ((key, value) ∷ [])
-        one zero entry at = subst (λ (e : K × V). targets e.0 ≡ nodes e.1) (same_Some _ _ at) own
+        one zero entry at = subst (λ (e : K × V). targets e.0 ≡ named e.1) (same_Some _ _ at) own
         one (suc place) entry at = absurd (none-some entry at)
     keyed_inserted (first ∷ entries) keyed own = by (eq key first.0) refl (keyed_inserted entries (λ place entry at. keyed (suc place) entry at) own)
       where
         by : (b : Bool) → eq key first.0 ≡ b → AreKeyed (insert_entry eq entries key value) → AreKeyed (cond b ((first.0, value) ∷ entries) (first ∷ insert_entry eq entries key value))
-        by true e rest zero entry at = subst (λ (p : K × V). targets p.0 ≡ nodes p.1) (same_Some _ _ at) (sym (same key first.0 e) ∙ own)
+        by true e rest zero entry at = subst (λ (p : K × V). targets p.0 ≡ named p.1) (same_Some _ _ at) (sym (same key first.0 e) ∙ own)
         by true e rest (suc place) entry at = keyed (suc place) entry at
         by false e rest zero entry at = keyed zero entry at
         by false e rest (suc place) entry at = rest place entry at
 
     -- the keys stay where they are
-    pub key_stays : (entries : List (K × V)) (wanted : List ℕ) (place : ℕ) → HasKey entries wanted place → HasKey (insert_entry eq entries key value) wanted place
+    pub key_stays : (entries : List (K × V)) (wanted : T) (place : ℕ) → HasKey entries wanted place → HasKey (insert_entry eq entries key value) wanted place
     key_stays [] wanted place has = absurd (none-some has.0 has.1)
     key_stays (first ∷ entries) wanted zero has = by (eq key first.0)
       where

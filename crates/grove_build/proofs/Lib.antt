@@ -17,5 +17,6 @@ pub mod Walks
 pub mod Asked
 pub mod Answered
 pub mod Inserted
+pub mod TargetLists
 pub mod Batched
 pub mod Sorted
