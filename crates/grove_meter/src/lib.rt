@@ -5,6 +5,4 @@ pub use rule::WaitRule;
 pub use weights::{new_weight, reweigh};
 
 mod rule;
-#[cfg(test)]
-mod tests;
 mod weights;
