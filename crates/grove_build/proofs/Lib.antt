@@ -16,3 +16,7 @@ pub mod Settles
 pub mod Walks
 pub mod Asked
 pub mod Answered
+pub mod Inserted
+pub mod TargetLists
+pub mod Batched
+pub mod Sorted

@@ -2,3 +2,4 @@ pub mod Layout
 pub mod Settled
 pub mod Networks
 pub mod Stays
+pub mod Batches

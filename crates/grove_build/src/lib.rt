@@ -1,9 +1,11 @@
 //! The planner: the settled plan of a list, with the flow that certifies its cost.
 #![tactic(auto)]
 
+pub use batch::plan_batch;
 pub use laws::settled_laws;
 pub use planning::{Planned, plan};
 
+mod batch;
 mod flow_rows;
 mod laws;
 mod network;
@@ -12,3 +14,4 @@ mod planning;
 mod solving;
 mod stays;
 mod steps;
+mod targets;

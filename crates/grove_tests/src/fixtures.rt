@@ -26,7 +26,11 @@ pub fn two_leaves(rt: &impl Abort, alloc: Global) -> Tree {
 
 pub fn access(node: u32, op: Op) -> Access {
     let node = Node::new(node);
-    Access { node, op, length: 1 }
+    Access {
+        node,
+        op,
+        length: 1,
+    }
 }
 
 /// Accesses that read these nodes.

@@ -2,6 +2,8 @@
 #![tactic(auto)]
 
 #[cfg(test)]
+mod batches;
+#[cfg(test)]
 mod devices;
 #[cfg(test)]
 mod fixtures;
@@ -10,6 +12,10 @@ mod flows;
 #[cfg(test)]
 mod lists;
 #[cfg(test)]
+mod meeting;
+#[cfg(test)]
 mod runs;
 #[cfg(test)]
 mod spans;
+#[cfg(test)]
+mod weights;

@@ -16,3 +16,6 @@ pub mod PathParts
 pub mod Found
 pub mod Paths
 pub mod Unique
+pub mod Weighed
+pub mod Reweighed
+pub mod Unweighed

@@ -4,3 +4,5 @@ pub mod Outlines
 pub mod OutlineFalls
 pub mod Paths
 pub mod Rules
+pub mod Weights
+pub mod WeighedOutlines

@@ -2,16 +2,21 @@
 #![tactic(auto)]
 
 pub use fault::{NoMemory, TreeFault};
+pub use gate::{Gate, OpenGate};
 pub use node::Node;
 pub use outline::Outline;
 pub use row::Row;
 pub use tree::Tree;
+pub use weighing::Rule;
 
+mod copying;
 mod fault;
 mod finding;
+mod gate;
 mod growing;
 mod node;
 mod outline;
 mod row;
 mod rules;
 mod tree;
+mod weighing;

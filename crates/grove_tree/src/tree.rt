@@ -9,6 +9,9 @@ use crate::{NoMemory, Node, Outline, Row, TreeFault};
 use std::alloc::Global;
 use std::marker::Model;
 
+mod copies;
+mod weights;
+
 /// A tree of at most 4,096 nodes, no deeper than 32, numbered in preorder.
 #[derive(Debug, Drop)]
 pub struct Tree {

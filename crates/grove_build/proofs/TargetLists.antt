@@ -1,0 +1,43 @@
+-- The targets of lists: their nodes and their lengths, and when two lists of targets are the same.
+use Rattle.std.proofs.Common.{◌≡◌, ℕ, Bool, true, ◌&&◌, nat_eq, List, map, refl, ap, ap₂, Bor}
+use Rattle.std.specs.Bool.{Decides}
+use Rattle.std.specs.Cmp.Lexicographic.{pointwise}
+use Rattle.std.proofs.lemmas.Bool.{and_parts, and_from}
+use Rattle.std.proofs.lemmas.Bool.Decides.{Decides-eqb}
+use Rattle.std.proofs.lemmas.Slice.Eq.{slice_eq-Decides}
+use Rattle.grove_access.specs.declared.access.Access.{Access}
+use Rattle.grove_access.specs.Lists.{nodes_of, lengths_of}
+use Rattle.grove_build.specs.declared.targets.Target.{Target}
+
+-- nodes, and lengths
+abbrev pub Targets : Type 0
+Targets = List ℕ × List ℕ
+
+abbrev pub targets_in : List Access → Targets
+targets_in list = (nodes_of list, lengths_of list)
+
+abbrev pub targets_at : Bor (List Access) → Targets
+targets_at part = targets_in part.now
+
+abbrev pub targets_from : List Target → Targets
+targets_from targets = (map (λ (target : Target). target.node) targets, map (λ (target : Target). target.length) targets)
+
+abbrev pub is_same : Target → Target → Bool
+is_same a b = nat_eq a.node b.node && nat_eq a.length b.length
+
+abbrev made : ℕ → ℕ → Target
+made node length = record { node = node; length = length }
+
+decides : (a b : Target) → Decides (is_same a b) (a ≡ b)
+decides a b = (
+  λ test.
+      let (node, length) = and_parts (nat_eq a.node b.node) (nat_eq a.length b.length) test in
+      ap₂ made ((Decides-eqb a.node b.node).0 node) ((Decides-eqb a.length b.length).0 length),
+  λ same.
+      and_from (nat_eq a.node b.node) (nat_eq a.length b.length) ((Decides-eqb a.node b.node).1 (ap (λ (t : Target). t.node) same))
+      ((Decides-eqb a.length b.length).1 (ap (λ (t : Target). t.length) same)),
+)
+
+-- lists of targets that compare as equal are the same
+pub same_targets : (xs ys : List Target) → pointwise is_same xs ys ≡ true → xs ≡ ys
+same_targets xs ys same = (slice_eq-Decides decides xs ys _ refl).0 same

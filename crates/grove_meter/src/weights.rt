@@ -1,0 +1,37 @@
+ghost use Rattle.std.specs.Prelude.{◌≡◌, ℕ, ◌<◌, ◌≤◌, ◌==◌, not, length};
+ghost use Rattle.grove_tree.specs.Numbers.{count_below};
+ghost use Rattle.grove_tree.specs.Trees.{weight_of};
+ghost use Rattle.grove_meter.specs.Waits.{new_weight_of, reweighed};
+
+use crate::WaitRule;
+use grove_tree::{Gate, Tree};
+use std::thread::Threads;
+
+const HEAVIEST: u64 = 1000;
+
+/// The weight of a node once it was waited for so many times: about half of the old one and the waits, at most 1,000.
+pub fn new_weight(weight: u32, waits: u32) -> u32
+    requires { (1 ≤ weight) × (weight ≤ 1000) }
+    ensures { result ≡ new_weight_of weight waits }
+{
+    let sum = 1 + u64::from(weight - 1) / 2 + u64::from(waits);
+    sum.min(HEAVIEST) as u32
+}
+
+/// Gives each node of the tree its new weight by the waits at its number. The result is the number of weights changed.
+pub fn reweigh<R: Threads + Sync, G: Gate + Sync>(
+    rt: &R,
+    tree: &mut Tree,
+    waits: &[u32],
+    workers: u32,
+    gate: &G,
+) -> u32
+    requires workers { (1 ≤ workers) × (workers ≤ 16) }
+    requires waits { length waits.now ≡ length tree.old }
+    ensures rows { tree.new ≡ reweighed waits.now tree.old }
+    ensures count { result ≡ count_below (length tree.old) (λ node. not (weight_of tree.new node == weight_of tree.old node)) }
+{
+    let nodes = tree.len();
+    prove!(waits.len() == nodes as usize);
+    tree.map_weights(rt, &WaitRule::new(waits), workers, gate)
+}

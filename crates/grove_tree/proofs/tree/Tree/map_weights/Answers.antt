@@ -1,0 +1,21 @@
+use Rattle.std.proofs.Common.{sym, subst}
+use Rattle.grove_tree.specs.Trees.{Rows, IsTree}
+use Rattle.grove_tree.specs.Rules.{IsWithinLimits}
+use Rattle.grove_tree.proofs.Reweighed.{root_weighed, root_counted, tree_alike, alike_weighed, limits_weighed}
+use Rattle.grove_tree.proofs.tree.Tree.map_weights.Goals as goal
+
+pub invariant_of-self : goal.invariant_of-self
+invariant_of-self g c =
+    let f = g.U.Rule.gives c.args.rule.now in
+    let rows = c.args.self.now in
+    let (number, same) = root_weighed f rows c.self.inside.root c.weigh.new.outline c.self.invariant.0 c.self.view_is c.weigh.ensures.rows in
+    let tree = subst (λ (r : Rows). IsTree r) c.self.view_is c.self.invariant.1 in
+    let limits = subst (λ (r : Rows). IsWithinLimits r) c.self.view_is c.self.invariant.2 in (
+      number,
+      subst (λ (r : Rows). IsTree r) (sym same) (tree_alike rows _ (alike_weighed f rows) tree),
+      subst (λ (r : Rows). IsWithinLimits r) (sym same) (limits_weighed f rows c.requires.weights limits),
+    )
+
+pub returns-clause-count : goal.returns-clause-count
+returns-clause-count g c =
+    root_counted (g.U.Rule.gives c.args.rule.now) c.args.self.now c.self.inside.root c.weigh.new.outline c.weigh.result c.self.invariant.0 c.self.view_is c.weigh.ensures.rows c.weigh.ensures.count

@@ -1,0 +1,23 @@
+ghost use Rattle.std.specs.Prelude.{◌≡◌, IfOk};
+
+use crate::Outline;
+use std::alloc::{AllocError, Global};
+
+/// The outline again, with all that is below its node.
+pub fn copy_of(alloc: Global, outline: &Outline) -> Result<Outline, AllocError>
+    ensures { IfOk result (λ copy. copy ≡ outline.now) }
+{
+    let name = outline.name.clone()?;
+    let mut children = Vec::new(alloc);
+    for child in &outline.children {
+        let copy = copy_of(alloc, child)?;
+        children.push(copy)?;
+    }
+    Ok(Outline {
+        name,
+        weight: outline.weight,
+        number: outline.number,
+        size: outline.size,
+        children,
+    })
+}
