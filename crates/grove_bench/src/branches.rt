@@ -1,7 +1,7 @@
 ghost use Rattle.std.specs.Prelude.{◌≤◌, IfOk};
 ghost use Rattle.grove_access.specs.Lists.{nodes_of, AreNodes};
 
-use anyhow::{Result, bail};
+use anyhow::Result;
 use grove_access::{Access, AccessList, Op};
 use grove_tree::{Node, Row, Tree};
 use std::alloc::Global;
@@ -30,10 +30,7 @@ pub fn branches(alloc: Global, depth: u32) -> Result<Tree>
             })?;
         }
     }
-    match Tree::build(alloc, &rows) {
-        Ok(tree) => Ok(tree),
-        Err(fault) => bail!("the branches are no tree: {fault}"),
-    }
+    Ok(Tree::build(alloc, &rows)?)
 }
 
 /// A list that adds 1 to the end of each chain in turn.
@@ -48,8 +45,5 @@ pub fn each_end(alloc: Global, tree: &Tree, depth: u32) -> Result<AccessList>
             op: Op::Add(1),
         })?;
     }
-    match AccessList::new(alloc, tree, &accesses) {
-        Ok(list) => Ok(list),
-        Err(fault) => bail!("the ends are no list: {fault}"),
-    }
+    Ok(AccessList::new(alloc, tree, &accesses)?)
 }

@@ -1,11 +1,10 @@
-ghost use Rattle.std.specs.Prelude.{◌<◌, IsTrue};
-ghost use Rattle.grove_core.specs.Openings.{AllFit};
+ghost use Rattle.std.specs.Prelude.{◌<◌};
 
 use crate::branches::{BRANCHES, branches, each_end};
 use crate::watch::Watch;
 use anyhow::{Result, bail};
 use grove_access::Records;
-use grove_core::{Core, Event, Job, serial_order};
+use grove_core::{Core, Event, Job, all_fit, serial_order};
 use grove_plan::{Plan, Step};
 use grove_tree::{Node, Tree};
 use std::alloc::Global;
@@ -18,18 +17,26 @@ const STEPS: usize = 8_256;
 
 /// Times 256 jobs of 64 accesses over 2,049 nodes each: a round-robin of `Take`s to the end, and the serial order.
 pub fn time(rt: &HostRuntime) -> Result<()> {
-    let alloc = rt.alloc();
-    let tree = branches(alloc, DEPTH)?;
-    let jobs = jobs(alloc, &tree)?;
-    let records = Records::new(alloc, &vec![in alloc; 0i64; tree.len() as usize]?)?;
+    let tree = branches(rt.alloc(), DEPTH)?;
+    let jobs = jobs(rt.alloc(), &tree)?;
+    let records = zeros(rt.alloc(), tree.len())?;
+    time_core(rt, &tree, &records, &jobs)
+}
+
+fn time_core(rt: &HostRuntime, tree: &Tree, records: &Records, jobs: &[Job]) -> Result<()> {
     let mut watch = Watch::start(rt)?;
-    let mut core = open(alloc, &tree, &records, &jobs)?;
+    let mut core = open(rt.alloc(), tree, records, jobs)?;
     watch.lap(rt, "open")?;
-    let rounds = take_in_turn(&mut core);
+    time_run(rt, &mut core)?;
+    time_order(rt, &core)
+}
+
+fn time_run(rt: &HostRuntime, core: &mut Core) -> Result<()> {
+    let mut watch = Watch::start(rt)?;
+    let rounds = take_in_turn(core);
     watch.lap(rt, "run")?;
     println!(rt; "  {rounds} rounds of {JOBS} tries")?;
-    println!(rt; "  {} accepted", core.history().len())?;
-    time_order(rt, &core)
+    Ok(())
 }
 
 fn time_order(rt: &HostRuntime, core: &Core) -> Result<()> {
@@ -39,30 +46,22 @@ fn time_order(rt: &HostRuntime, core: &Core) -> Result<()> {
     let mut watch = Watch::start(rt)?;
     let order = serial_order(rt.alloc(), core)?;
     watch.lap(rt, "order")?;
-    println!(rt; "  {} jobs in order", order.len())?;
+    let steps = core.history().len();
+    println!(rt; "  {} jobs finished in {steps} steps", order.len())?;
     Ok(())
+}
+
+/// Records of this many nodes, all 0.
+fn zeros(alloc: Global, nodes: u32) -> Result<Records> {
+    let zeros = vec![in alloc; 0i64; nodes as usize]?;
+    Ok(Records::new(alloc, &zeros)?)
 }
 
 fn open<'a>(alloc: Global, tree: &'a Tree, records: &Records, jobs: &'a [Job]) -> Result<Core<'a>> {
     if !records.fits(tree) || !all_fit(tree, jobs) || jobs.len() > JOBS as usize {
         bail!("the jobs don't fit");
     }
-    match Core::open(alloc, tree, records, jobs) {
-        Ok(core) => Ok(core),
-        Err(fault) => bail!("the jobs are refused: {fault}"),
-    }
-}
-
-/// Is each job's list one of the tree's nodes?
-fn all_fit(tree: &Tree, jobs: &[Job]) -> bool
-    ensures { IsTrue result → AllFit tree.now jobs.now }
-{
-    for txn in 0..jobs.len() {
-        if !jobs[txn].list.fits(tree) {
-            return false;
-        }
-    }
-    true
+    Ok(Core::open(alloc, tree, records, jobs)?)
 }
 
 /// Tries one `Take` of each job in turn, until a round has none that is accepted. Gives the number of rounds before.

@@ -2,9 +2,14 @@
 use Rattle.std.specs.Prelude.{◌≡◌, ℕ, ◌≤◌, ◌↔◌, List, length}
 use Rattle.grove_tree.specs.Trees.{Rows}
 use Rattle.grove_plan.specs.declared.step.Step.{Step}
-use Rattle.grove_plan.specs.Plans.{IsLeast, IsLockedBy, IsForced}
+use Rattle.grove_plan.specs.Plans.{IsLeast, IsLockedBy, IsForced, cost}
 use Rattle.grove_plan.specs.Slots.{lock_slot, release_slot}
+use Rattle.grove_proof.specs.declared.flow.FlowRow.{FlowRow}
+use Rattle.grove_proof.specs.declared.fault.ProofFault.{ProofFault}
+use Rattle.grove_proof.specs.declared.fault.ProofFault.TheVariants.{Memory}
 use Rattle.grove_proof.specs.Forced.{IsForcedList}
+use Rattle.grove_proof.specs.Flows.{IsCertificate}
+use Rattle.grove_proof.specs.Faults.{IsFault}
 use Rattle.grove_build.specs.Layout.{laid_out}
 
 -- A plan is settled where it is least, locks the forced nodes and no others, locks and unlocks each of them as late
@@ -24,3 +29,8 @@ pub record IsSettled (rows : Rows) (nodes : List ℕ) (plan : List Step) : Type 
 abbrev pub SettledOnce : Type 0
 SettledOnce = (rows : Rows) (nodes : List ℕ) (plan other : List Step) → IsSettled rows nodes plan
     → IsSettled rows nodes other → plan ≡ other
+
+-- the checker refuses a settled plan with a certificate of its cost for want of memory alone
+abbrev pub SettledIsAccepted : Type 0
+SettledIsAccepted = (rows : Rows) (nodes : List ℕ) (plan : List Step) (flow : List FlowRow) (fault : ProofFault) → IsSettled rows nodes plan
+    → IsCertificate rows nodes flow (cost rows plan) → IsFault rows nodes plan flow fault → fault ≡ Memory

@@ -1,6 +1,8 @@
-ghost use Rattle.grove_build.specs.Settled.{SettledOnce};
+ghost use Rattle.grove_build.specs.Settled.{SettledOnce, SettledIsAccepted};
 
-/// At most one plan is settled for a list.
-pub fn settled_once()
-    ensures { SettledOnce }
+/// What holds of settled plans, said of the definitions alone: at most one plan is settled for a list, and with the flow
+/// that `plan` gives, `check` accepts it or wants memory.
+pub fn settled_laws()
+    ensures once { SettledOnce }
+    ensures accepted { SettledIsAccepted }
 {}

@@ -1,7 +1,7 @@
 //! The planner: the settled plan of a list, with the flow that certifies its cost.
 #![tactic(auto)]
 
-pub use laws::settled_once;
+pub use laws::settled_laws;
 pub use planning::{Planned, plan};
 
 mod flow_rows;
@@ -12,5 +12,3 @@ mod planning;
 mod solving;
 mod stays;
 mod steps;
-#[cfg(test)]
-mod tests;

@@ -9,6 +9,7 @@ pub mod Times
 pub mod Doing
 pub mod SerialRuns
 pub mod GoingOn
+pub mod Refusing
 pub mod Counts
 pub mod Keeping
 pub mod Started

@@ -1,13 +1,11 @@
 -- Small runs worked out by the definitions alone: jobs over a root, 0, with two children, 1 and 2. Nothing cites these:
 -- they show that the definitions say what one expects of them, and that there are runs of which the laws speak.
-use Rattle.std.proofs.Common.{◌≡◌, ◌≢◌, ℕ, ◌<◌, ℤ, pos, Bool, true, false, List, [], ◌∷◌, length, Option, Some, None, refl, ap, subst, arith}
+use Rattle.std.proofs.Common.{◌≡◌, ◌≢◌, ℕ, ℤ, pos, false, List, [], ◌∷◌, length, Some, None, refl, ap, subst}
 use Rattle.std.specs.Prelude.{reverse}
-use Rattle.grove_tree.specs.Trees.{Rows, NodeRow}
-use Rattle.grove_access.specs.declared.access.Access.{Access as Visit}
+use Rattle.grove_tree.specs.Trees.{Rows}
 use Rattle.grove_access.specs.declared.access.Op.{Op}
 use Rattle.grove_access.specs.declared.access.Op.TheVariants.{Get, Set}
-use Rattle.grove_access.specs.declared.reply.Reply.{Reply}
-use Rattle.grove_access.specs.declared.reply.Reply.TheVariants.{Value, Done}
+use Rattle.grove_access.specs.declared.reply.Reply.TheVariants.{Value}
 use Rattle.grove_plan.specs.declared.step.Step.{Step}
 use Rattle.grove_plan.specs.declared.step.Step.TheVariants.{Lock, Unlock, Access}
 use Rattle.grove_core.specs.declared.job.Job.{Job}

@@ -3,6 +3,7 @@
 
 pub use event::Event;
 pub use fault::{OpenFault, StepFault};
+pub use fitting::all_fit;
 pub use job::Job;
 pub use laws::run_laws;
 pub use machine::Core;
@@ -10,6 +11,7 @@ pub use ordering::{serial_order, serial_order_into};
 
 mod event;
 mod fault;
+mod fitting;
 mod job;
 mod laws;
 mod locking;
@@ -17,5 +19,3 @@ mod machine;
 mod opening;
 mod ordering;
 mod progress;
-#[cfg(test)]
-mod tests;

@@ -29,11 +29,11 @@ difference_from : (g l c : ℕ) → g ≡ c + l → pos g -ℤ pos l ≡ pos c
 difference_from g l c h = omega (arith, ints)
 
 -- a row that fails, and all rows that pass
-bad_refutes : (test : FlowRow → Bool) (flow : List FlowRow) (i : ℕ) → IsFirstBad test flow i → AllRows test flow → ⊥
+pub bad_refutes : (test : FlowRow → Bool) (flow : List FlowRow) (i : ℕ) → IsFirstBad test flow i → AllRows test flow → ⊥
 bad_refutes test flow i bad all = both_ways (test bad.row) bad.fails (all i bad.row bad.there)
 
 -- a stranger among the rows' nodes
-stranger_refutes : (rows : Rows) (nodes : List ℕ) (flow : List FlowRow) (i : ℕ) → IsFirstStranger rows nodes flow i → IsForcedList rows nodes (map node_of flow) → ⊥
+pub stranger_refutes : (rows : Rows) (nodes : List ℕ) (flow : List FlowRow) (i : ℕ) → IsFirstStranger rows nodes flow i → IsForcedList rows nodes (map node_of flow) → ⊥
 stranger_refutes rows nodes flow i stranger forced =
     stranger.2.differ (ap (λ (xs : List ℕ). slice_get xs i) (forced_lists_same rows nodes (map node_of flow) stranger.0 forced stranger.1))
 

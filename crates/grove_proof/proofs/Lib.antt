@@ -9,3 +9,4 @@ pub mod Marks
 pub mod ByNode
 pub mod Totals
 pub mod Faults
+pub mod OneFault

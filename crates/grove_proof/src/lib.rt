@@ -12,6 +12,4 @@ mod flow;
 mod ledger;
 mod span;
 mod tables;
-#[cfg(test)]
-mod tests;
 mod theory;

@@ -1,4 +1,4 @@
-ghost use Rattle.grove_proof.specs.Laws.{ForcedAreSpanned, ForcedListIsSpan, LegalMeetsFive, WeakDuality, CertifiedIsLeast};
+ghost use Rattle.grove_proof.specs.Laws.{ForcedAreSpanned, ForcedListIsSpan, LegalMeetsFive, WeakDuality, CertifiedIsLeast, FaultIsOne, CertifiedIsFaultless};
 
 /// The laws that `check` rests on, proved of every tree, list, plan and flow. The function does nothing.
 pub fn laws()
@@ -7,4 +7,6 @@ pub fn laws()
     ensures constraints { LegalMeetsFive }
     ensures bound { WeakDuality }
     ensures least { CertifiedIsLeast }
+    ensures fault { FaultIsOne }
+    ensures faultless { CertifiedIsFaultless }
 {}

@@ -1,5 +1,6 @@
 use Rattle.grove_core.proofs.SerialRuns.{runs_are_serial}
 use Rattle.grove_core.proofs.GoingOn.{runs_go_on}
+use Rattle.grove_core.proofs.Refusing.{refused_may_not, refused_for_one, first_fault_is_one}
 use Rattle.grove_core.proofs.laws.run_laws.Goals as goal
 
 pub returns-clause-serial : goal.returns-clause-serial
@@ -7,3 +8,12 @@ returns-clause-serial c = runs_are_serial
 
 pub returns-clause-going : goal.returns-clause-going
 returns-clause-going c = runs_go_on
+
+pub returns-clause-refused : goal.returns-clause-refused
+returns-clause-refused c = refused_may_not
+
+pub returns-clause-reason : goal.returns-clause-reason
+returns-clause-reason c = refused_for_one
+
+pub returns-clause-opening : goal.returns-clause-opening
+returns-clause-opening c = first_fault_is_one

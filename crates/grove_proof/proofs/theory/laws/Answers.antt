@@ -2,6 +2,7 @@
 use Rattle.grove_proof.proofs.Listed.{forced_are_spanned, forced_list_is_span}
 use Rattle.grove_proof.proofs.Constraints.{legal_meets_five}
 use Rattle.grove_proof.proofs.Duality.{weak_duality, certified_is_least}
+use Rattle.grove_proof.proofs.OneFault.{fault_is_one, certified_is_faultless}
 use Rattle.grove_proof.proofs.theory.laws.Goals as goal
 
 pub returns : goal.returns
@@ -11,4 +12,6 @@ returns c = record {
   constraints = legal_meets_five;
   bound = weak_duality;
   least = certified_is_least;
+  fault = fault_is_one;
+  faultless = certified_is_faultless;
 }

@@ -1,0 +1,49 @@
+use grove_access::{Access, Op};
+use grove_plan::Step;
+use grove_tree::{Node, Row, Tree};
+use std::alloc::Global;
+use std::process::Abort;
+
+/// A tree of the rows with these parents, names and weights.
+pub fn tree_of(rt: &impl Abort, alloc: Global, rows: &[(Option<u32>, &str, u32)]) -> Tree {
+    let mut list = Vec::new(alloc);
+    for (parent, name, weight) in rows {
+        let row = Row {
+            parent: *parent,
+            name: String::from_str(alloc, name).expect(rt, "room for a name"),
+            weight: *weight,
+        };
+        list.push(row).expect(rt, "room for a row");
+    }
+    Tree::build(alloc, &list).expect(rt, "a tree")
+}
+
+/// A root, node 0, with two children `/a` and `/b`, nodes 1 and 2; each weighs 1.
+pub fn two_leaves(rt: &impl Abort, alloc: Global) -> Tree {
+    let rows = [(None, "", 1), (Some(0), "a", 1), (Some(0), "b", 1)];
+    tree_of(rt, alloc, &rows)
+}
+
+pub fn access(node: u32, op: Op) -> Access {
+    let node = Node::new(node);
+    Access { node, op }
+}
+
+/// Accesses that read these nodes.
+pub fn gets(rt: &impl Abort, alloc: Global, nodes: &[u32]) -> Vec<Access> {
+    let mut accesses = Vec::new(alloc);
+    for node in nodes {
+        accesses
+            .push(access(*node, Op::Get))
+            .expect(rt, "room for an access");
+    }
+    accesses
+}
+
+pub fn lock(node: u32) -> Step {
+    Step::Lock(Node::new(node))
+}
+
+pub fn unlock(node: u32) -> Step {
+    Step::Unlock(Node::new(node))
+}

@@ -1,0 +1,15 @@
+//! Tests of what no document can show: calls on values of their own, with answers that were worked out by hand.
+#![tactic(auto)]
+
+#[cfg(test)]
+mod devices;
+#[cfg(test)]
+mod fixtures;
+#[cfg(test)]
+mod flows;
+#[cfg(test)]
+mod lists;
+#[cfg(test)]
+mod runs;
+#[cfg(test)]
+mod spans;
