@@ -1,3 +1,4 @@
 pub mod Doing
 pub mod Lists
 pub mod Spans
+pub mod Outside
