@@ -25,14 +25,14 @@ take_next (y ∷ xs) zero x at = ap (λ z. z ∷ []) (same_Some y x at)
 take_next (y ∷ xs) (suc i) x at = ap (λ zs. y ∷ zs) (take_next xs i x at)
 
 -- the node stands first
-known_first : (known : List Known) (item : Known) (rest : List Known) (node : ℕ) → known ≡ item ∷ rest → item.node ≡ node → known_at known node ≡ Some item.value
+pub known_first : (known : List Known) (item : Known) (rest : List Known) (node : ℕ) → known ≡ item ∷ rest → item.node ≡ node → known_at known node ≡ Some item.value
 known_first known item rest node e same = rw e (cond-true (eqb item.node node) (Some item.value) (known_at rest node) (eq-eqb item.node node same))
 
 without_first : (known : List Known) (item : Known) (rest : List Known) (node : ℕ) → known ≡ item ∷ rest → item.node ≡ node → without known node ≡ rest
 without_first known item rest node e same = rw e (cond-true (eqb item.node node) rest (item ∷ without rest node) (eq-eqb item.node node same))
 
 -- another stands first
-known_later : (known : List Known) (item : Known) (rest : List Known) (node : ℕ) → known ≡ item ∷ rest → item.node ≢ node → known_at known node ≡ known_at rest node
+pub known_later : (known : List Known) (item : Known) (rest : List Known) (node : ℕ) → known ≡ item ∷ rest → item.node ≢ node → known_at known node ≡ known_at rest node
 known_later known item rest node e other = rw e (cond-false (eqb item.node node) (Some item.value) (known_at rest node) (ne_eqb item.node node other))
 
 without_later : (known : List Known) (item : Known) (rest : List Known) (node : ℕ) → known ≡ item ∷ rest → item.node ≢ node → without known node ≡ item ∷ without rest node
@@ -178,7 +178,7 @@ pub value_after-append : (entries : List Entry) (e : Entry) (node : ℕ) (value 
 value_after-append [] e node value = refl
 value_after-append (x ∷ entries) e node value = value_after-append entries e node (cond (eqb x.access.node node) (stored x.access.op value) value)
 
-out_value : (entries : List Entry) (node : ℕ) (o : Option ℤ) (value : ℤ) → present_from entries node o ≡ Some value → (v : ℤ) × (o ≡ Some v) × (value_after entries node v ≡ value)
+pub out_value : (entries : List Entry) (node : ℕ) (o : Option ℤ) (value : ℤ) → present_from entries node o ≡ Some value → (v : ℤ) × (o ≡ Some v) × (value_after entries node v ≡ value)
 out_value entries node None value at = absurd (none-some value at)
 out_value entries node (Some v) value at = (v, refl, same_Some (value_after entries node v) value at)
 

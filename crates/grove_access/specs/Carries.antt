@@ -50,6 +50,10 @@ abbrev pub settled : List Entry → List Known → List Known
 settled entries [] = []
 settled entries (k ∷ known) = record { node = k.node; value = value_after entries k.node k.value } ∷ settled entries known
 
+-- a carry whose present values are made the known ones
+abbrev pub carry_settled : Carried → Carried
+carry_settled carry = record carry { known = settled carry.entries carry.known; entries = [] }
+
 -- no node is out twice
 abbrev pub AreApart : List Known → Type 0
 AreApart [] = Unit {0}

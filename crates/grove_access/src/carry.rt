@@ -1,5 +1,5 @@
-ghost use Rattle.std.specs.Prelude.{◌≡◌, ◌<◌, ◌≤◌, ◌↔◌, [], ◌∷◌, ◌++◌, length, true, false, None, Some, IfOk, IfSome, IfNone, IsTrue};
-ghost use Rattle.grove_access.specs.Carries.{known_at, present_at, without, settled, IsSound, CanApply, IsApplied};
+ghost use Rattle.std.specs.Prelude.{◌≡◌, ◌<◌, ◌≤◌, ◌↔◌, [], ◌∷◌, ◌++◌, length, true, false, None, Some, IfOk, IfSome, IfNone, IsTrue, is_some};
+ghost use Rattle.grove_access.specs.Carries.{known_at, present_at, without, carry_settled, IsSound, CanApply, IsApplied};
 
 use crate::carrying::{hold, known_value, note, release, reply_on, settle_all, value_left};
 use crate::{AccessList, Entry, Known, Reply};
@@ -77,6 +77,13 @@ impl Carry {
         self.known.len() == self.most_nodes
     }
 
+    /// Is the node out?
+    pub fn is_out(&self, node: Node) -> bool
+        ensures { result ≡ is_some (known_at self.now.known node) }
+    {
+        known_value(&self.known, node).is_some()
+    }
+
     /// The present value of a node.
     pub fn value(&self, node: Node) -> Option<i64>
         ensures { result ≡ present_at self.now node }
@@ -131,7 +138,7 @@ impl Carry {
 
     /// Makes the present values the known ones, and drops the entries.
     pub fn settle(&mut self)
-        ensures { self.new ≡ record self.old { known = settled self.old.entries self.old.known; entries = [] } }
+        ensures { self.new ≡ carry_settled self.old }
     {
         settle_all(&mut self.known, &self.entries);
         self.entries.clear();

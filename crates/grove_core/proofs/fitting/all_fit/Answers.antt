@@ -12,10 +12,12 @@ returns-then-not-fits c =
     let job : slice_get c.args.jobs.now c.loop-txn.txn ≡ Some c.index-jobs-txn.result =
     read_at c.args.jobs.now c.loop-txn.txn c.index-jobs-txn.result c.loop-txn-test.true c.index-jobs-txn.is in
     let same : slice_index_or c.args.jobs.now c.loop-txn.txn c.index-jobs-txn.result ≡ c.index-jobs-txn.result = sym c.index-jobs-txn.is in
-    let fits : AreNodes c.args.tree.now (nodes_of c.index-jobs-txn.result.list) → IsTrue c.fits.result = rw same at c.fits.ensures.1 in
-    (search rules, λ all. subst (λ (b : Bool). IsTrue b) c.if-not-fits.true (fits
-    (subst (λ (l : List Access). AreNodes c.args.tree.now (nodes_of l)) (list_of_at c.args.jobs.now c.loop-txn.txn c.index-jobs-txn.result job)
-    (all c.loop-txn.txn c.loop-txn-test.true))))
+    let fits : AreNodes c.args.tree.now (nodes_of c.index-jobs-txn.result.list) → IsTrue c.fits.result = rw same at c.fits.ensures.1 in (
+      search rules,
+      λ all. subst (λ (b : Bool). IsTrue b) c.if-not-fits.true (fits
+          (subst (λ (l : List Access). AreNodes c.args.tree.now (nodes_of l)) (list_of_at c.args.jobs.now c.loop-txn.txn c.index-jobs-txn.result job)
+          (all c.loop-txn.txn c.loop-txn-test.true))),
+    )
 
 pub loop-txn-preserved : goal.loop-txn-preserved
 loop-txn-preserved c =
