@@ -19,7 +19,7 @@ use Rattle.grove_plan.proofs.Holding.{HeldAt, held_at, held_not}
 use Rattle.grove_core.specs.declared.job.Job.{Job}
 use Rattle.grove_core.specs.declared.event.Event.{Event}
 use Rattle.grove_core.specs.declared.event.Event.TheVariants.{Take}
-use Rattle.grove_core.specs.Runs.{list_of, plan_of, place, next_step, holds, run_records, run_replies}
+use Rattle.grove_core.specs.Runs.{list_of, plan_of, place, next_step, holds, deeds, run_records, run_replies}
 use Rattle.grove_tree.specs.Trees.{Rows}
 use Rattle.grove_core.specs.declared.progress.Progress.{Progress}
 use Rattle.grove_core.specs.Kept.{State, past_of, IsCore}
@@ -27,7 +27,7 @@ use Rattle.grove_core.specs.Carried.{is_owner, records_of, IsOf, after_steps, re
 use Rattle.grove_core.proofs.Timing.{within_jobs}
 use Rattle.grove_core.proofs.GoingOn.{place_within}
 use Rattle.grove_core.proofs.Times.{place_new}
-use Rattle.grove_core.proofs.Keeping.{get_set_same, get_set_other, reverse_last, read_at, plan_of_at, list_of_at, accessed_records, accessed_replies, holds_same}
+use Rattle.grove_core.proofs.Keeping.{deeds_length, get_set_same, get_set_other, reverse_last, read_at, plan_of_at, list_of_at, accessed_records, accessed_replies, holds_same}
 
 -- The tests together say that the carry is of the core
 
@@ -296,6 +296,10 @@ module _ (rows : Rows) (jobs : List Job) (opening : List ℤ) (past : List Event
       let within : node < length rows = (core.legal t (within_jobs jobs t lock.at (Lock node) lock.is_lock)).obeys.locks_nodes lock.at node lock.is_lock in
       let all : length owners ≡ length rows = core.all_owners in
       absurd (omega arith)))
+
+  -- there is a record for each node
+  pub records_all : length records ≡ length rows
+  records_all = ap length core.recorded ∙ deeds_length (deeds jobs past) opening ∙ core.opened
 
   -- a job's place is small
   pub place_few : (t : ℕ) → t < length jobs → place past t < 2 ^ 32

@@ -1,5 +1,5 @@
 ghost use Rattle.std.specs.Prelude.{◌≡◌, ◌+◌, ◌<◌, ◌≤◌, ◌^◌, ℕ, ℤ, [], ◌∷◌, ◌++◌, length, true, false, Some, slice_get, is_some};
-ghost use Rattle.grove_access.specs.Effects.{reply_to};
+ghost use Rattle.grove_access.specs.Effects.{record_at, reply_to};
 ghost use Rattle.grove_access.specs.Carries.{IsSound, present_at, carry_settled};
 ghost use Rattle.grove_core.specs.Runs.{list_of, plan_of, place, next_step, holds, run_replies};
 ghost use Rattle.grove_core.specs.Kept.{past_of};
@@ -72,6 +72,14 @@ impl<'a> Core<'a> {
         let place = self.place(txn);
         let job = &self.jobs()[txn as usize];
         step_at(job, place + ahead)
+    }
+
+    /// The record of a node as it is now.
+    pub fn value(&self, node: Node) -> i64
+        requires { node < length self.now.tree }
+        ensures { result ≡ record_at (records_of self.now) node }
+    {
+        self.records.get(node)
     }
 
     // How many steps a job has done.
