@@ -2,6 +2,7 @@
 #![tactic(auto)]
 
 pub use fault::{NoMemory, TreeFault};
+pub use gate::{Gate, OpenGate};
 pub use node::Node;
 pub use outline::Outline;
 pub use row::Row;
@@ -9,6 +10,7 @@ pub use tree::Tree;
 
 mod fault;
 mod finding;
+mod gate;
 mod growing;
 mod node;
 mod outline;
