@@ -3,14 +3,21 @@
 
 pub use access::{Access, Op};
 pub use alone::run_alone;
+pub use carry::Carry;
+pub use entry::Entry;
 pub use fault::ListFault;
+pub use known::Known;
 pub use list::AccessList;
 pub use records::Records;
 pub use reply::Reply;
 
 mod access;
 mod alone;
+mod carry;
+mod carrying;
+mod entry;
 mod fault;
+mod known;
 mod list;
 mod records;
 mod reply;

@@ -68,8 +68,8 @@ impl Records {
     }
 }
 
-// What an operation leaves in a record, and its reply.
-fn done(op: Op, old: i64) -> (i64, Reply)
+/// What an operation leaves in a record, and its reply.
+pub(crate) fn done(op: Op, old: i64) -> (i64, Reply)
     ensures left { result.0 ≡ stored op old }
     ensures reply { result.1 ≡ answer op old }
 {

@@ -99,7 +99,7 @@ accessed : (jobs : List Job) (past : List Event) (t n : ℕ) (visit : Visit) →
     → deed_of t (list_of jobs t) (next_step jobs past t) ≡ deed_by t visit ∷ []
 accessed jobs past t n visit e f = ap (deed_of t (list_of jobs t)) e ∙ ap (deed_at t) f
 
-accessed_records : (jobs : List Job) (opening : List ℤ) (past : List Event) (t n : ℕ) (visit : Visit) → next_step jobs past t ≡ Some (Access n) → slice_get (list_of jobs t) n ≡ Some visit
+pub accessed_records : (jobs : List Job) (opening : List ℤ) (past : List Event) (t n : ℕ) (visit : Visit) → next_step jobs past t ≡ Some (Access n) → slice_get (list_of jobs t) n ≡ Some visit
     → run_records jobs opening (Take t ∷ past) ≡ changed_by visit (run_records jobs opening past)
 accessed_records jobs opening past t n visit e f =
     ap (λ (ds : List Deed). deeds_records (deeds jobs past ++ ds) opening) (accessed jobs past t n visit e f)
@@ -111,7 +111,7 @@ reply_shown t u visit records e = cond-true (eqb t u) (reply_to visit records �
 reply_hidden : (t u : ℕ) (visit : Visit) (records : List ℤ) → t ≢ u → deeds_replies (deed_by t visit ∷ []) records u ≡ []
 reply_hidden t u visit records ne = cond-false (eqb t u) (reply_to visit records ∷ []) [] (ne_eqb t u ne)
 
-accessed_replies : (jobs : List Job) (opening : List ℤ) (past : List Event) (t n : ℕ) (visit : Visit) → next_step jobs past t ≡ Some (Access n) → slice_get (list_of jobs t) n ≡ Some visit
+pub accessed_replies : (jobs : List Job) (opening : List ℤ) (past : List Event) (t n : ℕ) (visit : Visit) → next_step jobs past t ≡ Some (Access n) → slice_get (list_of jobs t) n ≡ Some visit
     → run_replies jobs opening (Take t ∷ past) t ≡ run_replies jobs opening past t ++ reply_to visit (run_records jobs opening past) ∷ []
 accessed_replies jobs opening past t n visit e f =
     ap (λ (ds : List Deed). deeds_replies (deeds jobs past ++ ds) opening t) (accessed jobs past t n visit e f)
@@ -186,7 +186,7 @@ owns_same jobs old new node (Some t) same h = (same t ∙ h.0, λ u ne. same u �
 holds_other : (jobs : List Job) (past : List Event) (t u node : ℕ) → t ≢ u → holds jobs (Take t ∷ past) u node ≡ holds jobs past u node
 holds_other jobs past t u node ne = ap (held (plan_of jobs u) node) (place_other past t u ne)
 
-holds_same : (jobs : List Job) (past : List Event) (t node : ℕ) → locks node (next_step jobs past t) ≡ false → unlocks node (next_step jobs past t) ≡ false
+pub holds_same : (jobs : List Job) (past : List Event) (t node : ℕ) → locks node (next_step jobs past t) ≡ false → unlocks node (next_step jobs past t) ≡ false
     → (u : ℕ) → holds jobs (Take t ∷ past) u node ≡ holds jobs past u node
 holds_same jobs past t node no_lock no_unlock u = elim (cases_eq t u) [
   | inl e ↦ subst (λ (k : ℕ). holds jobs (Take t ∷ past) k node ≡ holds jobs past k node) e

@@ -15,3 +15,4 @@ pub mod Keeping
 pub mod Started
 pub mod Filling
 pub mod WorkedRows
+pub mod Ahead

@@ -4,3 +4,4 @@ pub mod Orders
 pub mod Laws
 pub mod Kept
 pub mod Openings
+pub mod Carried

@@ -12,6 +12,7 @@ pub use ordering::{serial_order, serial_order_into};
 mod event;
 mod fault;
 mod fitting;
+mod following;
 mod job;
 mod laws;
 mod locking;

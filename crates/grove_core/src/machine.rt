@@ -7,6 +7,7 @@ ghost use Rattle.grove_core.specs.Laws.{CanGoOn};
 ghost use Rattle.grove_core.specs.Openings.{AllFit, IsFirstFault};
 ghost use Rattle.grove_core.specs.Kept.{past_of};
 
+use crate::following::step_at;
 use crate::locking::{first_lock, is_earlier};
 use crate::opening::{judge_all, room, start_all};
 use crate::progress::Progress;
@@ -16,6 +17,8 @@ use grove_plan::Step;
 use grove_tree::{Node, Tree};
 use std::alloc::Global;
 use std::marker::Model;
+
+mod carrying;
 
 /// Jobs over the records of a tree, and what has happened to them so far.
 #[derive(Drop)]
@@ -346,11 +349,4 @@ impl<'a> Core<'a> {
         self.waits[node.number() as usize] += 1;
         self.history.push_reserved(Event::Mark(txn));
     }
-}
-
-/// The step of a job's plan at a place, if there is one.
-fn step_at(job: &Job, place: usize) -> Option<Step>
-    ensures { result ≡ slice_get job.now.plan place }
-{
-    job.plan.steps().get(place).copied()
 }

@@ -1,0 +1,20 @@
+use Rattle.std.proofs.Common.{◌≡◌, length, ap, arith}
+use Rattle.grove_core.proofs.Ahead.{is_of_tests, knows_test, has_of, follows_test}
+use Rattle.grove_core.proofs.machine.Core.is_of.Goals as goal
+
+pub returns-then-not-knows_all-clause-no : goal.returns-then-not-knows_all-clause-no
+returns-then-not-knows_all-clause-no c = λ _ of.
+    c.knows_all.ensures.no c.if-not-knows_all.true (knows_test c.args.self.now c.args.carry.now c.txn-txn.result c.known.result.now c.txn-txn.ensures.txn c.known.ensures c.txn-txn.ensures.sound.apart of)
+
+pub returns-then-not-has_all-clause-no : goal.returns-then-not-has_all-clause-no
+returns-then-not-has_all-clause-no c = λ _ of. c.has_all.ensures.no c.if-not-has_all.true (has_of c.args.self.now c.args.carry.now _ of)
+
+pub returns-clause-yes : goal.returns-clause-yes
+returns-clause-yes c = λ is.
+    is_of_tests c.args.self.now c.args.carry.now c.txn-txn.result c.known.result.now c.entries.result.now c.txn-txn.ensures.txn c.known.ensures c.entries.ensures
+    (let size : length c.jobs.result.now ≡ length c.args.self.now.jobs = ap length c.jobs.ensures.jobs in omega arith)
+    (c.knows_all.ensures.yes c.if-not-knows_all.false) (c.has_all.ensures.yes c.if-not-has_all.false) (c.continues.ensures.yes is)
+
+pub returns-clause-no : goal.returns-clause-no
+returns-clause-no c = λ is of.
+    c.continues.ensures.no is (follows_test c.args.self.now c.args.carry.now c.txn-txn.result c.entries.result.now c.txn-txn.ensures.txn c.entries.ensures of)

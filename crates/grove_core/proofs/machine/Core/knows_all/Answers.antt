@@ -1,0 +1,8 @@
+use Rattle.std.proofs.Common.{ℕ}
+use Rattle.grove_access.specs.declared.known.Known.{Known}
+use Rattle.grove_core.specs.Carried.{Knows}
+use Rattle.grove_core.proofs.Ahead.{each_of}
+use Rattle.grove_core.proofs.machine.Core.knows_all.Goals as goal
+
+pub returns-clause-yes : goal.returns-clause-yes
+returns-clause-yes c = λ _. each_of (λ (i : ℕ) (k : Known). Knows c.args.self.now c.args.txn k) c.args.known.now c.loop-item.item-index c.loop-item-test.false c.loop-item.invariant

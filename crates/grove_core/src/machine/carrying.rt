@@ -1,0 +1,177 @@
+ghost use Rattle.std.specs.Prelude.{◌≡◌, ◌+◌, ◌<◌, ◌≤◌, ◌^◌, ℕ, ℤ, [], ◌∷◌, ◌++◌, length, true, false, Some, slice_get, is_some};
+ghost use Rattle.grove_access.specs.Effects.{record_at, reply_to};
+ghost use Rattle.grove_access.specs.Carries.{IsSound, present_at, carry_settled};
+ghost use Rattle.grove_core.specs.Runs.{list_of, plan_of, place, next_step, holds, run_replies};
+ghost use Rattle.grove_core.specs.Kept.{past_of};
+ghost use Rattle.grove_core.specs.Carried.{records_of, IsOf, after_steps, replies_in, Knows, KnowsAll, HasAt, HasAll, Follows};
+
+use crate::Event;
+use crate::following::{follows, has_value, is_owner, step_at};
+use crate::machine::Core;
+use grove_access::{Carry, Entry, Known};
+use grove_plan::Step;
+use grove_tree::Node;
+
+impl<'a> Core<'a> {
+    /// Does the accesses that the carry's job did on the records that it has out, with the replies that it had, where the
+    /// carry is of this core as it is now.
+    pub fn take_carried(&mut self, carry: &Carry) -> bool
+        ensures taken { result ≡ true → IsOf self.old carry.now }
+        ensures refused { result ≡ false → IsOf self.old carry.now → ⊥ }
+        ensures added { result ≡ true → self.new ≡ after_steps self.old carry.now.txn (length carry.now.entries) }
+        ensures records { result ≡ true → (node : ℕ) (value : ℤ) → present_at carry.now node ≡ Some value → slice_get (records_of self.new) node ≡ Some value }
+        ensures replies { result ≡ true → run_replies self.old.jobs self.old.opening (past_of self.new) carry.now.txn ≡ run_replies self.old.jobs self.old.opening (past_of self.old) carry.now.txn ++ replies_in carry.now.entries }
+        ensures unchanged { result ≡ false → self.new ≡ self.old }
+    {
+        if !self.is_of(carry) {
+            return false;
+        }
+        self.add_entries(carry);
+        true
+    }
+
+    /// Is the carry of this core as it is now?
+    pub fn is_of(&self, carry: &Carry) -> bool
+        ensures yes { result ≡ true → IsOf self.now carry.now }
+        ensures no { result ≡ false → IsOf self.now carry.now → ⊥ }
+    {
+        let txn = carry.txn();
+        if txn as usize >= self.jobs().len() {
+            return false;
+        }
+        if !self.knows_all(txn, carry.known()) {
+            return false;
+        }
+        if !self.has_all(carry) {
+            return false;
+        }
+        self.continues(txn, carry.entries())
+    }
+
+    /// Does the carry's accesses.
+    pub fn add_entries(&mut self, carry: &Carry)
+        requires { IsOf self.old carry.now }
+        ensures added { self.new ≡ after_steps self.old carry.now.txn (length carry.now.entries) }
+        ensures records { (node : ℕ) (value : ℤ) → present_at carry.now node ≡ Some value → slice_get (records_of self.new) node ≡ Some value }
+        ensures replies { run_replies self.old.jobs self.old.opening (past_of self.new) carry.now.txn ≡ run_replies self.old.jobs self.old.opening (past_of self.old) carry.now.txn ++ replies_in carry.now.entries }
+        ensures next { next_step self.old.jobs (past_of self.new) carry.now.txn ≡ slice_get (plan_of self.old.jobs carry.now.txn) (place (past_of self.old) carry.now.txn + length carry.now.entries) }
+        ensures settled { IsOf self.new (carry_settled carry.now) }
+    {
+        let txn = carry.txn();
+        for entry in carry.entries() {
+            self.add_entry(txn, entry);
+        }
+    }
+
+    /// The step that is so many ahead of a job's next one.
+    pub fn step_ahead(&self, txn: u32, ahead: usize) -> Option<Step>
+        requires job { txn < length self.now.jobs }
+        requires few { ahead < 2 ^ 32 }
+        ensures { result ≡ slice_get (plan_of self.now.jobs txn) (place (past_of self.now) txn + ahead) }
+    {
+        let place = self.place(txn);
+        let job = &self.jobs()[txn as usize];
+        step_at(job, place + ahead)
+    }
+
+    /// The record of a node as it is now.
+    pub fn value(&self, node: Node) -> i64
+        requires { node < length self.now.tree }
+        ensures { result ≡ record_at (records_of self.now) node }
+    {
+        self.records.get(node)
+    }
+
+    // How many steps a job has done.
+    fn place(&self, txn: u32) -> usize
+        requires { txn < length self.now.jobs }
+        ensures place { result ≡ place (past_of self.now) txn }
+        ensures few { result < 2 ^ 32 }
+    {
+        self.progress[txn as usize].place
+    }
+
+    // Does the job hold the node?
+    fn holds(&self, txn: u32, node: Node) -> bool
+        ensures { result ≡ holds self.now.jobs (past_of self.now) txn node }
+    {
+        match self.owners.get(node.number() as usize) {
+            Some(owner) => is_owner(*owner, txn),
+            None => false,
+        }
+    }
+
+    fn knows_all(&self, txn: u32, known: &[Known]) -> bool
+        ensures yes { result ≡ true → KnowsAll self.now txn known.now }
+        ensures no { result ≡ false → KnowsAll self.now txn known.now → ⊥ }
+    {
+        for item in known {
+            if !self.knows(txn, *item) {
+                return false;
+            }
+        }
+        true
+    }
+
+    fn knows(&self, txn: u32, item: Known) -> bool
+        ensures yes { result ≡ true → Knows self.now txn item }
+        ensures no { result ≡ false → Knows self.now txn item → ⊥ }
+    {
+        self.holds(txn, item.node) && has_value(self.records(), item)
+    }
+
+    fn has_all(&self, carry: &Carry) -> bool
+        requires { carry.now.txn < length self.now.jobs }
+        ensures yes { result ≡ true → HasAll self.now carry.now (plan_of self.now.jobs carry.now.txn) }
+        ensures no { result ≡ false → HasAll self.now carry.now (plan_of self.now.jobs carry.now.txn) → ⊥ }
+    {
+        let txn = carry.txn();
+        let job = &self.jobs()[txn as usize];
+        self.has_each(carry, job.plan.steps())
+    }
+
+    fn has_each(&self, carry: &Carry, steps: &[Step]) -> bool
+        ensures yes { result ≡ true → HasAll self.now carry.now steps.now }
+        ensures no { result ≡ false → HasAll self.now carry.now steps.now → ⊥ }
+    {
+        for step in steps {
+            if !self.has_at(carry, *step) {
+                return false;
+            }
+        }
+        true
+    }
+
+    fn has_at(&self, carry: &Carry, step: Step) -> bool
+        ensures yes { result ≡ true → HasAt self.now carry.now step }
+        ensures no { result ≡ false → HasAt self.now carry.now step → ⊥ }
+    {
+        match step {
+            Step::Lock(node) => !self.holds(carry.txn(), node) || carry.is_out(node),
+            Step::Unlock(_) | Step::Access(_) => true,
+        }
+    }
+
+    fn continues(&self, txn: u32, entries: &[Entry]) -> bool
+        requires job { txn < length self.now.jobs }
+        requires few { length entries.now ≤ 64 }
+        ensures yes { result ≡ true → Follows (list_of self.now.jobs txn) (plan_of self.now.jobs txn) (place (past_of self.now) txn) entries.now }
+        ensures no { result ≡ false → Follows (list_of self.now.jobs txn) (plan_of self.now.jobs txn) (place (past_of self.now) txn) entries.now → ⊥ }
+    {
+        let job = &self.jobs()[txn as usize];
+        follows(job, self.place(txn), entries)
+    }
+
+    // Does an access with the reply that it had.
+    fn add_entry(&mut self, txn: u32, entry: &Entry)
+        requires next { next_step self.old.jobs (past_of self.old) txn ≡ Some (Step.Access entry.now.number) }
+        requires listed { slice_get (list_of self.old.jobs txn) entry.now.number ≡ Some entry.now.access }
+        requires replied { entry.now.reply ≡ reply_to entry.now.access (records_of self.old) }
+        ensures { self.new ≡ record self.old { history = self.old.history ++ Event.Take txn ∷ [] } }
+    {
+        let _ = self.records.apply(&entry.access);
+        let progress = &mut self.progress[txn as usize];
+        progress.answer(entry.reply);
+        self.history.push_reserved(Event::Take(txn));
+    }
+}

@@ -1,0 +1,102 @@
+-- What a step of a book comes to.
+use Rattle.std.proofs.Common.{◌≡◌, ℕ, ◌+◌, ◌<◌, ◌≤◌, ℤ, true, false, List, [], ◌∷◌, ◌++◌, length, slice_get, Option, Some, None, Result, Ok, Err, OnOk, OnErr, IfErr, sym, ◌∙◌, ap, subst, arith}
+use Rattle.std.proofs.lemmas.Option.{none-some, same_Some}
+use Rattle.std.proofs.lemmas.Bool.{both_ways, cond-true, cond-false}
+use Rattle.grove_tree.specs.Trees.{Rows}
+use Rattle.grove_plan.specs.declared.step.Step.{Step}
+use Rattle.grove_plan.specs.declared.step.Step.TheVariants.{Lock, Unlock, Access}
+use Rattle.grove_plan.proofs.Holding.{held_not, unlock_no_lock}
+use Rattle.grove_core.specs.declared.job.Job.{Job}
+use Rattle.grove_core.specs.declared.event.Event.{Event}
+use Rattle.grove_core.specs.declared.event.Event.TheVariants.{Take, Mark}
+use Rattle.grove_core.specs.declared.fault.StepFault.{StepFault}
+use Rattle.grove_core.specs.declared.fault.StepFault.TheVariants.{NoTxn, Ended, Blocked, NotBlocked, Marked}
+use Rattle.grove_core.specs.Runs.{plan_of, place, next_step, holds, is_marked, AllLegal, MayHappen, IsBlocked, IsRefused}
+use Rattle.grove_core.specs.Kept.{State, past_of}
+use Rattle.grove_core.specs.Carried.{IsOf}
+use Rattle.grove_access.specs.Carries.{Carried, known_at, carry_settled}
+use Rattle.grove_access.proofs.Outside.{length-settled, none_found}
+use Rattle.grove_core.proofs.Timing.{within_jobs}
+use Rattle.grove_run.specs.Books.{after_event, marked, step_after, HasNoStep, IsBlockedAt}
+
+-- a job doesn't hold the node that it is to lock, and holds the one that it is to unlock
+pub free_before : (rows : Rows) (jobs : List Job) (past : List Event) (t v : ℕ) → AllLegal rows jobs → next_step jobs past t ≡ Some (Lock v) → holds jobs past t v ≡ false
+free_before rows jobs past t v legal next = held_not (plan_of jobs t) v (place past t) (λ lock.
+    let same : lock.at ≡ place past t = (legal t (within_jobs jobs t (place past t) (Lock v) next)).obeys.once lock.at (place past t) v lock.is_lock next in
+    let before : lock.at < place past t = lock.before in
+    absurd (omega arith))
+
+pub held_before : (rows : Rows) (jobs : List Job) (past : List Event) (t v : ℕ) → AllLegal rows jobs → next_step jobs past t ≡ Some (Unlock v) → holds jobs past t v ≡ true
+held_before rows jobs past t v legal next = (legal t (within_jobs jobs t (place past t) (Unlock v) next)).obeys.unlocks_held (place past t) v next
+
+-- the node of a lock is one of the tree
+pub lock_within : (rows : Rows) (jobs : List Job) (past : List Event) (t v : ℕ) → AllLegal rows jobs → next_step jobs past t ≡ Some (Lock v) → v < length rows
+lock_within rows jobs past t v legal next = (legal t (within_jobs jobs t (place past t) (Lock v) next)).obeys.locks_nodes (place past t) v next
+
+no_mark : (t u : ℕ) → Take t ≡ Mark u → ⊥
+no_mark t u e = absurd (cc)
+
+no_take : (t u : ℕ) → Mark t ≡ Take u → ⊥
+no_take t u e = absurd (cc)
+
+-- a step that is refused is blocked
+pub refused_blocked : (jobs : List Job) (past : List Event) (t : ℕ) (step : Step) (fault : StepFault) → next_step jobs past t ≡ Some step → IsRefused jobs past (Take t) fault
+    → (holder : ℕ) × IsBlocked jobs past t holder
+refused_blocked jobs past t step NoTxn next refused = let lt : t < length jobs = within_jobs jobs t (place past t) step next in let le : length jobs ≤ t = refused in absurd (omega arith)
+refused_blocked jobs past t step Ended next refused = absurd (none-some step (sym refused.1 ∙ next))
+refused_blocked jobs past t step (Blocked holder) next refused = (holder, refused.1)
+refused_blocked jobs past t step NotBlocked next refused = absurd (no_mark t t refused.0)
+refused_blocked jobs past t step Marked next refused = absurd (no_mark t t refused.0)
+
+-- and no unlock is
+pub unlock_done : (jobs : List Job) (past : List Event) (t v : ℕ) (fault : StepFault) → next_step jobs past t ≡ Some (Unlock v) → IsRefused jobs past (Take t) fault → ⊥
+unlock_done jobs past t v fault next refused =
+    let blocked = refused_blocked jobs past t (Unlock v) fault next refused in
+    unlock_no_lock v blocked.1.0 (sym next ∙ blocked.1.1)
+
+-- a mark that is refused was there
+mark_refused : (core : State) (t : ℕ) (fault : StepFault) → IsBlockedAt core t → IsRefused core.jobs (past_of core) (Mark t) fault → is_marked (past_of core) t ≡ true
+mark_refused core t NoTxn blocked refused =
+    let lt : t < length core.jobs = within_jobs core.jobs t (place (past_of core) t) (Lock blocked.1.0) blocked.1.1 in let le : length core.jobs ≤ t = refused in absurd (omega arith)
+mark_refused core t Ended blocked refused = absurd (none-some (Lock blocked.1.0) (sym refused.1 ∙ blocked.1.1))
+mark_refused core t (Blocked holder) blocked refused = absurd (no_take t t refused.0)
+mark_refused core t NotBlocked blocked refused =
+    let same : refused.1.0 ≡ Lock blocked.1.0 = same_Some refused.1.0 (Lock blocked.1.0) (sym refused.1.1 ∙ blocked.1.1) in
+    absurd (both_ways (holds core.jobs (past_of core) blocked.0 blocked.1.0) (refused.1.2 blocked.1.0 same blocked.0 blocked.1.2.0) blocked.1.2.1)
+mark_refused core t Marked blocked refused = refused.2
+
+-- what marking comes to
+pub mark_done : (old new : State) (t : ℕ) (r : Result (Unit {0}) StepFault) → IsBlockedAt old t → OnOk r (MayHappen old.jobs (past_of old) (Mark t)) → OnOk r (new ≡ after_event old (Mark t))
+    → IfErr r (λ fault. IsRefused old.jobs (past_of old) (Mark t) fault) → OnErr r (new ≡ old) → new ≡ marked old t
+mark_done old new t (Ok u) blocked may added refused unchanged =
+    added ∙ sym (cond-false (is_marked (past_of old) t) old (after_event old (Mark t)) may.3)
+mark_done old new t (Err fault) blocked may added refused unchanged =
+    unchanged ∙ sym (cond-true (is_marked (past_of old) t) old (after_event old (Mark t)) (mark_refused old t fault blocked refused))
+
+-- a carry that is settled has room where it had room
+pub no_step_settled : (carry : Carried) (step : Option Step) → HasNoStep (carry_settled carry) step → HasNoStep carry step
+no_step_settled carry None h = h
+no_step_settled carry (Some (Lock v)) h = sym (length-settled carry.entries carry.known) ∙ h
+no_step_settled carry (Some (Unlock v)) h = h
+no_step_settled carry (Some (Access i)) h = h
+
+-- the node that a job is to lock isn't out
+pub lock_not_out : (core : State) (carry : Carried) (v : ℕ) → AllLegal core.tree core.jobs → IsOf core carry → next_step core.jobs (past_of core) carry.txn ≡ Some (Lock v) → known_at carry.known v ≡ None
+lock_not_out core carry v legal of next = none_found (known_at carry.known v) (of.out v ∙ free_before core.tree core.jobs (past_of core) carry.txn v legal next)
+
+-- a record that was read is put into the carry
+pub put_read : (carry new : Carried) (v : ℕ) (value read : ℤ) → new ≡ record carry { known = carry.known ++ record { node = v; value = value } ∷ [] } → value ≡ read
+    → new ≡ record carry { known = carry.known ++ record { node = v; value = read } ∷ [] }
+put_read carry new v value read put is = put ∙ ap (λ (x : ℤ). record carry { known = carry.known ++ record { node = v; value = x } ∷ [] }) is
+
+-- the step after the entries, as it is read
+pub step_read : (core : State) (carry : Carried) (t n : ℕ) (found : Option Step) → t ≡ carry.txn → n ≡ length carry.entries
+    → found ≡ slice_get (plan_of core.jobs t) (place (past_of core) t + n) → found ≡ step_after core carry
+step_read core carry t n found e f is =
+    is ∙ ap (λ (k : ℕ). slice_get (plan_of core.jobs k) (place (past_of core) k + n)) e ∙ ap (λ (k : ℕ). slice_get (plan_of core.jobs carry.txn) (place (past_of core) carry.txn + k)) f
+
+-- a step of a carry that isn't foreign has room
+pub has_room : (core : State) (carry settled : Carried) (step : Step) → settled ≡ carry_settled carry → Some step ≡ step_after core carry → (HasNoStep carry (step_after core carry) → ⊥)
+    → HasNoStep settled (Some step) → ⊥
+has_room core carry settled step is found fits no_room =
+    fits (subst (λ (o : Option Step). HasNoStep carry o) found (no_step_settled carry (Some step) (subst (λ (k : Carried). HasNoStep k (Some step)) is no_room)))

@@ -1,0 +1,32 @@
+-- Batches of jobs, brought to a finished run.
+use Rattle.std.specs.Prelude.{◌≡◌, ℕ, ℤ, ⊤, List}
+use Rattle.grove_tree.specs.Trees.{Rows}
+use Rattle.grove_core.specs.declared.job.Job.{Job}
+use Rattle.grove_core.specs.declared.fault.OpenFault.{OpenFault}
+use Rattle.grove_core.specs.declared.fault.OpenFault.TheVariants.{BadPlan as BadOpen, Memory as NoRoom}
+use Rattle.grove_core.specs.Openings.{IsFirstFault}
+use Rattle.grove_core.specs.Kept.{State}
+use Rattle.grove_run.specs.declared.fault.RunFault.{RunFault}
+use Rattle.grove_run.specs.declared.fault.RunFault.TheVariants.{BadPlan, Memory, Foreign, Unfinished}
+
+abbrev pub fault_of_open : OpenFault → RunFault
+fault_of_open (BadOpen t fault) = BadPlan t fault
+fault_of_open NoRoom = Memory
+
+-- a bad plan is the first fault of the jobs
+abbrev pub IsRunFault : Rows → List Job → RunFault → Type 0
+IsRunFault rows jobs (BadPlan t fault) = IsFirstFault rows jobs (BadOpen t fault)
+IsRunFault rows jobs Memory = ⊤
+IsRunFault rows jobs Foreign = ⊤
+IsRunFault rows jobs Unfinished = ⊤
+
+-- the core is one of these jobs over this tree and these records
+pub record IsCoreOf (rows : Rows) (jobs : List Job) (opening : List ℤ) (core : State) : Type 0 where
+  pub tree : core.tree ≡ rows
+  pub jobs_are : core.jobs ≡ jobs
+  pub opened : core.opening ≡ opening
+
+-- a finished run's core, with the order in which its jobs may be done whole
+pub record FinishedState : Type 0 where
+  pub core : State
+  pub order : List ℕ

@@ -1,0 +1,79 @@
+ghost use Rattle.std.specs.Prelude.{◌≡◌, ◌≤◌, length, IfOk, IfErr};
+ghost use Rattle.grove_core.specs.Openings.{AllFit};
+ghost use Rattle.grove_run.specs.Runs.{IsRunFault, IsCoreOf};
+
+use crate::carries::carries_of;
+use crate::register::{Batch, Register};
+use crate::working::work_all;
+use crate::{Book, Finished, RunFault};
+use grove_access::Records;
+use grove_core::{Core, Job, serial_order_into};
+use grove_tree::{Gate, Tree};
+use std::alloc::Global;
+use std::marker::Brand;
+use std::sync::{Condvar, Mutex, Wait};
+use std::thread::Threads;
+
+/// Brings the jobs to a finished run over copies of the records, by so many threads. Before the first try of each step a
+/// worker calls `gate.at(job, step)` outside every lock.
+pub fn run_batch<'a, R: Threads + Wait + Sync, G: Gate + Sync>(
+    rt: &R,
+    alloc: Global,
+    tree: &'a Tree,
+    records: &Records,
+    jobs: &'a [Job],
+    workers: usize,
+    gate: &G,
+) -> Result<Finished<'a>, RunFault>
+    requires lists { AllFit tree.now jobs.now }
+    requires records { length records.now ≡ length tree.now }
+    requires few { length jobs.now ≤ 256 }
+    ensures finished { IfOk result (λ finished. IsCoreOf tree.now jobs.now records.now finished.core) }
+    ensures fault { IfErr result (λ fault. IsRunFault tree.now jobs.now fault) }
+{
+    run_as::<Brand, R, G>(rt, alloc, tree, records, jobs, workers, gate)
+}
+
+fn run_as<'a, B: Batch + Send + Sync, R: Threads + Wait + Sync, G: Gate + Sync>(
+    rt: &R,
+    alloc: Global,
+    tree: &'a Tree,
+    records: &Records,
+    jobs: &'a [Job],
+    workers: usize,
+    gate: &G,
+) -> Result<Finished<'a>, RunFault>
+    requires lists { AllFit tree.now jobs.now }
+    requires records { length records.now ≡ length tree.now }
+    requires few { length jobs.now ≤ 256 }
+    requires tree { tree.now ≡ B.tree }
+    requires jobs { jobs.now ≡ B.jobs }
+    requires opening { records.now ≡ B.opening }
+    ensures finished { IfOk result (λ finished. IsCoreOf B.tree B.jobs B.opening finished.core) }
+    ensures fault { IfErr result (λ fault. IsRunFault tree.now jobs.now fault) }
+{
+    let core = Core::open(alloc, tree, records, jobs)?;
+    let mut order = Vec::with_capacity(alloc, jobs.len())?;
+    let carries = Mutex::new(carries_of(alloc, jobs)?);
+    let register = Mutex::new(Register::<B>::new(Book::open(core)));
+    let moved = Condvar::new();
+    work_all(
+        rt,
+        jobs,
+        &register,
+        &moved,
+        &carries,
+        workers.min(jobs.len()),
+        gate,
+    );
+    let register = register.into_inner();
+    if register.is_foreign() {
+        return Err(RunFault::Foreign);
+    }
+    let core = register.into_core();
+    if !core.is_finished() {
+        return Err(RunFault::Unfinished);
+    }
+    serial_order_into(&core, &mut order);
+    Ok(Finished::new(core, order))
+}

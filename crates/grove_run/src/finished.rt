@@ -1,0 +1,61 @@
+ghost use Rattle.std.specs.Prelude.{◌≡◌, length};
+ghost use Rattle.grove_core.specs.Runs.{IsFinished};
+ghost use Rattle.grove_core.specs.Orders.{placement_order};
+ghost use Rattle.grove_core.specs.Laws.{IsEachOnce, IsSerialBy};
+ghost use Rattle.grove_core.specs.Kept.{past_of};
+
+use grove_core::Core;
+use std::marker::Model;
+
+/// A finished core, and its jobs in the serial order of its run.
+#[derive(Drop)]
+pub struct Finished<'a> {
+    core: Core<'a>,
+    order: Vec<u32>,
+}
+
+impl<'a> Model for Finished<'a> {
+    ghost use Rattle.std.specs.Prelude.{◌≡◌, length};
+    ghost use Rattle.grove_core.specs.Runs.{IsFinished};
+    ghost use Rattle.grove_core.specs.Orders.{placement_order};
+    ghost use Rattle.grove_core.specs.Laws.{IsEachOnce, IsSerialBy};
+    ghost use Rattle.grove_core.specs.Kept.{past_of};
+    ghost use Rattle.grove_run.specs.Runs.{FinishedState};
+
+    ghost Value = { FinishedState };
+
+    ghost view = { λ finished. record { core = finished.core; order = finished.order.items } };
+
+    ghost invariant = { λ finished. IsFinished finished.core.jobs (past_of finished.core) × (finished.order.items ≡ placement_order finished.core.tree finished.core.jobs (past_of finished.core)) × IsEachOnce finished.order.items (length finished.core.jobs) × IsSerialBy finished.order.items finished.core.jobs finished.core.opening (past_of finished.core) };
+}
+
+impl<'a> Finished<'a> {
+    pub(crate) fn new(core: Core<'a>, order: Vec<u32>) -> Finished<'a>
+        requires finished { IsFinished core.jobs (past_of core) }
+        requires order { order.items ≡ placement_order core.tree core.jobs (past_of core) }
+        requires once { IsEachOnce order.items (length core.jobs) }
+        requires serial { IsSerialBy order.items core.jobs core.opening (past_of core) }
+        ensures core { result.core ≡ core.entry }
+        ensures order { result.order ≡ order.items }
+    {
+        Finished { core, order }
+    }
+
+    /// The core of the run.
+    pub fn core(&self) -> &Core<'a>
+        ensures core { result.now ≡ self.now.core }
+        ensures finished { IsFinished self.now.core.jobs (past_of self.now.core) }
+        ensures serial { IsSerialBy self.now.order self.now.core.jobs self.now.core.opening (past_of self.now.core) }
+    {
+        &self.core
+    }
+
+    /// The jobs in their serial order, each once.
+    pub fn order(&self) -> &[u32]
+        ensures order { result.now ≡ self.now.order }
+        ensures placement { self.now.order ≡ placement_order self.now.core.tree self.now.core.jobs (past_of self.now.core) }
+        ensures once { IsEachOnce self.now.order (length self.now.core.jobs) }
+    {
+        &self.order
+    }
+}

@@ -1,0 +1,17 @@
+//! Jobs brought to a finished run by worker threads: the book of what happens, under which records travel with locks.
+#![tactic(auto)]
+
+pub use batch::run_batch;
+pub use book::Book;
+pub use fault::RunFault;
+pub use finished::Finished;
+pub use steps::{BookStep, CarryStep};
+
+mod batch;
+mod book;
+mod carries;
+mod fault;
+mod finished;
+mod register;
+mod steps;
+mod working;
