@@ -1,5 +1,5 @@
 -- Batches of jobs, brought to a finished run.
-use Rattle.std.specs.Prelude.{◌≡◌, ℕ, ℤ, ⊤, List}
+use Rattle.std.specs.Prelude.{◌≡◌, ℕ, ℤ, ⊤, List, length, slice_get, Some}
 use Rattle.grove_tree.specs.Trees.{Rows}
 use Rattle.grove_core.specs.declared.job.Job.{Job}
 use Rattle.grove_core.specs.declared.fault.OpenFault.{OpenFault}
@@ -30,3 +30,8 @@ pub record IsCoreOf (rows : Rows) (jobs : List Job) (opening : List ℤ) (core :
 pub record FinishedState : Type 0 where
   pub core : State
   pub order : List ℕ
+
+-- for each of so many jobs its place in an order
+pub record ArePlaces (order : List ℕ) (jobs : ℕ) (places : List ℕ) : Type 0 where
+  pub all : length places ≡ jobs
+  pub placed : (place t : ℕ) → slice_get order place ≡ Some t → slice_get places t ≡ Some place

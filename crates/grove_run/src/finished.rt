@@ -1,10 +1,13 @@
-ghost use Rattle.std.specs.Prelude.{◌≡◌, length};
+ghost use Rattle.std.specs.Prelude.{◌≡◌, ◌≤◌, length, IfOk};
+ghost use Rattle.grove_run.specs.Runs.{ArePlaces};
 ghost use Rattle.grove_core.specs.Runs.{IsFinished};
 ghost use Rattle.grove_core.specs.Orders.{placement_order};
 ghost use Rattle.grove_core.specs.Laws.{IsEachOnce, IsSerialBy};
 ghost use Rattle.grove_core.specs.Kept.{past_of};
 
 use grove_core::Core;
+use grove_tree::NoMemory;
+use std::alloc::Global;
 use std::marker::Model;
 
 /// A finished core, and its jobs in the serial order of its run.
@@ -15,7 +18,7 @@ pub struct Finished<'a> {
 }
 
 impl<'a> Model for Finished<'a> {
-    ghost use Rattle.std.specs.Prelude.{◌≡◌, length};
+    ghost use Rattle.std.specs.Prelude.{◌≡◌, ◌≤◌, length};
     ghost use Rattle.grove_core.specs.Runs.{IsFinished};
     ghost use Rattle.grove_core.specs.Orders.{placement_order};
     ghost use Rattle.grove_core.specs.Laws.{IsEachOnce, IsSerialBy};
@@ -26,7 +29,7 @@ impl<'a> Model for Finished<'a> {
 
     ghost view = { λ finished. record { core = finished.core; order = finished.order.items } };
 
-    ghost invariant = { λ finished. IsFinished finished.core.jobs (past_of finished.core) × (finished.order.items ≡ placement_order finished.core.tree finished.core.jobs (past_of finished.core)) × IsEachOnce finished.order.items (length finished.core.jobs) × IsSerialBy finished.order.items finished.core.jobs finished.core.opening (past_of finished.core) };
+    ghost invariant = { λ finished. IsFinished finished.core.jobs (past_of finished.core) × (finished.order.items ≡ placement_order finished.core.tree finished.core.jobs (past_of finished.core)) × IsEachOnce finished.order.items (length finished.core.jobs) × IsSerialBy finished.order.items finished.core.jobs finished.core.opening (past_of finished.core) × (length finished.order.items ≤ 256) };
 }
 
 impl<'a> Finished<'a> {
@@ -34,6 +37,7 @@ impl<'a> Finished<'a> {
         requires finished { IsFinished core.jobs (past_of core) }
         requires order { order.items ≡ placement_order core.tree core.jobs (past_of core) }
         requires once { IsEachOnce order.items (length core.jobs) }
+        requires few { length order.items ≤ 256 }
         requires serial { IsSerialBy order.items core.jobs core.opening (past_of core) }
         ensures core { result.core ≡ core.entry }
         ensures order { result.order ≡ order.items }
@@ -55,7 +59,20 @@ impl<'a> Finished<'a> {
         ensures order { result.now ≡ self.now.order }
         ensures placement { self.now.order ≡ placement_order self.now.core.tree self.now.core.jobs (past_of self.now.core) }
         ensures once { IsEachOnce self.now.order (length self.now.core.jobs) }
+        ensures few { length self.now.order ≤ 256 }
     {
         &self.order
+    }
+
+    /// For each job its place in the order.
+    pub fn places(&self, alloc: Global) -> Result<Vec<u32>, NoMemory>
+        ensures { IfOk result (λ places. ArePlaces self.now.order (length self.now.core.jobs) places.items) }
+    {
+        let order = self.order();
+        let mut places = vec![in alloc; 0; self.core().jobs().len()]?;
+        for (place, txn) in order.iter().enumerate() {
+            places[*txn as usize] = place as u32;
+        }
+        Ok(places)
     }
 }

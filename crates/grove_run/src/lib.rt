@@ -14,4 +14,6 @@ mod fault;
 mod finished;
 mod register;
 mod steps;
+#[cfg(test)]
+mod tests;
 mod working;
