@@ -1,4 +1,8 @@
 ghost use Rattle.std.specs.Prelude.{◌≡◌, ◌≤◌, length, IfOk, IfErr};
+ghost use Rattle.grove_core.specs.Runs.{IsFinished};
+ghost use Rattle.grove_core.specs.Orders.{placement_order};
+ghost use Rattle.grove_core.specs.Laws.{IsEachOnce, IsSerialBy};
+ghost use Rattle.grove_core.specs.Kept.{past_of};
 ghost use Rattle.grove_core.specs.Openings.{AllFit};
 ghost use Rattle.grove_run.specs.Runs.{IsRunFault, IsCoreOf};
 
@@ -28,7 +32,11 @@ pub fn run_batch<'a, R: Threads + Wait + Sync, G: Gate + Sync>(
     requires lists { AllFit tree.now jobs.now }
     requires records { length records.now ≡ length tree.now }
     requires few { length jobs.now ≤ 256 }
-    ensures finished { IfOk result (λ finished. IsCoreOf tree.now jobs.now records.now finished.core) }
+    ensures batch { IfOk result (λ finished. IsCoreOf tree.now jobs.now records.now finished.core) }
+    ensures ended { IfOk result (λ finished. IsFinished finished.core.jobs (past_of finished.core)) }
+    ensures order { IfOk result (λ finished. finished.order ≡ placement_order finished.core.tree finished.core.jobs (past_of finished.core)) }
+    ensures once { IfOk result (λ finished. IsEachOnce finished.order (length finished.core.jobs)) }
+    ensures serial { IfOk result (λ finished. IsSerialBy finished.order finished.core.jobs finished.core.opening (past_of finished.core)) }
     ensures fault { IfErr result (λ fault. IsRunFault tree.now jobs.now fault) }
 {
     run_as::<Brand, R, G>(rt, alloc, tree, records, jobs, workers, gate)
@@ -49,7 +57,11 @@ fn run_as<'a, B: Batch + Send + Sync, R: Threads + Wait + Sync, G: Gate + Sync>(
     requires tree { tree.now ≡ B.tree }
     requires jobs { jobs.now ≡ B.jobs }
     requires opening { records.now ≡ B.opening }
-    ensures finished { IfOk result (λ finished. IsCoreOf B.tree B.jobs B.opening finished.core) }
+    ensures batch { IfOk result (λ finished. IsCoreOf B.tree B.jobs B.opening finished.core) }
+    ensures ended { IfOk result (λ finished. IsFinished finished.core.jobs (past_of finished.core)) }
+    ensures order { IfOk result (λ finished. finished.order ≡ placement_order finished.core.tree finished.core.jobs (past_of finished.core)) }
+    ensures once { IfOk result (λ finished. IsEachOnce finished.order (length finished.core.jobs)) }
+    ensures serial { IfOk result (λ finished. IsSerialBy finished.order finished.core.jobs finished.core.opening (past_of finished.core)) }
     ensures fault { IfErr result (λ fault. IsRunFault tree.now jobs.now fault) }
 {
     let core = Core::open(alloc, tree, records, jobs)?;
