@@ -1,4 +1,4 @@
--- The network of a list's nodes: arcs and needs in the rows' order, and the flow's rows read back from amounts in
+-- For the proofs alone: the network of a list's nodes: arcs and needs in the rows' order, and the flow's rows read back from amounts in
 -- that order.
 use Rattle.std.specs.Prelude.{◌≡◌, ℕ, ◌<◌, ◌≤◌, length, slice_get, map, ◌+◌, ◌*◌, suc, List, [], ◌∷◌, ◌++◌, slice_index, Option, Some, None, ℤ, pos, neg_ℤ, int_lt, ◌==◌, if◌then◌else◌}
 use borrow.Author.Differences.{up}

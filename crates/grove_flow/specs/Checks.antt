@@ -1,4 +1,4 @@
--- What a test of a solution adds up. It serves the proof of `is_solution` alone.
+-- For the proofs alone (of `is_solution`): what a test of a solution adds up.
 use Rattle.std.specs.Prelude.{◌≡◌, ℕ, ◌<◌, ◌≤◌, List, length, slice_index, ℤ, pos, ◌+ℤ◌}
 use Rattle.grove_flow.specs.declared.network.Arc.{Arc}
 use Rattle.grove_flow.specs.Flows.{amount_in, amount_out}

@@ -1,4 +1,4 @@
--- The arcs at a variable, from the last of them back. It serves the proof of `solve` alone.
+-- For the proofs alone (of `solve`): the arcs at a variable, from the last of them back.
 use Rattle.std.specs.Prelude.{◌≡◌, ◌≢◌, ℕ, ◌<◌, List, length, slice_index_or, Option, None, MatchOption}
 use Rattle.grove_flow.specs.declared.network.Arc.{Arc}
 use Rattle.grove_flow.specs.declared.network.Network.{Network}

@@ -1,4 +1,4 @@
--- Places that are lowered from the top until each arc is lawful. It serves the proof of `latest` alone.
+-- For the proofs alone (of `latest`): places that are lowered from the top until each arc is lawful.
 use Rattle.std.specs.Prelude.{◌≡◌, ℕ, suc, ◌+◌, ◌-◌, ◌<◌, List, length, slice_set, ℤ, pos, negsuc, ◌≤ℤ◌, ◌<ℤ◌}
 use Rattle.std.specs.List.{sum_by}
 use borrow.Author.Differences.{up, down}

@@ -1,4 +1,4 @@
--- What stands in a queue. It serves the proof of `solve` alone.
+-- For the proofs alone (of `solve`): what stands in a queue.
 use Rattle.std.specs.Prelude.{◌≢◌, ℕ, ◌<◌, map, length}
 use Rattle.std.specs.BinaryHeap.{heap_items, heap_len}
 use Rattle.std.specs.List.{Contains}

@@ -1,4 +1,4 @@
--- What is reached in a search, and how. It serves the proof of `solve` alone.
+-- For the proofs alone (of `solve`): what is reached in a search, and how.
 use Rattle.std.specs.Prelude.{◌≡◌, ◌≢◌, ℕ, zero, suc, ◌+◌, ◌-◌, ◌*◌, ◌<◌, ◌≤◌, min, ◌⊎◌, List, length, slice_index, slice_set, ℤ, pos, ◌+ℤ◌, ◌≤ℤ◌}
 use Rattle.std.specs.List.{sum_by}
 use Rattle.grove_flow.specs.declared.network.Arc.{Arc}

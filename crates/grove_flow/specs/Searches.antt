@@ -1,4 +1,4 @@
--- What a search keeps. It serves the proof of `solve` alone.
+-- For the proofs alone (of `solve`): what a search keeps.
 use Rattle.std.specs.Prelude.{◌≡◌, ℕ, List, length, slice_index, ℤ}
 use Rattle.grove_flow.specs.declared.network.Network.{Network}
 use Rattle.grove_flow.specs.declared.search.Search.{Search}

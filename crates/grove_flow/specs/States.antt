@@ -1,4 +1,4 @@
--- What holds of amounts and places while they are searched for. It serves the proof of `solve` alone.
+-- For the proofs alone (of `solve`): what holds of amounts and places while they are searched for.
 use Rattle.std.specs.Prelude.{◌≡◌, ℕ, zero, suc, ◌+◌, ◌-◌, ◌<◌, ◌≤◌, ◌==◌, cond, List, length, slice_index, ℤ, pos, negsuc, ◌+ℤ◌, ◌≤ℤ◌}
 use borrow.Author.Differences.{down}
 use Rattle.grove_tree.specs.Numbers.{sum_below}

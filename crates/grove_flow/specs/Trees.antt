@@ -1,4 +1,4 @@
--- The tree of what a search has reached, and the arcs that lead on from it. The places stand still while the search
+-- For the proofs alone: the tree of what a search has reached, and the arcs that lead on from it. The places stand still while the search
 -- runs. It serves the proof of `solve` alone.
 use Rattle.std.specs.Prelude.{◌≡◌, ℕ, ◌<◌, ◌≤◌, ◌⊎◌, List, length, slice_index, ℤ, pos, ◌+ℤ◌}
 use Rattle.grove_flow.specs.declared.network.Arc.{Arc}

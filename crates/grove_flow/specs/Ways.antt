@@ -1,4 +1,4 @@
--- The order in which a sweep looks at the arcs. It serves the proof of `latest` alone.
+-- For the proofs alone (of `latest`): the order in which a sweep looks at the arcs.
 use Rattle.std.specs.Prelude.{ℕ, ◌-◌}
 use Rattle.grove_flow.specs.declared.settling.Way.{Way}
 use Rattle.grove_flow.specs.declared.settling.Way.TheVariants.{Forward, Backward}

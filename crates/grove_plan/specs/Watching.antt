@@ -1,4 +1,4 @@
--- What is known of a plan before the step at a place, as it is followed step by step.
+-- For the proofs alone: what is known of a plan before the step at a place, as it is followed step by step.
 use Rattle.std.specs.Prelude.{◌≡◌, ℕ, ◌*◌, ◌<◌, ◌≤◌, Bool, true, false, List, Option, Some, None, length, slice_get, slice_index_or, if◌then◌else◌}
 use Rattle.grove_tree.specs.Numbers.{any_below, sum_below, least_below}
 use Rattle.grove_tree.specs.Trees.{Rows, weight_of}

@@ -1,4 +1,4 @@
--- A ledger whose tables say what they are to say.
+-- For the proofs alone: a ledger whose tables say what they are to say.
 use Rattle.grove_access.specs.Lists.{nodes_of}
 use Rattle.grove_proof.specs.declared.ledger.Ledger.{Ledger}
 use Rattle.grove_proof.specs.Tables.{IsLedger}

@@ -1,4 +1,4 @@
--- What the tables say while a span is found. No public contract cites this.
+-- For the proofs alone: what the tables say while a span is found.
 use Rattle.std.specs.Prelude.{◌≡◌, ℕ, ◌-◌, ◌⊎◌, Bool, true, List, slice_get, Option, Some, None, if◌then◌else◌}
 use Rattle.grove_tree.specs.Numbers.{any_below, least_below, last_below}
 use Rattle.grove_tree.specs.Trees.{Rows, IsAbove}

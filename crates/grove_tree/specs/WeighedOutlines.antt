@@ -1,4 +1,4 @@
--- Outlines whose nodes get the weights that a rule gives.
+-- For the proofs alone: outlines whose nodes get the weights that a rule gives.
 use Rattle.std.specs.Prelude.{ℕ, ◌+◌, ◌<◌, ⊤, List, [], ◌∷◌, length}
 use Rattle.grove_tree.specs.Trees.{Rows, weight_of}
 use Rattle.grove_tree.specs.Outlines.{Under}
