@@ -2,16 +2,14 @@
 import re
 from dataclasses import dataclass, field
 
-import combs  # noqa: F401 (its makers join the others)
-from makers import MAKERS
+from case_text import BadCase, bytes_of
 
-MANNERS = {"bare", "escaped", "made"}
-COMPARISONS = {"has", "certified"}
-ESCAPES = {"n": b"\n", "r": b"\r", "t": b"\t", "\\": b"\\"}
-
-
-class BadCase(Exception):
-    """The file isn't in the form of a case."""
+COMPARISONS = {"has", "certified", "either"}
+# How a client sends: in pieces of so many bytes, each line once the one before is answered, or with no look at replies.
+HOWS = {"in-1", "in-7", "in-turn", "and-leaves"}
+# The sections that may stand more than once.
+MANY = {"talk", "sends", "replies"}
+SERVE = b"serve --tree tree.json --port PORT --workers 1".split()
 
 
 @dataclass
@@ -23,11 +21,22 @@ class Wanted:
 
 
 @dataclass
+class Connection:
+    """What a client sends, and what has to come back."""
+
+    sends: bytes
+    how: str = ""
+    replies: bytes = b""
+
+
+@dataclass
 class Case:
     words: list[bytes] = field(default_factory=list)
     input: bytes = b""
     files: dict[str, bytes] = field(default_factory=dict)
     folders: list[str] = field(default_factory=list)
+    connections: list[Connection] = field(default_factory=list)
+    is_port_taken: bool = False
     status: int | None = None
     output: Wanted = field(default_factory=Wanted)
     errors: Wanted = field(default_factory=Wanted)
@@ -44,12 +53,12 @@ def read_case(path):
         heading, _, body = section.partition("\n")
         kind, *rest = heading.split(" ")
         key = (kind, rest[0]) if kind in ("file", "folder") and rest else kind
-        if key in seen:
+        if key in seen - MANY:
             raise BadCase(f"two sections {heading}")
         seen.add(key)
         add_section(case, kind, rest, body)
-    if case.status is None:
-        raise BadCase("no status")
+    if (case.status is None) == (not case.connections):
+        raise BadCase("it has a status, unless it has connections")
     return case
 
 
@@ -62,6 +71,14 @@ def add_section(case, kind, rest, body):
         case.files[rest[0]] = bytes_of(body, rest[1:])
     elif kind == "folder" and len(rest) == 1:
         case.folders.append(rest[0])
+    elif kind == "tree":
+        case.words = case.words or SERVE
+        case.files["tree.json"] = bytes_of(body, rest)
+    elif kind in ("talk", "sends", "replies"):
+        add_connection(case, kind, [manner for manner in rest if manner not in HOWS], body)
+        case.connections[-1].how = "".join(manner for manner in rest if manner in HOWS) or case.connections[-1].how
+    elif kind == "taken" and not body:
+        case.is_port_taken = True
     elif kind == "status" and not rest:
         case.status = int(body)
     elif kind == "output":
@@ -74,54 +91,23 @@ def add_section(case, kind, rest, body):
         raise BadCase(f"no section is {' '.join([kind, *rest])}")
 
 
+def add_connection(case, kind, manners, body):
+    """A further connection, or the replies that the last one has to get. In a talk lines and replies stand in turn."""
+    if kind == "sends":
+        case.connections.append(Connection(bytes_of(body, manners)))
+    elif kind == "talk":
+        lines = [bytes_of(line + "\n", manners) for line in body.split("\n")[:-1]]
+        lines = [line.removesuffix(b"\n") + b"\n" for line in lines]
+        case.connections.append(Connection(b"".join(lines[::2]), "", b"".join(lines[1::2])))
+    elif case.connections and not case.connections[-1].replies:
+        case.connections[-1].replies = bytes_of(body, manners)
+    else:
+        raise BadCase("there are replies to nothing")
+
+
 def wanted_of(body, manners):
     comparisons = [manner for manner in manners if manner in COMPARISONS]
     text = bytes_of(body, [manner for manner in manners if manner not in COMPARISONS])
     if len(comparisons) > 1 or not text:
         raise BadCase("a stream is compared in one manner, with some text")
     return Wanted(text, comparisons[0] if comparisons else "exact")
-
-
-def bytes_of(body, manners):
-    """The bytes that a section stands for: its lines, each with its line feed, unless a manner says otherwise."""
-    if len(manners) > 1 or not MANNERS.issuperset(manners):
-        raise BadCase(f"no section is written {' '.join(manners)}")
-    if "escaped" in manners:
-        return unescaped(body.replace("\n", ""))
-    if "made" in manners:
-        return made(body)
-    return (body.removesuffix("\n") if manners else body).encode()
-
-
-def unescaped(text):
-    """The text with what `\\n`, `\\r`, `\\t`, `\\\\` and `\\xHH` stand for in their places."""
-
-    def byte(match):
-        escape = match.group(1)
-        return ESCAPES.get(escape) or bytes.fromhex(escape[1:])
-
-    parts = re.split(r"(\\(?:[nrt\\]|x[0-9a-f]{2}))", text)
-    if any("\\" in part for part in parts[::2]):
-        raise BadCase("an escape that isn't known")
-    return b"".join(byte(re.fullmatch(r"\\(.*)", part)) if at % 2 else part.encode() for at, part in enumerate(parts))
-
-
-def made(body):
-    """The lines, where `= MAKER WORDS` stands for what a maker gives, and `= fill N` for blanks up to N bytes."""
-    pieces, size = [], None
-    for line in body.split("\n")[:-1]:
-        maker, _, rest = line.removeprefix("= ").partition(" ")
-        if not line.startswith("= "):
-            pieces.append(line.encode() + b"\n")
-        elif maker == "fill" and size is None:
-            place, size = len(pieces), int(rest)
-        elif maker in MAKERS:
-            pieces.append(MAKERS[maker](rest).encode())
-        else:
-            raise BadCase(f"no maker is {maker}")
-    if size is not None:
-        blanks = size - sum(map(len, pieces))
-        if blanks < 0:
-            raise BadCase(f"it has {-blanks} bytes more than are to be filled")
-        pieces.insert(place, b" " * blanks)
-    return b"".join(pieces)

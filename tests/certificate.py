@@ -1,75 +1,59 @@
-"""The rules of docs/CERTIFICATE.md, by themselves: is a document's flow a certificate of a cost?"""
+"""The rules of docs/CERTIFICATE.md, by themselves: what is the first one that a document's flow breaks?"""
+from tree import Tree, ends_of
+
 MOST = 2**40
 AMOUNTS = {"above", "held", "first", "last", "own"}
 
 
+def is_flow(flow):
+    """Is it written as flows are, each row with its node and its amounts and no more?"""
+    return isinstance(flow, list) and all(
+        isinstance(row, dict) and row.keys() == AMOUNTS | {"node"} and all(type(row[name]) is int for name in AMOUNTS)
+        for row in flow
+    )
+
+
 def fault_of_certificate(document, cost):
-    """What is wrong with the document's flow as a certificate of this cost, in words; `None` where it is one."""
-    parents = [row["parent"] for row in document["nodes"]]
-    weights = [row["weight"] for row in document["nodes"]]
-    paths = paths_of(document["nodes"])
-    accessed = [paths.index(access[1]) for access in document["list"]]
-    forced = forced_nodes(parents, accessed)
-    flow = document["flow"]
-    if [row["node"] for row in flow] != [paths[node] for node in forced]:
-        return "its rows aren't those of the forced nodes"
+    """The first fault of the document's flow as a certificate of this cost, as `check` tells it; `None` where it is one."""
+    tree, accesses, flow = Tree(document["nodes"]), document["list"], document["flow"]
+    forced = tree.forced(accesses)
+    wanted, found = [tree.paths[node] for node in forced], [row["node"] for row in flow]
+    if found != wanted:
+        return f"rows {next((i for i, (a, b) in enumerate(zip(found, wanted)) if a != b), min(len(found), len(wanted)))}"
     rows = dict(zip(forced, flow))
-    children = {node: [] for node in forced}
-    for node in forced[1:]:
-        children[parents[node]].append(rows[node])
-    for node, row in rows.items():
-        if row.keys() != AMOUNTS | {"node"} or not all(0 <= row[amount] <= MOST for amount in AMOUNTS):
-            return f"the amounts of {row['node']}"
-        fault = fault_of_row(row, weights[node], children[node], node == forced[0], node in accessed)
-        if fault:
-            return f"{fault} of {row['node']}"
-    ends = ends_of(document["list"])
-    bound = sum(bound_of(rows[node], node, accessed, ends) for node in rows)
-    return None if bound == cost else f"its bound is {bound}"
+    accessed = tree.accessed(accesses)
+    for name, is_well in RULES:
+        for number, node in enumerate(forced):
+            below = [rows[child] for child in forced[1:] if tree.parents[child] == node]
+            if not is_well(rows[node], below, tree.weights[node], number == 0, node in accessed):
+                return f"{name} {number}"
+    bound = sum(bound_of(rows[node], node, accessed, ends_of(accesses)) for node in rows)
+    return None if bound == cost else f"value {cost} {bound}"
 
 
-def paths_of(nodes):
-    paths = []
-    for row in nodes:
-        above = "" if row["parent"] in (None, 0) else paths[row["parent"]]
-        paths.append(f"{above}/{row['name']}")
-    return paths
+def has_its_signs(row, _below, _weight, is_top, is_accessed):
+    return not (is_top and (row["above"] or row["held"]) or not is_accessed and (row["first"] or row["last"]))
 
 
-def ways_up(parents, node):
-    """The node and those above it, itself first."""
-    way = [node]
-    while parents[way[-1]] is not None:
-        way.append(parents[way[-1]])
-    return way
+def is_small(row, _below, _weight, _is_top, _is_accessed):
+    return all(row[amount] <= MOST for amount in AMOUNTS)
 
 
-def forced_nodes(parents, accessed):
-    """The nodes above an accessed node and at or below the lowest one that is above them all, ascending."""
-    if not accessed:
-        return []
-    ways = [ways_up(parents, node) for node in set(accessed)]
-    above_all = set.intersection(*map(set, ways))
-    return sorted(set.union(*map(set, ways)) - above_all | {max(above_all)})
+def balances_its_lock(row, below, weight, _is_top, _is_accessed):
+    return row["above"] + weight == sum(child["above"] for child in below) + row["held"] + row["first"] + row["own"]
 
 
-def fault_of_row(row, weight, children, is_top, is_accessed):
-    if is_top and (row["above"] or row["held"]) or not is_accessed and (row["first"] or row["last"]):
-        return "the signs"
-    if row["above"] + weight != sum(child["above"] for child in children) + row["held"] + row["first"] + row["own"]:
-        return "the lock balance"
-    if sum(child["held"] for child in children) + row["last"] + row["own"] != weight:
-        return "the release balance"
-    return None
+def balances_its_release(row, below, weight, _is_top, _is_accessed):
+    return sum(child["held"] for child in below) + row["last"] + row["own"] == weight
 
 
-def ends_of(accesses):
-    """The numbers of slots before each access, and after the last one."""
-    ends = [0]
-    for access in accesses:
-        items = 2 if access[0] == "get" else 3
-        ends.append(ends[-1] + (access[items] if len(access) > items else 1))
-    return ends
+# Each is tried on all rows before the next one is.
+RULES = [
+    ("sign", has_its_signs),
+    ("too-big", is_small),
+    ("lock-balance", balances_its_lock),
+    ("release-balance", balances_its_release),
+]
 
 
 def bound_of(row, node, accessed, ends):

@@ -66,6 +66,13 @@ def counting(words):
 
 
 @maker
+def counting_alone(words):
+    """`counting_alone 3 5` is `[3],[4],[5]`."""
+    first, last = numbers(words)
+    return ",".join(f"[{number}]" for number in range(first, last + 1))
+
+
+@maker
 def access_steps(words):
     """`access_steps 2` is the steps that do the accesses 0 and 1."""
     return compact([["access", number] for number in range(int(words))])[1:-1]

@@ -7,7 +7,7 @@ import tempfile
 from dataclasses import dataclass
 from pathlib import Path
 
-from certificate import fault_of_certificate
+from certificate import fault_of_certificate, is_flow
 
 SHOWN = 72
 
@@ -39,11 +39,7 @@ def faults_of_run(program, case):
 def run(program, words, case, text):
     """The program's run on this input, in a folder with the case's files; `None` where it took too long."""
     with tempfile.TemporaryDirectory(prefix="grove-case-") as folder:
-        for name in case.folders:
-            (Path(folder) / name).mkdir(parents=True)
-        for name, content in case.files.items():
-            (Path(folder) / name).parent.mkdir(parents=True, exist_ok=True)
-            (Path(folder) / name).write_bytes(content)
+        lay_out(case, folder)
         pipe = subprocess.PIPE
         process = subprocess.Popen(
             [program, *words], stdin=pipe, stdout=pipe, stderr=pipe, cwd=folder, start_new_session=True
@@ -57,11 +53,22 @@ def run(program, words, case, text):
             return None
 
 
+def lay_out(case, folder):
+    """Puts the case's files and folders into the folder."""
+    for name in case.folders:
+        (Path(folder) / name).mkdir(parents=True)
+    for name, content in case.files.items():
+        (Path(folder) / name).parent.mkdir(parents=True, exist_ok=True)
+        (Path(folder) / name).write_bytes(content)
+
+
 def faults_of_stream(name, wanted, came):
     if is_as_wanted(wanted, came):
         return []
     if wanted.comparison == "has":
         return [f"{name}: wanted the lines {shown(wanted.text)}", f"{name}: came {shown(came)}"]
+    if wanted.comparison == "either":
+        return [f"{name}: wanted one of {len(texts_of(wanted))} texts", f"{name}: came {shown(came)}"]
     at = next((i for i, (a, b) in enumerate(zip(wanted.text, came)) if a != b), min(len(wanted.text), len(came)))
     start = max(0, at - SHOWN // 3)
     return [
@@ -76,7 +83,14 @@ def is_as_wanted(wanted, came):
         return came == wanted.text
     if wanted.comparison == "has":
         return set(wanted.text.splitlines()) <= set(came.splitlines())
+    if wanted.comparison == "either":
+        return came in texts_of(wanted)
     return came.startswith(wanted.text) and came != wanted.text
+
+
+def texts_of(wanted):
+    """The texts of which one has to come, which empty lines part."""
+    return [text.rstrip(b"\n") + b"\n" for text in wanted.text.split(b"\n\n")]
 
 
 def shown(text):
@@ -96,7 +110,7 @@ def faults_of_certified(program, case, line):
     cost, plan = [part.split(b" ", 1)[1] for part in case.output.text.splitlines()]
     document = json.loads(case.input or next(iter(case.files.values())))
     document |= {"plan": json.loads(plan), "flow": flow}
-    fault = fault_of_certificate(document, int(cost))
+    fault = fault_of_certificate(document, int(cost)) if is_flow(flow) else "it hasn't the form of one"
     if fault:
         return [f"the flow is no certificate: {fault}"]
     checked = run(program, [b"check"], case, json.dumps(document).encode())

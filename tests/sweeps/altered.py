@@ -1,17 +1,30 @@
-"""Altered certificates: each amount of a flow that `check` accepts, changed by one, is refused by its rule."""
+"""Altered certificates: each amount of a flow that `check` accepts changed, each row dropped, doubled and swapped: refused,
+by the first rule of docs/CERTIFICATE.md that it breaks, as tests/certificate.py works it out.
+
+All are asked as lines of a session, whose replies have the fault's name, and some by the command `check`, which tells its
+place too.
+"""
 
 from __future__ import annotations
 
 import json
 from functools import partial
+from random import Random
+from typing import Iterator
+
+from certificate import MOST, fault_of_certificate
+from server import Serving
+from store import compact, error
 
 from sweeps.answers import cost_of
 from sweeps.documents import put_back, seeded
 from sweeps.program import Ran, Tally, Try, run
 
-TRIED = "amounts of accepted flows changed by one"
-SEEDED = 100
+TRIED = "altered flows of accepted plans"
+SEEDED = 200
 AMOUNTS = ["above", "held", "first", "last", "own"]
+# Of each document so many are asked by the command.
+BY_COMMAND = 12
 
 
 def tries(program: str, _room: str) -> list[Try]:
@@ -25,34 +38,38 @@ def alter_each(program: str, seed: int, tally: Tally) -> None:
         tally.note("as made", f"wanted a plan; came {planned}")
         return
     document = json.loads(put_back(seeded(seed), planned.out))
-    accepted = check(program, document)
-    tally.blame("as planned", None if cost_of("check", accepted) == cost else f"wanted cost {cost}; came {accepted}")
-    for number, row in enumerate(document["flow"]):
+    flows = dict(altered(document["flow"]))
+    faults = {where: fault_of_certificate(document | {"flow": flow}, cost) for where, flow in flows.items()}
+    ask_all(program, document, cost, flows, faults, tally)
+    for where in Random(seed).sample(sorted(flows), min(BY_COMMAND, len(flows))):
+        ran = run(program, "check", text=json.dumps(document | {"flow": flows[where]}).encode())
+        tally.compare(f"{where}, by the command", ran, Ran(1, f"refused {faults[where]}\n".encode(), b""))
+
+
+def ask_all(program: str, document: dict, cost: int, flows: dict, faults: dict, tally: Tally) -> None:
+    """Asks for a check of the flow as it was planned, and of each that is altered."""
+    lines = [line_of(document, flow) for flow in (document["flow"], *flows.values())]
+    with Serving(program, json.dumps(document).encode()) as server:
+        accepted, *replies = server.talk(b"\n".join(lines)).split(b"\n")[:-1]
+    tally.blame("as planned", None if accepted == compact({"cost": cost}) else f"wanted cost {cost}; came {accepted!r}")
+    tally.blame("all", None if len(replies) == len(flows) else f"{len(flows)} lines have {len(replies)} replies")
+    for (where, fault), reply in zip(faults.items(), replies):
+        wanted = compact(error(fault.split(" ")[0])) if fault else "a fault"
+        tally.note(where, None if reply == wanted else f"wanted {wanted!r}; came {reply!r}")
+
+
+def line_of(document: dict, flow: list) -> bytes:
+    return compact({"check": {"list": document["list"], "plan": document["plan"], "flow": flow}})
+
+
+def altered(flow: list) -> Iterator[tuple[str, list]]:
+    """Flows that differ from this one in one amount or in one row, each with what it was altered in."""
+    for number, row in enumerate(flow):
+        before, after = flow[:number], flow[number + 1 :]
         for amount in AMOUNTS:
-            wanted = Ran(1, f"refused {fault_of(document, number, amount)}\n".encode(), b"")
-            for by in (-1, 1):
-                if row[amount] + by >= 0:
-                    ran = check(program, with_amount(document, number, amount, row[amount] + by))
-                    tally.compare(f"row {number}, {amount} {by:+}", ran, wanted)
-
-
-def with_amount(document: dict, number: int, amount: str, value: int) -> dict:
-    """The document with this amount in the row of this number."""
-    flow = [{**row, amount: value} if at == number else row for at, row in enumerate(document["flow"])]
-    return {**document, "flow": flow}
-
-
-def fault_of(document: dict, number: int, amount: str) -> str:
-    """The first rule that a certificate breaks where this amount alone, of the row of this number, isn't right."""
-    rows = [row["node"] for row in document["flow"]]
-    is_accessed = any(path == rows[number] for _, path, *_ in document["list"])
-    if number == 0 and amount in ("above", "held") or not is_accessed and amount in ("first", "last"):
-        return f"sign {number}"
-    if amount == "above":
-        # (the parent's balance at its lock counts it too, and is told first)
-        return f"lock-balance {rows.index(rows[number].rpartition('/')[0] or '/')}"
-    return f"release-balance {number}" if amount == "last" else f"lock-balance {number}"
-
-
-def check(program: str, document: dict) -> Ran:
-    return run(program, "check", text=json.dumps(document).encode())
+            for value in {row[amount] - 1, row[amount] + 1, 0, MOST} - {row[amount], -1}:
+                yield f"row {number}, {amount} {value}", [*before, {**row, amount: value}, *after]
+        yield f"row {number} dropped", before + after
+        yield f"row {number} doubled", [*before, row, row, *after]
+        if after:
+            yield f"rows {number} and {number + 1} swapped", [*before, after[0], row, *after[1:]]

@@ -42,7 +42,8 @@ def example(stored: Path) -> Asked:
     name, command = stored.stem.rsplit(".", 1)
     output = stored.read_bytes()
     status = 1 if output.startswith(b"refused ") else 0
-    return Asked(f"{command} {name}.json", (command,), (EXAMPLES / f"{name}.json").read_bytes(), status, output)
+    words = (command, "--workers", "1") if command == "run" else (command,)
+    return Asked(f"{command} {name}.json", words, (EXAMPLES / f"{name}.json").read_bytes(), status, output)
 
 
 def put_back(document: bytes, planned: bytes) -> bytes:

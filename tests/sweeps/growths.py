@@ -2,10 +2,12 @@
 
 from __future__ import annotations
 
+import contextlib
 import os
 import subprocess
 from functools import partial
 from pathlib import Path
+from typing import Iterator
 
 from sweeps.documents import EXAMPLES, Asked, certified_examples, examples, helped, refused, wrong_words
 from sweeps.program import MEMORY, Ran, Tally, Try, run
@@ -16,10 +18,16 @@ MOST_GROWTHS = 20_000
 
 
 def tries(program: str, room: str) -> list[Try]:
+    library = library_in(room)
+    return [Try(asked.name, partial(refuse_each, program, library, asked)) for asked in all_asked()]
+
+
+def library_in(room: str) -> str:
+    """Compiles what refuses a growth, to be preloaded."""
     library = f"{room}/refuse_growth.so"
     source = Path(__file__).with_name("refuse_growth.c")
     subprocess.run(["cc", "-O1", "-shared", "-fPIC", "-o", library, source], check=True, stdin=subprocess.DEVNULL)
-    return [Try(asked.name, partial(refuse_each, program, library, asked)) for asked in all_asked()]
+    return library
 
 
 def all_asked() -> list[Asked]:
@@ -35,7 +43,7 @@ def refuse_each(program: str, library: str, asked: Asked, tally: Tally) -> None:
         tally.blame("no growth refused", fault)
         return
     for number in range(1, MOST_GROWTHS + 1):
-        was_refused, ran = run_refusing(program, library, number, asked)
+        ran, was_refused = run_refusing(program, library, number, asked)
         if not was_refused:
             tally.blame("no growth of that number", None if ran == right else f"wanted {right}; came {ran}")
             return
@@ -44,14 +52,20 @@ def refuse_each(program: str, library: str, asked: Asked, tally: Tally) -> None:
     tally.blame(f"growth {MOST_GROWTHS} refused", "there are still more of them")
 
 
-def run_refusing(program: str, library: str, number: int, asked: Asked) -> tuple[bool, Ran]:
+def run_refusing(program: str, library: str, number: int, asked: Asked) -> tuple[Ran, bool]:
     """Runs the program with one growth refused, and tells whether there was one of that number."""
+    with refusing(library, number) as (how, ends):
+        return run(program, *asked.words, text=asked.text, **how), is_told(ends)
+
+
+@contextlib.contextmanager
+def refusing(library: str, number: int) -> Iterator[tuple[dict, int]]:
+    """How to start a program that is refused one growth, and the pipe on which that is told."""
     ends, tell = os.pipe()
     surroundings = {**os.environ, "LD_PRELOAD": library, "REFUSED_GROWTH": str(number), "REFUSED_TELL": str(tell)}
     try:
-        ran = run(program, *asked.words, text=asked.text, env=surroundings, pass_fds=(tell,))
         os.set_blocking(ends, False)
-        return is_told(ends), ran
+        yield {"env": surroundings, "pass_fds": (tell,)}, ends
     finally:
         os.close(ends)
         os.close(tell)

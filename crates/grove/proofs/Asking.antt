@@ -1,19 +1,21 @@
 -- Clap takes the words that are an order, and no others.
 use Rattle.std.proofs.Common.{◌≡◌, ◌≢◌, ◌∙◌, ap, refl, sym, subst, Bool, true, false, List, [], ◌∷◌, Option, Some, None, inl, inr, codes, length, fold}
 use Rattle.std.specs.Str.{bytes_eq}
-use Rattle.clap.specs.Words.{is_simple, is_simple_and_free, subcommand_of, Row, Shape, Text, fault_of, built}
+use Rattle.clap.specs.Words.{is_simple, is_simple_and_free, subcommand_of, Row, Rule, Shape, Text, fault_of, built}
 use Rattle.std.proofs.lemmas.Slice.Eq.{bytes_eq-Decides}
 use Rattle.clap.proofs.WalkLemmas.{walk_stopped}
 use Rattle.clap.specs.Simple.{entered, names_of}
 use Rattle.clap.specs.Walk.{subcommand_met, Names, walk, rows_after, Walk, idle, nothing_held, walked, walk_from, word_met, value}
-use Rattle.clap.specs.Faults.{word_fault, step_fault, entered_fault, turn_fault, walk_fault}
+use Rattle.clap.specs.Faults.{word_fault, step_fault, entered_fault, level_fault, turn_fault, walk_fault}
 use Rattle.clap.specs.Kinds.{Kinds}
 use Rattle.clap.proofs.OnLiterals.{clap_on_literals}
-use Rattle.grove.specs.CommandLines.{grove_command, hyphens, is_option, AreDocument, AskFor, word_of, name_of, text_of}
-use Rattle.grove.proofs.Words.{IsFaulty, or_faulty, or_later, not_none, top_rules, leaf_rules, top_long, top_short, IsOption, option_refused, HasNoFlag, no_flag, no_bundle, differs, Kind, hyphens_kind, option_kind, plain_kind, kind_of}
-use Rattle.grove.proofs.Documents.{document_in, leaf_fault, Reads, leaf_reads}
-use Rattle.grove.specs.declared.command_line.Order.{Order}
-use Rattle.grove.specs.declared.command_line.Order.TheVariants.{Judge}
+use Rattle.grove.specs.Answers.{command_named}
+use Rattle.grove.specs.CommandLines.{grove_command, hyphens, is_option, AreCommand, AreDocument, AreFor, AskFor, word_of, text_of}
+use Rattle.grove.proofs.Words.{IsFaulty, or_faulty, or_later, not_none, top_rules, leaf_rules, batch_rules, port_rules, top_long, top_short, IsOption, option_refused, HasNoFlag, no_flag, no_bundle, differs, Kind, hyphens_kind, option_kind, plain_kind, kind_of}
+use Rattle.grove.proofs.Documents.{document_in, leaf, batch_leaf, port_leaf, leaf_fault, Reads, leaf_reads}
+use Rattle.grove.specs.declared.order.Command.{Command}
+use Rattle.grove.specs.declared.order.Command.TheVariants.{Judge, Check, Plan, Run, Serve}
+use Rattle.grove.specs.declared.order.Order.{Order}
 
 -- clap's statements hold of this command line
 
@@ -39,52 +41,86 @@ at_command command = record { held = nothing_held; waiting = idle; position = 1;
 
 -- what the code makes of what clap found
 pub record IsFound (rows : Option (Text × List Row)) (found : Order) : Type 0 where
-  pub bare : rows ≡ None → found ≡ Judge None
-  pub judge : (below : List Row) → rows ≡ Some (codes "judge", below) → word_of found ≡ codes "judge"
-  pub check : (below : List Row) → rows ≡ Some (codes "check", below) → word_of found ≡ codes "check"
-  pub plan : (below : List Row) → rows ≡ Some (codes "plan", below) → word_of found ≡ codes "plan"
-  pub document : (word : Text) (below : List Row) → rows ≡ Some (word, below) → text_of (name_of found) ≡ document_in below
+  pub bare : rows ≡ None → (found.command ≡ Judge) × (found.document ≡ None)
+  pub command : (word : Text) (below : List Row) → rows ≡ Some (word, below) → found.command ≡ command_named word
+  pub document : (word : Text) (below : List Row) → rows ≡ Some (word, below) → text_of found.document ≡ document_in below
 
--- what clap makes of one of the commands, and then the code
-pub record IsOneOf (command : Text) : Type 0 where
-  pub met : walked top_rules names (walk_from nothing_held) command ≡ at_command command
-  pub turns : turn_fault top names (walk_from nothing_held) command ≡ []
-  pub enters : (rest : List Text) → entered (built grove_command) (Some (command, rest)) ≡ Some (command, rows_after leaf_rules [] rest)
-  pub fails : (rest : List Text) → entered_fault (built grove_command) (Some (command, rest)) ≡ leaf_fault command rest
-  pub named : (found : Order) (rows : Option (Text × List Row)) → IsFound rows found → (below : List Row) → rows ≡ Some (command, below) → word_of found ≡ command
+-- what clap reads the words after a command by
+abbrev pub shape_of : Command → Shape
+shape_of Run = batch_leaf (word_of Run)
+shape_of Serve = port_leaf (word_of Serve)
+shape_of command = leaf (word_of command)
 
-pub judge_is : IsOneOf (codes "judge")
+abbrev pub rules_of : Command → List Rule
+rules_of Run = batch_rules
+rules_of Serve = port_rules
+rules_of command = leaf_rules
+
+abbrev pub below_fault : Command → List Text → Kinds
+below_fault command rest = level_fault (shape_of command) [] nothing_held rest false []
+
+-- what clap makes of a command's word, and then the code
+pub record IsOneOf (command : Command) : Type 0 where
+  pub met : walked top_rules names (walk_from nothing_held) (word_of command) ≡ at_command (word_of command)
+  pub turns : turn_fault top names (walk_from nothing_held) (word_of command) ≡ []
+  pub enters : (rest : List Text) → entered (built grove_command) (Some (word_of command, rest)) ≡ Some (word_of command, rows_after (rules_of command) [] rest)
+  pub fails : (rest : List Text) → entered_fault (built grove_command) (Some (word_of command, rest)) ≡ below_fault command rest
+  pub named : command_named (word_of command) ≡ command
+
+pub is_one_of : (command : Command) → IsOneOf command
 unfolding clap_on_literals
-judge_is = record { met = refl; turns = refl; enters = λ rest. refl; fails = λ rest. refl; named = λ found rows is below at. is.judge below at }
+is_one_of Judge = record { met = refl; turns = refl; enters = λ rest. refl; fails = λ rest. refl; named = refl }
+is_one_of Check = record { met = refl; turns = refl; enters = λ rest. refl; fails = λ rest. refl; named = refl }
+is_one_of Plan = record { met = refl; turns = refl; enters = λ rest. refl; fails = λ rest. refl; named = refl }
+is_one_of Run = record { met = refl; turns = refl; enters = λ rest. refl; fails = λ rest. refl; named = refl }
+is_one_of Serve = record { met = refl; turns = refl; enters = λ rest. refl; fails = λ rest. refl; named = refl }
 
-pub check_is : IsOneOf (codes "check")
-unfolding clap_on_literals
-check_is = record { met = refl; turns = refl; enters = λ rest. refl; fails = λ rest. refl; named = λ found rows is below at. is.check below at }
-
-pub plan_is : IsOneOf (codes "plan")
-unfolding clap_on_literals
-plan_is = record { met = refl; turns = refl; enters = λ rest. refl; fails = λ rest. refl; named = λ found rows is below at. is.plan below at }
-
-module _ (command : Text) (is : IsOneOf command) (rest : List Text) where
-  stop_is : (walk top_rules names nothing_held (command ∷ rest)).stopped ≡ Some (command, rest)
+module _ (command : Command) (rest : List Text) where
+  stop_is : (walk top_rules names nothing_held (word_of command ∷ rest)).stopped ≡ Some (word_of command, rest)
   stop_is =
-      ap (λ (w : Walk). (fold (walked top_rules names) w rest).stopped) is.met
-      ∙ ap (λ (w : Walk). w.stopped) (sym (walk_stopped top_rules names (walk_from nothing_held) command [] rest))
+      ap (λ (w : Walk). (fold (walked top_rules names) w rest).stopped) (is_one_of command).met
+      ∙ ap (λ (w : Walk). w.stopped) (sym (walk_stopped top_rules names (walk_from nothing_held) (word_of command) [] rest))
 
-  rows_are : subcommand_of grove_command (command ∷ rest) ≡ Some (command, rows_after leaf_rules [] rest)
-  rows_are = ap (entered (built grove_command)) stop_is ∙ is.enters rest
+  pub rows_are : subcommand_of grove_command (word_of command ∷ rest) ≡ Some (word_of command, rows_after (rules_of command) [] rest)
+  rows_are = ap (entered (built grove_command)) stop_is ∙ (is_one_of command).enters rest
 
-  fault_below : IsFaulty (leaf_fault command rest) → IsFaulty (fault_of grove_command (command ∷ rest))
+  fault_below : IsFaulty (below_fault command rest) → IsFaulty (fault_of grove_command (word_of command ∷ rest))
   fault_below faulty =
-      let stop = (walk top_rules names nothing_held (command ∷ rest)).stopped in
-      let below : IsFaulty (entered_fault (built grove_command) stop) = rw stop_is (rw (is.fails rest) faulty) in
-      or_later (walk_fault (built grove_command).top names (walk_from nothing_held) (command ∷ rest)) _ (or_faulty (entered_fault (built grove_command) stop) _ below)
+      let stop = (walk top_rules names nothing_held (word_of command ∷ rest)).stopped in
+      let below : IsFaulty (entered_fault (built grove_command) stop) = rw stop_is (rw ((is_one_of command).fails rest) faulty) in
+      or_later (walk_fault (built grove_command).top names (walk_from nothing_held) (word_of command ∷ rest)) _ (or_faulty (entered_fault (built grove_command) stop) _ below)
+
+  none_below : fault_of grove_command (word_of command ∷ rest) ≡ [] → below_fault command rest ≡ []
+  none_below taken = by_kinds (below_fault command rest) refl
+    where
+      by_kinds : (kinds : Kinds) → below_fault command rest ≡ kinds → below_fault command rest ≡ []
+      by_kinds [] none = none
+      by_kinds (k ∷ ks) some = absurd (not_none (fault_of grove_command (word_of command ∷ rest)) (fault_below (subst IsFaulty (sym some) tt)) taken)
+
+-- what a word is at the top: a command's, `help`, or neither
+data Which (word : Text) : Type 0 where
+  a_command : (command : Command) → word ≡ word_of command → Which word
+  a_help : word ≡ codes "help" → Which word
+  neither : subcommand_met names idle word ≡ None → Which word
+
+by_word : (name word : Text) → (word ≡ name → Which word) → (bytes_eq name word ≡ false → Which word) → Which word
+by_word name word same other = by_bool (bytes_eq name word) refl
+  where
+    by_bool : (b : Bool) → bytes_eq name word ≡ b → Which word
+    by_bool true is = same (sym ((bytes_eq-Decides name word).0 is))
+    by_bool false is = other is
+
+which : (word : Text) → Which word
+which word =
+    by_word (codes "judge") word (a_command Judge) (λ judge.
+    by_word (codes "check") word (a_command Check) (λ check.
+    by_word (codes "plan") word (a_command Plan) (λ plan.
+    by_word (codes "run") word (a_command Run) (λ run.
+    by_word (codes "serve") word (a_command Serve) (λ serve.
+    by_word (codes "help") word a_help (λ help.
+    neither (rw (judge, check, plan, run, serve, help) refl)))))))
 
 -- a word that is no command
-
-none_met : (word : Text) → bytes_eq (codes "judge") word ≡ false → bytes_eq (codes "check") word ≡ false → bytes_eq (codes "plan") word ≡ false → bytes_eq (codes "help") word ≡ false
-    → subcommand_met names idle word ≡ None
-none_met word judge check plan help = rw (judge, check, plan, help) refl
 
 top_met_plain : (word : Text) → subcommand_met names idle word ≡ None → word ≢ hyphens → HasNoFlag word
     → word_met top_rules names false idle 1 word nothing_held ≡ (nothing_held, value)
@@ -114,11 +150,11 @@ hyphens_more : (word : Text) (rest : List Text) → IsFaulty (fault_of grove_com
 unfolding clap_on_literals
 hyphens_more word rest = tt
 
-no_command_found : subcommand_of grove_command [] ≡ None
+pub no_command_found : subcommand_of grove_command [] ≡ None
 unfolding clap_on_literals
 no_command_found = refl
 
-hyphens_found : subcommand_of grove_command (hyphens ∷ []) ≡ None
+pub hyphens_found : subcommand_of grove_command (hyphens ∷ []) ≡ None
 unfolding clap_on_literals
 hyphens_found = refl
 
@@ -129,31 +165,41 @@ abbrev IsReadLine : List Text → Type 0
 IsReadLine words = (found : Order) → IsFound (subcommand_of grove_command words) found → AskFor words found
 
 bare_reads : (words : List Text) → AreDocument words None → subcommand_of grove_command words ≡ None → IsReadLine words
-bare_reads words are none found is = inr (are, is.bare none)
+bare_reads words are none found is = inr (are, (is.bare none).0, (is.bare none).1)
 
-asks_by : (command : Text) (rest : List Text) (document : Option Text) (found : Order) → AreDocument rest document → word_of found ≡ command → text_of (name_of found) ≡ document → AskFor (command ∷ rest) found
-asks_by command rest document found are word name =
-    inl (rest, ap (λ w. w ∷ rest) (sym word), subst (AreDocument rest) (sym name) are)
+-- a command with nothing after it but a document
+document_reads : (command : Command) (rest : List Text) → shape_of command ≡ leaf (word_of command) → rules_of command ≡ leaf_rules
+    → fault_of grove_command (word_of command ∷ rest) ≡ [] → (found : Order) → IsFound (subcommand_of grove_command (word_of command ∷ rest)) found
+    → AreCommand (word_of command) (word_of command ∷ rest) (text_of found.document)
+document_reads command rest shape rules taken found is =
+    let none : leaf_fault (word_of command) rest ≡ [] = ap (λ s. level_fault s [] nothing_held rest false []) (sym shape) ∙ none_below command rest taken in
+    let read : Reads rest = leaf_reads (word_of command) rest none in
+    let name : text_of found.document ≡ read.0 =
+    is.document (word_of command) (rows_after (rules_of command) [] rest) (rows_are command rest) ∙ ap (λ r. document_in (rows_after r [] rest)) rules ∙ read.2 in
+    (rest, refl, subst (AreDocument rest) (sym name) read.1)
 
-command_reads : (command : Text) (rest : List Text) → IsOneOf command → fault_of grove_command (command ∷ rest) ≡ [] → IsReadLine (command ∷ rest)
-command_reads command rest is taken found found_is = with_kinds (leaf_fault command rest) refl
-  where
-    with_kinds : (kinds : Kinds) → leaf_fault command rest ≡ kinds → AskFor (command ∷ rest) found
-    with_kinds [] none =
-        let read : Reads rest = leaf_reads command rest none in
-        asks_by command rest read.0 found read.1 (is.named found (subcommand_of grove_command (command ∷ rest)) found_is (rows_after leaf_rules [] rest) (rows_are command is rest))
-        (found_is.document command (rows_after leaf_rules [] rest) (rows_are command is rest) ∙ read.2)
-    with_kinds (k ∷ ks) some = absurd (not_none (fault_of grove_command (command ∷ rest)) (fault_below command is rest (subst IsFaulty (sym some) tt)) taken)
+-- the words after a command that are taken name the command's document
+names_document : (command : Command) (rest : List Text) → fault_of grove_command (word_of command ∷ rest) ≡ []
+    → (found : Order) → IsFound (subcommand_of grove_command (word_of command ∷ rest)) found → AreFor command (word_of command ∷ rest) (text_of found.document)
+names_document Judge rest taken found is = document_reads Judge rest refl refl taken found is
+names_document Check rest taken found is = document_reads Check rest refl refl taken found is
+names_document Plan rest taken found is = document_reads Plan rest refl refl taken found is
+names_document Run rest taken found is =
+    (taken, rows_after batch_rules [] rest, rows_are Run rest, sym (is.document (word_of Run) (rows_after batch_rules [] rest) (rows_are Run rest)))
+names_document Serve rest taken found is =
+    (taken, rows_after port_rules [] rest, rows_are Serve rest, sym (is.document (word_of Serve) (rows_after port_rules [] rest) (rows_are Serve rest)))
+
+command_reads : (command : Command) (rest : List Text) → fault_of grove_command (word_of command ∷ rest) ≡ [] → IsReadLine (word_of command ∷ rest)
+command_reads command rest taken found is =
+    let same : found.command ≡ command = is.command (word_of command) (rows_after (rules_of command) [] rest) (rows_are command rest) ∙ (is_one_of command).named in
+    inl (subst (λ c. AreFor c (word_of command ∷ rest) (text_of found.document)) (sym same) (names_document command rest taken found is))
 
 pub line_reads : (words : List Text) → fault_of grove_command words ≡ [] → IsReadLine words
 line_reads [] taken = bare_reads [] (inl refl) no_command_found
-line_reads (word ∷ rest) taken = by_judge (bytes_eq (codes "judge") word) refl
+line_reads (word ∷ rest) taken = by_which (which word)
   where
     refused : IsFaulty (fault_of grove_command (word ∷ rest)) → IsReadLine (word ∷ rest)
     refused faulty = absurd (not_none (fault_of grove_command (word ∷ rest)) faulty taken)
-
-    same : (command : Text) → bytes_eq command word ≡ true → command ≡ word
-    same command is = (bytes_eq-Decides command word).0 is
 
     by_hyphens : (others : List Text) → rest ≡ others → word ≡ hyphens → IsReadLine (word ∷ rest)
     by_hyphens [] none is = subst IsReadLine (ap (λ xs. word ∷ xs) (sym none)) (subst (λ w. IsReadLine (w ∷ [])) (sym is) (bare_reads (hyphens ∷ []) (inr refl) hyphens_found))
@@ -165,22 +211,8 @@ line_reads (word ∷ rest) taken = by_judge (bytes_eq (codes "judge") word) refl
     by_kind none (option_kind other is) = refused (top_option word rest none other is)
     by_kind none (plain_kind other is) = refused (top_plain word rest none other is)
 
-    by_help : bytes_eq (codes "judge") word ≡ false → bytes_eq (codes "check") word ≡ false → bytes_eq (codes "plan") word ≡ false → (b : Bool) → bytes_eq (codes "help") word ≡ b → IsReadLine (word ∷ rest)
-    by_help judge check plan true is = refused (subst (λ w. IsFaulty (fault_of grove_command (w ∷ rest))) (same (codes "help") is) (help_then rest))
-    by_help judge check plan false is = by_kind (none_met word judge check plan is) (kind_of word)
-
-    from_command : (command : Text) → IsOneOf command → command ≡ word → IsReadLine (word ∷ rest)
-    from_command command is at =
-        subst (λ w. IsReadLine (w ∷ rest)) at (command_reads command rest is (subst (λ w. fault_of grove_command (w ∷ rest) ≡ []) (sym at) taken))
-
-    by_plan : bytes_eq (codes "judge") word ≡ false → bytes_eq (codes "check") word ≡ false → (b : Bool) → bytes_eq (codes "plan") word ≡ b → IsReadLine (word ∷ rest)
-    by_plan judge check true is = from_command (codes "plan") plan_is (same (codes "plan") is)
-    by_plan judge check false is = by_help judge check is (bytes_eq (codes "help") word) refl
-
-    by_check : bytes_eq (codes "judge") word ≡ false → (b : Bool) → bytes_eq (codes "check") word ≡ b → IsReadLine (word ∷ rest)
-    by_check judge true is = from_command (codes "check") check_is (same (codes "check") is)
-    by_check judge false is = by_plan judge is (bytes_eq (codes "plan") word) refl
-
-    by_judge : (b : Bool) → bytes_eq (codes "judge") word ≡ b → IsReadLine (word ∷ rest)
-    by_judge true is = from_command (codes "judge") judge_is (same (codes "judge") is)
-    by_judge false is = by_check is (bytes_eq (codes "check") word) refl
+    by_which : Which word → IsReadLine (word ∷ rest)
+    by_which (a_command command is) =
+        subst (λ w. IsReadLine (w ∷ rest)) (sym is) (command_reads command rest (subst (λ w. fault_of grove_command (w ∷ rest) ≡ []) is taken))
+    by_which (a_help is) = refused (subst (λ w. IsFaulty (fault_of grove_command (w ∷ rest))) (sym is) (help_then rest))
+    by_which (neither none) = by_kind none (kind_of word)

@@ -1,8 +1,8 @@
 -- The node that a plan's fault names is a node of the tree.
 use Rattle.std.proofs.Common.{◌≡◌, ◌≢◌, ℕ, zero, suc, Bool, true, false, cond, List, length, slice_get, Option, Some, None, refl, subst, IfSome}
-use Rattle.grove_tree.specs.Numbers.{least_below}
+use Rattle.grove_base.specs.Numbers.{least_below}
 use Rattle.grove_tree.specs.Trees.{Rows}
-use Rattle.grove_tree.proofs.Counting.{least_is}
+use Rattle.grove_base.proofs.Counting.{least_is}
 use Rattle.grove_plan.specs.declared.step.Step.{Step}
 use Rattle.grove_plan.specs.declared.step.Step.TheVariants.{Lock, Unlock, Access}
 use Rattle.grove_plan.specs.declared.fault.PlanFault.{PlanFault}

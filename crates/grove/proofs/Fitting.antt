@@ -1,11 +1,11 @@
 -- What is written or told of a tree names nodes of it.
 use Rattle.std.proofs.Common.{◌≢◌, ℕ, List}
 use Rattle.grove_tree.specs.Trees.{Rows}
-use Rattle.grove_tree.proofs.Lists.{get_map}
+use Rattle.grove_base.proofs.Lists.{get_map}
 use Rattle.grove_plan.specs.declared.step.Step.{Step}
 use Rattle.grove_plan.specs.declared.step.Step.TheVariants.{Lock, Unlock, Access}
 use Rattle.grove_plan.specs.Plans.{IsLeast, IsLockedBy}
-use Rattle.grove_plan.proofs.Holding.{HeldAt, held_at}
+use Rattle.grove_plan.proofs.Held.{HeldAt, held_at}
 use Rattle.grove_proof.specs.declared.flow.FlowRow.{FlowRow}
 use Rattle.grove_proof.specs.declared.fault.ProofFault.{ProofFault}
 use Rattle.grove_proof.specs.declared.fault.ProofFault.TheVariants as proof

@@ -7,3 +7,5 @@ pub mod Saying
 pub mod Printing
 pub mod Records
 pub mod Fitting
+pub mod Batches
+pub mod Ports

@@ -1,9 +1,9 @@
 -- Words that are an order are taken by clap, and are no second order.
-use Rattle.std.proofs.Common.{arith, ◌<◌, ◌≡◌, ◌≢◌, ◌∙◌, ℕ, ap, refl, sym, subst, false, List, [], ◌∷◌, length, Option, Some, None, inl, inr, codes, ◌⊎◌, Result, fold}
+use Rattle.std.proofs.Common.{◌≡◌, ◌≢◌, ◌∙◌, ℕ, ap, refl, sym, subst, false, List, [], ◌∷◌, length, Option, Some, None, inl, inr, codes, ◌⊎◌, Result, fold}
 use Rattle.std.specs.Prelude.{is_some}
-use Rattle.clap.specs.Words.{Text, fault_of, built}
-use Rattle.clap.specs.Walk.{Walk, idle, nothing_held, walk, walked, walk_from, word_met, settled, finished}
-use Rattle.clap.specs.Faults.{word_fault, step_fault, turn_fault, walk_fault, settle_fault, defaults_fault, check_fault, entered_fault}
+use Rattle.clap.specs.Words.{Row, Text, fault_of, first_of, subcommand_of, built}
+use Rattle.clap.specs.Walk.{Walk, idle, nothing_held, walk, walked, walk_from, word_met, settled, finished, rows_after}
+use Rattle.clap.specs.Faults.{word_fault, step_fault, turn_fault, walk_fault, settle_fault, defaults_fault, check_fault, entered_fault, level_fault}
 use Rattle.clap.specs.Simple.{entered}
 use Rattle.clap.specs.Kinds.{or_else, Kinds}
 use Rattle.clap.specs.Words.{HasKind, kind_of}
@@ -13,19 +13,21 @@ use Rattle.clap.specs.declared.error.kind.ErrorKind.TheVariants.{OutOfMemory, Di
 use Rattle.clap.proofs.OnLiterals.{clap_on_literals}
 use Rattle.clap.proofs.WalkLemmas.{walk_stopped}
 use Rattle.clap.proofs.FaultLemmas.{fault_ends, stopped_fault}
-use Rattle.grove.specs.declared.command_line.Order.{Order}
-use Rattle.grove.specs.declared.command_line.Order.TheVariants.{Judge, Check, Plan}
-use Rattle.grove.specs.CommandLines.{grove_command, hyphens, IsPlain, AreDocument, AskFor, AskToShow, NameDocument, word_of, name_of, text_of}
-use Rattle.std.proofs.lemmas.Result.{IfOk-weaker}
+use Rattle.grove.specs.declared.order.Command.{Command}
+use Rattle.grove.specs.declared.order.Command.TheVariants.{Judge, Check, Plan, Run, Serve}
+use Rattle.grove.specs.declared.order.Order.{Order}
+use Rattle.grove.specs.Answers.{command_named, AnswersBy, NamesPort}
+use Rattle.grove.specs.CommandLines.{grove_command, hyphens, IsPlain, AreCommand, AreDocument, AreFor, AreTakenFor, AskFor, AskToServe, AskToShow, IsPortIn, NameDevice, word_of, text_of}
 use Rattle.std.specs.Prelude.{IfOk, IfSome}
 use Rattle.grove.specs.declared.answer.Answer.{Answer}
+use Rattle.grove.specs.declared.answer.Answer.TheVariants.{Done, Refused, Usage, Listen}
 use Rattle.grove.specs.declared.answer.Stop.{Stop}
 use Rattle.grove.specs.declared.answer.Stop.TheVariants.{Device, Memory}
 use Rattle.grove.specs.Endings.{Blames}
-use Rattle.grove.specs.Outcomes.{IsSaidOf, SaysOne}
+use Rattle.grove.specs.Outcomes.{IsOutcome}
 use Rattle.grove.proofs.Words.{top_rules, leaf_rules, HasNoFlag, no_flag, differs, met_plain}
 use Rattle.grove.proofs.Documents.{leaf, leaf_fault, named, walked_plain, hyphens_after}
-use Rattle.grove.proofs.Asking.{names, top, at_command, IsOneOf, judge_is, check_is, plan_is}
+use Rattle.grove.proofs.Asking.{names, top, at_command, is_one_of, shape_of, rules_of, below_fault, rows_are, no_command_found, hyphens_found}
 
 or_nil : (a b : Kinds) → a ≡ [] → b ≡ [] → or_else a b ≡ []
 or_nil a b none nothing = ap (λ (k : Kinds). or_else k b) none ∙ nothing
@@ -74,34 +76,29 @@ leaf_taken name rest (Some word) (inr (inr (is, plain))) = ap (leaf_fault name) 
 
 -- ---- and so does the program
 
-module _ (command : Text) (is : IsOneOf command) (rest : List Text) where
-  walk_is : walk top_rules names nothing_held (command ∷ rest) ≡ record (at_command command) { stopped = Some (command, rest) }
-  walk_is = ap (λ (w : Walk). fold (walked top_rules names) w rest) is.met ∙ sym (walk_stopped top_rules names (walk_from nothing_held) command [] rest)
+module _ (command : Command) (rest : List Text) where
+  walk_is : walk top_rules names nothing_held (word_of command ∷ rest) ≡ record (at_command (word_of command)) { stopped = Some (word_of command, rest) }
+  walk_is = ap (λ (w : Walk). fold (walked top_rules names) w rest) (is_one_of command).met ∙ sym (walk_stopped top_rules names (walk_from nothing_held) (word_of command) [] rest)
 
-  walk_none : walk_fault top names (walk_from nothing_held) (command ∷ rest) ≡ []
+  walk_none : walk_fault top names (walk_from nothing_held) (word_of command ∷ rest) ≡ []
   unfolding walk_fault
   walk_none =
-      or_nil (turn_fault top names (walk_from nothing_held) command) (walk_fault top names (walked top_rules names (walk_from nothing_held) command) rest) is.turns
-      (ap (λ (w : Walk). walk_fault top names w rest) is.met ∙ stopped_fault top names (walk_from nothing_held) (command, []) rest)
+      or_nil (turn_fault top names (walk_from nothing_held) (word_of command)) (walk_fault top names (walked top_rules names (walk_from nothing_held) (word_of command)) rest) (is_one_of command).turns
+      (ap (λ (w : Walk). walk_fault top names w rest) (is_one_of command).met ∙ stopped_fault top names (walk_from nothing_held) (word_of command, []) rest)
 
   abbrev after_walk : Walk → Kinds
   after_walk w =
       or_else (entered_fault (built grove_command) w.stopped) (or_else (settle_fault top_rules false w.held)
       (or_else (defaults_fault (settled top_rules w.held).rows top_rules) (check_fault top (finished top_rules w.held) (is_some (entered (built grove_command) w.stopped)))))
 
-  after_none : leaf_fault command rest ≡ [] → after_walk (record (at_command command) { stopped = Some (command, rest) }) ≡ []
+  after_none : below_fault command rest ≡ [] → after_walk (record (at_command (word_of command)) { stopped = Some (word_of command, rest) }) ≡ []
   unfolding defaults_fault
-  after_none taken = rw (is.fails rest, is.enters rest, taken) refl
+  after_none taken = rw ((is_one_of command).fails rest, (is_one_of command).enters rest, taken) refl
 
-  command_taken : leaf_fault command rest ≡ [] → fault_of grove_command (command ∷ rest) ≡ []
+  command_taken : below_fault command rest ≡ [] → fault_of grove_command (word_of command ∷ rest) ≡ []
   command_taken taken =
-      or_nil (walk_fault top names (walk_from nothing_held) (command ∷ rest)) (after_walk (walk top_rules names nothing_held (command ∷ rest))) walk_none
+      or_nil (walk_fault top names (walk_from nothing_held) (word_of command ∷ rest)) (after_walk (walk top_rules names nothing_held (word_of command ∷ rest))) walk_none
       (ap after_walk walk_is ∙ after_none taken)
-
-one_of : (order : Order) → IsOneOf (word_of order)
-one_of (Judge document) = judge_is
-one_of (Check document) = check_is
-one_of (Plan document) = plan_is
 
 no_words_taken : fault_of grove_command [] ≡ []
 unfolding clap_on_literals
@@ -111,22 +108,75 @@ two_hyphens_taken : fault_of grove_command (hyphens ∷ []) ≡ []
 unfolding clap_on_literals
 two_hyphens_taken = refl
 
+-- words of a command that has no options are taken
+document_taken : (command : Command) (words : List Text) (document : Option Text) → shape_of command ≡ leaf (word_of command) → AreCommand (word_of command) words document
+    → fault_of grove_command words ≡ []
+document_taken command words document shape (rest, is, are) =
+    ap (fault_of grove_command) is
+    ∙ command_taken command rest (ap (λ s. level_fault s [] nothing_held rest false []) shape ∙ leaf_taken (word_of command) rest document are)
+
+-- and so for each command
+taken_for : (command : Command) (words : List Text) (document : Option Text) → AreFor command words document → fault_of grove_command words ≡ []
+taken_for Judge words document are = document_taken Judge words document refl are
+taken_for Check words document are = document_taken Check words document refl are
+taken_for Plan words document are = document_taken Plan words document refl are
+taken_for Run words document are = are.0
+taken_for Serve words document are = are.0
+
+-- the words have this command's rows
+abbrev HasRows : Command → List Text → Type 0
+HasRows command words = (rows : List Row) × (subcommand_of grove_command words ≡ Some (word_of command, rows))
+
+-- clap finds a command without options in its words
+rows_of_document : (command : Command) (words : List Text) (document : Option Text) → AreCommand (word_of command) words document → HasRows command words
+rows_of_document command words document (rest, is, are) = (rows_after (rules_of command) [] rest, ap (subcommand_of grove_command) is ∙ rows_are command rest)
+
+-- and so each command
+found_for : (command : Command) (words : List Text) (document : Option Text) → AreFor command words document → HasRows command words
+found_for Judge words document are = rows_of_document Judge words document are
+found_for Check words document are = rows_of_document Check words document are
+found_for Plan words document are = rows_of_document Plan words document are
+found_for Run words document are = (are.1, are.2)
+found_for Serve words document are = (are.1, are.2)
+
+-- in a document's words alone it finds none
+nothing_found : (words : List Text) → AreDocument words None → subcommand_of grove_command words ≡ None
+nothing_found words (inl none) = ap (subcommand_of grove_command) none ∙ no_command_found
+nothing_found words (inr two) = ap (subcommand_of grove_command) two ∙ hyphens_found
+
 pub order_taken : (words : List Text) (order : Order) → AskFor words order → fault_of grove_command words ≡ []
-order_taken words order (inl (rest, is, are)) =
-    ap (fault_of grove_command) is ∙ command_taken (word_of order) (one_of order) rest (leaf_taken (word_of order) rest (text_of (name_of order)) are)
-order_taken words order (inr (inl is, bare)) = ap (fault_of grove_command) is ∙ no_words_taken
-order_taken words order (inr (inr is, bare)) = ap (fault_of grove_command) is ∙ two_hyphens_taken
+order_taken words order (inl are) = taken_for order.command words (text_of order.document) are
+order_taken words order (inr (inl is, judge, nameless)) = ap (fault_of grove_command) is ∙ no_words_taken
+order_taken words order (inr (inr is, judge, nameless)) = ap (fault_of grove_command) is ∙ two_hyphens_taken
 
 -- ---- words are one order only
 
-not_hyphens : (order : Order) → word_of order ≡ hyphens → ⊥
-not_hyphens (Judge document) is = cc
-not_hyphens (Check document) is = cc
-not_hyphens (Plan document) is = cc
+-- what clap finds in words is one command with its rows, or none
 
-not_bare : (words : List Text) (order : Order) (rest : List Text) → words ≡ word_of order ∷ rest → AreDocument words None → ⊥
-not_bare words order rest is (inl none) = cc
-not_bare words order rest is (inr two) = let same : word_of order ≡ hyphens = cc in not_hyphens order same
+none_found : (found : Option (Text × List Row)) (word : Text) (rows : List Row) → found ≡ None → found ≡ Some (word, rows) → ⊥
+none_found found word rows none some = cc
+
+one_word : (found : Option (Text × List Row)) (v w : Text) (rows others : List Row) → found ≡ Some (v, rows) → found ≡ Some (w, others) → v ≡ w
+one_word found v w rows others at be =
+    let both : Some (v, rows) ≡ Some (w, others) = sym at ∙ be in
+    let pair : (v, rows) ≡ (w, others) = cc in
+    ap (λ (p : Text × List Row). p.0) pair
+
+one_rows : (found : Option (Text × List Row)) (v w : Text) (rows others : List Row) → found ≡ Some (v, rows) → found ≡ Some (w, others) → rows ≡ others
+one_rows found v w rows others at be =
+    let both : Some (v, rows) ≡ Some (w, others) = sym at ∙ be in
+    let pair : (v, rows) ≡ (w, others) = cc in
+    ap (λ (p : Text × List Row). p.1) pair
+
+-- a document has a name or none
+none_named : (found : Option Text) (name : Text) → found ≡ None → found ≡ Some name → ⊥
+none_named found name none some = cc
+
+-- words for a command aren't a document's alone
+not_bare : (words : List Text) (order : Order) → AreFor order.command words (text_of order.document) → AreDocument words None → ⊥
+not_bare words order are none =
+    let rows : HasRows order.command words = found_for order.command words (text_of order.document) are in
+    none_found (subcommand_of grove_command words) (word_of order.command) rows.0 (nothing_found words none) rows.1
 
 none_or_some : (words : List Text) (name : Text) → AreDocument words None → AreDocument words (Some name) → ⊥
 none_or_some words name (inl none) (inl (is, plain)) = cc
@@ -136,67 +186,63 @@ none_or_some words name (inr two) (inl (is, plain)) = let same : name ≡ hyphen
 none_or_some words name (inr two) (inr (inl is)) = cc
 none_or_some words name (inr two) (inr (inr (is, plain))) = cc
 
--- words that name no document for one order name none for another
-pub same_name : (words : List Text) (a b : Order) → AskFor words a → AskFor words b → name_of b ≡ None → name_of a ≡ None
-same_name words a b (inr (are, bare)) asks none = ap name_of bare
-same_name words a b (inl (rest, is, are)) (inr (others, bare)) none = absurd (not_bare words a rest is others)
-same_name words a b (inl (rest, is, are)) (inl (others, at, be)) none = by_name (name_of a) refl
-  where
-    same : rest ≡ others
-    same = cc
+-- words for one command name one document, or none
 
-    by_name : (name : Option _) → name_of a ≡ name → name_of a ≡ None
+-- words begin with one word only
+same_rest : (words : List Text) (word : Text) (rest others : List Text) → words ≡ word ∷ rest → words ≡ word ∷ others → others ≡ rest
+same_rest words word rest others is at = cc
+
+one_document : (command : Command) (words : List Text) (name : Text) → AreCommand (word_of command) words None → AreCommand (word_of command) words (Some name) → ⊥
+one_document command words name (rest, is, are) (others, at, be) =
+    none_or_some rest name are (subst (λ w. AreDocument w (Some name)) (same_rest words (word_of command) rest others is at) be)
+
+one_taken : (command : Text) (words : List Text) (name : Text) → AreTakenFor command words None → AreTakenFor command words (Some name) → ⊥
+one_taken command words name (taken, rows, at, none) (again, others, be, some) =
+    let same : rows ≡ others = one_rows (subcommand_of grove_command words) command command rows others at be in
+    none_named (first_of (codes "DOC") rows) name none (ap (first_of (codes "DOC")) same ∙ some)
+
+one_name : (command : Command) (words : List Text) (name : Text) → AreFor command words None → AreFor command words (Some name) → ⊥
+one_name Judge words name none some = one_document Judge words name none some
+one_name Check words name none some = one_document Check words name none some
+one_name Plan words name none some = one_document Plan words name none some
+one_name Run words name none some = one_taken (word_of Run) words name none some
+one_name Serve words name none some = one_taken (word_of Serve) words name none some
+
+-- two orders that the same words ask for have one command
+same_command : (words : List Text) (a b : Order) → AskFor words a → AskFor words b → a.command ≡ b.command
+same_command words a b (inl are) (inl be) =
+    let one : HasRows a.command words = found_for a.command words (text_of a.document) are in
+    let other : HasRows b.command words = found_for b.command words (text_of b.document) be in
+    let same : word_of a.command ≡ word_of b.command = one_word (subcommand_of grove_command words) (word_of a.command) (word_of b.command) one.0 other.0 one.1 other.1 in
+    sym (is_one_of a.command).named ∙ ap command_named same ∙ (is_one_of b.command).named
+same_command words a b (inl are) (inr (none, judge, nameless)) = absurd (not_bare words a are none)
+same_command words a b (inr (none, judge, nameless)) (inl be) = absurd (not_bare words b be none)
+same_command words a b (inr (none, judge, nameless)) (inr (nothing, other, plain)) = judge ∙ sym other
+
+-- words that name no document for one order name none for another
+pub same_name : (words : List Text) (a b : Order) → AskFor words a → AskFor words b → b.document ≡ None → a.document ≡ None
+same_name words a b (inr (are, judge, nameless)) asks none = nameless
+same_name words a b (inl are) (inr (nothing, judge, nameless)) none = absurd (not_bare words a are nothing)
+same_name words a b (inl are) (inl be) none = by_name a.document refl
+  where
+    by_name : (name : Option _) → a.document ≡ name → a.document ≡ None
     by_name None here = here
     by_name (Some text) here =
-        let some : AreDocument others (Some text.now) = subst (λ w. AreDocument w (Some text.now)) same (subst (λ n. AreDocument rest (text_of n)) here are) in
-        let nothing : AreDocument others None = subst (λ n. AreDocument others (text_of n)) none be in
-        absurd (none_or_some others text.now nothing some)
-
-pub same_word : (words : List Text) (a b : Order) → AskFor words a → AskFor words b → word_of a ≡ word_of b
-same_word words a b (inl (rest, is, are)) (inl (others, at, be)) = cc
-same_word words a b (inl (rest, is, are)) (inr (be, bare)) = absurd (not_bare words a rest is be)
-same_word words a b (inr (are, bare)) (inl (others, at, be)) = absurd (not_bare words b others at are)
-same_word words a b (inr (are, bare)) (inr (be, plain)) = ap word_of (bare ∙ sym plain)
-
-abbrev first : Text → ℕ
-first [] = 0
-first (byte ∷ rest) = byte
-
-not_less : (m n : ℕ) → m ≡ n → n < m → ⊥
-not_less m n same less = omega arith
-
-judge_isnt_check : codes "judge" ≡ codes "check" → ⊥
-judge_isnt_check same = not_less 106 99 (ap first same) (omega arith)
-
-judge_isnt_plan : codes "judge" ≡ codes "plan" → ⊥
-judge_isnt_plan same = cc
-
-check_isnt_plan : codes "check" ≡ codes "plan" → ⊥
-check_isnt_plan same = cc
-
--- two orders of one command say the same of a document
-pub same_outcome : (a b : Order) (bytes : List ℕ) (answer : Answer) → word_of a ≡ word_of b → SaysOne (IsSaidOf a bytes) answer → SaysOne (IsSaidOf b bytes) answer
-same_outcome (Judge x) (Judge y) bytes answer same says = says
-same_outcome (Check x) (Check y) bytes answer same says = says
-same_outcome (Plan x) (Plan y) bytes answer same says = says
-same_outcome (Judge x) (Check y) bytes answer same says = absurd (judge_isnt_check same)
-same_outcome (Judge x) (Plan y) bytes answer same says = absurd (judge_isnt_plan same)
-same_outcome (Check x) (Judge y) bytes answer same says = absurd (judge_isnt_check (sym same))
-same_outcome (Check x) (Plan y) bytes answer same says = absurd (check_isnt_plan same)
-same_outcome (Plan x) (Judge y) bytes answer same says = absurd (judge_isnt_plan (sym same))
-same_outcome (Plan x) (Check y) bytes answer same says = absurd (check_isnt_plan (sym same))
+        let some : AreFor a.command words (Some text.now) = subst (λ n. AreFor a.command words (text_of n)) here are in
+        let other : AreFor b.command words (Some text.now) = subst (λ c. AreFor c words (Some text.now)) (same_command words a b (inl are) (inl be)) some in
+        absurd (one_name b.command words text.now (subst (λ n. AreFor b.command words (text_of n)) none be) other)
 
 -- what the order that was found says of an input, the one that was asked for says
-pub said_of_asked : (words : List Text) (order found : Order) (known : Option (List ℕ)) (answer : Result Answer Stop) → AskFor words order → AskFor words found → name_of order ≡ None
-    → (name_of found ≡ None → IfOk answer (λ a. IfSome known (λ document. SaysOne (IsSaidOf found document) a)))
-    → IfOk answer (λ a. IfSome known (λ document. SaysOne (IsSaidOf order document) a))
-said_of_asked words order found None answer asks finds none says = IfOk-weaker answer _ _ (λ a it. tt) (says (same_name words found order finds asks none))
-said_of_asked words order found (Some document) answer asks finds none says =
-    IfOk-weaker answer _ _ (λ a it. same_outcome found order document a (same_word words found order finds asks) it) (says (same_name words found order finds asks none))
+pub said_of_asked : (words : List Text) (order found : Order) (known : Option (List ℕ)) (answer : Result Answer Stop) → AskFor words order → AskFor words found → order.document ≡ None
+    → (found.document ≡ None → IfOk answer (λ a. IfSome known (λ document. AnswersBy (IsOutcome found.command document) a)))
+    → IfOk answer (λ a. IfSome known (λ document. AnswersBy (IsOutcome order.command document) a))
+said_of_asked words order found known answer asks finds none says =
+    let P : Command → Type 0 = λ command. IfOk answer (λ a. IfSome known (λ document. AnswersBy (IsOutcome command document) a)) in
+    subst P (same_command words found order finds asks) (says (same_name words found order finds asks none))
 
--- a stop of a document's own device
-pub blames_named : (Failed IsSound : Type 0) (words : List Text) (found : Order) (stop : Stop) → AskFor words found → Blames (Failed ⊎ (name_of found ≢ None)) IsSound stop
-    → Blames (Failed ⊎ NameDocument words) IsSound stop
+-- a stop of an order's own device
+pub blames_named : (Failed IsSound : Type 0) (words : List Text) (found : Order) (stop : Stop) → AskFor words found
+    → Blames (Failed ⊎ ((found.document ≢ None) ⊎ (found.command ≡ Serve))) IsSound stop → Blames (Failed ⊎ NameDevice words) IsSound stop
 blames_named Failed IsSound words found Device finds (inl failed) = inl failed
 blames_named Failed IsSound words found Device finds (inr named) = inr (found, finds, named)
 blames_named Failed IsSound words found Memory finds sound = sound
@@ -217,3 +263,18 @@ not_both kinds k none one = cc
 pub not_shown : (words : List Text) (order : Order) → AskFor words order → AskToShow words → ⊥
 not_shown words order asks (inl help) = not_both (fault_of grove_command words) DisplayHelp (order_taken words order asks) help
 not_shown words order asks (inr version) = not_both (fault_of grove_command words) DisplayVersion (order_taken words order asks) version
+
+-- ---- serving
+
+-- where words ask to serve, the order that was found does
+pub serves_found : (words : List Text) (order found : Order) → AskFor words order → AskFor words found → order.command ≡ Serve → found.command ≡ Serve
+serves_found words order found asks finds serves = same_command words found order finds asks ∙ serves
+
+-- the port of the order that was found is the one that the words ask for
+pub found_port : (words : List Text) (found : Order) (answer : Answer) → AskFor words found → IfSome found.port (IsPortIn (subcommand_of grove_command words))
+    → NamesPort (λ port. (found.command ≡ Serve) × (found.port ≡ Some port)) answer → NamesPort (AskToServe words) answer
+found_port words found (Done text) finds is _ = tt
+found_port words found (Refused text) finds is _ = tt
+found_port words found (Usage text) finds is _ = tt
+found_port words found (Listen line service) finds is (port, (serves, at), said) =
+    (port, (found, finds, serves, subst (λ p. IfSome p (IsPortIn (subcommand_of grove_command words))) at is), said)

@@ -1,7 +1,8 @@
 -- What is read, said and printed for a whole input.
-use Rattle.std.proofs.Common.{rules, ◌≡◌, ℕ, ◌+◌, ◌<◌, ◌≤◌, nat_lt, true, List, ◌++◌, length, Option, Some, None, IfSome, IfOk, IsOkAnd, Result, Ok, Err, string_bytes, sym, ap, ◌∙◌, subst, inl, inr, arith, length-append, append-nil}
+use Rattle.std.proofs.Common.{rules, ◌≡◌, ℕ, ◌+◌, ◌<◌, ◌≤◌, nat_lt, true, List, ◌++◌, length, Option, Some, None, IfSome, IfOk, IfErr, IsOkAnd, Result, Ok, Err, ◌⊎◌, sym, ap, ◌∙◌, subst, inl, inr, arith, length-append, append-nil}
 use Rattle.std.proofs.lemmas.Bool.{cases_lt, cond-true}
-use Rattle.std.specs.Io.KnownBytes.{Appends, Consumes, IsAtEnd}
+use Rattle.std.proofs.lemmas.Result.{IfOk-weaker}
+use Rattle.std.specs.Io.KnownBytes.{Appends, Consumes, IsAtEnd, Keeps}
 use Rattle.serde_json.specs.Data.{Data}
 use Rattle.grove_wire.specs.declared.fault.WireFault.{WireFault}
 use Rattle.grove_wire.specs.declared.fault.WireFault.TheVariants.{Limit}
@@ -9,17 +10,14 @@ use Rattle.grove_wire.specs.declared.place.Part.TheVariants.{Whole}
 use Rattle.grove_wire.specs.Places.{whole_of}
 use Rattle.grove_wire.specs.Reading.{document_of}
 use Rattle.grove.specs.declared.answer.Answer.{Answer}
-use Rattle.grove.specs.declared.answer.Answer.TheVariants.{Done, Refused, Usage}
+use Rattle.grove.specs.declared.answer.Answer.TheVariants.{Done, Refused, Usage, Listen}
 use Rattle.grove.specs.declared.answer.Stop.{Stop}
-use Rattle.grove.specs.Endings.{status_of, printed}
-use Rattle.grove.specs.Judgements.{SaysIt, PrintsIt}
-use Rattle.std.proofs.Common.{MatchResult, String}
-use Rattle.std.proofs.lemmas.Result.{IfOk-weaker}
-use Rattle.grove.specs.declared.command_line.Order.{Order}
-use Rattle.grove.specs.declared.refusal.Refusal.{Refusal}
-use Rattle.grove.specs.declared.refusal.Refusal.TheVariants.{Fault, Memory}
-use Rattle.grove.specs.Judgements.{IsRefusal}
-use Rattle.grove.specs.Outcomes.{Outcome, IsSaidOf, Says, SaysOne, PrintsOne}
+use Rattle.grove.specs.declared.answer.Stop.TheVariants.{Device, Memory}
+use Rattle.grove.specs.declared.order.Command.{Command}
+use Rattle.grove.specs.Answers.{status_of, printed, AnswersBy, IsListen, NamesPort}
+use Rattle.grove.specs.CommandLines.{AskToServe, NameDevice}
+use Rattle.grove.specs.Endings.{Blames, SaysListening, SaysWhy}
+use Rattle.grove.specs.Outcomes.{Outcome, ThenSays, MaySay, IsOutcome, Prints}
 
 over_limit : (bytes : List ℕ) → 4194304 < length bytes → document_of bytes ≡ Err (Limit (whole_of Whole))
 unfolding document_of
@@ -32,66 +30,36 @@ same_document front rest h =
     over_limit (front ++ rest) (rw more (omega arith)) ∙ sym (over_limit front h)
 
 -- what is said of the bytes that were read is said of the whole input
-pub says_of_input : (Outcome : Result Data WireFault → Result (List ℕ) (List ℕ) → Type 0) (known later : Option (List ℕ)) (bytes : List ℕ) (answer : Answer)
-    → Consumes known later bytes → (length bytes ≤ 4194304 → IsAtEnd later) → SaysOne (Outcome (document_of bytes)) answer
-    → IfSome known (λ document. SaysOne (Outcome (document_of document)) answer)
-says_of_input Outcome None later bytes answer read end says = tt
-says_of_input Outcome (Some document) None bytes answer read end says = absurd read
-says_of_input Outcome (Some document) (Some rest) bytes answer read end says =
-    let P : Result Data WireFault → Type 0 = λ r. SaysOne (Outcome r) answer in
+says_of_input : (command : Command) (known later : Option (List ℕ)) (bytes : List ℕ) (answer : Answer)
+    → Consumes known later bytes → (length bytes ≤ 4194304 → IsAtEnd later) → AnswersBy (IsOutcome command bytes) answer
+    → IfSome known (λ document. AnswersBy (IsOutcome command document) answer)
+says_of_input command None later bytes answer read end says = tt
+says_of_input command (Some document) None bytes answer read end says = absurd read
+says_of_input command (Some document) (Some rest) bytes answer read end says =
+    let P : Result Data WireFault → Type 0 = λ r. AnswersBy (ThenSays r (MaySay command)) answer in
     elim (cases_lt 4194304 (length bytes)) [
       | inl over ↦ subst P (sym (ap document_of read ∙ same_document bytes rest over)) says
       | inr within ↦ subst P (sym (ap document_of (read ∙ ap (λ xs. bytes ++ xs) (end within) ∙ append-nil bytes))) says
     ]
 
--- an answer that is printed prints what it says
-pub prints_it : (said : Result (List ℕ) (List ℕ)) (answer : Answer) (status : ℕ) (old new : Option (List ℕ)) → SaysIt said answer
-    → (status ≤ 2 → (status ≡ status_of answer) × Appends old new (printed answer)) → PrintsIt said status old new
-prints_it said (Done text) status old new says done =
-    let P : Result (List ℕ) (List ℕ) → Type 0 = λ said. PrintsIt said status old new in subst P (sym says) done
-prints_it said (Refused text) status old new (fault, is, line) done =
-    let P : Result (List ℕ) (List ℕ) → Type 0 = λ said. PrintsIt said status old new in
-    subst P (sym is) (λ h. ((done h).0, subst (λ bytes. Appends old new bytes) line (done h).1))
-prints_it said (Usage text) status old new says done = absurd says
+-- an answer of the bytes that were read is one of the whole input
+pub answers_input : (command : Command) (known later : Option (List ℕ)) (bytes read : List ℕ) (answer : Result Answer Stop)
+    → Consumes known later read → (length read ≤ 4194304 → IsAtEnd later) → bytes ≡ read
+    → IfOk answer (AnswersBy (IsOutcome command bytes)) → IfOk answer (λ a. IfSome known (λ document. AnswersBy (IsOutcome command document) a))
+answers_input command known later bytes read answer consumed end same says =
+    let Q : List ℕ → Type 0 = λ b. IfOk answer (AnswersBy (IsOutcome command b)) in
+    IfOk-weaker answer _ _ (λ a it. says_of_input command known later read a consumed end it) (subst Q same says)
 
 -- what is said of an input is printed, where its bytes are known
-pub prints_input : (IsSaid : List ℕ → Result (List ℕ) (List ℕ) → Type 0) (known : Option (List ℕ)) (answer : Result Answer Stop) (status : ℕ)
+pub prints_input : (Said : List ℕ → Outcome → Type 0) (known : Option (List ℕ)) (answer : Result Answer Stop) (status : ℕ)
     (old new : Option (List ℕ)) (Also : Answer → Type 0)
-    → IfOk answer (λ a. IfSome known (λ document. SaysOne (IsSaid document) a))
+    → IfOk answer (λ a. IfSome known (λ document. AnswersBy (Said document) a))
     → (status ≤ 2 → IsOkAnd answer (λ a. (status ≡ status_of a) × Appends old new (printed a) × Also a))
-    → IfSome known (λ document. PrintsOne (IsSaid document) status old new)
-prints_input IsSaid None answer status old new Also says done = tt
-prints_input IsSaid (Some document) (Ok a) status old new Also (said, is, it) done =
-    λ h. (said, is, prints_it said a status old new it (λ h. ((done h).0, (done h).1)))
-prints_input IsSaid (Some document) (Err why) status old new Also says done = λ h. absurd (done h)
-
--- where only one thing may be said, that is printed
-prints_that : (that : Result (List ℕ) (List ℕ)) (status : ℕ) (old new : Option (List ℕ)) → PrintsOne (λ said. said ≡ that) status old new → PrintsIt that status old new
-prints_that (Ok lines) status old new prints = λ h.
-    let P : Result (List ℕ) (List ℕ) → Type 0 = λ said. PrintsIt said status old new in subst P (prints h).1 (prints h).2 h
-prints_that (Err fault) status old new prints = λ h.
-    let P : Result (List ℕ) (List ℕ) → Type 0 = λ said. PrintsIt said status old new in subst P (prints h).1 (prints h).2 h
-
-pub prints_only : (that : List ℕ → Result (List ℕ) (List ℕ)) (known : Option (List ℕ)) (status : ℕ) (old new : Option (List ℕ))
-    → IfSome known (λ document. PrintsOne (λ said. said ≡ that document) status old new)
-    → IfSome known (λ document. PrintsIt (that document) status old new)
-prints_only that None status old new prints = tt
-prints_only that (Some document) status old new prints = prints_that (that document) status old new prints
-
--- the lines of the one thing that may be said
-pub says_only : {Z : Type 0} (that : Result (List ℕ) (List ℕ)) (lines : Result (String Z) Refusal)
-    → MatchResult lines (λ l. that ≡ Ok (string_bytes l)) (IsRefusal that) → Says (λ said. said ≡ that) lines
-says_only that (Ok l) is = sym is
-says_only that (Err (Fault text)) is = sym is
-says_only that (Err Memory) is = tt
-
--- an answer of the bytes that were read is one of the whole input
-pub answers_input : (order : Order) (known later : Option (List ℕ)) (bytes read : List ℕ) (answer : Result Answer Stop)
-    → Consumes known later read → (length read ≤ 4194304 → IsAtEnd later) → bytes ≡ read
-    → IfOk answer (SaysOne (IsSaidOf order bytes)) → IfOk answer (λ a. IfSome known (λ document. SaysOne (IsSaidOf order document) a))
-answers_input order known later bytes read answer consumed end same says =
-    let Q : List ℕ → Type 0 = λ b. IfOk answer (SaysOne (IsSaidOf order b)) in
-    IfOk-weaker answer _ _ (λ a it. says_of_input (Outcome order) known later read a consumed end it) (subst Q same says)
+    → IfSome known (λ document. Prints (Said document) status old new)
+prints_input Said None answer status old new Also says done = tt
+prints_input Said (Some document) (Ok a) status old new Also (outcome, may, is) done =
+    λ h. (outcome, may, (done h).0 ∙ is.0, subst (λ bytes. Appends old new bytes) is.1 (done h).1)
+prints_input Said (Some document) (Err why) status old new Also says done = λ h. absurd (done h)
 
 -- an answer that is no usage fault doesn't end as one
 pub not_usage : (answer : Result Answer Stop) (status : ℕ) (old new : Option (List ℕ)) (Also : Answer → Type 0) → IfOk answer (λ a. status_of a ≤ 1)
@@ -100,3 +68,43 @@ not_usage (Ok a) status old new Also few done two =
     let is : status ≡ status_of a = (done (omega arith)).0 in
     omega arith
 not_usage (Err why) status old new Also few done two = done (omega arith)
+
+-- an answer that listens prints the port that it names
+prints_named : (IsPort : ℕ → Type 0) (answer : Answer) (old new : Option (List ℕ)) → NamesPort IsPort answer → IsListen answer → Appends old new (printed answer)
+    → SaysListening IsPort old new
+prints_named IsPort (Done text) old new names listens said = absurd listens
+prints_named IsPort (Refused text) old new names listens said = absurd listens
+prints_named IsPort (Usage text) old new names listens said = absurd listens
+prints_named IsPort (Listen line service) old new (port, is, line_is) listens said = (port, is, subst (λ text. Appends old new text) line_is said)
+
+-- what an answer that listens names is what is printed, else nothing is
+pub prints_port : (IsPort : ℕ → Type 0) (answer : Result Answer Stop) (old new : Option (List ℕ)) → IfOk answer (NamesPort IsPort)
+    → Keeps old new ⊎ IsOkAnd answer (λ a. IsListen a × Appends old new (printed a)) → Keeps old new ⊎ SaysListening IsPort old new
+prints_port IsPort (Ok answer) old new names (inl kept) = inl kept
+prints_port IsPort (Ok answer) old new names (inr (listens, said)) = inr (prints_named IsPort answer old new names listens said)
+prints_port IsPort (Err why) old new names (inl kept) = inl kept
+prints_port IsPort (Err why) old new names (inr listens) = absurd listens
+
+-- an answer that listens was asked to serve
+asked_to_serve : (words : List (List ℕ)) (answer : Answer) → NamesPort (AskToServe words) answer → IsListen answer → NameDevice words
+asked_to_serve words (Done text) named listens = absurd listens
+asked_to_serve words (Refused text) named listens = absurd listens
+asked_to_serve words (Usage text) named listens = absurd listens
+asked_to_serve words (Listen line service) (port, (order, asks, serves, at), said) listens = (order, asks, inr serves)
+
+-- what reading blames, serving and printing may blame besides
+pub blames_device : (words : List (List ℕ)) (answer : Result Answer Stop) (InFailed InSound OutFailed OutSound : Type 0) (old new : Option (List ℕ))
+    → IfErr answer (Blames (InFailed ⊎ NameDevice words) InSound) → IfOk answer (NamesPort (AskToServe words))
+    → SaysWhy ((answer ≡ Err Device) ⊎ (IsOkAnd answer IsListen ⊎ OutFailed)) ((answer ≡ Err Memory) × OutSound) old new
+    → SaysWhy (InFailed ⊎ (OutFailed ⊎ NameDevice words)) (InSound × OutSound) old new
+blames_device words (Ok answer) InFailed InSound OutFailed OutSound old new blames named (Device, said, inl same) = let e : Ok answer ≡ Err Device = same in absurd (cc)
+blames_device words (Ok answer) InFailed InSound OutFailed OutSound old new blames named (Device, said, inr (inl listens)) = (Device, said, inr (inr (asked_to_serve words answer named listens)))
+blames_device words (Ok answer) InFailed InSound OutFailed OutSound old new blames named (Device, said, inr (inr failed)) = (Device, said, inr (inl failed))
+blames_device words (Ok answer) InFailed InSound OutFailed OutSound old new blames named (Memory, said, (same, sound)) = let e : Ok answer ≡ Err Memory = same in absurd (cc)
+blames_device words (Err Device) InFailed InSound OutFailed OutSound old new (inl failed) named (Device, said, inl same) = (Device, said, inl failed)
+blames_device words (Err Device) InFailed InSound OutFailed OutSound old new (inr device) named (Device, said, inl same) = (Device, said, inr (inr device))
+blames_device words (Err Memory) InFailed InSound OutFailed OutSound old new sound named (Device, said, inl same) = let e : ◌≡◌ {A = Result Answer Stop} (Err Memory) (Err Device) = same in absurd (cc)
+blames_device words (Err why) InFailed InSound OutFailed OutSound old new blames named (Device, said, inr (inl listens)) = absurd listens
+blames_device words (Err why) InFailed InSound OutFailed OutSound old new blames named (Device, said, inr (inr failed)) = (Device, said, inr (inl failed))
+blames_device words (Err Device) InFailed InSound OutFailed OutSound old new blames named (Memory, said, (same, sound)) = let e : ◌≡◌ {A = Result Answer Stop} (Err Device) (Err Memory) = same in absurd (cc)
+blames_device words (Err Memory) InFailed InSound OutFailed OutSound old new kept named (Memory, said, (same, sound)) = (Memory, said, (kept, sound))

@@ -1,172 +1,95 @@
--- Readings that are used, step by step, and texts of values.
-use Rattle.std.proofs.Common.{◌≡◌, ◌≢◌, ℕ, ℤ, pos, negsuc, false, List, [], ◌∷◌, Result, Ok, Err, IfOk, IsErrAnd, MatchResult, String, string_bytes, refl, sym, ap, ◌∙◌, subst}
+-- What a command says of what is read, once the reading's fault or the calls' own is told.
+use Rattle.std.proofs.Common.{◌≡◌, ◌≢◌, ℕ, ℤ, ap, List, Result, Ok, Err, IfOk, IsOkAnd, IsSomeAnd, String, refl, string_bytes, subst, sym}
 use Rattle.std.proofs.lemmas.Result.{IfOk-weaker}
-use Rattle.serde_json.specs.Written.{has_float}
-use Rattle.grove_access.specs.declared.reply.Reply.{Reply}
-use Rattle.grove_access.specs.declared.reply.Reply.TheVariants.{Value, Done, Range, Short}
 use Rattle.grove_tree.specs.Trees.{Rows}
-use Rattle.grove_access.specs.declared.access.Access as access
 use Rattle.grove_access.specs.Lists.{nodes_of, lengths_of}
 use Rattle.grove_plan.specs.declared.step.Step.{Step}
-use Rattle.grove_plan.specs.declared.step.Step.TheVariants.{Lock, Unlock, Access}
 use Rattle.grove_proof.specs.declared.flow.FlowRow.{FlowRow}
 use Rattle.grove_proof.specs.Faults.{IsFault}
-use Rattle.grove_plan.specs.declared.fault.PlanFault.{PlanFault}
-use Rattle.grove_plan.specs.declared.fault.PlanFault.TheVariants as plan
 use Rattle.grove_proof.specs.declared.fault.ProofFault.{ProofFault}
 use Rattle.grove_proof.specs.declared.fault.ProofFault.TheVariants as proof
+use Rattle.serde_json.specs.Data.{Data}
 use Rattle.grove_wire.specs.declared.fault.WireFault.{WireFault}
 use Rattle.grove_wire.specs.declared.fault.WireFault.TheVariants as wire
-use Rattle.grove_wire.specs.Outcomes.{Fails, Gives}
-use Rattle.grove_wire.specs.Writing.{number_data, numbers_data, reply_data, replies_data, step_data, plan_data, flow_row_data, flow_data}
-use Rattle.grove_wire.specs.Texts.{wire_text, plan_text, proof_text}
+use Rattle.grove_wire.specs.Outcomes.{Fails}
+use Rattle.grove_wire.specs.Reading.{document_of}
+use Rattle.grove_wire.specs.Texts.{proof_text, wire_text}
+use Rattle.grove.specs.declared.answer.Answer.{Answer}
+use Rattle.grove.specs.declared.answer.Answer.TheVariants.{Done, Refused, Usage, Listen}
+use Rattle.grove.specs.declared.answer.Stop.{Stop}
+use Rattle.grove.specs.declared.reading.Task.{Task}
 use Rattle.grove.specs.declared.refusal.Refusal.{Refusal}
 use Rattle.grove.specs.declared.refusal.Refusal.TheVariants.{Fault, Memory}
-use Rattle.grove.specs.declared.answer.Answer.{Answer}
-use Rattle.grove.specs.declared.answer.Answer.TheVariants.{Done, Refused, Usage}
-use Rattle.grove.specs.declared.answer.Stop.{Stop}
-use Rattle.grove.specs.Judgements.{then_use, IsRefusal, SaysIt, Tells, TellsWire, TellsPlan, TellsProof}
-use Rattle.grove.specs.Outcomes.{FlowChecked, ThenSays, Says, SaysOne}
-
--- what a refusal that isn't for want of memory tells
-
-pub tells_wire : (fault : WireFault) (refusal : Refusal) → Tells (wire_text fault) refusal → fault ≢ wire.Memory → TellsWire fault refusal
-tells_wire fault (Fault text) told not_memory = (told, not_memory)
-tells_wire fault Memory told not_memory = tt
-
-pub tells_plan : (tree : Rows) (fault : PlanFault) (refusal : Refusal) → Tells (plan_text tree fault) refusal → fault ≢ plan.Memory
-    → TellsPlan tree fault refusal
-tells_plan tree fault (Fault text) told not_memory = (told, not_memory)
-tells_plan tree fault Memory told not_memory = tt
-
-pub tells_proof : (tree : Rows) (fault : ProofFault) (refusal : Refusal) → Tells (proof_text tree fault) refusal → fault ≢ proof.Memory
-    → TellsProof tree fault refusal
-tells_proof tree fault (Fault text) told not_memory = (told, not_memory)
-tells_proof tree fault Memory told not_memory = tt
-
--- a reading that failed with a fault, once that fault is told
-said_by : {A : Type 0} (fault : WireFault) (refusal : Refusal) (reading : Result A WireFault) (use_it : A → Result (List ℕ) (List ℕ))
-    → reading ≡ Err fault → TellsWire fault refusal → IsRefusal (then_use reading use_it) refusal
-said_by fault (Fault text) reading use_it is tells = ap (λ r. then_use r use_it) is ∙ ap (λ t. Err t) (sym tells.0)
-said_by fault Memory reading use_it is tells = tt
-
-pub refuses : {A : Type 0} (fault : WireFault) (refusal : Refusal) (reading : Result A WireFault) (use_it : A → Result (List ℕ) (List ℕ))
-    → Fails fault reading → TellsWire fault refusal → IsRefusal (then_use reading use_it) refusal
-refuses wire.BadJson refusal reading use_it is tells = said_by wire.BadJson refusal reading use_it is tells
-refuses (wire.Shape place) refusal reading use_it is tells = said_by (wire.Shape place) refusal reading use_it is tells
-refuses (wire.NoPath place) refusal reading use_it is tells = said_by (wire.NoPath place) refusal reading use_it is tells
-refuses (wire.BadLength place) refusal reading use_it is tells = said_by (wire.BadLength place) refusal reading use_it is tells
-refuses (wire.Limit place) refusal reading use_it is tells = said_by (wire.Limit place) refusal reading use_it is tells
-refuses (wire.Tree fault) refusal reading use_it is tells = said_by (wire.Tree fault) refusal reading use_it is tells
-refuses wire.Memory (Fault text) reading use_it is tells = absurd (tells.1 refl)
-refuses wire.Memory Memory reading use_it is tells = tt
-
--- what is used has the say, where the reading succeeds
-pub goes_on : {A : Type 0} (x : A) (refusal : Refusal) (reading : Result A WireFault) (use_it : A → Result (List ℕ) (List ℕ))
-    → reading ≡ Ok x → IsRefusal (use_it x) refusal → IsRefusal (then_use reading use_it) refusal
-goes_on x refusal reading use_it is says = let P : Result (List ℕ) (List ℕ) → Type 0 = λ said. IsRefusal said refusal in
-    subst P (sym (ap (λ r. then_use r use_it) is)) says
-
--- ---- the same for what may be said
-
--- a refusal tells the fault of the reading
-faulty : {A : Type 0} (Z : Type 0) (fault : WireFault) (refusal : Refusal) (reading : Result A WireFault) (IsSaid : A → Result (List ℕ) (List ℕ) → Type 0)
-    → reading ≡ Err fault → TellsWire fault refusal → Says {Z = Z} (ThenSays reading IsSaid) (Err refusal)
-faulty {A} Z fault (Fault text) reading IsSaid is tells =
-    let P : Result A WireFault → Type 0 = λ r. ThenSays r IsSaid (Err (string_bytes text)) in
-    subst P (sym is) (ap (λ t. Err t) tells.0)
-faulty Z fault Memory reading IsSaid is tells = tt
-
-says_fault : {A : Type 0} (Z : Type 0) (fault : WireFault) (refusal : Refusal) (reading : Result A WireFault) (IsSaid : A → Result (List ℕ) (List ℕ) → Type 0)
-    → Fails fault reading → TellsWire fault refusal → Says {Z = Z} (ThenSays reading IsSaid) (Err refusal)
-says_fault Z wire.BadJson refusal reading IsSaid is tells = faulty Z wire.BadJson refusal reading IsSaid is tells
-says_fault Z (wire.Shape place) refusal reading IsSaid is tells = faulty Z (wire.Shape place) refusal reading IsSaid is tells
-says_fault Z (wire.NoPath place) refusal reading IsSaid is tells = faulty Z (wire.NoPath place) refusal reading IsSaid is tells
-says_fault Z (wire.BadLength place) refusal reading IsSaid is tells = faulty Z (wire.BadLength place) refusal reading IsSaid is tells
-says_fault Z (wire.Limit place) refusal reading IsSaid is tells = faulty Z (wire.Limit place) refusal reading IsSaid is tells
-says_fault Z (wire.Tree fault) refusal reading IsSaid is tells = faulty Z (wire.Tree fault) refusal reading IsSaid is tells
-says_fault Z wire.Memory (Fault text) reading IsSaid is tells = absurd (tells.1 refl)
-says_fault Z wire.Memory Memory reading IsSaid is tells = tt
-
--- what ends in such a refusal says it
-pub says_refusal : {Z T A : Type 0} (seen : T → A) (given : Result T WireFault) (refusal : Refusal) (reading : Result A WireFault)
-    (IsSaid : A → Result (List ℕ) (List ℕ) → Type 0) (result : Result (String Z) Refusal)
-    → Gives seen given reading → IsErrAnd given (λ fault. TellsWire fault refusal) → IsErrAnd result (λ why. why ≡ refusal)
-    → Says (ThenSays reading IsSaid) result
-says_refusal seen (Ok x) refusal reading IsSaid result gives tells same = absurd tells
-says_refusal seen (Err fault) refusal reading IsSaid (Ok text) gives tells same = absurd same
-says_refusal {Z} {T} {A} seen (Err fault) refusal reading IsSaid (Err why) gives tells same =
-    let P : Refusal → Type 0 = λ r. Says {Z = Z} (ThenSays reading IsSaid) (Err r) in
-    subst P (sym same) (says_fault Z fault refusal reading IsSaid gives tells)
-
--- what is read has the say, where the reading succeeds
-pub says_on : {Z T A : Type 0} (seen : T → A) (given : Result T WireFault) (x : T) (reading : Result A WireFault)
-    (IsSaid : A → Result (List ℕ) (List ℕ) → Type 0) (result : Result (String Z) Refusal)
-    → Gives seen given reading → given ≡ Ok x → Says (IsSaid (seen x)) result → Says (ThenSays reading IsSaid) result
-says_on {Z} {T} {A} seen given x reading IsSaid result gives is says =
-    let G : Result T WireFault → Type 0 = λ g. Gives seen g reading in
-    let read : reading ≡ Ok (seen x) = subst G is gives in
-    let P : Result A WireFault → Type 0 = λ r. Says (ThenSays r IsSaid) result in
-    subst P (sym read) says
+use Rattle.grove.specs.Answers.{outcome_of, refusal_outcome, AnswersBy, IsAnswerTo, IsListen, IsTold, NamesPort, Says}
+use Rattle.grove.specs.declared.order.Command.{Command}
+use Rattle.grove.specs.Endings.{listening_line}
+use Rattle.grove.specs.Outcomes.{Outcome, IsChecked, IsOutcome, IsServed, MaySay, ThenSays}
 
 -- a refusal tells the first fault of a plan with a flow
-pub says_proof : (Z : Type 0) (tree : Rows) (list : List access.Access) (plan : List Step) (flow : List FlowRow) (fault : ProofFault) (refusal : Refusal)
-    → TellsProof tree fault refusal → (fault ≢ proof.Memory → IsFault tree (nodes_of list) (lengths_of list) plan flow fault)
-    → Says {Z = Z} (FlowChecked tree list plan flow) (Err refusal)
-says_proof Z tree list plan flow fault (Fault text) told first = (fault, told.1, first told.1, told.0)
-says_proof Z tree list plan flow fault Memory told first = tt
+pub says_proof : (Z : Type 0) (task : Task) (plan : List Step) (flow : List FlowRow) (fault : ProofFault) (refusal : Refusal)
+    → IsTold (proof_text task.tree fault) refusal → (fault ≡ proof.Memory → refusal ≡ Memory)
+    → (fault ≢ proof.Memory → IsFault task.tree (nodes_of task.list) (lengths_of task.list) plan flow fault)
+    → Says {Z = Z} (IsChecked (task, plan, flow)) (Err refusal)
+says_proof Z task plan flow fault (Fault text) told memory first =
+    let other : fault ≢ proof.Memory = λ is. not_both text (memory is) in (fault, other, first other, told)
+  where
+    not_both : (text : String _) → Fault text ≡ Memory → ⊥
+    not_both text is = cc
+says_proof Z task plan flow fault Memory told memory first = tt
 
--- no answer is both lines and a refusal
-not_both : (answer : Answer) → SaysIt (Ok []) answer → SaysIt (Err []) answer → ⊥
-not_both (Done text) lines refusal = cc
-not_both (Refused text) (fault, is, line) refusal = cc
-not_both (Usage text) lines refusal = lines
+-- the answer that the calls' result makes is that of what it says
+pub answer_says : {Z : Type 0} (MaySay : Outcome → Type 0) (result : Result (String Z) Refusal) (answer : Result Answer Stop)
+    → Says MaySay result → IfOk answer (λ a. IsSomeAnd (outcome_of result) (IsAnswerTo a)) → IfOk answer (AnswersBy MaySay)
+answer_says MaySay (Ok lines) answer says is = IfOk-weaker answer _ _ (λ a it. (Ok (string_bytes lines), says, it)) is
+answer_says MaySay (Err (Fault text)) answer says is = IfOk-weaker answer _ _ (λ a it. (Err (string_bytes text), says, it)) is
+answer_says MaySay (Err Memory) (Ok a) says is = absurd is
+answer_says MaySay (Err Memory) (Err why) says is = tt
 
--- the answer that a result makes says what the result says
-pub answer_says : {Z : Type 0} (IsSaid : Result (List ℕ) (List ℕ) → Type 0) (result : Result (String Z) Refusal) (answer : Result Answer Stop)
-    → ((said : Result (List ℕ) (List ℕ)) → MatchResult result (λ lines. said ≡ Ok (string_bytes lines)) (IsRefusal said) → IfOk answer (SaysIt said))
-    → Says IsSaid result → IfOk answer (SaysOne IsSaid)
-answer_says IsSaid (Ok lines) answer tells says =
-    IfOk-weaker answer _ _ (λ a it. (Ok (string_bytes lines), says, it)) (tells (Ok (string_bytes lines)) refl)
-answer_says IsSaid (Err (Fault text)) answer tells says =
-    IfOk-weaker answer _ _ (λ a it. (Err (string_bytes text), says, it)) (tells (Err (string_bytes text)) refl)
-answer_says IsSaid (Err Memory) (Ok answer) tells says = absurd (not_both answer (tells (Ok []) tt) (tells (Err []) tt))
-answer_says IsSaid (Err Memory) (Err why) tells says = tt
+-- what is listened for is what was read
+pub says_served : (found : Result (Rows × List ℤ) WireFault) (IsStored : Rows × List ℤ → Type 0) (IsPort : ℕ → Type 0) (answer : Result Answer Stop) → IsOkAnd found IsStored
+    → IfOk answer (NamesPort IsPort) → IfOk answer IsListen → IfOk answer (AnswersBy (ThenSays found IsServed))
+says_served (Ok stored) IsStored IsPort (Ok (Listen line service)) read (port, is, said) listens = (Ok (listening_line port), (port, refl), (refl, said))
+says_served (Ok stored) IsStored IsPort (Ok (Done text)) read names listens = absurd listens
+says_served (Ok stored) IsStored IsPort (Ok (Refused text)) read names listens = absurd listens
+says_served (Ok stored) IsStored IsPort (Ok (Usage text)) read names listens = absurd listens
+says_served (Ok stored) IsStored IsPort (Err why) read names listens = tt
+says_served (Err fault) IsStored IsPort answer read names listens = absurd read
 
--- numbers and replies are no floats
+-- an answer that doesn't listen names no port
+pub names_no_port : (IsPort : ℕ → Type 0) (answer : Result Answer Stop) → IfOk answer (λ a. ¬ IsListen a) → IfOk answer (NamesPort IsPort)
+names_no_port IsPort (Ok (Done text)) other = tt
+names_no_port IsPort (Ok (Refused text)) other = tt
+names_no_port IsPort (Ok (Usage text)) other = tt
+names_no_port IsPort (Ok (Listen line service)) other = absurd (other tt)
+names_no_port IsPort (Err why) other = tt
 
-number_is_no_float : (n : ℤ) → has_float (number_data n) ≡ false
-number_is_no_float (pos n) = refl
-number_is_no_float (negsuc n) = refl
+-- what a command says of a document it says of the bytes that are read as it
+pub says_document : (command : Command) (bytes : List ℕ) (document : Data) (answer : Result Answer Stop) → document_of bytes ≡ Ok document
+    → IfOk answer (AnswersBy (MaySay command document)) → IfOk answer (AnswersBy (IsOutcome command bytes))
+says_document command bytes document answer read says =
+    subst (λ (r : Result Data WireFault). IfOk answer (AnswersBy (ThenSays r (MaySay command)))) (sym read) says
 
-reply_is_no_float : (reply : Reply) → has_float (reply_data reply) ≡ false
-reply_is_no_float (Value n) = number_is_no_float n
-reply_is_no_float Done = refl
-reply_is_no_float Range = refl
-reply_is_no_float Short = refl
+-- a reading that fails for anything but want of memory has the fault that is told
+unread : (fault : WireFault) (read : Result Data WireFault) → Fails fault read → fault ≢ wire.Memory → read ≡ Err fault
+unread wire.BadJson read is other = is
+unread (wire.Shape place) read is other = is
+unread (wire.NoPath place) read is other = is
+unread (wire.BadLength place) read is other = is
+unread (wire.Limit place) read is other = is
+unread (wire.Tree fault) read is other = is
+unread wire.Memory read is other = absurd (other refl)
 
-pub numbers_have_no_float : (numbers : List ℤ) → has_float (numbers_data numbers) ≡ false
-numbers_have_no_float [] = refl
-numbers_have_no_float (n ∷ numbers) = rw (number_is_no_float n) (numbers_have_no_float numbers)
-
-pub replies_have_no_float : (replies : List Reply) → has_float (replies_data replies) ≡ false
-replies_have_no_float [] = refl
-replies_have_no_float (reply ∷ replies) = rw (reply_is_no_float reply) (replies_have_no_float replies)
-
--- and neither are steps and rows
-
-step_is_no_float : (tree : Rows) (step : Step) → has_float (step_data tree step) ≡ false
-step_is_no_float tree (Lock node) = refl
-step_is_no_float tree (Unlock node) = refl
-step_is_no_float tree (Access access) = refl
-
-pub plan_has_no_float : (tree : Rows) (plan : List Step) → has_float (plan_data tree plan) ≡ false
-plan_has_no_float tree [] = refl
-plan_has_no_float tree (step ∷ plan) = rw (step_is_no_float tree step) (plan_has_no_float tree plan)
-
-row_is_no_float : (tree : Rows) (row : FlowRow) → has_float (flow_row_data tree row) ≡ false
-row_is_no_float tree row = refl
-
-pub flow_has_no_float : (tree : Rows) (flow : List FlowRow) → has_float (flow_data tree flow) ≡ false
-flow_has_no_float tree [] = refl
-flow_has_no_float tree (row ∷ flow) = rw (row_is_no_float tree row) (flow_has_no_float tree flow)
+-- what is said of bytes that aren't read as a document
+pub says_unread : (command : Command) (bytes : List ℕ) (fault : WireFault) (refusal : Refusal) (answer : Result Answer Stop) → Fails fault (document_of bytes)
+    → IsTold (wire_text fault) refusal → (fault ≡ wire.Memory → refusal ≡ Memory) → IfOk answer (λ a. IsSomeAnd (refusal_outcome refusal) (IsAnswerTo a))
+    → IfOk answer (AnswersBy (IsOutcome command bytes))
+says_unread command bytes fault (Fault text) answer fails told memory is =
+    let other : fault ≢ wire.Memory = λ here. not_both (memory here) in
+    let says : IsOutcome command bytes (Err (string_bytes text)) =
+    subst (λ (r : Result Data WireFault). ThenSays r (MaySay command) (Err (string_bytes text))) (sym (unread fault (document_of bytes) fails other)) (ap Err told) in
+    IfOk-weaker answer _ _ (λ a it. (Err (string_bytes text), says, it)) is
+  where
+    not_both : Fault text ≡ Memory → ⊥
+    not_both is = cc
+says_unread command bytes fault Memory (Ok a) fails told memory is = absurd is
+says_unread command bytes fault Memory (Err why) fails told memory is = tt

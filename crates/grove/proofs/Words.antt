@@ -2,14 +2,14 @@
 use Rattle.std.proofs.Common.{◌≡◌, ◌≢◌, ℕ, zero, suc, refl, Bool, true, false, cond, List, [], ◌∷◌, Option, Some, None, inl, inr, codes, slice_get, length, ◌||◌, ◌⊎◌, drop, encode_utf8, ◌==◌}
 use Rattle.std.specs.Str.{chars, bytes_eq}
 use Rattle.clap.specs.Lexer.{long_of, short_of}
-use Rattle.clap.specs.Words.{Rule, Shape, Text, built, new_rule}
+use Rattle.clap.specs.Words.{Rule, Shape, Text, new_rule}
 use Rattle.std.specs.Prelude.{is_some, option_and_then}
 use Rattle.std.proofs.lemmas.Slice.Eq.{bytes_eq-Decides}
 use Rattle.clap.specs.Simple.{help_rule, version_rule, filled, with_index}
 use Rattle.clap.specs.Walk.{Held, idle, word_met, bundle_met, plain, value, arg_by_long, arg_by_short, settled, reacted}
 use Rattle.clap.specs.Faults.{flag_word_fault, long_fault, short_fault, flags_fault, settle_fault, use_fault, react_fault}
 use Rattle.clap.specs.Kinds.{or_else, Kinds}
-use Rattle.grove.specs.CommandLines.{grove_command, hyphens, is_option}
+use Rattle.grove.specs.CommandLines.{port_rule, tree_rule, workers_rule, hyphens, is_option}
 
 -- some kind is among them
 abbrev pub IsFaulty : Kinds → Type 0
@@ -39,6 +39,12 @@ top_rules = help_option ∷ version_option ∷ []
 
 abbrev pub leaf_rules : List Rule
 leaf_rules = document_argument ∷ help_option ∷ []
+
+abbrev pub batch_rules : List Rule
+batch_rules = document_argument ∷ with_index 1 (filled workers_rule) ∷ help_option ∷ []
+
+abbrev pub port_rules : List Rule
+port_rules = filled tree_rule ∷ filled port_rule ∷ filled workers_rule ∷ help_option ∷ []
 
 -- they are asked for, and no order is given
 
@@ -93,9 +99,6 @@ module _ (rules : List Rule) (shorts : (x : ℕ) (rest : Text) (h : Held) (next 
   bundle_refused : (x : ℕ) (flags : Text) (y : ℕ) (h : Held) → slice_get (chars (x ∷ flags)) 0 ≡ Some y → IsFaulty (flags_fault rules false (suc (length flags)) (x ∷ flags) 0 h)
   unfolding flags_fault
   bundle_refused x flags y h first = rw first (shorts y (drop (length (encode_utf8 y)) (x ∷ flags)) h (flags_fault rules false (length flags) (drop (length (encode_utf8 y)) (x ∷ flags)) 0))
-
-same_rules : (built grove_command).top.rules ≡ top_rules
-same_rules = refl
 
 abbrev pub held_with : Option (Text × List Text) → Held
 held_with pending = record { rows = []; pending = pending; skip = 0 }

@@ -1,60 +1,105 @@
--- What each command on standard input says of a document: its lines, or the text of the first fault.
-use Rattle.std.specs.Prelude.{◌≡◌, ◌≢◌, ℕ, ◌≤◌, ℤ, codes, decimal, List, ◌++◌, String, string_bytes, Option, Result, Ok, Err}
+-- What each command says of a document: its lines, or the text of the first fault. And what the program prints of it.
+use Rattle.std.specs.Prelude.{◌≡◌, ◌≢◌, ◌⊎◌, ℕ, ◌≤◌, ℤ, codes, decimal, List, ◌++◌, length, map, Option, Some, None, Result, Ok, Err}
+use Rattle.std.specs.Io.KnownBytes.{Appends}
+use Rattle.std.specs.List.{AllZip}
 use Rattle.serde_json.specs.Data.{Data}
 use Rattle.serde_json.specs.Written.{compact_text}
+use Rattle.grove_base.specs.Numbers.{numbers_below}
 use Rattle.grove_tree.specs.Trees.{Rows}
 use Rattle.grove_access.specs.declared.access.Access.{Access}
+use Rattle.grove_access.specs.declared.reply.Reply.{Reply}
 use Rattle.grove_access.specs.Lists.{nodes_of, lengths_of}
+use Rattle.grove_access.specs.Effects.{records_after, replies_to}
 use Rattle.grove_plan.specs.declared.step.Step.{Step}
+use Rattle.grove_plan.specs.declared.fault.PlanFault.{PlanFault}
 use Rattle.grove_plan.specs.Plans.{IsLeast, cost}
+use Rattle.grove_plan.specs.Faults.{plan_fault_of}
 use Rattle.grove_proof.specs.declared.flow.FlowRow.{FlowRow}
 use Rattle.grove_proof.specs.declared.fault.ProofFault.{ProofFault}
 use Rattle.grove_proof.specs.declared.fault.ProofFault.TheVariants as proof
 use Rattle.grove_proof.specs.Flows.{IsCertificate}
 use Rattle.grove_proof.specs.Faults.{IsFault}
 use Rattle.grove_build.specs.Settled.{IsSettled}
+use Rattle.grove_core.specs.declared.job.Job.{Job}
+use Rattle.grove_core.specs.declared.event.Event.{Event}
+use Rattle.grove_core.specs.Runs.{IsRun, IsFinished, run_records, run_replies, waits_of}
+use Rattle.grove_core.specs.Orders.{placement_order}
+use Rattle.grove_core.specs.Laws.{IsEachOnce, IsSerialBy}
 use Rattle.grove_wire.specs.declared.fault.WireFault.{WireFault}
-use Rattle.grove_wire.specs.Reading.{document_of, tree_in, list_in, plan_in, flow_in}
-use Rattle.grove_wire.specs.Writing.{plan_data, flow_data}
-use Rattle.grove_wire.specs.Texts.{wire_text, proof_text}
-use Rattle.grove.specs.declared.answer.Answer.{Answer}
-use Rattle.grove.specs.declared.command_line.Order.{Order}
-use Rattle.grove.specs.declared.command_line.Order.TheVariants.{Judge, Check, Plan}
-use Rattle.grove.specs.declared.refusal.Refusal.{Refusal}
-use Rattle.grove.specs.declared.refusal.Refusal.TheVariants.{Fault, Memory}
-use Rattle.grove.specs.Judgements.{then_use, object_judged, SaysIt, PrintsIt}
+use Rattle.grove_wire.specs.Outcomes.{◌>>=◌}
+use Rattle.grove_wire.specs.Reading.{document_of, tree_in, list_in, lists_in, plan_in, flow_in}
+use Rattle.grove_wire.specs.Writing.{replies_data, numbers_data, plan_data, flow_data}
+use Rattle.grove_wire.specs.Replies.{counts_data, lists_data}
+use Rattle.grove_wire.specs.Texts.{wire_text, plan_text, proof_text}
+use Rattle.grove.specs.Endings.{listening_line, refusal_line}
+use Rattle.grove.specs.declared.order.Command.{Command}
+use Rattle.grove.specs.declared.order.Command.TheVariants.{Judge, Check, Plan, Run, Serve}
+use Rattle.grove.specs.declared.reading.Task.{Task}
 
--- what is said of what is read, or else its fault's text
-abbrev pub ThenSays : {A : Type 0} → Result A WireFault → (A → Result (List ℕ) (List ℕ) → Type 0) → Result (List ℕ) (List ℕ) → Type 0
-ThenSays (Ok x) Says said = Says x said
-ThenSays (Err fault) Says said = said ≡ Err (wire_text fault)
+-- lines, or the text of why there are none
+abbrev pub Outcome : Type 0
+Outcome = Result (List ℕ) (List ℕ)
 
--- ---- check
+-- what may be said of what is read, or else its fault's text
+abbrev pub ThenSays : {A : Type 0} → Result A WireFault → (A → Outcome → Type 0) → Outcome → Type 0
+ThenSays (Ok x) MaySay outcome = MaySay x outcome
+ThenSays (Err fault) MaySay outcome = outcome ≡ Err (wire_text fault)
 
-abbrev pub cost_line : ℕ → List ℕ
-cost_line cost = codes "cost " ++ decimal cost ++ codes "\n"
+-- ---- what is read of a document: a tree with records and a list; then a plan; then a flow; or a tree with records and lists
 
--- a plan with a flow that proves it least has its cost, and any other its first fault
-abbrev pub FlowChecked : Rows → List Access → List Step → List FlowRow → Result (List ℕ) (List ℕ) → Type 0
-FlowChecked tree list plan flow (Ok lines) =
-    IsLeast tree (nodes_of list) (lengths_of list) plan
-    × IsCertificate tree (nodes_of list) (lengths_of list) flow (cost tree (lengths_of list) plan) × (lines ≡ cost_line (cost tree (lengths_of list) plan))
-FlowChecked tree list plan flow (Err text) =
-    (fault : ProofFault) × (fault ≢ proof.Memory) × IsFault tree (nodes_of list) (lengths_of list) plan flow fault × (text ≡ proof_text tree fault)
+unfoldable pub task_in : Data → Result Task WireFault
+task_in document = do
+  stored ← tree_in document
+  list ← list_in stored.0 document
+  Ok (record { tree = stored.0; records = stored.1; list = list })
 
-abbrev pub PlanChecked : Data → Rows → List Access → List Step → Result (List ℕ) (List ℕ) → Type 0
-PlanChecked document tree list plan = ThenSays (flow_in tree document) (FlowChecked tree list plan)
+unfoldable pub trial_in : Data → Result (Task × List Step) WireFault
+trial_in document = do
+  task ← task_in document
+  plan ← plan_in task.tree document
+  Ok (task, plan)
 
-abbrev pub ListChecked : Data → Rows → List Access → Result (List ℕ) (List ℕ) → Type 0
-ListChecked document tree list = ThenSays (plan_in tree document) (PlanChecked document tree list)
+unfoldable pub claim_in : Data → Result (Task × List Step × List FlowRow) WireFault
+claim_in document = do
+  trial ← trial_in document
+  flow ← flow_in trial.0.tree document
+  Ok (trial.0, trial.1, flow)
 
-abbrev pub TreeChecked : Data → Rows × List ℤ → Result (List ℕ) (List ℕ) → Type 0
-TreeChecked document read = ThenSays (list_in read.0 document) (ListChecked document read.0)
+unfoldable pub batch_in : Data → Result (Rows × List ℤ × List (List Access)) WireFault
+batch_in document = do
+  stored ← tree_in document
+  lists ← lists_in stored.0 document
+  Ok (stored.0, stored.1, lists)
 
-abbrev pub ObjectChecked : Data → Result (List ℕ) (List ℕ) → Type 0
-ObjectChecked document = ThenSays (tree_in document) (TreeChecked document)
+-- ---- judge: a legal plan's cost, and what its list does when it is done alone
 
--- ---- plan
+abbrev pub judge_lines : ℕ → List Reply → List ℤ → List ℕ
+judge_lines cost replies records =
+    codes "cost " ++ decimal cost
+    ++ codes "\nreplies " ++ compact_text (replies_data replies)
+    ++ codes "\nrecords " ++ compact_text (numbers_data records)
+    ++ codes "\n"
+
+abbrev pub unless_faulty : Rows → Option PlanFault → List ℕ → Outcome
+unless_faulty tree None lines = Ok lines
+unless_faulty tree (Some fault) lines = Err (plan_text tree fault)
+
+abbrev pub IsJudged : Task × List Step → Outcome → Type 0
+IsJudged (task, plan) outcome =
+    outcome ≡ unless_faulty task.tree (plan_fault_of task.tree (nodes_of task.list) plan)
+    (judge_lines (cost task.tree (lengths_of task.list) plan) (replies_to task.list task.records) (records_after task.list task.records))
+
+-- ---- check: the cost of a plan with a flow that proves it least, and of any other the first fault
+
+abbrev pub IsChecked : Task × List Step × List FlowRow → Outcome → Type 0
+IsChecked (task, plan, flow) (Ok lines) =
+    IsLeast task.tree (nodes_of task.list) (lengths_of task.list) plan
+    × IsCertificate task.tree (nodes_of task.list) (lengths_of task.list) flow (cost task.tree (lengths_of task.list) plan)
+    × (lines ≡ codes "cost " ++ decimal (cost task.tree (lengths_of task.list) plan) ++ codes "\n")
+IsChecked (task, plan, flow) (Err text) = (fault : ProofFault)
+    × (fault ≢ proof.Memory) × IsFault task.tree (nodes_of task.list) (lengths_of task.list) plan flow fault × (text ≡ proof_text task.tree fault)
+
+-- ---- plan: the settled plan, with its cost and a flow that proves it least
 
 abbrev pub plan_lines : Rows → List Access → List Step → List FlowRow → List ℕ
 plan_lines tree list plan flow =
@@ -63,40 +108,65 @@ plan_lines tree list plan flow =
     ++ codes "\nflow " ++ compact_text (flow_data tree flow)
     ++ codes "\n"
 
--- the settled plan, with a flow that proves it least
-abbrev pub IsPlanned : Rows → List Access → List Step → List FlowRow → Type 0
-IsPlanned tree list plan flow = IsSettled tree (nodes_of list) (lengths_of list) plan
-    × IsCertificate tree (nodes_of list) (lengths_of list) flow (cost tree (lengths_of list) plan)
+abbrev pub IsPlanned : Task → Outcome → Type 0
+IsPlanned task outcome = (plan : List Step) × (flow : List FlowRow)
+    × IsSettled task.tree (nodes_of task.list) (lengths_of task.list) plan
+    × IsCertificate task.tree (nodes_of task.list) (lengths_of task.list) flow (cost task.tree (lengths_of task.list) plan)
+    × (outcome ≡ Ok (plan_lines task.tree task.list plan flow))
 
-abbrev pub ListPlanned : Rows → List Access → Result (List ℕ) (List ℕ) → Type 0
-ListPlanned tree list said = (plan : List Step) × (flow : List FlowRow) × IsPlanned tree list plan flow × (said ≡ Ok (plan_lines tree list plan flow))
+-- ---- run: the lists, each by its settled plan, brought to the end of some run, and the order in which doing them whole is the same
 
-abbrev pub TreePlanned : Data → Rows × List ℤ → Result (List ℕ) (List ℕ) → Type 0
-TreePlanned document read = ThenSays (list_in read.0 document) (ListPlanned read.0)
+abbrev pub IsSettledJob : Rows → List Access → Job → Type 0
+IsSettledJob tree list job = (job.list ≡ list) × IsSettled tree (nodes_of list) (lengths_of list) job.plan
 
-abbrev pub ObjectPlanned : Data → Result (List ℕ) (List ℕ) → Type 0
-ObjectPlanned document = ThenSays (tree_in document) (TreePlanned document)
+abbrev pub batch_lines : List ℕ → List (List Reply) → List ℤ → List ℕ → List ℕ
+batch_lines order replies records waits =
+    codes "order " ++ compact_text (counts_data order)
+    ++ codes "\nreplies " ++ compact_text (lists_data replies)
+    ++ codes "\nrecords " ++ compact_text (numbers_data records)
+    ++ codes "\nwaits " ++ compact_text (counts_data waits)
+    ++ codes "\n"
 
--- ---- what an order says
+abbrev pub run_lines : Rows → List Job → List ℤ → List Event → List ℕ
+run_lines tree jobs records past =
+    batch_lines (placement_order tree jobs past) (map (run_replies jobs records past) (numbers_below (length jobs)))
+    (run_records jobs records past) (map (waits_of jobs past) (numbers_below (length tree)))
 
-abbrev pub Outcome : Order → Result Data WireFault → Result (List ℕ) (List ℕ) → Type 0
-Outcome (Judge document) read said = said ≡ then_use read object_judged
-Outcome (Check document) read said = ThenSays read ObjectChecked said
-Outcome (Plan document) read said = ThenSays read ObjectPlanned said
+abbrev pub IsRunBatch : Rows × List ℤ × List (List Access) → Outcome → Type 0
+IsRunBatch (tree, records, lists) (Ok lines) = (jobs : List Job) × (past : List Event)
+    × AllZip (IsSettledJob tree) lists jobs × IsRun jobs past × IsFinished jobs past
+    × IsEachOnce (placement_order tree jobs past) (length jobs) × IsSerialBy (placement_order tree jobs past) jobs records past
+    × (lines ≡ run_lines tree jobs records past)
+IsRunBatch (tree, records, lists) (Err text) = (text ≡ codes "foreign") ⊎ (text ≡ codes "unfinished")
 
-abbrev pub IsSaidOf : Order → List ℕ → Result (List ℕ) (List ℕ) → Type 0
-IsSaidOf order bytes = Outcome order (document_of bytes)
+-- ---- serve: the port that is listened on
 
--- lines or a refusal are what may be said; a refusal for want of memory says nothing
-abbrev pub Says : {Z : Type 0} → (Result (List ℕ) (List ℕ) → Type 0) → Result (String Z) Refusal → Type 0
-Says IsSaid (Ok lines) = IsSaid (Ok (string_bytes lines))
-Says IsSaid (Err (Fault text)) = IsSaid (Err (string_bytes text))
-Says IsSaid (Err Memory) = Unit {0}
+abbrev pub IsServed : Rows × List ℤ → Outcome → Type 0
+IsServed (tree, records) outcome = (port : ℕ) × (outcome ≡ Ok (listening_line port))
 
--- an answer prints what may be said
-abbrev pub SaysOne : (Result (List ℕ) (List ℕ) → Type 0) → Answer → Type 0
-SaysOne IsSaid answer = (said : Result (List ℕ) (List ℕ)) × IsSaid said × SaysIt said answer
+-- ---- what a command may say of a document, and of bytes
 
--- unless something stops the program, standard output gets what may be said, and the status tells which it is
-abbrev pub PrintsOne : (Result (List ℕ) (List ℕ) → Type 0) → ℕ → Option (List ℕ) → Option (List ℕ) → Type 0
-PrintsOne IsSaid status old new = status ≤ 2 → (said : Result (List ℕ) (List ℕ)) × IsSaid said × PrintsIt said status old new
+abbrev pub MaySay : Command → Data → Outcome → Type 0
+MaySay Judge document = ThenSays (trial_in document) IsJudged
+MaySay Check document = ThenSays (claim_in document) IsChecked
+MaySay Plan document = ThenSays (task_in document) IsPlanned
+MaySay Run document = ThenSays (batch_in document) IsRunBatch
+MaySay Serve document = ThenSays (tree_in document) IsServed
+
+abbrev pub IsOutcome : Command → List ℕ → Outcome → Type 0
+IsOutcome command bytes = ThenSays (document_of bytes) (MaySay command)
+
+-- ---- what is printed
+
+abbrev pub outcome_status : Outcome → ℕ
+outcome_status (Ok lines) = 0
+outcome_status (Err fault) = 1
+
+abbrev pub outcome_text : Outcome → List ℕ
+outcome_text (Ok lines) = lines
+outcome_text (Err fault) = refusal_line fault
+
+-- unless something stops the program, standard output gets the text of what may be said, and the status is that of it
+abbrev pub Prints : (Outcome → Type 0) → ℕ → Option (List ℕ) → Option (List ℕ) → Type 0
+Prints MaySay status old new = status ≤ 2 → (outcome : Outcome)
+    × MaySay outcome × (status ≡ outcome_status outcome) × Appends old new (outcome_text outcome)

@@ -1,10 +1,15 @@
 ghost use Rattle.std.specs.Prelude.{◌≡◌, ◌≤◌, ◌⊎◌, true, false, IfOk, IsOkAnd};
 ghost use Rattle.std.specs.Io.KnownBytes.{Appends, Keeps};
-ghost use Rattle.grove.specs.Endings.{status_of, printed, complained, stop_line, IsRefusalLine, SaysRefusal, SaysWhy};
+ghost use Rattle.grove.specs.Answers.{status_of, printed, complained, IsListen, IsRefusalLine};
+ghost use Rattle.grove.specs.Endings.{stop_line, SaysRefusal, SaysWhy};
 
-use grove_store::{DeviceFault, ReadFault, Sink, write_whole};
-use std::alloc::{AllocError, AllocFailed};
+use crate::connections::serve;
+use crate::serving::Service;
+use grove_session::{DeviceFault, ReadFault, Sink, write_whole};
+use std::alloc::{AllocError, AllocFailed, AllocGlobal};
 use std::io;
+use std::sync::Wait;
+use std::thread::Threads;
 
 /// What a command prints, made whole before any of it is printed.
 #[derive(Debug, Drop)]
@@ -15,6 +20,8 @@ pub enum Answer {
     Refused(String),
     /// The words of the command line are at fault: lines for standard error, status 2.
     Usage(String),
+    /// A port is listened on: the line that says so, for standard output, and what is served there.
+    Listen { line: String, service: Service },
 }
 
 /// Why a command has no answer, or can't print it: a line for standard error, status 3.
@@ -27,7 +34,12 @@ pub enum Stop {
 }
 
 /// Prints the answer, or why there is none, and gives the status of the process.
-pub fn end<O: Sink, E: Sink>(answer: Result<Answer, Stop>, out: &mut O, err: &mut E) -> u8
+pub fn end<R: AllocGlobal + Threads + Wait + Sync, O: Sink, E: Sink>(
+    rt: &R,
+    answer: Result<Answer, Stop>,
+    out: &mut O,
+    err: &mut E,
+) -> u8
     ensures status { result ≤ 3 }
     ensures answered { result ≤ 2 → IsOkAnd answer (λ answer. (result ≡ status_of answer)
         × Appends (O.contents out.old) (O.contents out.new) (printed answer)
@@ -38,14 +50,17 @@ pub fn end<O: Sink, E: Sink>(answer: Result<Answer, Stop>, out: &mut O, err: &mu
     ensures sound_output { result ≤ 2 → O.has_failed out.new ≡ O.has_failed out.old }
     ensures sound_errors { result ≤ 2 → E.has_failed err.new ≡ E.has_failed err.old }
     ensures blamed { result ≡ 3 → E.has_failed err.new ≡ false
-        → SaysWhy ((answer ≡ Err Stop.Device) ⊎ (O.has_failed out.new ≡ true))
+        → SaysWhy ((answer ≡ Err Stop.Device) ⊎ (IsOkAnd answer IsListen ⊎ (O.has_failed out.new ≡ true)))
         ((answer ≡ Err Stop.Memory) × (O.has_failed out.new ≡ O.has_failed out.old)) (E.contents err.old) (E.contents err.new) }
-    ensures unprinted { result ≡ 3 → O.has_failed out.new ≡ false → Keeps (O.contents out.old) (O.contents out.new) }
+    ensures unprinted { result ≡ 3 → O.has_failed out.new ≡ false → Keeps (O.contents out.old) (O.contents out.new)
+        ⊎ IsOkAnd answer (λ answer. IsListen answer × Appends (O.contents out.old) (O.contents out.new) (printed answer)) }
+    ensures served { IsOkAnd answer IsListen → result ≡ 3 }
 {
     match answer {
         Ok(Answer::Done(text)) => tell(&text, 0, out, err),
         Ok(Answer::Refused(text)) => tell(&text, 1, out, err),
         Ok(Answer::Usage(text)) => complain(&text, err),
+        Ok(Answer::Listen { line, service }) => say_and_serve(rt, &line, service, out, err),
         Err(why) => report(why, err),
     }
 }
@@ -79,6 +94,24 @@ fn complain<E: Sink>(text: &str, err: &mut E) -> u8
     }
 }
 
+/// Prints the line and serves, which ends only where a device fails.
+fn say_and_serve<R: AllocGlobal + Threads + Wait + Sync, O: Sink, E: Sink>(
+    rt: &R,
+    line: &str,
+    service: Service,
+    out: &mut O,
+    err: &mut E,
+) -> u8
+    ensures status { result ≡ 3 }
+    ensures said { O.has_failed out.new ≡ false → Appends (O.contents out.old) (O.contents out.new) line.now }
+    ensures told { E.has_failed err.new ≡ false → Appends (E.contents err.old) (E.contents err.new) (stop_line Stop.Device) }
+{
+    if write_whole(out, line.as_bytes()).is_ok() {
+        serve(rt, service);
+    }
+    report(Stop::Device, err)
+}
+
 /// Says on standard error why there is no answer.
 fn report<E: Sink>(why: Stop, err: &mut E) -> u8
     ensures status { result ≡ 3 }
@@ -95,7 +128,7 @@ fn report<E: Sink>(why: Stop, err: &mut E) -> u8
 }
 
 impl From<ReadFault> for Stop {
-    ghost use Rattle.grove.specs.Endings.{stop_of};
+    ghost use Rattle.grove.specs.Answers.{stop_of};
     ghost use Rattle.std.specs.Prelude.{◌≡◌};
 
     ghost from_gives = { λ fault stop. stop ≡ stop_of fault };

@@ -1,41 +1,50 @@
-ghost use Rattle.std.specs.Prelude.{◌≡◌, ◌≢◌, ◌≤◌, ◌⊎◌, length, map, true, false, [], None, IfOk, IfErr, IfSome, OnOk, string_bytes};
+ghost use Rattle.std.specs.Prelude.{◌≡◌, ◌≢◌, ◌≤◌, ◌⊎◌, length, map, true, false, [], None, Some, IfOk, IfErr, IfSome, OnOk, string_bytes, ⊤};
 ghost use Rattle.clap.specs.Values.{kind_of};
+ghost use Rattle.serde_json.specs.View.{view};
+ghost use Rattle.grove_wire.specs.Forms.{HasShortArrays};
 ghost use Rattle.std.specs.Io.KnownBytes.{Consumes, IsAtEnd, Keeps};
-ghost use Rattle.grove.specs.Endings.{status_of, Blames, HasText, IsRefusalLine, SaysRefusal, SaysSomething, SaysWhy};
-ghost use Rattle.grove.specs.CommandLines.{name_of, AreWrong, AskFor, AskToShow, NameDocument};
-ghost use Rattle.grove.specs.Judgements.{judgement, PrintsIt};
-ghost use Rattle.grove.specs.Outcomes.{IsSaidOf, SaysOne, PrintsOne};
+ghost use Rattle.grove.specs.Answers.{status_of, AnswersBy, HasText, IsListen, IsRefusalLine, NamesPort};
+ghost use Rattle.grove.specs.CommandLines.{AreWrong, AskFor, AskToServe, AskToShow, NameDevice};
+ghost use Rattle.grove.specs.Endings.{Blames, SaysListening, SaysRefusal, SaysSomething, SaysWhy};
+ghost use Rattle.grove.specs.Outcomes.{IsOutcome, MaySay, Prints};
 
 use crate::answer::{Answer, Stop, end};
 use crate::checking::check_document;
-use crate::command_line::{Order, command_line, order_of};
+use crate::command_line::{command_line, order_of};
 use crate::judging::judge_document;
+use crate::order::{Command, Order};
 use crate::planning::plan_document;
-use crate::refusal::answer_of;
+use crate::refusal::{Refusal, answer_of};
+use crate::running::run_document;
+use crate::serving::serve_document;
 use clap::Error;
 use clap::error::ErrorKind;
-use grove_store::{ReaderSource, Sink, Source, read_whole};
-use grove_wire::MOST_BYTES;
+use grove_session::{ReaderSource, Sink, Source, read_whole};
+use grove_wire::{MOST_BYTES, read_document};
+use serde_json::Value;
 use std::alloc::{AllocError, Global};
 use std::fs;
+use std::net::{Net, TcpListener, TcpStream};
 use std::rt::Files;
+use std::sync::Wait;
+use std::thread::Threads;
 
 /// Does what the words after the program's name ask for, and gives the status of the process: 0 done, 1 refused,
 /// 2 wrong words, found before anything is read, 3 no answer or one that couldn't be printed. A document without
 /// a name is read from `input`.
-pub fn run_command<R: Files + AllocGlobal, I: Source, O: Sink, E: Sink>(
-    rt: &R,
-    words: &[String],
-    input: &mut I,
-    out: &mut O,
-    err: &mut E,
-) -> u8
-    ensures judged { AskFor (map string_bytes words.now) (Order.Judge None) → IfSome (I.remaining input.old) (λ document.
-        PrintsIt (judgement document) result (O.contents out.old) (O.contents out.new)) }
-    ensures checked { AskFor (map string_bytes words.now) (Order.Check None) → IfSome (I.remaining input.old) (λ document.
-        PrintsOne (IsSaidOf (Order.Check None) document) result (O.contents out.old) (O.contents out.new)) }
-    ensures planned { AskFor (map string_bytes words.now) (Order.Plan None) → IfSome (I.remaining input.old) (λ document.
-        PrintsOne (IsSaidOf (Order.Plan None) document) result (O.contents out.old) (O.contents out.new)) }
+pub fn run_command<
+    R: Files
+        + AllocGlobal
+        + Net<Listener = TcpListener, Stream = TcpStream>
+        + Threads
+        + Wait
+        + Sync,
+    I: Source,
+    O: Sink,
+    E: Sink,
+>(rt: &R, words: &[String], input: &mut I, out: &mut O, err: &mut E) -> u8
+    ensures answered { (order : Order) → AskFor (map string_bytes words.now) order → order.document ≡ None
+        → IfSome (I.remaining input.old) (λ document. Prints (IsOutcome order.command document) result (O.contents out.old) (O.contents out.new)) }
     ensures status { result ≤ 3 }
     ensures refused { result ≡ 1 → SaysRefusal (O.contents out.old) (O.contents out.new) }
     ensures wrong { AreWrong (map string_bytes words.now) → (result ≡ 2) ⊎ (result ≡ 3) }
@@ -44,19 +53,21 @@ pub fn run_command<R: Files + AllocGlobal, I: Source, O: Sink, E: Sink>(
     ensures taken { (order : Order) → AskFor (map string_bytes words.now) order → result ≢ 2 }
     ensures complained { result ≡ 2 → SaysSomething (E.contents err.old) (E.contents err.new) }
     ensures unread { result ≡ 2 → input.new ≡ input.old }
-    ensures apart { (order : Order) → AskFor (map string_bytes words.now) order → name_of order ≢ None → input.new ≡ input.old }
+    ensures apart { (order : Order) → AskFor (map string_bytes words.now) order → order.document ≢ None → input.new ≡ input.old }
     ensures blamed { result ≡ 3 → E.has_failed err.new ≡ false
-        → SaysWhy ((I.has_failed input.new ≡ true) ⊎ ((O.has_failed out.new ≡ true) ⊎ NameDocument (map string_bytes words.now)))
+        → SaysWhy ((I.has_failed input.new ≡ true) ⊎ ((O.has_failed out.new ≡ true) ⊎ NameDevice (map string_bytes words.now)))
         ((I.has_failed input.new ≡ I.has_failed input.old) × (O.has_failed out.new ≡ O.has_failed out.old))
         (E.contents err.old) (E.contents err.new) }
-    ensures unprinted { result ≡ 3 → O.has_failed out.new ≡ false → Keeps (O.contents out.old) (O.contents out.new) }
+    ensures unprinted { result ≡ 3 → O.has_failed out.new ≡ false → Keeps (O.contents out.old) (O.contents out.new)
+        ⊎ SaysListening (AskToServe (map string_bytes words.now)) (O.contents out.old) (O.contents out.new) }
+    ensures served { (order : Order) → AskFor (map string_bytes words.now) order → order.command ≡ Command.Serve → (result ≡ 1) ⊎ (result ≡ 3) }
     ensures quiet_output { result ≡ 2 → Keeps (O.contents out.old) (O.contents out.new) }
     ensures quiet_errors { result ≤ 1 → Keeps (E.contents err.old) (E.contents err.new) }
     ensures sound_input { result ≤ 2 → I.has_failed input.new ≡ I.has_failed input.old }
     ensures sound_output { result ≤ 2 → O.has_failed out.new ≡ O.has_failed out.old }
     ensures sound_errors { result ≤ 2 → E.has_failed err.new ≡ E.has_failed err.old }
 {
-    end(answer(rt, words, input), out, err)
+    end(rt, answer(rt, words, input), out, err)
 }
 
 /// The answer to words that aren't text.
@@ -69,22 +80,29 @@ pub fn refused_words(alloc: Global) -> Result<Answer, Stop>
     words_answer(alloc, &error)
 }
 
-fn answer<R: Files + AllocGlobal, I: Source>(
-    rt: &R,
-    words: &[String],
-    input: &mut I,
-) -> Result<Answer, Stop>
-    ensures said { (order : Order) → AskFor (map string_bytes words.now) order → name_of order ≡ None → IfOk result (λ answer.
-        IfSome (I.remaining input.old) (λ document. SaysOne (IsSaidOf order document) answer)) }
+fn answer<
+    R: Files
+        + AllocGlobal
+        + Net<Listener = TcpListener, Stream = TcpStream>
+        + Threads
+        + Wait
+        + Sync,
+    I: Source,
+>(rt: &R, words: &[String], input: &mut I) -> Result<Answer, Stop>
+    ensures said { (order : Order) → AskFor (map string_bytes words.now) order → order.document ≡ None → IfOk result (λ answer.
+        IfSome (I.remaining input.old) (λ document. AnswersBy (IsOutcome order.command document) answer)) }
     ensures refused { IfOk result IsRefusalLine }
     ensures wrong { AreWrong (map string_bytes words.now) → IfOk result (λ answer. status_of answer ≡ 2) }
     ensures shown { AskToShow (map string_bytes words.now) → IfOk result (λ answer. (status_of answer ≡ 0) × HasText answer) }
     ensures taken { (order : Order) → AskFor (map string_bytes words.now) order → IfOk result (λ answer. status_of answer ≤ 1) }
+    ensures served { (order : Order) → AskFor (map string_bytes words.now) order → order.command ≡ Command.Serve
+        → IfOk result (λ answer. (status_of answer ≡ 1) ⊎ IsListen answer) }
+    ensures port { IfOk result (NamesPort (AskToServe (map string_bytes words.now))) }
     ensures usage { IfOk result (λ answer. status_of answer ≡ 2 → HasText answer) }
     ensures unread { IfOk result (λ answer. status_of answer ≡ 2 → input.new ≡ input.old) }
-    ensures apart { (order : Order) → AskFor (map string_bytes words.now) order → name_of order ≢ None → input.new ≡ input.old }
+    ensures apart { (order : Order) → AskFor (map string_bytes words.now) order → order.document ≢ None → input.new ≡ input.old }
     ensures sound { OnOk result (I.has_failed input.new ≡ I.has_failed input.old) }
-    ensures blamed { IfErr result (Blames ((I.has_failed input.new ≡ true) ⊎ NameDocument (map string_bytes words.now))
+    ensures blamed { IfErr result (Blames ((I.has_failed input.new ≡ true) ⊎ NameDevice (map string_bytes words.now))
         (I.has_failed input.new ≡ I.has_failed input.old)) }
 {
     match order_of(rt.alloc(), words) {
@@ -94,35 +112,55 @@ fn answer<R: Files + AllocGlobal, I: Source>(
 }
 
 /// What an order says of its document.
-fn order_answer<R: Files + AllocGlobal, I: Source>(
-    rt: &R,
-    order: Order<'_>,
-    input: &mut I,
-) -> Result<Answer, Stop>
-    ensures said { name_of order.entry ≡ None → IfOk result (λ answer.
-        IfSome (I.remaining input.old) (λ document. SaysOne (IsSaidOf order.entry document) answer)) }
+fn order_answer<
+    R: Files
+        + AllocGlobal
+        + Net<Listener = TcpListener, Stream = TcpStream>
+        + Threads
+        + Wait
+        + Sync,
+    I: Source,
+>(rt: &R, order: Order<'_>, input: &mut I) -> Result<Answer, Stop>
+    requires { (1 ≤ order.workers) × (order.workers ≤ 16) }
+    ensures said { order.entry.document ≡ None → IfOk result (λ answer.
+        IfSome (I.remaining input.old) (λ document. AnswersBy (IsOutcome order.entry.command document) answer)) }
     ensures refused { IfOk result IsRefusalLine }
     ensures status { IfOk result (λ answer. status_of answer ≤ 1) }
-    ensures apart { name_of order.entry ≢ None → input.new ≡ input.old }
+    ensures served { order.entry.command ≡ Command.Serve → IfOk result (λ answer. (status_of answer ≡ 1) ⊎ IsListen answer) }
+    ensures port { IfOk result (NamesPort (λ port. (order.entry.command ≡ Command.Serve) × (order.entry.port ≡ Some port))) }
+    ensures apart { order.entry.document ≢ None → input.new ≡ input.old }
     ensures sound { OnOk result (I.has_failed input.new ≡ I.has_failed input.old) }
-    ensures blamed { IfErr result (Blames ((I.has_failed input.new ≡ true) ⊎ (name_of order.entry ≢ None))
+    ensures blamed { IfErr result (Blames ((I.has_failed input.new ≡ true) ⊎ ((order.entry.document ≢ None) ⊎ (order.entry.command ≡ Command.Serve)))
         (I.has_failed input.new ≡ I.has_failed input.old)) }
 {
-    let bytes = document_bytes(rt, order.document(), input)?;
-    document_answer(rt.alloc(), order, &bytes)
+    let alloc = rt.alloc();
+    let bytes = document_bytes(rt, order.document, input)?;
+    match read_document(alloc, &bytes) {
+        Ok(document) => document_answer(rt, order, &document),
+        Err(fault) => answer_of(alloc, Err(Refusal::of_wire(alloc, &fault))),
+    }
 }
 
-/// What an order says of the bytes of a document.
-fn document_answer(alloc: Global, order: Order<'_>, bytes: &[u8]) -> Result<Answer, Stop>
-    ensures said { IfOk result (SaysOne (IsSaidOf order.entry bytes.now)) }
+/// What an order says of the document.
+fn document_answer<
+    R: AllocGlobal + Net<Listener = TcpListener, Stream = TcpStream> + Threads + Wait + Sync,
+>(rt: &R, order: Order<'_>, document: &Value) -> Result<Answer, Stop>
+    requires short { HasShortArrays (view document.now) }
+    requires workers { (1 ≤ order.workers) × (order.workers ≤ 16) }
+    ensures said { IfOk result (AnswersBy (MaySay order.entry.command (view document.now))) }
     ensures refused { IfOk result IsRefusalLine }
     ensures status { IfOk result (λ answer. status_of answer ≤ 1) }
-    ensures memory { IfErr result (λ stop. stop ≡ Stop.Memory) }
+    ensures served { order.entry.command ≡ Command.Serve → IfOk result (λ answer. (status_of answer ≡ 1) ⊎ IsListen answer) }
+    ensures port { IfOk result (NamesPort (λ port. (order.entry.command ≡ Command.Serve) × (order.entry.port ≡ Some port))) }
+    ensures blamed { IfErr result (Blames (order.entry.command ≡ Command.Serve) ⊤) }
 {
-    match order {
-        Order::Judge { .. } => answer_of(alloc, judge_document(alloc, bytes)),
-        Order::Check { .. } => answer_of(alloc, check_document(alloc, bytes)),
-        Order::Plan { .. } => answer_of(alloc, plan_document(alloc, bytes)),
+    let alloc = rt.alloc();
+    match order.command {
+        Command::Judge => answer_of(alloc, judge_document(alloc, document)),
+        Command::Check => answer_of(alloc, check_document(alloc, document)),
+        Command::Plan => answer_of(alloc, plan_document(alloc, document)),
+        Command::Run => answer_of(alloc, run_document(rt, alloc, document, order.workers)),
+        Command::Serve => serve_document(rt, alloc, document, order.workers, order.port),
     }
 }
 
@@ -157,6 +195,7 @@ fn words_answer(alloc: Global, error: &Error) -> Result<Answer, Stop>
     ensures shown { (kind_of error.now ≡ ErrorKind.DisplayHelp) ⊎ (kind_of error.now ≡ ErrorKind.DisplayVersion)
         → IfOk result (λ answer. status_of answer ≡ 0) }
     ensures text { IfOk result HasText }
+    ensures unlistened { IfOk result (λ answer. ¬ IsListen answer) }
 {
     if error.kind() == ErrorKind::OutOfMemory {
         return Err(Stop::Memory);

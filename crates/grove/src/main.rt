@@ -3,7 +3,7 @@
 
 use answer::{Stop, end};
 use command::{refused_words, run_command};
-use grove_store::{ReaderSource, WriterSink};
+use grove_session::{ReaderSource, WriterSink};
 use std::env;
 use std::io::ErrorKind;
 use std::process::ExitCode;
@@ -12,9 +12,15 @@ mod answer;
 mod checking;
 mod command;
 mod command_line;
+mod connections;
 mod judging;
+mod order;
 mod planning;
+mod reading;
 mod refusal;
+mod running;
+mod serving;
+mod texts;
 
 fn main(rt: HostRuntime) -> ExitCode {
     let mut input = ReaderSource::new(rt.stdin());
@@ -23,12 +29,12 @@ fn main(rt: HostRuntime) -> ExitCode {
     let status = match env::args(&rt) {
         Ok(words) => match words.skip(1).collect::<Vec<String>>(rt.alloc()) {
             Ok(words) => run_command(&rt, &words, &mut input, &mut out, &mut err),
-            Err(_) => end(Err(Stop::Memory), &mut out, &mut err),
+            Err(_) => end(&rt, Err(Stop::Memory), &mut out, &mut err),
         },
         Err(error) if error.kind() == ErrorKind::OutOfMemory => {
-            end(Err(Stop::Memory), &mut out, &mut err)
+            end(&rt, Err(Stop::Memory), &mut out, &mut err)
         }
-        Err(_) => end(refused_words(rt.alloc()), &mut out, &mut err),
+        Err(_) => end(&rt, refused_words(rt.alloc()), &mut out, &mut err),
     };
     ExitCode::from(status)
 }

@@ -1,13 +1,14 @@
-ghost use Rattle.std.specs.Prelude.{◌≡◌, ◌≤◌, ℕ, List, IfOk, IfErr, IsErrAnd, MatchResult, Result, Ok, string_bytes};
-ghost use Rattle.grove_wire.specs.Texts.{FaultFits, ProofFaultFits};
-ghost use Rattle.grove.specs.Endings.{status_of, IsRefusalLine};
-ghost use Rattle.grove.specs.Judgements.{IsRefusal, SaysIt, Tells, TellsWire, TellsPlan, TellsProof};
+ghost use Rattle.std.specs.Prelude.{◌≡◌, ◌≤◌, ℕ, List, IfOk, IfErr, IsErrAnd, IsSomeAnd, Ok, string_bytes};
+ghost use Rattle.grove_wire.specs.Texts.{FaultFits, ProofFaultFits, RunFaultFits, wire_text, plan_text, proof_text, run_text};
+ghost use Rattle.grove.specs.Answers.{status_of, outcome_of, IsAnswerTo, IsListen, IsRefusalLine, IsTold};
 
 use crate::answer::{Answer, Stop};
+use grove_base::NoMemory;
 use grove_plan::PlanFault;
 use grove_proof::ProofFault;
-use grove_tree::{NoMemory, Tree};
-use grove_wire::{WireFault, plan_fault_text, proof_fault_text, wire_fault_text};
+use grove_run::RunFault;
+use grove_tree::Tree;
+use grove_wire::{WireFault, plan_fault_text, proof_fault_text, run_fault_text, wire_fault_text};
 use std::alloc::{AllocError, AllocFailed, Global};
 
 /// Why the calls of a command have no result.
@@ -20,8 +21,10 @@ pub enum Refusal {
 }
 
 impl Refusal {
-    fn of_wire(alloc: Global, fault: &WireFault) -> Refusal
-        ensures { TellsWire fault.now result }
+    /// What a reading's fault has to say.
+    pub fn of_wire(alloc: Global, fault: &WireFault) -> Refusal
+        ensures told { IsTold (wire_text fault.now) result }
+        ensures memory { fault.now ≡ WireFault.Memory → result ≡ Refusal.Memory }
     {
         match fault {
             WireFault::Memory => Refusal::Memory,
@@ -32,7 +35,8 @@ impl Refusal {
     /// What a plan's fault has to say.
     pub fn of_plan(alloc: Global, tree: &Tree, fault: &PlanFault) -> Refusal
         requires { FaultFits tree.now fault.now }
-        ensures { TellsPlan tree.now fault.now result }
+        ensures told { IsTold (plan_text tree.now fault.now) result }
+        ensures memory { fault.now ≡ PlanFault.Memory → result ≡ Refusal.Memory }
     {
         match fault {
             PlanFault::Memory => Refusal::Memory,
@@ -43,17 +47,30 @@ impl Refusal {
     /// What the fault of a plan with its flow has to say.
     pub fn of_proof(alloc: Global, tree: &Tree, fault: &ProofFault) -> Refusal
         requires { ProofFaultFits tree.now fault.now }
-        ensures { TellsProof tree.now fault.now result }
+        ensures told { IsTold (proof_text tree.now fault.now) result }
+        ensures memory { fault.now ≡ ProofFault.Memory → result ≡ Refusal.Memory }
     {
         match fault {
             ProofFault::Memory => Refusal::Memory,
             fault => of_text(proof_fault_text(alloc, tree, fault)),
         }
     }
+
+    /// What the fault of a run has to say.
+    pub fn of_run(alloc: Global, tree: &Tree, fault: &RunFault) -> Refusal
+        requires { RunFaultFits tree.now fault.now }
+        ensures told { IsTold (run_text tree.now fault.now) result }
+        ensures memory { fault.now ≡ RunFault.Memory → result ≡ Refusal.Memory }
+    {
+        match fault {
+            RunFault::Memory => Refusal::Memory,
+            fault => of_text(run_fault_text(alloc, tree, fault)),
+        }
+    }
 }
 
 fn of_text(text: Result<String, NoMemory>) -> Refusal
-    ensures { (said : List ℕ) → IfOk text (λ text. string_bytes text ≡ said) → Tells said result }
+    ensures { (said : List ℕ) → IfOk text (λ text. string_bytes text ≡ said) → IsTold said result }
 {
     match text {
         Ok(text) => Refusal::Fault(text),
@@ -64,7 +81,8 @@ fn of_text(text: Result<String, NoMemory>) -> Refusal
 /// What is read, or else what its fault has to say.
 pub fn or_refuse<T: Drop>(alloc: Global, reading: Result<T, WireFault>) -> Result<T, Refusal>
     ensures ok { IfOk result (λ value. reading ≡ Ok value) }
-    ensures err { IfErr result (λ refusal. IsErrAnd reading (λ fault. TellsWire fault refusal)) }
+    ensures err { IfErr result (λ refusal. IsErrAnd reading (λ fault.
+        IsTold (wire_text fault) refusal × (fault ≡ WireFault.Memory → refusal ≡ Refusal.Memory))) }
 {
     match reading {
         Ok(value) => Ok(value),
@@ -74,10 +92,11 @@ pub fn or_refuse<T: Drop>(alloc: Global, reading: Result<T, WireFault>) -> Resul
 
 /// The answer that a command's result makes: its lines, or the line that says what is refused.
 pub fn answer_of(alloc: Global, lines: Result<String, Refusal>) -> Result<Answer, Stop>
-    ensures said { (said : Result (List ℕ) (List ℕ)) → MatchResult lines (λ lines. said ≡ Ok (string_bytes lines)) (IsRefusal said)
-        → IfOk result (SaysIt said) }
+    ensures said { IfOk result (λ answer. IsSomeAnd (outcome_of lines) (IsAnswerTo answer)) }
     ensures refused { IfOk result IsRefusalLine }
     ensures status { IfOk result (λ answer. status_of answer ≤ 1) }
+    ensures told { IfErr lines (λ _. IfOk result (λ answer. status_of answer ≡ 1)) }
+    ensures unlistened { IfOk result (λ answer. ¬ IsListen answer) }
     ensures memory { IfErr result (λ stop. stop ≡ Stop.Memory) }
 {
     match lines {

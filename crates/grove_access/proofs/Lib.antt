@@ -1,5 +1,5 @@
-pub mod Doing
+pub mod RunAlone
 pub mod Lists
 pub mod Slots
-pub mod Spans
-pub mod Outside
+pub mod ForcedByTree
+pub mod CarriedNodes

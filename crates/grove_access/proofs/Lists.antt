@@ -7,10 +7,8 @@ use Rattle.grove_access.specs.declared.access.Access.{Access}
 use Rattle.grove_access.specs.Lists.{nodes_of, lengths_of, AreBelow, AreLengths, first_beyond, is_length, first_bad_length}
 
 -- what stands at a place stands first in what is left from there
-pub drop_at : (list : List Access) (place : ℕ) (access : Access) → slice_get list place ≡ Some access → drop place list ≡ access ∷ drop (suc place) list
-drop_at list place access at =
-    drop-cons list place access (slice_get_within list place access at)
-    ∙ ap (λ (a : Access). a ∷ drop (suc place) list) (get_or_from_slice_get list place access access at)
+pub drop_next : {A : Type 0} (xs : List A) (i : ℕ) (x : A) → slice_get xs i ≡ Some x → drop i xs ≡ x ∷ drop (suc i) xs
+drop_next xs i x at = drop-cons xs i x (slice_get_within xs i x at) ∙ ap (λ y. y ∷ drop (suc i) xs) (get_or_from_slice_get xs i x x at)
 
 -- the node of an access stands at the access's place
 pub node_at : (list : List Access) (place : ℕ) (access : Access) → slice_get list place ≡ Some access → slice_get (nodes_of list) place ≡ Some access.node
@@ -30,6 +28,7 @@ below_rest : (n node : ℕ) (nodes : List ℕ) → node < n → AreBelow n nodes
 below_rest n node nodes lt below zero other at = subst (λ (k : ℕ). k < n) (same_Some node other at) lt
 below_rest n node nodes lt below (suc access) other at = below access other at
 
+-- where no place was found all nodes are below n
 pub below_none : (n place : ℕ) (nodes : List ℕ) → first_beyond n place nodes ≡ None → AreBelow n nodes
 below_none n place [] found access node at = absurd (none-some node at)
 below_none n place (node ∷ nodes) found access other at = elim (cases_lt node n) [
@@ -103,5 +102,6 @@ none_found place (first ∷ lengths) are =
     cond-true (is_length first) (first_bad_length (suc place) lengths) (Some place) (and_from _ _ (le-leb 1 first here.0) (le-leb first 1000 here.1))
     ∙ none_found (suc place) lengths (λ access slots at. are (suc access) slots at)
 
+-- a place was found only where some length is too short or too long
 pub bad_refused : (place : ℕ) (lengths : List ℕ) → Some place ≡ first_bad_length 0 lengths → ¬ AreLengths lengths
 bad_refused place lengths found = λ are. none-some place (sym (none_found 0 lengths are) ∙ sym found)

@@ -29,12 +29,14 @@ slots_rise lengths i (suc j) le = elim (cases_order i (suc j)) [
 pub some_slots : (lengths : List ℕ) (i : ℕ) → AreLengths lengths → i < length lengths → 1 ≤ slice_index lengths i
 some_slots lengths i are lt = (are i (slice_index lengths i) (slice_get-get_or lengths i 0 lt)).0
 
+-- no access has more than 1000
 pub few_slots : (lengths : List ℕ) (i : ℕ) → AreLengths lengths → slice_index lengths i ≤ 1000
 few_slots lengths i are = elim (cases_lt i (length lengths)) [
   | inl lt ↦ (are i (slice_index lengths i) (slice_get-get_or lengths i 0 lt)).1
   | inr past ↦ let none : slice_index lengths i ≡ 0 = get_or_past lengths i 0 past in omega arith
 ]
 
+-- so there are at most 1000 for each access before
 pub slots_few : (lengths : List ℕ) (i : ℕ) → AreLengths lengths → slots_before lengths i ≤ 1000 * i
 slots_few lengths zero are = omega arith
 slots_few lengths (suc i) are =
@@ -57,6 +59,7 @@ slots_back lengths i j are within le = elim (cases_lt j i) [
   | inr fine ↦ fine
 ]
 
+-- accesses with the same slots before them are one
 pub slots_tell : (lengths : List ℕ) (i j : ℕ) → AreLengths lengths → i ≤ length lengths → j ≤ length lengths → slots_before lengths i ≡ slots_before lengths j → i ≡ j
 slots_tell lengths i j are a b same =
     let up : i ≤ j = slots_back lengths i j are a (omega arith) in

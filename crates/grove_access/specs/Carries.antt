@@ -1,5 +1,5 @@
 -- The records that a transaction has out, and what it has done to them.
-use Rattle.std.specs.Prelude.{◌≡◌, ℕ, ◌<◌, ◌==◌, ℤ, List, [], ◌∷◌, ◌++◌, length, take, slice_get, remove, Option, Some, None, if◌then◌else◌}
+use Rattle.std.specs.Prelude.{◌≡◌, ℕ, ◌<◌, ◌==◌, ℤ, List, [], ◌∷◌, ◌++◌, length, take, slice_get, Option, Some, None, if◌then◌else◌}
 use Rattle.grove_access.specs.declared.access.Access.{Access}
 use Rattle.grove_access.specs.declared.reply.Reply.{Reply}
 use Rattle.grove_access.specs.declared.known.Known.{Known}
@@ -37,13 +37,6 @@ present_at carry node = present_from carry.entries node (known_at carry.known no
 abbrev pub without : List Known → ℕ → List Known
 without [] node = []
 without (k ∷ known) node = if k.node == node then known else k ∷ without known node
-
--- the node stands at this place, and at no earlier one
-pub record StandsAt (known : List Known) (node place : ℕ) : Type 0 where
-  pub item : Known
-  pub there : slice_get known place ≡ Some item
-  pub value : known_at known node ≡ Some item.value
-  pub others : without known node ≡ remove known place
 
 -- each node with its present value
 abbrev pub settled : List Entry → List Known → List Known

@@ -1,5 +1,6 @@
 pub mod Effects
 pub mod Lists
 pub mod Slots
-pub mod Spanned
+pub mod Forced
 pub mod Carries
+pub mod KnownPlaces

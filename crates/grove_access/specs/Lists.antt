@@ -28,12 +28,19 @@ abbrev pub first_beyond : ℕ → ℕ → List ℕ → Option ℕ
 first_beyond n place [] = None
 first_beyond n place (node ∷ nodes) = if nat_lt node n then first_beyond n (suc place) nodes else Some place
 
+-- how many accesses a list has at most, and how many slots an access takes
+abbrev pub most_accesses : ℕ
+most_accesses = 64
+
+abbrev pub longest : ℕ
+longest = 1000
+
 -- an access may take from 1 to 1000 slots
 abbrev pub is_length : ℕ → Bool
-is_length slots = nat_le 1 slots && nat_le slots 1000
+is_length slots = nat_le 1 slots && nat_le slots longest
 
 abbrev pub AreLengths : List ℕ → Type 0
-AreLengths lengths = (access slots : ℕ) → slice_get lengths access ≡ Some slots → (1 ≤ slots) × (slots ≤ 1000)
+AreLengths lengths = (access slots : ℕ) → slice_get lengths access ≡ Some slots → (1 ≤ slots) × (slots ≤ longest)
 
 -- the first place of a list that is none, counted on from a number
 abbrev pub first_bad_length : ℕ → List ℕ → Option ℕ
@@ -47,8 +54,8 @@ bad_access None (Some place) = Some (BadLength place)
 bad_access None None = None
 
 abbrev pub list_fault_of : Rows → List Access → Option ListFault
-list_fault_of rows accesses = if nat_lt 64 (length accesses) then Some TooLong else bad_access (first_beyond (length rows) 0 (nodes_of accesses)) (first_bad_length 0 (lengths_of accesses))
+list_fault_of rows accesses = if nat_lt most_accesses (length accesses) then Some TooLong else bad_access (first_beyond (length rows) 0 (nodes_of accesses)) (first_bad_length 0 (lengths_of accesses))
 
 -- accesses that make a list over a tree
 abbrev pub AreListed : Rows → List Access → Type 0
-AreListed rows accesses = (length accesses ≤ 64) × AreNodes rows (nodes_of accesses) × AreLengths (lengths_of accesses)
+AreListed rows accesses = (length accesses ≤ most_accesses) × AreNodes rows (nodes_of accesses) × AreLengths (lengths_of accesses)

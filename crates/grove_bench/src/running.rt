@@ -17,7 +17,7 @@ const STEPS: usize = 8_256;
 
 /// Times 256 jobs of 64 accesses over 2,049 nodes each: a round-robin of `Take`s to the end, and the serial order.
 pub fn time(rt: &HostRuntime) -> Result<()> {
-    let tree = branches(rt.alloc(), DEPTH)?;
+    let tree = tree(rt.alloc())?;
     let jobs = jobs(rt.alloc(), &tree)?;
     let records = zeros(rt.alloc(), tree.len())?;
     time_core(rt, &tree, &records, &jobs)
@@ -51,8 +51,13 @@ fn time_order(rt: &HostRuntime, core: &Core) -> Result<()> {
     Ok(())
 }
 
+/// The tree of the jobs.
+pub fn tree(alloc: Global) -> Result<Tree> {
+    branches(alloc, DEPTH)
+}
+
 /// Records of this many nodes, all 0.
-fn zeros(alloc: Global, nodes: u32) -> Result<Records> {
+pub fn zeros(alloc: Global, nodes: u32) -> Result<Records> {
     let zeros = vec![in alloc; 0i64; nodes as usize]?;
     Ok(Records::new(alloc, &zeros)?)
 }
@@ -79,7 +84,8 @@ fn take_in_turn(core: &mut Core) -> usize {
     most
 }
 
-fn jobs(alloc: Global, tree: &Tree) -> Result<Vec<Job>> {
+/// The jobs, over their tree.
+pub fn jobs(alloc: Global, tree: &Tree) -> Result<Vec<Job>> {
     let mut jobs = Vec::with_capacity(alloc, JOBS as usize)?;
     for _txn in 0..JOBS {
         let list = each_end(alloc, tree, DEPTH)?;

@@ -1,24 +1,22 @@
 -- The stays read from the solved network give the settled plan.
-use Rattle.std.proofs.Common.{◌≡◌, ℕ, zero, suc, ◌+◌, ◌-◌, ◌*◌, ◌<◌, ◌≤◌, ◌&&◌, Bool, true, false, not, cond, eqb, ltb, List, [], ◌∷◌, ◌++◌, map, filter, length, get_or, Option, Some, None, ℤ, pos, refl, sym, ◌∙◌, ap, ap₂, subst, inl, inr, arith, length-append}
+use Rattle.std.proofs.Common.{◌≡◌, ℕ, zero, suc, ◌+◌, ◌-◌, ◌*◌, ◌<◌, ◌≤◌, ◌&&◌, Bool, true, false, not, cond, eqb, ltb, List, [], ◌∷◌, ◌++◌, map, filter, length, get_or, Option, Some, None, pos, refl, sym, ◌∙◌, ap, ap₂, subst, inl, inr, arith, length-append}
 use Rattle.std.specs.Prelude.{slice_index, filter_map}
 use Rattle.std.specs.List.{slice_get, list_any, sum_by, cons_option}
 use Rattle.std.specs.Option.{option_and_then, unwrap_or}
-use Rattle.std.proofs.lemmas.Option.{none-some, same_Some, slice_get_within}
+use Rattle.std.proofs.lemmas.Option.{none-some, same_Some, slice_get_within, get_or_from_slice_get}
 use Rattle.std.proofs.lemmas.Bool.{and_parts, and_from, or_cases, eqb-true, eq-eqb}
 use Rattle.std.proofs.lemmas.List.Sums.{sum_by-cons}
-use borrow.Author.Differences.{up}
 use Rattle.grove_tree.specs.Trees.{Rows, parent_of, weight_of, is_at}
-use Rattle.grove_tree.proofs.Counting.{any_from, any_true, passing_once, least_is, least_same}
+use Rattle.grove_base.proofs.Counting.{any_from, any_true, passing_once, same_tests}
 use Rattle.grove_tree.specs.Rules.{IsWithinLimits}
-use Rattle.grove_tree.proofs.Lists.{get_map, get_map_inv, map_length}
+use Rattle.grove_base.proofs.Lists.{get_map, get_map_inv}
 use Rattle.grove_access.specs.Slots.{slots_before}
-use Rattle.grove_tree.specs.Numbers.{least_below}
-use Rattle.grove_access.proofs.Spans.{spanned_within}
-use Rattle.grove_access.specs.Spanned.{is_spanned, spanned_nodes}
+use Rattle.grove_base.specs.Numbers.{sum_below}
+use Rattle.grove_access.proofs.Slots.{slots_rise}
+use Rattle.grove_access.specs.Forced.{is_forced, forced_nodes}
 use Rattle.grove_plan.specs.declared.step.Step.{Step}
 use Rattle.grove_plan.specs.declared.step.Step.TheVariants.{Lock, Unlock, Access}
 use Rattle.grove_plan.specs.Plans.{cost}
-use Rattle.grove_plan.proofs.Holding.{same_tests}
 use Rattle.grove_proof.specs.Flows.{IsCertificate}
 use Rattle.grove_span.specs.declared.row.SpanRow.{SpanRow}
 use Rattle.grove_span.specs.SpanRows.{node_of_row, find_place}
@@ -27,37 +25,29 @@ use Rattle.grove_build.specs.declared.stays.Stay.{Stay}
 use Rattle.grove_build.specs.declared.steps.Group.TheVariants.{Early, Locks, Late}
 use Rattle.grove_build.specs.Layout.{has_child_in, is_early, gap_steps, steps_below, laid_out}
 use Rattle.grove_build.specs.Settled.{IsSettled}
-use Rattle.grove_build.specs.Networks.{IsSpan, IsSolved, gap_at, row_width, read_rows}
-use Rattle.grove_build.specs.Stays.{has_parent_at, is_needed, is_early_at, stay_of, stays_from, step_in, stay_steps, stay_steps_below, stays_cost}
+use Rattle.grove_build.specs.Networks.{IsSpan, IsSolved, AreSlots, weights_of, row_width, read_rows}
+use Rattle.grove_build.specs.Stays.{has_parent_at, is_needed, is_early_at, stay_of, stays_from, step_in, stay_steps, stay_steps_below, rows_cost, AreWithin}
 use Rattle.grove_build.proofs.Runs.{Has}
 use Rattle.grove_build.proofs.Laying.{any_has}
 use Rattle.grove_build.proofs.Found.{place_found, place_there, row_spanned}
-use Rattle.grove_build.proofs.Latest.{latest_on, latest_fits}
+use Rattle.grove_build.proofs.Latest.{latest_fits}
 use Rattle.grove_build.proofs.Needs.{parent_at}
 use Rattle.grove_build.proofs.Asked.{get_within}
 use Rattle.grove_build.proofs.Settles.{settles, certifies, costs}
 
--- a gap as it is read
-gaps_read : (lengths : List ℕ) (m : ℕ) (places : List ℤ) (v : ℕ)
-    → slice_index (map (gap_at lengths m) places) v ≡ gap_at lengths m (place places v)
-gaps_read lengths m [] v =
-    sym (least_same (suc m) (λ gap. eqb (slots_before lengths gap) 0) 0 (omega arith) refl (λ j lt. absurd (omega arith)))
-gaps_read lengths m (x ∷ xs) zero = refl
-gaps_read lengths m (x ∷ xs) (suc v) = gaps_read lengths m xs v
+-- a sum over the places of rows is one over the rows
+sums_front : (n : ℕ) (f : ℕ → ℕ) → sum_below (suc n) f ≡ f 0 + sum_below n (λ k. f (suc k))
+sums_front zero f = refl
+sums_front (suc n) f = let rest : sum_below (suc n) f ≡ f 0 + sum_below n (λ k. f (suc k)) = sums_front n f in omega arith
 
--- a place that stands between two accesses has its gap
-gap_found : (lengths : List ℕ) (m : ℕ) (z : ℤ) → (i : ℕ) × (i ≤ m) × (z ≡ pos (slots_before lengths i))
-    → (gap_at lengths m z ≤ m) × (pos (slots_before lengths (gap_at lengths m z)) ≡ z)
-gap_found lengths m z on =
-    let test : ℕ → Bool = λ gap. eqb (slots_before lengths gap) (up z) in
-    let le : on.0 ≤ m = on.1 in
-    let x : up z ≡ slots_before lengths on.0 = ap up on.2 in
-    let hit : test on.0 ≡ true = eq-eqb (slots_before lengths on.0) (up z) (sym x) in
-    let l = least_is (suc m) test (any_from (suc m) test on.0 (omega arith) hit) in
-    let lt : least_below (suc m) test < suc m = l.0 in
-    let same : slots_before lengths (least_below (suc m) test) ≡ up z = eqb-true (slots_before lengths (least_below (suc m) test)) (up z) l.1 in
-    (omega arith, ap (λ (n : ℕ). pos n) (same ∙ x) ∙ sym on.2)
+sums_meet : (f : ℕ → ℕ) (g : SpanRow → ℕ) (rows : List SpanRow)
+    → ((k : ℕ) (row : SpanRow) → slice_get rows k ≡ Some row → f k ≡ g row) → sum_below (length rows) f ≡ sum_by g rows
+sums_meet f g [] same = refl
+sums_meet f g (row ∷ rows) same = sums_front (length rows) f
+    ∙ (ap₂ (λ a b. a + b) (same 0 row refl) (sums_meet (λ k. f (suc k)) g rows (λ k r h. same (suc k) r h))
+    ∙ sym (sum_by-cons g row rows))
 
+-- some element of a list passes
 any_had : {A : Type 0} (test : A → Bool) (xs : List A) → list_any test xs ≡ true → (x : A) × Has xs x × (test x ≡ true)
 any_had test [] h = absurd (cc)
 any_had test (y ∷ xs) h = elim (or_cases (test y) (list_any test xs) h) [
@@ -89,7 +79,7 @@ group_same f h b p gaps needed e k (row ∷ rows) same =
 module _ (tree : Rows) (nodes lengths : List ℕ) (rows : List SpanRow) (amounts gaps : List ℕ)
     (is_span : IsSpan tree nodes lengths rows) (solved : IsSolved tree lengths (length nodes) rows amounts gaps) where
   abbrev span : List ℕ
-  span = spanned_nodes tree nodes
+  span = forced_nodes tree nodes
 
   abbrev pub at : ℕ → ℕ
   at v = unwrap_or (find_place v span) 0
@@ -107,7 +97,7 @@ module _ (tree : Rows) (nodes lengths : List ℕ) (rows : List SpanRow) (amounts
   at_is : (k : ℕ) (row : SpanRow) → slice_get rows k ≡ Some row → at row.node ≡ k
   at_is k row g =
       let t = place_there row.node span k (there k row g) in
-      let one : t.0 ≡ k = passing_once (length tree) (is_spanned tree nodes) t.0 k row.node
+      let one : t.0 ≡ k = passing_once (length tree) (is_forced tree nodes) t.0 k row.node
       (place_found row.node span t.0 t.1) (there k row g) in
       ap (λ o. unwrap_or o 0) t.1 ∙ one
 
@@ -118,29 +108,38 @@ module _ (tree : Rows) (nodes lengths : List ℕ) (rows : List SpanRow) (amounts
       → release row.node ≡ slice_index gaps (2 * k + 1)
   release_is k row g = ap (λ n. slice_index gaps (2 * n + 1)) (at_is k row g)
 
-  gap_is : (v : ℕ) → (slice_index gaps v ≤ length nodes)
-      × (pos (slots_before lengths (slice_index gaps v)) ≡ place solved.places v)
-  gap_is v =
-      let f = gap_found lengths (length nodes) (place solved.places v)
-      (latest_on tree nodes lengths rows amounts is_span solved.places solved.latest v) in
-      let e : slice_index gaps v ≡ gap_at lengths (length nodes) (place solved.places v) =
-      ap (λ l. slice_index l v) solved.are_gaps ∙ gaps_read lengths (length nodes) solved.places v in
-      let P : ℕ → Type 0 = λ n. (n ≤ length nodes) × (pos (slots_before lengths n) ≡ place solved.places v) in
-      subst P (sym e) f
+  places_size : length solved.places ≡ 2 * length rows + 1
+  places_size = solved.latest.candidate.size
+
+  lock_gap : (k : ℕ) → k < length rows → (slice_index gaps (2 * k) ≤ length nodes)
+      × (pos (slots_before lengths (slice_index gaps (2 * k))) ≡ place solved.places (2 * k))
+  lock_gap k lt =
+      let size : length solved.places ≡ 2 * length rows + 1 = places_size in
+      let within : 2 * k < length solved.places = omega arith in
+      (solved.are_gaps.within (2 * k) within, solved.are_gaps.at (2 * k) within)
+
+  release_gap : (k : ℕ) → k < length rows → (slice_index gaps (2 * k + 1) ≤ length nodes)
+      × (pos (slots_before lengths (slice_index gaps (2 * k + 1))) ≡ place solved.places (2 * k + 1))
+  release_gap k lt =
+      let size : length solved.places ≡ 2 * length rows + 1 = places_size in
+      let within : 2 * k + 1 < length solved.places = omega arith in
+      (solved.are_gaps.within (2 * k + 1) within, solved.are_gaps.at (2 * k + 1) within)
 
   pub low : (k : ℕ) (row : SpanRow) → slice_get rows k ≡ Some row
       → (lock row.node ≤ length nodes) × (release row.node ≤ length nodes)
   low k row g =
-      let P : ℕ → Type 0 = λ n. n ≤ length nodes in
-      (subst P (sym (lock_is k row g)) (gap_is (2 * k)).0, subst P (sym (release_is k row g)) (gap_is (2 * k + 1)).0)
+      let P : ℕ → Type 0 = λ n. n ≤ length nodes in (
+        subst P (sym (lock_is k row g)) (lock_gap k (slice_get_within rows k row g)).0,
+        subst P (sym (release_is k row g)) (release_gap k (slice_get_within rows k row g)).0,
+      )
 
   pub locks : (k : ℕ) (row : SpanRow) → slice_get rows k ≡ Some row
       → pos (slots_before lengths (lock row.node)) ≡ place solved.places (2 * k)
-  locks k row g = ap (λ n. pos (slots_before lengths n)) (lock_is k row g) ∙ (gap_is (2 * k)).1
+  locks k row g = ap (λ n. pos (slots_before lengths n)) (lock_is k row g) ∙ (lock_gap k (slice_get_within rows k row g)).1
 
   pub releases : (k : ℕ) (row : SpanRow) → slice_get rows k ≡ Some row
       → pos (slots_before lengths (release row.node)) ≡ place solved.places (2 * k + 1)
-  releases k row g = ap (λ n. pos (slots_before lengths n)) (release_is k row g) ∙ (gap_is (2 * k + 1)).1
+  releases k row g = ap (λ n. pos (slots_before lengths n)) (release_is k row g) ∙ (release_gap k (slice_get_within rows k row g)).1
 
   -- a child that is locked in the gap of its parent's unlock
   child_same : (k : ℕ) (row : SpanRow) → slice_get rows k ≡ Some row
@@ -227,55 +226,43 @@ module _ (tree : Rows) (nodes lengths : List ℕ) (rows : List SpanRow) (amounts
         ++ stay_steps (stays_from gaps needed 0 rows) m ≡ laid_out tree span lock release m
     laid_same m = ap₂ (λ a b. a ++ b) (below_same m) (gap_same m)
 
-  cost_same : (needed : List Bool) (k : ℕ) (rs : List SpanRow)
-      → ((i : ℕ) (row : SpanRow) → slice_get rs i ≡ Some row → (slice_index gaps (2 * (k + i)) ≡ lock row.node)
-      × (slice_index gaps (2 * (k + i) + 1) ≡ release row.node))
-      → stays_cost tree lengths (stays_from gaps needed k rs)
-      ≡ sum_by (λ row. weight_of tree row.node * (slots_before lengths (release row.node) - slots_before lengths (lock row.node))) rs
-  cost_same needed k [] h = refl
-  cost_same needed k (row ∷ rs) h =
-      let e : k ≡ k + 0 = omega arith in
-      let here = h 0 row refl in
-      let l : slice_index gaps (2 * k) ≡ lock row.node = ap (λ n. slice_index gaps (2 * n)) e ∙ here.0 in
-      let r : slice_index gaps (2 * k + 1) ≡ release row.node = ap (λ n. slice_index gaps (2 * n + 1)) e ∙ here.1 in
-      let t : weight_of tree row.node * (slots_before lengths (slice_index gaps (2 * k + 1)) - slots_before lengths (slice_index gaps (2 * k)))
-      ≡ weight_of tree row.node * (slots_before lengths (release row.node) - slots_before lengths (lock row.node)) =
-      ap₂ (λ a b. weight_of tree row.node * (slots_before lengths a - slots_before lengths b)) r l in
-      sum_by-cons (λ stay. weight_of tree stay.node * (slots_before lengths stay.release - slots_before lengths stay.lock)) (stay_of gaps needed k row)
-      (stays_from gaps needed (suc k) rs)
-      ∙ (ap₂ (λ a b. a + b) t (cost_same needed (suc k) rs (λ i x g.
-      let P : ℕ → Type 0 =
-      λ n. (slice_index gaps (2 * n) ≡ lock x.node) × (slice_index gaps (2 * n + 1) ≡ release x.node) in
-      let s : k + suc i ≡ suc k + i = omega arith in subst P s (h (suc i) x g)))
-      ∙ sym (sum_by-cons (λ (x : SpanRow). weight_of tree x.node * (slots_before lengths (release x.node) - slots_before lengths (lock x.node))) row rs))
-
-  pub costs_same : (needed : List Bool)
-      → stays_cost tree lengths (stays_from gaps needed 0 rows)
+  -- the cost, row by row
+  pub costs_same : (slots : List ℕ) → AreSlots lengths (length nodes) slots
+      → rows_cost (weights_of tree rows) slots gaps (length rows)
       ≡ sum_by (λ row. weight_of tree row.node * (slots_before lengths (release row.node) - slots_before lengths (lock row.node))) rows
-  costs_same needed = cost_same needed 0 rows (λ i row g.
-      let P : ℕ → Type 0 =
-      λ n. (slice_index gaps (2 * n) ≡ lock row.node) × (slice_index gaps (2 * n + 1) ≡ release row.node) in
-      let s : i ≡ 0 + i = omega arith in subst P s (sym (lock_is i row g), sym (release_is i row g)))
-
--- a stay at a place, and the row it is of
-pub stay_at : (gaps : List ℕ) (needed : List Bool) (k i : ℕ) (rows : List SpanRow) (stay : Stay)
-    → slice_get (stays_from gaps needed k rows) i ≡ Some stay
-    → (row : SpanRow) × (slice_get rows i ≡ Some row) × (stay ≡ stay_of gaps needed (k + i) row)
-stay_at gaps needed k i [] stay h = absurd (none-some stay h)
-stay_at gaps needed k zero (row ∷ rows) stay h = (
-  row,
-  refl,
-  sym (same_Some (stay_of gaps needed k row) stay h)
-      ∙ ap (λ n. stay_of gaps needed n row) (let s : k ≡ k + 0 = omega arith in s),
-)
-stay_at gaps needed k (suc i) (row ∷ rows) stay h =
-    let r = stay_at gaps needed (suc k) i rows stay h in
-    (r.0, r.1, r.2 ∙ ap (λ n. stay_of gaps needed n r.0) (let s : suc k + i ≡ k + suc i = omega arith in s))
+  costs_same slots are_slots = sums_meet
+      (λ k. slice_index (weights_of tree rows) k
+      * (slice_index slots (slice_index gaps (2 * k + 1)) - slice_index slots (slice_index gaps (2 * k))))
+      (λ row. weight_of tree row.node * (slots_before lengths (release row.node) - slots_before lengths (lock row.node))) rows
+      (λ k row g.
+      let lt = slice_get_within rows k row g in
+      let heavy : slice_index (weights_of tree rows) k ≡ weight_of tree row.node =
+      get_or_from_slice_get (weights_of tree rows) k (weight_of tree row.node) 0 (get_map (λ (r : SpanRow). weight_of tree r.node) rows k row g) in
+      let from : slice_index slots (slice_index gaps (2 * k)) ≡ slots_before lengths (lock row.node) =
+      are_slots.each (slice_index gaps (2 * k)) (lock_gap k lt).0 ∙ ap (slots_before lengths) (sym (lock_is k row g)) in
+      let until : slice_index slots (slice_index gaps (2 * k + 1)) ≡ slots_before lengths (release row.node) =
+      are_slots.each (slice_index gaps (2 * k + 1)) (release_gap k lt).0 ∙ ap (slots_before lengths) (sym (release_is k row g)) in
+      ap₂ (λ a b. a * b) heavy (ap₂ (λ a b. a - b) until from))
 
 pub stays_length : (gaps : List ℕ) (needed : List Bool) (k : ℕ) (rows : List SpanRow)
     → length (stays_from gaps needed k rows) ≡ length rows
 stays_length gaps needed k [] = refl
 stays_length gaps needed k (row ∷ rows) = ap suc (stays_length gaps needed (suc k) rows)
+
+-- stays whose gaps are no later than one end no later
+stays_end : (gaps : List ℕ) (needed : List Bool) (m k : ℕ) (rows : List SpanRow)
+    → ((i : ℕ) → i < length rows → (slice_index gaps (2 * (k + i)) ≤ m) × (slice_index gaps (2 * (k + i) + 1) ≤ m))
+    → AreWithin m (stays_from gaps needed k rows)
+stays_end gaps needed m k [] low i stay h = absurd (none-some stay h)
+stays_end gaps needed m k (row ∷ rows) low zero stay h =
+    let e : k + 0 ≡ k = omega arith in
+    let P : ℕ → Type 0 = λ n. (slice_index gaps (2 * n) ≤ m) × (slice_index gaps (2 * n + 1) ≤ m) in
+    let Q : Stay → Type 0 = λ s. (s.lock ≤ m) × (s.release ≤ m) in
+    subst Q (same_Some (stay_of gaps needed k row) stay h) (subst P e (low 0 (omega arith)))
+stays_end gaps needed m k (row ∷ rows) low (suc i) stay h =
+    stays_end gaps needed m (suc k) rows
+    (λ j lt. let P : ℕ → Type 0 = λ n. (slice_index gaps (2 * n) ≤ m) × (slice_index gaps (2 * n + 1) ≤ m) in
+    let e : k + suc j ≡ suc k + j = omega arith in subst P e (low (suc j) (omega arith))) i stay h
 
 few_kept : (h : Stay → Option Step) (stays : List Stay) → length (filter_map h stays) ≤ length stays
 few_kept h [] = omega arith
@@ -325,32 +312,43 @@ module _ (tree : Rows) (nodes lengths : List ℕ) (rows : List SpanRow) (amounts
     (is_span : IsSpan tree nodes lengths rows) (solved : IsSolved tree lengths (length nodes) rows amounts gaps)
     (short : length nodes ≤ 64) where
   pub gaps_size : length gaps ≡ 2 * length rows + 1
-  gaps_size = ap length solved.are_gaps ∙ (map_length (gap_at lengths (length nodes)) solved.places ∙ solved.latest.candidate.size)
+  gaps_size = solved.are_gaps.size ∙ solved.latest.candidate.size
 
-  pub stay_fits : (needed : List Bool) (i : ℕ) (stay : Stay) → slice_get (stays_from gaps needed 0 rows) i ≡ Some stay
-      → (stay.node < length tree) × (stay.lock ≤ stay.release) × (stay.release ≤ length nodes)
-  stay_fits needed i stay h =
-      let r = stay_at gaps needed 0 i rows stay h in
+  pub gaps_within : (slots : List ℕ) → AreSlots lengths (length nodes) slots → (v : ℕ) → v < length gaps
+      → slice_index gaps v < length slots
+  gaps_within slots are_slots v lt =
+      let size : length slots ≡ suc (length nodes) = are_slots.size in
+      let long : length gaps ≡ length solved.places = solved.are_gaps.size in
+      let within : slice_index gaps v ≤ length nodes = solved.are_gaps.within v (omega arith) in
+      omega arith
+
+  pub stays_within : (needed : List Bool) → AreWithin (length nodes) (stays_from gaps needed 0 rows)
+  stays_within needed = stays_end gaps needed (length nodes) 0 rows
+      (λ i lt. let P : ℕ → Type 0 = λ n. (slice_index gaps (2 * n) ≤ length nodes) × (slice_index gaps (2 * n + 1) ≤ length nodes) in
+      let e : i ≡ 0 + i = omega arith in
+      subst P e ((lock_gap tree nodes lengths rows amounts gaps is_span solved i lt).0, (release_gap tree nodes lengths rows amounts gaps is_span solved i lt).0))
+
+  -- no node is released before it is locked
+  pub gaps_fit : (slots : List ℕ) → AreSlots lengths (length nodes) slots → (k : ℕ) → k < length rows
+      → slice_index slots (slice_index gaps (2 * k)) ≤ slice_index slots (slice_index gaps (2 * k + 1))
+  gaps_fit slots are_slots k lt =
+      let r = get_within rows k lt in
       let fits = latest_fits tree nodes lengths rows amounts is_span solved.places solved.latest
       (lock tree nodes lengths rows amounts gaps is_span solved) (release tree nodes lengths rows amounts gaps is_span solved)
       (low tree nodes lengths rows amounts gaps is_span solved) (locks tree nodes lengths rows amounts gaps is_span solved) (releases tree nodes lengths rows amounts gaps is_span solved) in
-      let sv = row_spanned tree nodes lengths rows is_span i r.0 r.1 in
       let own : lock tree nodes lengths rows amounts gaps is_span solved (r.0).node
-      ≤ release tree nodes lengths rows amounts gaps is_span solved (r.0).node = fits.own (r.0).node sv in
-      let top : release tree nodes lengths rows amounts gaps is_span solved (r.0).node ≤ length nodes =
-      fits.top (r.0).node sv in
-      let a : lock tree nodes lengths rows amounts gaps is_span solved (r.0).node ≡ slice_index gaps (2 * i) =
-      lock_is tree nodes lengths rows amounts gaps is_span solved i r.0 r.1 in
-      let b : release tree nodes lengths rows amounts gaps is_span solved (r.0).node ≡ slice_index gaps (2 * i + 1) =
-      release_is tree nodes lengths rows amounts gaps is_span solved i r.0 r.1 in
-      let e : stay ≡ stay_of gaps needed i r.0 =
-      r.2 ∙ ap (λ n. stay_of gaps needed n r.0) (let z : 0 + i ≡ i = omega arith in z) in
-      let P : Stay → Type 0 = λ x. (x.node < length tree) × (x.lock ≤ x.release) × (x.release ≤ length nodes) in
-      subst P (sym e) (
-        spanned_within tree nodes (r.0).node is_span.is_tree is_span.are_nodes sv,
-        omega arith,
-        omega
-            arith,
+      ≤ release tree nodes lengths rows amounts gaps is_span solved (r.0).node =
+      fits.own (r.0).node (row_spanned tree nodes lengths rows is_span k r.0 r.1) in
+      let a : lock tree nodes lengths rows amounts gaps is_span solved (r.0).node ≡ slice_index gaps (2 * k) =
+      lock_is tree nodes lengths rows amounts gaps is_span solved k r.0 r.1 in
+      let b : release tree nodes lengths rows amounts gaps is_span solved (r.0).node ≡ slice_index gaps (2 * k + 1) =
+      release_is tree nodes lengths rows amounts gaps is_span solved k r.0 r.1 in
+      let rise = slots_rise lengths (slice_index gaps (2 * k)) (slice_index gaps (2 * k + 1)) (omega arith) in
+      omega (
+        arith,
+        rise,
+        are_slots.each (slice_index gaps (2 * k)) (lock_gap tree nodes lengths rows amounts gaps is_span solved k lt).0,
+        are_slots.each (slice_index gaps (2 * k + 1)) (release_gap tree nodes lengths rows amounts gaps is_span solved k lt).0,
       )
 
   module _ (limits : IsWithinLimits tree) (needed : List Bool)
@@ -359,7 +357,7 @@ module _ (tree : Rows) (nodes lengths : List ℕ) (rows : List SpanRow) (amounts
     steps = stay_steps_below (stays_from gaps needed 0 rows) (length nodes)
         ++ stay_steps (stays_from gaps needed 0 rows) (length nodes)
 
-    laid : steps ≡ laid_out tree (spanned_nodes tree nodes) (lock tree nodes lengths rows amounts gaps is_span solved)
+    laid : steps ≡ laid_out tree (forced_nodes tree nodes) (lock tree nodes lengths rows amounts gaps is_span solved)
         (release tree nodes lengths rows amounts gaps is_span solved) (length nodes)
     laid = laid_same tree nodes lengths rows amounts gaps is_span solved needed marked (length nodes)
 
@@ -379,9 +377,10 @@ module _ (tree : Rows) (nodes lengths : List ℕ) (rows : List SpanRow) (amounts
         (lock tree nodes lengths rows amounts gaps is_span solved) (release tree nodes lengths rows amounts gaps is_span solved)
         (low tree nodes lengths rows amounts gaps is_span solved) (locks tree nodes lengths rows amounts gaps is_span solved) (releases tree nodes lengths rows amounts gaps is_span solved))
 
-    pub steps_cost : stays_cost tree lengths (stays_from gaps needed 0 rows) ≡ cost tree lengths steps
-    steps_cost =
-        costs_same tree nodes lengths rows amounts gaps is_span solved needed
+    pub steps_cost : (slots : List ℕ) → AreSlots lengths (length nodes) slots
+        → rows_cost (weights_of tree rows) slots gaps (length rows) ≡ cost tree lengths steps
+    steps_cost slots are_slots =
+        costs_same tree nodes lengths rows amounts gaps is_span solved slots are_slots
         ∙ (sym (costs tree nodes lengths rows amounts solved.solved is_span limits solved.solution solved.places solved.latest
         (lock tree nodes lengths rows amounts gaps is_span solved) (release tree nodes lengths rows amounts gaps is_span solved)
         (low tree nodes lengths rows amounts gaps is_span solved) (locks tree nodes lengths rows amounts gaps is_span solved) (releases tree nodes lengths rows amounts gaps is_span solved))

@@ -1,26 +1,31 @@
 -- What the solver asks of the network of a span, and of the places that it begins from.
-use Rattle.std.proofs.Common.{◌≡◌, ℕ, zero, suc, ◌+◌, ◌-◌, ◌*◌, ◌<◌, ◌≤◌, List, [], ◌∷◌, ◌++◌, map, length, Option, Some, None, ℤ, pos, negsuc, neg_ℤ, ◌≤ℤ◌, refl, sym, ◌∙◌, ap, subst, arith}
+use Rattle.std.proofs.Common.{◌≡◌, ℕ, zero, suc, ◌+◌, ◌-◌, ◌*◌, ◌<◌, ◌≤◌, List, [], ◌∷◌, ◌++◌, map, length, Option, Some, None, ℤ, pos, negsuc, neg_ℤ, refl, sym, ◌∙◌, ap, subst, inl, inr, arith}
+use Rattle.std.specs.Prelude.{slice_index}
 use Rattle.std.specs.List.{slice_get}
 use Rattle.std.proofs.lemmas.Int.{ints}
+use Rattle.std.proofs.lemmas.Bool.{cases_lt}
+use Rattle.std.proofs.lemmas.List.{get_or_past}
+use Rattle.grove_access.specs.Lists.{AreLengths}
 use Rattle.std.proofs.lemmas.Option.{slice_get_within, get_or_from_slice_get}
 use Rattle.grove_tree.specs.Trees.{Rows, weight_of}
 use Rattle.grove_tree.specs.Rules.{IsWithinLimits}
 use Rattle.grove_access.specs.declared.access.Access.{Access}
 use Rattle.grove_access.specs.Lists.{nodes_of}
 use Rattle.grove_access.specs.Slots.{slots_before}
-use Rattle.grove_access.proofs.Slots.{slots_few}
-use Rattle.grove_access.proofs.Spans.{spanned_within}
+use Rattle.grove_access.proofs.Slots.{slots_few, slots_rise}
+use Rattle.grove_access.proofs.ForcedByTree.{forced_within}
 use Rattle.grove_proof.specs.declared.flow.FlowRow.{FlowRow}
 use Rattle.grove_span.specs.declared.row.SpanRow.{SpanRow}
 use Rattle.grove_flow.specs.declared.network.Arc.{Arc}
 use Rattle.grove_flow.specs.Networks.{no_arc, arc_at, place, IsModest, IsArcOf, AreArcsOf, HasOwnArcs, IsNetwork, IsStart, IsCandidate, IsLatest}
 use Rattle.grove_flow.specs.Flows.{IsSolution}
-use Rattle.grove_build.specs.Networks.{arc, parent_arcs, first_arcs, last_arcs, row_arcs, arcs_from, needs_of, start_of, lowered, amount_if, read_rows, AreRowsOf, IsSpan}
+use Rattle.grove_build.specs.Networks.{arc, parent_arcs, first_arcs, last_arcs, row_arcs, arcs_from, needs_of, start_of, lowered, amount_if, read_rows, AreRowsOf, IsSpan, weights_of, AreSlots, AreRising, IsBetween, IsGap, AreGaps}
 use Rattle.grove_build.proofs.Runs.{Has, has_left, has_right}
 use Rattle.grove_build.proofs.Fitting.{Fits, AreTight}
 use Rattle.grove_build.proofs.Found.{row_spanned, parent_known}
 use Rattle.grove_build.proofs.Cut.{lowered_rises, lowered_keeps, lowered_most}
-use Rattle.grove_build.proofs.Latest.{places_of, rows_on, on_low, cut_candidate, other_candidate, latest_on}
+use Rattle.grove_build.proofs.Candidates.{places_of, rows_on, on_low, cut_candidate, other_candidate}
+use Rattle.grove_build.proofs.Latest.{latest_on}
 use Rattle.grove_build.proofs.Needs.{need_lock, need_release, needs_size}
 use Rattle.grove_build.proofs.Settles.{read_at, rows_few}
 
@@ -155,10 +160,6 @@ nothing_read : (o : Option ℕ) (at : ℕ) → amount_if o [] at ≡ 0
 nothing_read None at = refl
 nothing_read (Some x) at = refl
 
--- a place with so many slots before it is in range
-between : (z : ℤ) (n : ℕ) → z ≡ pos n → n ≤ 64000 → (pos 0 ≤ℤ z) × (z ≤ℤ pos 64000)
-between z n e le = (omega (arith, ints), omega (arith, ints))
-
 module _ (tree : Rows) (nodes lengths : List ℕ) (rows : List SpanRow) (is_span : IsSpan tree nodes lengths rows)
     (limits : IsWithinLimits tree) (short : length nodes ≤ 64) where
   abbrev m : ℕ
@@ -176,7 +177,7 @@ module _ (tree : Rows) (nodes lengths : List ℕ) (rows : List SpanRow) (is_span
   pub rows_of_span : AreRowsOf tree rows
   rows_of_span = record {
     few = let a : length rows ≤ length tree = few in let b : length tree ≤ 4096 = limits.few in omega arith;
-    nodes = λ i row h. spanned_within tree nodes row.node is_span.is_tree is_span.are_nodes
+    nodes = λ i row h. forced_within tree nodes row.node is_span.is_tree is_span.are_nodes
         (row_spanned tree nodes lengths rows is_span i row h);
     parents = λ i j row h e. let p = parent_known tree nodes lengths rows is_span i j row h e in
         slice_get_within rows j p.0 p.1;
@@ -262,16 +263,61 @@ module _ (tree : Rows) (nodes lengths : List ℕ) (rows : List SpanRow) (is_span
       (solution.places_size ∙ size) solution.lawful (ap (λ v. place solved v) (sym e) ∙ solution.base)
       (λ v lt. lowered_most top (place solved v)))
 
-  pub latest_within : (amounts : List ℕ) (places : List ℤ)
+  -- each latest place is in a gap
+  pub latest_between : (slots amounts : List ℕ) (places : List ℤ) → AreSlots lengths (length nodes) slots
       → IsLatest (2 * length rows + 1) (arcs_from (2 * length rows) 0 rows) amounts (pos (slots_before lengths (length nodes))) places
-      → (v : ℕ) → (pos 0 ≤ℤ place places v) × (place places v ≤ℤ pos 64000)
-  latest_within amounts places latest v =
+      → (v : ℕ) → IsBetween slots (place places v)
+  latest_between slots amounts places are_slots latest v =
       let on = latest_on tree nodes lengths rows amounts is_span places latest v in
-      let few : slots_before lengths on.0 ≤ 1000 * on.0 = slots_few lengths on.0 is_span.are_lengths in
       let within : on.0 ≤ m = on.1 in
-      between (place places v) (slots_before lengths on.0) on.2 (omega arith)
+      let size : length slots ≡ suc m = are_slots.size in
+      (on.0, record { within = omega arith; at = ap (λ (n : ℕ). pos n) (are_slots.each on.0 on.1) ∙ sym on.2 })
+
+-- the slots before the gaps rise
+pub slots_rising : (lengths slots : List ℕ) (m : ℕ) → AreSlots lengths m slots → AreRising slots
+slots_rising lengths slots m are i j le lt =
+    let size : length slots ≡ suc m = are.size in
+    omega (arith, slots_rise lengths i j le, are.each i (omega arith), are.each j (omega arith))
+
+-- no gap has more slots before it than 64 accesses can take
+pub slots_few_each : (lengths slots : List ℕ) (m : ℕ) → AreLengths lengths → AreSlots lengths m slots → m ≤ 64 → (gap : ℕ)
+    → slice_index slots gap ≤ 64000
+slots_few_each lengths slots m are_lengths are short gap = elim (cases_lt gap (length slots)) [
+  | inl lt ↦ let size : length slots ≡ suc m = are.size in
+      let few : slots_before lengths gap ≤ 1000 * gap = slots_few lengths gap are_lengths in omega (arith, are.each gap (omega arith))
+  | inr past ↦ let none : slice_index slots gap ≡ 0 = get_or_past slots gap 0 past in omega arith
+]
+
+-- no weight is above 1000
+pub weights_few : (tree : Rows) (rows : List SpanRow) → IsWithinLimits tree → (k : ℕ) → slice_index (weights_of tree rows) k ≤ 1000
+weights_few tree [] limits k = omega arith
+weights_few tree (row ∷ rows) limits zero = limits.light row.node
+weights_few tree (row ∷ rows) limits (suc k) = weights_few tree rows limits k
+
+-- the last are those before the end
+pub end_slots : (lengths slots : List ℕ) (m : ℕ) → AreSlots lengths m slots → slice_index slots (length slots - 1) ≡ slots_before lengths m
+end_slots lengths slots m are =
+    let size : length slots ≡ suc m = are.size in
+    let last : length slots - 1 ≡ m = omega arith in
+    ap (slice_index slots) last ∙ are.each m (omega arith)
+
+-- gaps found among the slots
+pub gaps_are : (lengths slots gaps : List ℕ) (m : ℕ) (places : List ℤ) → AreSlots lengths m slots → length gaps ≡ length places
+    → ((v : ℕ) → v < length places → IsGap slots (place places v) (slice_index gaps v)) → AreGaps lengths m places gaps
+gaps_are lengths slots gaps m places are size each = record {
+  size = size;
+  within = λ v lt. within v lt;
+  at = λ v lt. ap (λ (n : ℕ). pos n) (sym (are.each (slice_index gaps v) (within v lt))) ∙ (each v lt).at;
+}
+  where
+    within : (v : ℕ) → v < length places → slice_index gaps v ≤ m
+    within v lt = let long : length slots ≡ suc m = are.size in let in_slots : slice_index gaps v < length slots = (each v lt).within in omega arith
 
 -- the nodes of a list are as many as its accesses
 pub nodes_length : (list : List Access) → length (nodes_of list) ≡ length list
 nodes_length [] = refl
 nodes_length (a ∷ list) = ap suc (nodes_length list)
+
+-- so they are few
+pub nodes_few : (list : List Access) → length list ≤ 64 → length (nodes_of list) ≤ 64
+nodes_few list few = let size : length (nodes_of list) ≡ length list = nodes_length list in omega arith

@@ -1,23 +1,23 @@
 -- A legal plan that costs no more than the bound is tight along the flow.
 use Rattle.std.proofs.Common.{◌≡◌, ℕ, zero, suc, true, ◌+◌, ◌*◌, ◌<◌, ◌≤◌, List, [], ◌∷◌, Some, refl, sym, ◌∙◌, subst, inl, inr, arith, mul-le-mul_left, mul-suc}
-use Rattle.std.specs.Prelude.{map}
 use Rattle.std.specs.List.{slice_get, sum_by}
 use Rattle.std.proofs.lemmas.Option.{none-some, same_Some}
 use Rattle.std.proofs.lemmas.Bool.{cases_order}
 use Rattle.std.proofs.lemmas.List.Sums.{sum_by-cons}
-use Rattle.grove_tree.specs.Trees.{Rows, weight_of, IsTree}
+use Rattle.grove_tree.specs.Trees.{Rows, IsTree}
 use Rattle.grove_access.specs.Lists.{AreNodes}
 use Rattle.grove_access.specs.Slots.{slots_before}
-use Rattle.grove_access.specs.Spanned.{is_accessed, first_access, last_end, spanned_nodes}
+use Rattle.grove_access.specs.Forced.{is_accessed, first_access, last_end}
 use Rattle.grove_plan.specs.declared.step.Step.{Step}
-use Rattle.grove_plan.specs.Plans.{holding, cost, IsLegal}
+use Rattle.grove_plan.specs.Plans.{cost, IsLegal}
 use Rattle.grove_proof.specs.declared.flow.FlowRow.{FlowRow}
 use Rattle.grove_proof.specs.Five.{lock_time, release_time, MeetsFive}
-use Rattle.grove_proof.specs.Flows.{node_of, is_child, child_sum, gains, losses, Balances}
+use Rattle.grove_proof.specs.Flows.{is_child, gains, losses, Balances}
 use Rattle.grove_proof.proofs.Sums.{sums_le}
-use Rattle.grove_proof.proofs.Listed.{forced_list_is_span}
-use Rattle.grove_proof.proofs.Constraints.{meets_five}
-use Rattle.grove_proof.proofs.Duality.{priced, parent_value, priced_locks, priced_releases, child_swap, AreSpanRows, span_rows, at_parent, above_term, held_term, first_term, last_term, own_term, holding_sums, span_cost_le}
+use Rattle.grove_proof.proofs.FiveConstraints.{meets_five}
+use Rattle.grove_proof.proofs.PricedRows.{parent_value, child_swap}
+use Rattle.grove_proof.proofs.ForcedRows.{AreForcedRows, forced_rows, at_parent}
+use Rattle.grove_proof.proofs.WeakDuality.{above_term, held_term, first_term, last_term, own_term, sums_at, sums_balance, sums_bounded, bound_and_slack}
 
 -- where each term is at most another and the sums are the other way round, the terms are the same
 sum_tight : {X : Type 0} (f g : X → ℕ) (xs : List X) → ((i : ℕ) (x : X) → slice_get xs i ≡ Some x → f x ≤ g x)
@@ -53,18 +53,6 @@ cancel a x y some e = elim (cases_order x y) [
   ]
 ]
 
--- ten sums that leave no slack
-slack_sums : (above locks child_above held first own child_held last last_ends releases firsts own_release hold
-    cost : ℕ)
-    → above + locks ≡ ((child_above + held) + first) + own → (child_held + last) + own_release ≡ releases
-    → releases ≡ locks + hold
-    → child_above ≤ above → held ≤ child_held → first ≤ firsts → last_ends ≤ last → own ≤ own_release → hold ≤ cost
-    → cost + firsts ≤ last_ends
-    → (above ≤ child_above) × (child_held ≤ held) × (firsts ≤ first) × (last ≤ last_ends) × (own_release ≤ own)
-slack_sums above locks child_above held first own child_held last last_ends releases firsts own_release hold cost h1
-    h2 h3 h4 h5 h6 h7 h8 h9 h10 =
-    (omega arith, omega arith, omega arith, omega arith, omega arith)
-
 -- The times of a plan's locks and releases are tight where the rows of a flow have an amount.
 pub record AreTightInTime (rows : Rows) (nodes lengths : List ℕ) (flow : List FlowRow) (plan : List Step) : Type 0 where
   pub above : (i j : ℕ) (row parent : FlowRow) → slice_get flow i ≡ Some row → slice_get flow j ≡ Some parent
@@ -85,10 +73,8 @@ pub cheap_is_tight : (rows : Rows) (nodes lengths : List ℕ) (flow : List FlowR
     → cost rows lengths plan + losses nodes lengths flow ≤ gains nodes lengths flow
     → AreTightInTime rows nodes lengths flow plan
 cheap_is_tight rows nodes lengths flow plan tree fits balances legal cheap =
-    let are : AreSpanRows rows nodes flow = span_rows rows nodes flow tree fits balances.forced in
+    let are : AreForcedRows rows nodes flow = forced_rows rows nodes flow tree fits balances.forced in
     let five : MeetsFive rows nodes lengths plan = meets_five rows nodes lengths plan tree legal in
-    let listed : map node_of flow ≡ spanned_nodes rows nodes =
-    (forced_list_is_span rows nodes (map node_of flow) tree fits).0 balances.forced in
     let above = above_term rows nodes lengths flow plan are balances.signs five in
     let held = held_term rows nodes lengths flow plan are balances.signs five in
     let first = first_term rows nodes lengths flow plan are balances.signs five in
@@ -96,35 +82,8 @@ cheap_is_tight rows nodes lengths flow plan tree fits balances legal cheap =
     let own = own_term rows nodes lengths flow plan are balances.signs five in
     let parents : ℕ = sum_by (λ child. child.above * parent_value rows flow (lock_time lengths plan) child) flow in
     let overs : ℕ = sum_by (λ child. child.held * parent_value rows flow (release_time lengths plan) child) flow in
-    let slack = slack_sums
-    (priced flow (λ row. row.above) (lock_time lengths plan))
-    (priced flow (λ row. weight_of rows row.node) (lock_time lengths plan))
-    (priced flow (child_sum rows (λ child. child.above) flow) (lock_time lengths plan))
-    (priced flow (λ row. row.held) (lock_time lengths plan))
-    (priced flow (λ row. row.first) (lock_time lengths plan))
-    (priced flow (λ row. row.own) (lock_time lengths plan))
-    (priced flow (child_sum rows (λ child. child.held) flow) (release_time lengths plan))
-    (priced flow (λ row. row.last) (release_time lengths plan))
-    (gains nodes lengths flow)
-    (priced flow (λ row. weight_of rows row.node) (release_time lengths plan))
-    (losses nodes lengths flow)
-    (priced flow (λ row. row.own) (release_time lengths plan))
-    (priced flow (λ row. weight_of rows row.node) (holding lengths plan))
-    (cost rows lengths plan)
-    (priced_locks rows flow (lock_time lengths plan) balances.locks)
-    (priced_releases rows flow (release_time lengths plan) balances.releases)
-    (holding_sums rows nodes lengths flow plan are balances.signs five)
-    (rw (child_swap rows flow (λ child. child.above) (lock_time lengths plan))
-    (sums_le (λ child. child.above * parent_value rows flow (lock_time lengths plan) child)
-    (λ row. row.above * lock_time lengths plan row.node) flow above))
-    (rw (child_swap rows flow (λ child. child.held) (release_time lengths plan))
-    (sums_le (λ row. row.held * lock_time lengths plan row.node)
-    (λ child. child.held * parent_value rows flow (release_time lengths plan) child) flow held))
-    (sums_le (λ row. row.first * lock_time lengths plan row.node) (λ row. row.first * slots_before lengths (first_access nodes row.node)) flow first)
-    (sums_le (λ row. row.last * slots_before lengths (last_end nodes row.node)) (λ row. row.last * release_time lengths plan row.node) flow last)
-    (sums_le (λ row. row.own * lock_time lengths plan row.node) (λ row. row.own * release_time lengths plan row.node) flow own)
-    (span_cost_le rows nodes lengths flow plan listed)
-    cheap in
+    let slack = (bound_and_slack (sums_at rows nodes lengths flow plan) (sums_balance rows nodes lengths flow plan tree fits balances legal)
+    (sums_bounded rows nodes lengths flow plan tree fits balances legal)).1 cheap in
     record {
       above = λ i j row parent a b child some.
           let e = sum_tight (λ c. c.above * parent_value rows flow (lock_time lengths plan) c)

@@ -2,20 +2,20 @@
 use Rattle.std.proofs.Common.{◌≡◌, ℕ, suc, ◌<◌, ◌≤◌, true, List, length, Some}
 use Rattle.std.specs.List.{slice_get}
 use Rattle.grove_tree.specs.Trees.{Rows, parent_of}
-use Rattle.grove_access.specs.Spanned.{IsSpanned, is_accessed, first_access, last_end}
+use Rattle.grove_access.specs.Forced.{IsForcedByTree, is_accessed, first_access, last_end}
 use Rattle.grove_proof.specs.declared.flow.FlowRow.{FlowRow}
 use Rattle.grove_proof.specs.Flows.{is_child}
 
 -- Numbers of each spanned node's lock and unlock that meet the five constraints, none above the number of accesses.
 pub record Fits (rows : Rows) (nodes : List ℕ) (lock release : ℕ → ℕ) : Type 0 where
-  pub above : (node parent : ℕ) → IsSpanned rows nodes node → IsSpanned rows nodes parent
+  pub above : (node parent : ℕ) → IsForcedByTree rows nodes node → IsForcedByTree rows nodes parent
       → parent_of rows node ≡ Some parent → lock parent ≤ lock node
-  pub held : (node parent : ℕ) → IsSpanned rows nodes node → IsSpanned rows nodes parent
+  pub held : (node parent : ℕ) → IsForcedByTree rows nodes node → IsForcedByTree rows nodes parent
       → parent_of rows node ≡ Some parent → lock node ≤ release parent
   pub first : (node access : ℕ) → slice_get nodes access ≡ Some node → lock node ≤ access
   pub last : (node access : ℕ) → slice_get nodes access ≡ Some node → suc access ≤ release node
-  pub own : (node : ℕ) → IsSpanned rows nodes node → lock node ≤ release node
-  pub top : (node : ℕ) → IsSpanned rows nodes node → release node ≤ length nodes
+  pub own : (node : ℕ) → IsForcedByTree rows nodes node → lock node ≤ release node
+  pub top : (node : ℕ) → IsForcedByTree rows nodes node → release node ≤ length nodes
 
 -- They are tight where the rows of a flow have an amount.
 pub record AreTight (rows : Rows) (nodes : List ℕ) (flow : List FlowRow) (lock release : ℕ → ℕ) : Type 0 where
@@ -36,6 +36,6 @@ pub record ArePlaces (rows : Rows) (nodes : List ℕ) (flow : List FlowRow) (loc
   pub fits : Fits rows nodes lock release
   pub tight : AreTight rows nodes flow lock release
   pub lock_greatest : (lock2 release2 : ℕ → ℕ) → Fits rows nodes lock2 release2
-      → AreTight rows nodes flow lock2 release2 → (node : ℕ) → IsSpanned rows nodes node → lock2 node ≤ lock node
+      → AreTight rows nodes flow lock2 release2 → (node : ℕ) → IsForcedByTree rows nodes node → lock2 node ≤ lock node
   pub release_greatest : (lock2 release2 : ℕ → ℕ) → Fits rows nodes lock2 release2
-      → AreTight rows nodes flow lock2 release2 → (node : ℕ) → IsSpanned rows nodes node → release2 node ≤ release node
+      → AreTight rows nodes flow lock2 release2 → (node : ℕ) → IsForcedByTree rows nodes node → release2 node ≤ release node

@@ -5,16 +5,27 @@ use Rattle.std.specs.Option.{option_map, option_and_then}
 use Rattle.std.proofs.lemmas.Option.{none-some, same_Some, cond_some, option_and_then_some, slice_get_within}
 use Rattle.std.proofs.lemmas.Bool.{cases_lt, both_ways}
 use Rattle.grove_tree.specs.Trees.{Rows, parent_of}
-use Rattle.grove_tree.proofs.Counting.{any_from, least_is, last_is, last_above}
-use Rattle.grove_tree.proofs.Lists.{get_map, get_map_inv}
+use Rattle.grove_base.proofs.Counting.{any_from, least_is, last_is}
+use Rattle.grove_base.proofs.Lists.{get_map, get_map_inv}
 use Rattle.grove_tree.proofs.Tests.{is_at_from}
 use Rattle.grove_access.specs.Slots.{slots_before}
-use Rattle.grove_access.specs.Spanned.{IsSpanned, spanned_nodes, names_at, is_accessed, first_access, last_end}
-use Rattle.grove_access.proofs.Spans.{spanned_listed, listed_spanned}
+use Rattle.grove_access.specs.Forced.{IsForcedByTree, forced_nodes, names_at, is_accessed, first_access, last_end}
+use Rattle.grove_access.proofs.ForcedByTree.{forced_listed, listed_forced}
 use Rattle.grove_proof.specs.declared.flow.FlowRow.{FlowRow}
 use Rattle.grove_span.specs.declared.row.SpanRow.{SpanRow}
 use Rattle.grove_span.specs.SpanRows.{node_of_row, find_place, parent_place, from_of, until_of}
 use Rattle.grove_build.specs.Networks.{IsSpan, row_width, read_row, read_rows}
+use Rattle.grove_base.specs.Numbers.{last_below}
+
+-- a number that passes lies before the last place
+last_above : (n : ℕ) (test : ℕ → Bool) (k : ℕ) → k < n → test k ≡ true → suc k ≤ last_below n test
+last_above n test k lt h =
+    let found : (g : ℕ) × (last_below n test ≡ suc g) × (g < n) × (test g ≡ true) × ((j : ℕ) → g < j → j < n → test j ≡ false) = last_is n test (any_from n test k lt h) in
+    let e : last_below n test ≡ suc found.0 = found.1 in
+    elim (cases_lt found.0 k) [
+      | inl more ↦ absurd (both_ways (test k) (found.4 k more lt) h)
+      | inr less ↦ omega arith
+    ]
 
 -- finding a place
 
@@ -96,37 +107,37 @@ last_known nodes lengths v x e =
 
 module _ (tree : Rows) (nodes lengths : List ℕ) (rows : List SpanRow) (is_span : IsSpan tree nodes lengths rows) where
   -- each spanned node has a row
-  pub row_of_node : (v : ℕ) → IsSpanned tree nodes v → (k : ℕ) × (row : SpanRow) × (slice_get rows k ≡ Some row)
+  pub row_of_node : (v : ℕ) → IsForcedByTree tree nodes v → (k : ℕ) × (row : SpanRow) × (slice_get rows k ≡ Some row)
       × (row.node ≡ v)
   row_of_node v s =
-      let l = spanned_listed tree nodes v is_span.is_tree is_span.are_nodes s in
+      let l = forced_listed tree nodes v is_span.is_tree is_span.are_nodes s in
       let P : List ℕ → Type 0 = λ xs. slice_get xs l.0 ≡ Some v in
       let m = get_map_inv node_of_row rows l.0 v (subst P (sym is_span.named) l.1) in
       (l.0, m.0, m.1, m.2)
 
-  row_of_place : (j p : ℕ) → slice_get (spanned_nodes tree nodes) j ≡ Some p → (row : SpanRow)
+  row_of_place : (j p : ℕ) → slice_get (forced_nodes tree nodes) j ≡ Some p → (row : SpanRow)
       × (slice_get rows j ≡ Some row) × (row.node ≡ p)
   row_of_place j p h =
       let P : List ℕ → Type 0 = λ xs. slice_get xs j ≡ Some p in
       get_map_inv node_of_row rows j p (subst P (sym is_span.named) h)
 
   -- and each row's node is spanned
-  pub row_spanned : (k : ℕ) (row : SpanRow) → slice_get rows k ≡ Some row → IsSpanned tree nodes row.node
+  pub row_spanned : (k : ℕ) (row : SpanRow) → slice_get rows k ≡ Some row → IsForcedByTree tree nodes row.node
   row_spanned k row h =
       let P : List ℕ → Type 0 = λ xs. slice_get xs k ≡ Some row.node in
-      listed_spanned tree nodes k row.node is_span.is_tree is_span.are_nodes
+      listed_forced tree nodes k row.node is_span.is_tree is_span.are_nodes
       (subst P is_span.named (get_map node_of_row rows k row h))
 
   -- the row of a node's parent
   pub parent_found : (k p : ℕ) (row : SpanRow) → slice_get rows k ≡ Some row → parent_of tree row.node ≡ Some p
-      → IsSpanned tree nodes p
+      → IsForcedByTree tree nodes p
       → (j : ℕ) × (other : SpanRow) × (row.parent ≡ Some j) × (slice_get rows j ≡ Some other) × (other.node ≡ p)
   parent_found k p row h up s =
-      let l = spanned_listed tree nodes p is_span.is_tree is_span.are_nodes s in
-      let t = place_there p (spanned_nodes tree nodes) l.0 l.1 in
-      let e : parent_place tree (spanned_nodes tree nodes) row.node ≡ find_place p (spanned_nodes tree nodes) =
-      ap (λ o. option_and_then (λ q. find_place q (spanned_nodes tree nodes)) o) up in
-      let r = row_of_place t.0 p (place_found p (spanned_nodes tree nodes) t.0 t.1) in
+      let l = forced_listed tree nodes p is_span.is_tree is_span.are_nodes s in
+      let t = place_there p (forced_nodes tree nodes) l.0 l.1 in
+      let e : parent_place tree (forced_nodes tree nodes) row.node ≡ find_place p (forced_nodes tree nodes) =
+      ap (λ o. option_and_then (λ q. find_place q (forced_nodes tree nodes)) o) up in
+      let r = row_of_place t.0 p (place_found p (forced_nodes tree nodes) t.0 t.1) in
       (t.0, r.0, is_span.parents k row h ∙ (e ∙ t.1), r.1, r.2)
 
   pub parent_known : (k j : ℕ) (row : SpanRow) → slice_get rows k ≡ Some row → row.parent ≡ Some j
@@ -134,8 +145,8 @@ module _ (tree : Rows) (nodes lengths : List ℕ) (rows : List SpanRow) (is_span
   parent_known k j row h e =
       let Found : Type 0 =
       (other : SpanRow) × (slice_get rows j ≡ Some other) × (parent_of tree row.node ≡ Some other.node) in
-      option_and_then_some {P = Found} (λ q. find_place q (spanned_nodes tree nodes)) (parent_of tree row.node) j
+      option_and_then_some {P = Found} (λ q. find_place q (forced_nodes tree nodes)) (parent_of tree row.node) j
       (sym (is_span.parents k row h) ∙ e)
       (λ p up found.
-      let r = row_of_place j p (place_found p (spanned_nodes tree nodes) j found) in
+      let r = row_of_place j p (place_found p (forced_nodes tree nodes) j found) in
       (r.0, r.1, up ∙ ap (λ (n : ℕ). Some n) (sym r.2)))

@@ -3,12 +3,13 @@ use Rattle.std.proofs.Common.{◌≡◌, ℕ, zero, suc, ◌+◌, ◌*◌, ◌<�
 use Rattle.std.proofs.lemmas.Option.{none-some, same_Some}
 use Rattle.std.proofs.lemmas.Bool.{cases_Bool, cases_eq, and_parts, and_from, not-true, not_from_false}
 use Rattle.grove_tree.specs.Trees.{Rows}
-use Rattle.grove_tree.specs.Numbers.{numbers_below}
+use Rattle.grove_base.specs.Numbers.{numbers_below}
 use Rattle.grove_plan.specs.declared.step.Step.{Step}
 use Rattle.grove_plan.specs.declared.step.Step.TheVariants.{Lock, Unlock, Access}
 use Rattle.grove_plan.specs.Plans.{accesses_of}
 use Rattle.grove_build.specs.Layout.{is_early, gap_steps, steps_below, laid_out}
 use Rattle.grove_build.proofs.Runs.{Has, has_left, has_right, has_either, has_map, has_map_from, has_filter, has_filter_from, Rises, rises_lower, rises_higher, rises_append, rises_mapped, itself}
+use Rattle.grove_plan.proofs.Held.{accesses_append}
 
 -- a number's place within a gap: early unlocks, then locks, then the other unlocks
 abbrev pub rank_of : Bool → ℕ → ℕ → ℕ
@@ -39,12 +40,6 @@ gap_less w g h r s lt small =
 
 pub gap_le : (w g h r s : ℕ) → g ≤ h → r ≤ s → g * w + r ≤ h * w + s
 gap_le w g h r s le small = let lw : g * w ≤ h * w = mul-le-mul_right w le in omega arith
-
-pub accesses_append : (xs ys : List Step) → accesses_of (xs ++ ys) ≡ accesses_of xs ++ accesses_of ys
-accesses_append [] ys = refl
-accesses_append (Lock v ∷ xs) ys = accesses_append xs ys
-accesses_append (Unlock v ∷ xs) ys = accesses_append xs ys
-accesses_append (Access g ∷ xs) ys = ap (λ l. g ∷ l) (accesses_append xs ys)
 
 no_accesses : (xs ys : List Step) → accesses_of xs ≡ [] → accesses_of ys ≡ [] → accesses_of (xs ++ ys) ≡ []
 no_accesses xs ys a b = accesses_append xs ys ∙ (ap (λ l. l ++ accesses_of ys) a ∙ b)

@@ -4,14 +4,14 @@ use Rattle.std.specs.List.{slice_get, list_any}
 use Rattle.std.proofs.lemmas.Option.{none-some, same_Some, slice_get_within}
 use Rattle.std.proofs.lemmas.Bool.{cases_lt, cases_eq, and_from, and_left, and_right, not_from_true, or_left, or_right}
 use Rattle.grove_tree.specs.Trees.{Rows, parent_of, is_at, IsAbove}
-use Rattle.grove_tree.specs.Numbers.{numbers_below}
-use Rattle.grove_tree.proofs.Counting.{any_from, least_is, count_mono, count_hit, numbers_got, numbers_length}
-use Rattle.grove_access.specs.Spanned.{IsSpanned, IsCommon}
+use Rattle.grove_base.specs.Numbers.{numbers_below}
+use Rattle.grove_base.proofs.Counting.{any_from, least_is, count_mono, count_hit, numbers_got, numbers_length}
+use Rattle.grove_access.specs.Forced.{IsForcedByTree, IsCommon}
 use Rattle.grove_plan.specs.declared.step.Step.{Step}
 use Rattle.grove_plan.specs.declared.step.Step.TheVariants.{Lock, Unlock, Access}
 use Rattle.grove_plan.specs.Plans.{accesses_of, is_access, locks, unlocks, held, ObeysTreeProtocol, Performs, IsLegal, IsLockedBy}
-use Rattle.grove_plan.specs.Slots.{accesses_before, lock_place, release_place, lock_slot, release_slot}
-use Rattle.grove_plan.proofs.Holding.{held_from, held_not, access_at, accesses_length, locks_true, locks_from, unlocks_true, unlocks_from}
+use Rattle.grove_plan.specs.Slots.{accesses_before, lock_position, release_position, first_lock_slot, first_release_slot}
+use Rattle.grove_plan.proofs.Held.{held_from, held_not, access_at, accesses_length, locks_true, locks_from, unlocks_true, unlocks_from}
 use Rattle.grove_build.specs.Layout.{has_child_in, is_early, laid_out}
 use Rattle.grove_build.proofs.Runs.{Has, Rises, itself, rises_within, rises_order, rises_place, rises_once}
 use Rattle.grove_build.proofs.Laid.{rank_of, step_key, gap_less, gap_le, laid_lock, laid_unlock, laid_access, laid_stands, laid_accesses, laid_rises, late_key}
@@ -26,11 +26,11 @@ any_has test (y ∷ xs) x (suc k, h) e = or_right (test y) (list_any test xs) (a
 module _ (rows : Rows) (nodes : List ℕ) (span : List ℕ) (lock release : ℕ → ℕ)
     (fits : Fits rows nodes lock release)
     (rising : Rises itself 0 (length rows) span)
-    (has : (v : ℕ) → IsSpanned rows nodes v → Has span v)
-    (got : (v : ℕ) → Has span v → IsSpanned rows nodes v)
-    (accessed : (access v : ℕ) → slice_get nodes access ≡ Some v → IsSpanned rows nodes v)
-    (step_up : (v : ℕ) → IsSpanned rows nodes v
-    → IsCommon rows nodes v ⊎ ((p : ℕ) × (parent_of rows v ≡ Some p) × IsSpanned rows nodes p))
+    (has : (v : ℕ) → IsForcedByTree rows nodes v → Has span v)
+    (got : (v : ℕ) → Has span v → IsForcedByTree rows nodes v)
+    (accessed : (access v : ℕ) → slice_get nodes access ≡ Some v → IsForcedByTree rows nodes v)
+    (step_up : (v : ℕ) → IsForcedByTree rows nodes v
+    → IsCommon rows nodes v ⊎ ((p : ℕ) × (parent_of rows v ≡ Some p) × IsForcedByTree rows nodes p))
     (parent_less : (v p : ℕ) → parent_of rows v ≡ Some p → p < v)
     (above_less : (a b : ℕ) → IsAbove rows a b → a ≤ b) where
   abbrev m : ℕ
@@ -45,11 +45,11 @@ module _ (rows : Rows) (nodes : List ℕ) (span : List ℕ) (lock release : ℕ 
   abbrev early : ℕ → Bool
   early v = is_early rows span lock release v
 
-  within : (v : ℕ) → IsSpanned rows nodes v → v < n
+  within : (v : ℕ) → IsForcedByTree rows nodes v → v < n
   within v s = let h = has v s in (rises_within itself 0 n span h.0 v rising h.1).1
 
   -- a common spanned node locks no later than any other
-  top_first : (bound c v : ℕ) → v < bound → IsSpanned rows nodes c → IsCommon rows nodes c → IsSpanned rows nodes v
+  top_first : (bound c v : ℕ) → v < bound → IsForcedByTree rows nodes c → IsCommon rows nodes c → IsForcedByTree rows nodes v
       → lock c ≤ lock v
   top_first zero c v lt sc cc' sv = absurd (omega arith)
   top_first (suc bound) c v lt sc cc' sv = elim (step_up v sv) [
@@ -76,7 +76,7 @@ module _ (rows : Rows) (nodes : List ℕ) (span : List ℕ) (lock release : ℕ 
     gap_below g h r s le lt = let t : g * w + suc r ≤ h * w + s = gap_le w g h (suc r) s le lt in omega arith
 
     -- each node is unlocked after its lock
-    own_key : (v : ℕ) → IsSpanned rows nodes v → key (Lock v) < key (Unlock v)
+    own_key : (v : ℕ) → IsForcedByTree rows nodes v → key (Lock v) < key (Unlock v)
     own_key v s =
         let le : lock v ≤ release v = fits.own v s in
         let vn : v < n = within v s in
@@ -92,14 +92,14 @@ module _ (rows : Rows) (nodes : List ℕ) (span : List ℕ) (lock release : ℕ 
         ]
 
     -- a parent is locked before its child
-    parent_key : (v p : ℕ) → IsSpanned rows nodes v → IsSpanned rows nodes p → parent_of rows v ≡ Some p
+    parent_key : (v p : ℕ) → IsForcedByTree rows nodes v → IsForcedByTree rows nodes p → parent_of rows v ≡ Some p
         → key (Lock p) < key (Lock v)
     parent_key v p sv sp up =
         let less : p < v = parent_less v p up in
         gap_below (lock p) (lock v) (n + p) (n + v) (fits.above v p sv sp up) (omega arith)
 
     -- and unlocked after the child's lock
-    child_key : (v p : ℕ) → IsSpanned rows nodes v → IsSpanned rows nodes p → parent_of rows v ≡ Some p
+    child_key : (v p : ℕ) → IsForcedByTree rows nodes v → IsForcedByTree rows nodes p → parent_of rows v ≡ Some p
         → key (Lock v) < key (Unlock p)
     child_key v p sv sp up =
         let le : lock v ≤ release p = fits.held v p sv sp up in
@@ -119,14 +119,14 @@ module _ (rows : Rows) (nodes : List ℕ) (span : List ℕ) (lock release : ℕ 
               omega arith
         ]
 
-    lock_access_key : (v a : ℕ) → IsSpanned rows nodes v → lock v ≤ a → key (Lock v) < key (Access a)
+    lock_access_key : (v a : ℕ) → IsForcedByTree rows nodes v → lock v ≤ a → key (Lock v) < key (Access a)
     lock_access_key v a s le = let vn : v < n = within v s in gap_below (lock v) a (n + v) (n + n + n) le (omega arith)
 
     access_unlock_key : (v a : ℕ) → suc a ≤ release v → key (Access a) < key (Unlock v)
     access_unlock_key v a le = gap_less w a (release v) (n + n + n) (rank_of (early v) n v) le (omega arith)
 
     -- between a node's lock and unlock it is held
-    held_there : (v i : ℕ) (s : Step) → IsSpanned rows nodes v → slice_get plan i ≡ Some s → key (Lock v) < key s
+    held_there : (v i : ℕ) (s : Step) → IsForcedByTree rows nodes v → slice_get plan i ≡ Some s → key (Lock v) < key s
         → key s ≤ key (Unlock v) → held plan v i ≡ true
     held_there v i s sv h after before =
         let le : lock v ≤ m = let a : lock v ≤ release v = fits.own v sv in let b : release v ≤ m = fits.top v sv in
@@ -246,7 +246,7 @@ module _ (rows : Rows) (nodes : List ℕ) (span : List ℕ) (lock release : ℕ 
     rank_low true v lt = omega arith
     rank_low false v lt = omega arith
 
-    pub lock_slot_is : (v : ℕ) → IsSpanned rows nodes v → lock_slot plan v ≡ lock v
+    pub lock_slot_is : (v : ℕ) → IsForcedByTree rows nodes v → first_lock_slot plan v ≡ lock v
     lock_slot_is v sv =
         let le : lock v ≤ m = let a : lock v ≤ release v = fits.own v sv in let b : release v ≤ m = fits.top v sv in
         omega arith in
@@ -256,10 +256,10 @@ module _ (rows : Rows) (nodes : List ℕ) (span : List ℕ) (lock release : ℕ 
         (any_from (length plan) (λ i. locks v (slice_get plan i)) at.0 (slice_get_within plan at.0 (Lock v) at.1)
         (locks_from v (slice_get plan at.0) at.1)) in
         let vn : v < n = within v sv in
-        slot_is (lock v) (lock_place plan v) (Lock v) le (locks_true v (slice_get plan (lock_place plan v)) l.1)
+        slot_is (lock v) (lock_position plan v) (Lock v) le (locks_true v (slice_get plan (lock_position plan v)) l.1)
         (omega arith) (omega arith)
 
-    pub release_slot_is : (v : ℕ) → IsSpanned rows nodes v → release_slot plan v ≡ release v
+    pub release_slot_is : (v : ℕ) → IsForcedByTree rows nodes v → first_release_slot plan v ≡ release v
     release_slot_is v sv =
         let le : release v ≤ m = fits.top v sv in
         let at = laid_unlock rows span lock release m v (has v sv) le in
@@ -267,13 +267,13 @@ module _ (rows : Rows) (nodes : List ℕ) (span : List ℕ) (lock release : ℕ 
         (any_from (length plan) (λ i. unlocks v (slice_get plan i)) at.0
         (slice_get_within plan at.0 (Unlock v) at.1) (unlocks_from v (slice_get plan at.0) at.1)) in
         let r : rank_of (early v) n v < n + n + n = rank_low (early v) v (within v sv) in
-        slot_is (release v) (release_place plan v) (Unlock v) le
-        (unlocks_true v (slice_get plan (release_place plan v)) l.1) (omega arith) (omega arith)
+        slot_is (release v) (release_position plan v) (Unlock v) le
+        (unlocks_true v (slice_get plan (release_position plan v)) l.1) (omega arith) (omega arith)
 
-    pub locks_span : (v : ℕ) → IsLockedBy plan v → IsSpanned rows nodes v
+    pub locks_span : (v : ℕ) → IsLockedBy plan v → IsForcedByTree rows nodes v
     locks_span v h = got v (laid_stands rows span lock release m (Lock v) (h.0, h.1))
 
-    pub span_locked : (v : ℕ) → IsSpanned rows nodes v → IsLockedBy plan v
+    pub span_locked : (v : ℕ) → IsForcedByTree rows nodes v → IsLockedBy plan v
     span_locked v sv =
         let le : lock v ≤ m = let a : lock v ≤ release v = fits.own v sv in let b : release v ≤ m = fits.top v sv in
         omega arith in

@@ -8,9 +8,12 @@ pub mod Examples
 pub mod Lawful
 pub mod Found
 pub mod Cut
+pub mod Candidates
 pub mod Latest
 pub mod Cheap
 pub mod Settling
+pub mod Sums
+pub mod Named
 pub mod Needs
 pub mod Settles
 pub mod Walks
@@ -20,3 +23,4 @@ pub mod Inserted
 pub mod TargetLists
 pub mod Batched
 pub mod Sorted
+pub mod Reaching

@@ -9,22 +9,22 @@ use Rattle.std.proofs.lemmas.Bool.{cases_Bool, and_from, or_left, or_right, cond
 use borrow.Author.Differences.{up}
 use Rattle.grove_tree.specs.Trees.{Rows, parent_of, weight_of}
 use Rattle.grove_tree.specs.Rules.{IsWithinLimits}
-use Rattle.grove_tree.specs.Numbers.{sum_below, passing_below, alone}
-use Rattle.grove_tree.proofs.Counting.{any_from, sum_same}
-use Rattle.grove_tree.proofs.Lists.{map_length}
+use Rattle.grove_base.specs.Numbers.{sum_below, passing_below, alone}
+use Rattle.grove_base.proofs.Counting.{any_from, sum_same}
+use Rattle.grove_base.proofs.Lists.{map_length}
 use Rattle.grove_tree.proofs.Tests.{is_at_from}
 use Rattle.grove_access.specs.Slots.{slots_before}
-use Rattle.grove_access.specs.Spanned.{IsSpanned, is_spanned, spanned_nodes, is_accessed, first_access, last_end}
+use Rattle.grove_access.specs.Forced.{IsForcedByTree, is_forced, forced_nodes, is_accessed, first_access, last_end}
 use Rattle.grove_plan.specs.declared.step.Step.{Step}
 use Rattle.grove_plan.specs.Plans.{holding, cost}
-use Rattle.grove_plan.specs.Slots.{lock_slot, release_slot}
+use Rattle.grove_plan.specs.Slots.{first_lock_slot, first_release_slot}
 use Rattle.grove_proof.specs.declared.flow.FlowRow.{FlowRow}
 use Rattle.grove_proof.specs.Five.{lock_time, release_time, MeetsFive}
 use Rattle.grove_proof.specs.Flows.{node_of, is_parent_at, has_parent, is_sign_ok, is_small, AllRows, Balances, IsCertificate}
 use Rattle.grove_proof.proofs.Sums.{sums_same, sums_map, sums_passing}
-use Rattle.grove_proof.proofs.Listed.{forced_list_is_span}
-use Rattle.grove_proof.proofs.Constraints.{meets_five}
-use Rattle.grove_proof.proofs.Duality.{unspanned_free}
+use Rattle.grove_proof.proofs.ForcedList.{forced_list_is_by_tree}
+use Rattle.grove_proof.proofs.FiveConstraints.{meets_five}
+use Rattle.grove_proof.proofs.Slackness.{unforced_free}
 use Rattle.grove_span.specs.declared.row.SpanRow.{SpanRow}
 use Rattle.grove_span.specs.SpanRows.{node_of_row}
 use Rattle.grove_flow.specs.Networks.{place, IsLatest}
@@ -109,8 +109,8 @@ difference a b c e = omega arith
 pub rows_few : (tree : Rows) (nodes lengths : List ℕ) (rows : List SpanRow) → IsSpan tree nodes lengths rows → length rows ≤ length tree
 rows_few tree nodes lengths rows is_span =
     let a : length (map node_of_row rows) ≡ length rows = map_length node_of_row rows in
-    let b : length (map node_of_row rows) ≡ length (spanned_nodes tree nodes) = ap length is_span.named in
-    let c : length (spanned_nodes tree nodes) ≤ length tree = passing_few (length tree) (is_spanned tree nodes) in
+    let b : length (map node_of_row rows) ≡ length (forced_nodes tree nodes) = ap length is_span.named in
+    let c : length (forced_nodes tree nodes) ≤ length tree = passing_few (length tree) (is_forced tree nodes) in
     omega arith
 
 module _ (tree : Rows) (nodes lengths : List ℕ) (rows : List SpanRow) (amounts : List ℕ) (solved : List ℤ)
@@ -195,7 +195,7 @@ module _ (tree : Rows) (nodes lengths : List ℕ) (rows : List SpanRow) (amounts
 
   pub balances : Balances tree nodes flow
   balances = record {
-    forced = (forced_list_is_span tree nodes (map node_of flow) is_span.is_tree is_span.are_nodes).1
+    forced = (forced_list_is_by_tree tree nodes (map node_of flow) is_span.is_tree is_span.are_nodes).1
         (read_nodes rows amounts 0 ∙ is_span.named);
     signs = signs;
     locks = λ i f h. let r = read_at rows amounts 0 i f h in
@@ -216,7 +216,7 @@ module _ (tree : Rows) (nodes lengths : List ℕ) (rows : List SpanRow) (amounts
     are_places = latest_are_places tree nodes lengths rows amounts is_span places latest lock release low locks releases
 
     abbrev pub plan : List Step
-    plan = laid_out tree (spanned_nodes tree nodes) lock release (length nodes)
+    plan = laid_out tree (forced_nodes tree nodes) lock release (length nodes)
 
     pub settles : IsSettled tree nodes lengths plan
     settles = Settling.settled tree nodes lengths is_span.is_tree is_span.are_nodes is_span.are_lengths is_span.paired flow lock release balances small are_places
@@ -225,13 +225,13 @@ module _ (tree : Rows) (nodes lengths : List ℕ) (rows : List SpanRow) (amounts
     certifies = Settling.certificate tree nodes lengths is_span.is_tree is_span.are_nodes is_span.are_lengths is_span.paired flow lock release balances small
         are_places
 
-    holding_is : (v : ℕ) → IsSpanned tree nodes v → holding lengths plan v ≡ slots_before lengths (release v) - slots_before lengths (lock v)
+    holding_is : (v : ℕ) → IsForcedByTree tree nodes v → holding lengths plan v ≡ slots_before lengths (release v) - slots_before lengths (lock v)
     holding_is v sv =
         let five : MeetsFive tree nodes lengths plan = meets_five tree nodes lengths plan is_span.is_tree settles.least.legal in
-        let a : lock_slot plan v ≡ lock v =
+        let a : first_lock_slot plan v ≡ lock v =
         Settling.lock_is tree nodes lengths is_span.is_tree is_span.are_nodes is_span.are_lengths is_span.paired flow lock release balances small are_places
         v sv in
-        let b : release_slot plan v ≡ release v =
+        let b : first_release_slot plan v ≡ release v =
         Settling.release_is tree nodes lengths is_span.is_tree is_span.are_nodes is_span.are_lengths is_span.paired flow lock release balances small
         are_places v sv in
         let c : lock_time lengths plan v + holding lengths plan v ≡ release_time lengths plan v = five.holds v sv in
@@ -243,11 +243,11 @@ module _ (tree : Rows) (nodes lengths : List ℕ) (rows : List SpanRow) (amounts
     pub costs : cost tree lengths plan ≡ sum_by (λ row. weight_of tree row.node * (slots_before lengths (release row.node) - slots_before lengths (lock row.node))) rows
     costs =
         sum_same (length tree) (λ v. weight_of tree v * holding lengths plan v)
-        (λ v. cond (is_spanned tree nodes v) (weight_of tree v * holding lengths plan v) 0)
-        (λ v lt. part_all (is_spanned tree nodes v) (weight_of tree v) (holding lengths plan v)
-        (unspanned_free tree nodes lengths plan v is_span.is_tree (λ i w h. Settling.locks_spanned tree nodes lengths is_span.is_tree
+        (λ v. cond (is_forced tree nodes v) (weight_of tree v * holding lengths plan v) 0)
+        (λ v lt. part_all (is_forced tree nodes v) (weight_of tree v) (holding lengths plan v)
+        (unforced_free tree nodes lengths plan v is_span.is_tree (λ i w h. Settling.locks_spanned tree nodes lengths is_span.is_tree
         is_span.are_nodes is_span.are_lengths is_span.paired flow lock release balances small are_places w (i, h))))
-        ∙ (sym (sums_passing (λ v. weight_of tree v * holding lengths plan v) (length tree) (is_spanned tree nodes))
+        ∙ (sym (sums_passing (λ v. weight_of tree v * holding lengths plan v) (length tree) (is_forced tree nodes))
         ∙ (ap (λ l. sum_by (λ v. weight_of tree v * holding lengths plan v) l) (sym is_span.named)
         ∙ (sums_map (λ v. weight_of tree v * holding lengths plan v) node_of_row rows
         ∙ sums_same (λ (row : SpanRow). weight_of tree row.node * holding lengths plan row.node)

@@ -5,26 +5,28 @@ use Rattle.std.specs.List.{slice_get}
 use Rattle.std.proofs.lemmas.Option.{same_Some, slice_get_within}
 use Rattle.std.proofs.lemmas.Bool.{cases_Bool}
 use Rattle.grove_tree.specs.Trees.{Rows, parent_of, IsTree}
-use Rattle.grove_tree.specs.Numbers.{numbers_below, passing_below, alone}
-use Rattle.grove_tree.proofs.Counting.{count_mono, numbers_length, least_is, last_is}
-use Rattle.grove_tree.proofs.Lists.{get_map}
+use Rattle.grove_base.specs.Numbers.{numbers_below, passing_below, alone}
+use Rattle.grove_base.proofs.Counting.{count_mono, numbers_length, least_is, last_is}
+use Rattle.grove_base.proofs.Lists.{get_map}
 use Rattle.grove_tree.proofs.Tests.{is_at_true}
-use Rattle.grove_tree.proofs.Ups.{parent_lt, above_le}
+use Rattle.grove_tree.proofs.Above.{parent_lt, above_le}
 use Rattle.grove_access.specs.Lists.{AreNodes, AreLengths}
 use Rattle.grove_access.specs.Slots.{slots_before}
 use Rattle.grove_access.proofs.Slots.{slots_tell}
-use Rattle.grove_access.specs.Spanned.{IsSpanned, is_spanned, spanned_nodes, names_at, is_accessed, first_access, last_end}
-use Rattle.grove_access.proofs.Spans.{spanned_listed, listed_spanned, accessed_is_spanned, spanned_step}
+use Rattle.grove_access.specs.Forced.{IsForcedByTree, is_forced, forced_nodes, names_at, is_accessed, first_access, last_end}
+use Rattle.grove_access.proofs.ForcedByTree.{forced_listed, listed_forced, accessed_is_forced, forced_step}
 use Rattle.grove_plan.specs.declared.step.Step.{Step}
 use Rattle.grove_plan.specs.Plans.{is_access, accesses_of, cost, IsLegal, IsLeast, IsLockedBy}
-use Rattle.grove_plan.specs.Slots.{accesses_before, lock_slot, release_slot}
-use Rattle.grove_plan.proofs.Holding.{accesses_length}
+use Rattle.grove_plan.specs.Slots.{accesses_before, first_lock_slot, first_release_slot}
+use Rattle.grove_plan.proofs.Held.{accesses_length}
 use Rattle.grove_proof.specs.declared.flow.FlowRow.{FlowRow}
 use Rattle.grove_proof.specs.Five.{lock_time, release_time}
 use Rattle.grove_proof.specs.Flows.{node_of, is_small, AllRows, gains, losses, Balances, IsCertificate}
-use Rattle.grove_proof.proofs.Listed.{forced_are_spanned, span_is_forced_list}
-use Rattle.grove_proof.proofs.Constraints.{KeepsOrder, keeps_order, legal_meets_five}
-use Rattle.grove_proof.proofs.Duality.{parent_row, has_signs, IsTight, tight_is_certified, certified_is_least}
+use Rattle.grove_proof.proofs.ForcedList.{forced_is_by_tree, forced_nodes_are_list}
+use Rattle.grove_proof.proofs.FiveConstraints.{KeepsOrder, keeps_order, legal_meets_five}
+use Rattle.grove_proof.proofs.ForcedRows.{parent_row, has_signs}
+use Rattle.grove_proof.proofs.Slackness.{IsTight, tight_is_certified}
+use Rattle.grove_proof.proofs.WeakDuality.{certified_is_least}
 use Rattle.grove_build.specs.Layout.{laid_out}
 use Rattle.grove_build.specs.Settled.{IsSettled}
 use Rattle.grove_build.proofs.Runs.{Has, Rises, itself, rises_append}
@@ -46,7 +48,7 @@ passing_rise (suc n) test = rises_append itself 0 n (suc n) (passing_below n tes
 module _ (rows : Rows) (nodes lengths : List ℕ) (is_tree : IsTree rows) (are_nodes : AreNodes rows nodes)
     (are_lengths : AreLengths lengths) (paired : length lengths ≡ length nodes) where
   abbrev span : List ℕ
-  span = spanned_nodes rows nodes
+  span = forced_nodes rows nodes
 
   abbrev m : ℕ
   m = length nodes
@@ -55,7 +57,7 @@ module _ (rows : Rows) (nodes lengths : List ℕ) (is_tree : IsTree rows) (are_n
   n = length rows
 
   -- the slots of a legal plan fit
-  pub slots_fit : (plan : List Step) → IsLegal rows nodes plan → Fits rows nodes (lock_slot plan) (release_slot plan)
+  pub slots_fit : (plan : List Step) → IsLegal rows nodes plan → Fits rows nodes (first_lock_slot plan) (first_release_slot plan)
   slots_fit plan legal =
       let both = legal_meets_five rows nodes lengths plan is_tree legal in
       let order : KeepsOrder rows nodes plan = keeps_order rows nodes plan is_tree legal in
@@ -68,7 +70,7 @@ module _ (rows : Rows) (nodes lengths : List ℕ) (is_tree : IsTree rows) (are_n
         top = λ v sv.
             let u = (both.1 v sv).1 in
             let lt : u.0 < length plan = slice_get_within plan u.0 _ u.1 in
-            let a : release_slot plan v ≡ accesses_before plan u.0 = u.2 in
+            let a : first_release_slot plan v ≡ accesses_before plan u.0 = u.2 in
             let b : accesses_before plan u.0 ≤ accesses_before plan (length plan) =
             count_mono u.0 (length plan) (λ k. is_access (slice_get plan k)) (omega arith) in
             let c : length (accesses_of plan) ≡ accesses_before plan (length plan) = accesses_length plan in
@@ -82,42 +84,42 @@ module _ (rows : Rows) (nodes lengths : List ℕ) (is_tree : IsTree rows) (are_n
     abbrev pub plan : List Step
     plan = laid_out rows span lock release m
 
-    has : (v : ℕ) → IsSpanned rows nodes v → Has span v
-    has v s = let l = spanned_listed rows nodes v is_tree are_nodes s in (l.0, l.1)
+    has : (v : ℕ) → IsForcedByTree rows nodes v → Has span v
+    has v s = let l = forced_listed rows nodes v is_tree are_nodes s in (l.0, l.1)
 
-    got : (v : ℕ) → Has span v → IsSpanned rows nodes v
-    got v h = listed_spanned rows nodes h.0 v is_tree are_nodes h.1
+    got : (v : ℕ) → Has span v → IsForcedByTree rows nodes v
+    got v h = listed_forced rows nodes h.0 v is_tree are_nodes h.1
 
     rising : Rises itself 0 (length rows) span
-    rising = passing_rise n (is_spanned rows nodes)
+    rising = passing_rise n (is_forced rows nodes)
 
     legal : IsLegal rows nodes plan
-    legal = Laying.legal rows nodes span lock release places.fits rising has got (accessed_is_spanned rows nodes)
-        (λ v s. spanned_step rows nodes v is_tree are_nodes s)
+    legal = Laying.legal rows nodes span lock release places.fits rising has got (accessed_is_forced rows nodes)
+        (λ v s. forced_step rows nodes v is_tree are_nodes s)
         (parent_lt rows is_tree) (above_le rows is_tree) (suc (n + (n + n))) refl
 
-    pub lock_is : (v : ℕ) → IsSpanned rows nodes v → lock_slot plan v ≡ lock v
+    pub lock_is : (v : ℕ) → IsForcedByTree rows nodes v → first_lock_slot plan v ≡ lock v
     lock_is = Laying.lock_slot_is rows nodes span lock release places.fits rising has got
-        (accessed_is_spanned rows nodes) (λ v s. spanned_step rows nodes v is_tree are_nodes s)
+        (accessed_is_forced rows nodes) (λ v s. forced_step rows nodes v is_tree are_nodes s)
         (parent_lt rows is_tree) (above_le rows is_tree) (suc (n + (n + n))) refl
 
-    pub release_is : (v : ℕ) → IsSpanned rows nodes v → release_slot plan v ≡ release v
+    pub release_is : (v : ℕ) → IsForcedByTree rows nodes v → first_release_slot plan v ≡ release v
     release_is = Laying.release_slot_is rows nodes span lock release places.fits rising has got
-        (accessed_is_spanned rows nodes) (λ v s. spanned_step rows nodes v is_tree are_nodes s)
+        (accessed_is_forced rows nodes) (λ v s. forced_step rows nodes v is_tree are_nodes s)
         (parent_lt rows is_tree) (above_le rows is_tree) (suc (n + (n + n))) refl
 
-    pub locks_spanned : (v : ℕ) → IsLockedBy plan v → IsSpanned rows nodes v
+    pub locks_spanned : (v : ℕ) → IsLockedBy plan v → IsForcedByTree rows nodes v
     locks_spanned = Laying.locks_span rows nodes span lock release places.fits rising has got
-        (accessed_is_spanned rows nodes) (λ v s. spanned_step rows nodes v is_tree are_nodes s)
+        (accessed_is_forced rows nodes) (λ v s. forced_step rows nodes v is_tree are_nodes s)
         (parent_lt rows is_tree) (above_le rows is_tree) (suc (n + (n + n))) refl
 
-    spanned_locked : (v : ℕ) → IsSpanned rows nodes v → IsLockedBy plan v
+    spanned_locked : (v : ℕ) → IsForcedByTree rows nodes v → IsLockedBy plan v
     spanned_locked = Laying.span_locked rows nodes span lock release places.fits rising has got
-        (accessed_is_spanned rows nodes) (λ v s. spanned_step rows nodes v is_tree are_nodes s)
+        (accessed_is_forced rows nodes) (λ v s. forced_step rows nodes v is_tree are_nodes s)
         (parent_lt rows is_tree) (above_le rows is_tree) (suc (n + (n + n))) refl
 
-    flow_spanned : (i : ℕ) (row : FlowRow) → slice_get flow i ≡ Some row → IsSpanned rows nodes row.node
-    flow_spanned i row h = (forced_are_spanned rows nodes row.node is_tree are_nodes).0
+    flow_spanned : (i : ℕ) (row : FlowRow) → slice_get flow i ≡ Some row → IsForcedByTree rows nodes row.node
+    flow_spanned i row h = (forced_is_by_tree rows nodes row.node is_tree are_nodes).0
         ((balances.forced.forced row.node).0 (i, get_map node_of flow i row h))
 
     laid_is_tight : IsTight rows nodes lengths flow plan
@@ -171,15 +173,15 @@ module _ (rows : Rows) (nodes lengths : List ℕ) (is_tree : IsTree rows) (are_n
     same_slots i j a b = slots_tell lengths i j are_lengths (omega arith) (omega arith)
 
     other_tight : (other : List Step) → IsLeast rows nodes lengths other
-        → AreTight rows nodes flow (lock_slot other) (release_slot other)
+        → AreTight rows nodes flow (first_lock_slot other) (first_release_slot other)
     other_tight other o =
         let a : cost rows lengths other ≤ cost rows lengths plan = o.least plan legal in
         let b : gains nodes lengths flow ≡ cost rows lengths plan + losses nodes lengths flow = certificate.value in
         let t = cheap_is_tight rows nodes lengths flow other is_tree are_nodes balances o.legal (omega arith) in
-        let fits : Fits rows nodes (lock_slot other) (release_slot other) = slots_fit other o.legal in
-        let low : (v : ℕ) → IsSpanned rows nodes v → lock_slot other v ≤ m = λ v sv.
-        let own : lock_slot other v ≤ release_slot other v = fits.own v sv in
-        let top : release_slot other v ≤ m = fits.top v sv in omega arith in
+        let fits : Fits rows nodes (first_lock_slot other) (first_release_slot other) = slots_fit other o.legal in
+        let low : (v : ℕ) → IsForcedByTree rows nodes v → first_lock_slot other v ≤ m = λ v sv.
+        let own : first_lock_slot other v ≤ first_release_slot other v = fits.own v sv in
+        let top : first_release_slot other v ≤ m = fits.top v sv in omega arith in
         record {
           above = λ i j row parent g h child some. same_slots _ _ (low parent.node (flow_spanned j parent h)) (low row.node (flow_spanned i row g))
               (t.above i j row parent g h child some);
@@ -198,24 +200,24 @@ module _ (rows : Rows) (nodes lengths : List ℕ) (is_tree : IsTree rows) (are_n
     settled = record {
       least = least;
       locks = λ v. (
-        λ l. (forced_are_spanned rows nodes v is_tree are_nodes).1 (locks_spanned v l),
+        λ l. (forced_is_by_tree rows nodes v is_tree are_nodes).1 (locks_spanned v l),
         λ f.
-            spanned_locked v ((forced_are_spanned rows nodes v is_tree are_nodes).0 f),
+            spanned_locked v ((forced_is_by_tree rows nodes v is_tree are_nodes).0 f),
       );
       lock_latest = λ other o v f.
-          let sv : IsSpanned rows nodes v = (forced_are_spanned rows nodes v is_tree are_nodes).0 f in
-          let a : lock_slot other v ≤ lock v =
-          places.lock_greatest (lock_slot other) (release_slot other) (slots_fit other o.legal)
+          let sv : IsForcedByTree rows nodes v = (forced_is_by_tree rows nodes v is_tree are_nodes).0 f in
+          let a : first_lock_slot other v ≤ lock v =
+          places.lock_greatest (first_lock_slot other) (first_release_slot other) (slots_fit other o.legal)
           (other_tight other o) v sv in
-          let b : lock_slot plan v ≡ lock v = lock_is v sv in omega arith;
+          let b : first_lock_slot plan v ≡ lock v = lock_is v sv in omega arith;
       release_latest = λ other o v f.
-          let sv : IsSpanned rows nodes v = (forced_are_spanned rows nodes v is_tree are_nodes).0 f in
-          let a : release_slot other v ≤ release v =
-          places.release_greatest (lock_slot other) (release_slot other) (slots_fit other o.legal)
+          let sv : IsForcedByTree rows nodes v = (forced_is_by_tree rows nodes v is_tree are_nodes).0 f in
+          let a : first_release_slot other v ≤ release v =
+          places.release_greatest (first_lock_slot other) (first_release_slot other) (slots_fit other o.legal)
           (other_tight other o) v sv in
-          let b : release_slot plan v ≡ release v = release_is v sv in omega arith;
+          let b : first_release_slot plan v ≡ release v = release_is v sv in omega arith;
       list = span;
-      is_forced_list = span_is_forced_list rows nodes is_tree are_nodes;
-      laid = laid_alike rows span lock release (lock_slot plan) (release_slot plan) (λ v h. sym (lock_is v (got v h)))
+      is_forced_list = forced_nodes_are_list rows nodes is_tree are_nodes;
+      laid = laid_alike rows span lock release (first_lock_slot plan) (first_release_slot plan) (λ v h. sym (lock_is v (got v h)))
           (λ v h. sym (release_is v (got v h))) m;
     }

@@ -1,80 +1,19 @@
 -- The steps of the planner's loops, over plain variables.
-use Rattle.std.proofs.Common.{◌≡◌, ℕ, zero, suc, ◌+◌, ◌-◌, ◌*◌, ◌<◌, ◌≤◌, ◌&&◌, ◌||◌, Bool, true, false, eqb, List, [], ◌∷◌, ◌++◌, map, length, take, drop, set, get_or, Some, None, ℤ, refl, sym, ◌∙◌, ap, ap₂, subst, inl, inr, arith, append_assoc, append-nil, length-append, drop-cons, mul-le-mul_left, mul-le-mul_right, le_trans, add-one, eq-eqb, ne_eqb, get_or-set_same, get_or-set_other}
+use Rattle.std.proofs.Common.{Fits, w32, ◌≡◌, ℕ, zero, suc, ◌+◌, ◌*◌, ◌<◌, ◌≤◌, ◌&&◌, ◌||◌, Bool, true, false, eqb, List, [], ◌∷◌, ◌++◌, map, length, take, drop, set, get_or, Some, None, ℤ, pos, ◌≤ℤ◌, refl, sym, ◌∙◌, ap, ap₂, subst, inl, inr, arith, append-nil, below_more, eq-eqb, ne_eqb, get_or-set_same, get_or-set_other}
 use Rattle.std.specs.Prelude.{slice_index}
 use Rattle.std.specs.List.{slice_get}
 use Rattle.std.specs.Option.{option_and_then}
-use Rattle.std.proofs.lemmas.List.{take_more, take_all, drop_all, map-append}
+use Rattle.std.proofs.lemmas.List.{take_all, drop_all, get_or_push}
+use Rattle.std.proofs.lemmas.Int.{ints}
+use Rattle.std.proofs.Math.ListN.{get_or-append}
+use borrow.Author.Differences.{up}
+use Rattle.grove_flow.specs.Networks.{place}
 use Rattle.std.proofs.lemmas.List.Edits.{map_over_more}
-use Rattle.std.proofs.lemmas.List.Sums.{sum_by-cons, sum_by-append}
 use Rattle.std.proofs.lemmas.Bool.{cases_eq, and_right, and_from}
-use Rattle.grove_access.specs.Slots.{slots_before}
-use Rattle.grove_tree.specs.Trees.{Rows, weight_of, is_at}
-use Rattle.grove_proof.specs.declared.flow.FlowRow.{FlowRow}
+use Rattle.grove_tree.specs.Trees.{is_at}
 use Rattle.grove_span.specs.declared.row.SpanRow.{SpanRow}
-use Rattle.grove_build.specs.declared.stays.Stay.{Stay}
-use Rattle.grove_build.specs.Networks.{row_arcs, arcs_from, lowered, row_width, read_row, read_rows}
-use Rattle.grove_build.specs.Stays.{is_needed, stays_cost}
-use Rattle.grove_build.proofs.Lawful.{row_size}
-
-drop_here : {A : Type 0} (xs : List A) (i : ℕ) (x : A) → i < length xs → x ≡ get_or xs i x
-    → drop i xs ≡ x ∷ drop (i + 1) xs
-drop_here xs i x lt is = rw add-one (drop-cons xs i x lt ∙ ap (λ y. y ∷ drop (suc i) xs) (sym is))
-
-product_le : (a b c d : ℕ) → a ≤ b → c ≤ d → a * c ≤ b * d
-product_le a b c d h k = le_trans (mul-le-mul_right c h) (mul-le-mul_left b k)
-
-difference_le : (a b c : ℕ) → a ≤ c → a - b ≤ c
-difference_le a b c h = omega arith
-
--- the cost of one more stay
-pub cost_more : (tree : Rows) (lengths : List ℕ) (stays : List Stay) (i cost a b : ℕ) (stay : Stay) → i < length stays
-    → stay ≡ get_or stays i stay
-    → (cost ≡ stays_cost tree lengths (take i stays)) × (cost ≤ 64000000 * i) → a ≡ weight_of tree stay.node
-    → b ≡ slots_before lengths stay.release - slots_before lengths stay.lock → weight_of tree stay.node ≤ 1000
-    → slots_before lengths stay.release ≤ 64000
-    → (cost + a * b ≡ stays_cost tree lengths (take (i + 1) stays)) × (cost + a * b ≤ 64000000 * (i + 1))
-cost_more tree lengths stays i cost a b stay lt is so_far ea eb light end =
-    let f : Stay → ℕ = λ s. weight_of tree s.node * (slots_before lengths s.release - slots_before lengths s.lock) in
-    let t : take (i + 1) stays ≡ take i stays ++ stay ∷ [] =
-    take_more stays i stay lt ∙ ap (λ s. take i stays ++ s ∷ []) (sym is) in
-    let u : stays_cost tree lengths (take (i + 1) stays) ≡ stays_cost tree lengths (take i stays ++ stay ∷ []) =
-    ap (λ l. stays_cost tree lengths l) t in
-    let v : a * b ≡ weight_of tree stay.node * (slots_before lengths stay.release - slots_before lengths stay.lock) = ap₂ (λ x y. x * y) ea eb in
-    let m : weight_of tree stay.node * (slots_before lengths stay.release - slots_before lengths stay.lock) ≤ 1000 * 64000 =
-    product_le (weight_of tree stay.node) 1000 (slots_before lengths stay.release - slots_before lengths stay.lock) 64000 light
-    (difference_le (slots_before lengths stay.release) (slots_before lengths stay.lock) 64000 end) in
-    let c : cost ≡ stays_cost tree lengths (take i stays) = so_far.0 in
-    let d : cost ≤ 64000000 * i = so_far.1 in (
-      omega (
-        arith,
-        sum_by-append (λ s. weight_of tree s.node * (slots_before lengths s.release - slots_before lengths s.lock)) (take i stays) (stay ∷ []),
-        sum_by-cons (λ s. weight_of tree s.node * (slots_before lengths s.release - slots_before lengths s.lock)) stay [],
-      ),
-      omega arith,
-    )
-
--- one more row read back
-pub read_more : (rows : List SpanRow) (amounts : List ℕ) (flow : List FlowRow) (base at i width size : ℕ)
-    (row : SpanRow) (read : FlowRow) (all : List FlowRow)
-    → i < length rows → row ≡ get_or rows i row → (flow ++ read_rows (drop i rows) amounts at ≡ all)
-    × (at + length (arcs_from base i (drop i rows)) ≡ size)
-    → width ≡ row_width row → read ≡ read_row row amounts at
-    → ((flow ++ read ∷ []) ++ read_rows (drop (i + 1) rows) amounts (at + width) ≡ all)
-    × (at + width + length (arcs_from base (i + 1) (drop (i + 1) rows)) ≡ size)
-read_more rows amounts flow base at i width size row read all lt is so_far ew er =
-    let d : drop i rows ≡ row ∷ drop (i + 1) rows = drop_here rows i row lt is in
-    let a : flow ++ (read_row row amounts at ∷ read_rows (drop (i + 1) rows) amounts (at + row_width row)) ≡ all =
-    ap (λ l. flow ++ read_rows l amounts at) (sym d) ∙ so_far.0 in
-    let b : at + length (row_arcs base i row ++ arcs_from base (suc i) (drop (i + 1) rows)) ≡ size =
-    ap (λ l. at + length (arcs_from base i l)) (sym d) ∙ so_far.1 in
-    let c : length (row_arcs base i row) ≡ row_width row = row_size base amounts [] i row in
-    let e : length (arcs_from base (suc i) (drop (i + 1) rows))
-    ≡ length (arcs_from base (i + 1) (drop (i + 1) rows)) =
-    ap (λ n. length (arcs_from base n (drop (i + 1) rows))) (let s : suc i ≡ i + 1 = omega arith in s) in (
-      append_assoc flow (read ∷ []) (read_rows (drop (i + 1) rows) amounts (at + width))
-          ∙ (ap₂ (λ r n. flow ++ (r ∷ read_rows (drop (i + 1) rows) amounts n)) er (ap (λ n. at + n) ew) ∙ a),
-      omega (arith, length-append (row_arcs base i row) (arcs_from base (suc i) (drop (i + 1) rows))),
-    )
+use Rattle.grove_build.specs.Networks.{lowered, IsGap, IsBetween}
+use Rattle.grove_build.specs.Stays.{is_needed}
 
 -- whether one more row needs the row at a place
 pub needed_more : (rows : List SpanRow) (gaps : List ℕ) (k j : ℕ) (row : SpanRow) → slice_get rows k ≡ Some row
@@ -164,10 +103,25 @@ take_whole xs ys n e f =
     ap (λ l. take n (xs ++ l)) (drop_all (length xs) ys (let a : length ys ≤ length xs = omega arith in a))
     ∙ (ap (λ l. take n l) (append-nil xs) ∙ take_all n xs (let a : length xs ≤ n = omega arith in a))
 
--- one more gap read
-pub gaps_more : (f : ℤ → ℕ) (places : List ℤ) (i : ℕ) (gaps : List ℕ) (gap : ℕ) (d : ℤ) → i < length places
-    → gaps ≡ map f (take i places) → gap ≡ f (get_or places i d)
-    → gaps ++ gap ∷ [] ≡ map f (take (i + 1) places)
-gaps_more f places i gaps gap d lt so_far is =
-    ap₂ (λ a b. a ++ b ∷ []) so_far is
-    ∙ (sym (map-append f (take i places) (get_or places i d ∷ [])) ∙ ap (map f) (sym (take_more places i d lt)))
+-- a place that is in a gap is a number of slots
+pub gap_slots : (slots : List ℕ) (z : ℤ) → ((gap : ℕ) → Fits w32 (slice_index slots gap)) → IsBetween slots z
+    → (pos 0 ≤ℤ z) × (z ≤ℤ pos 4294967295) × ((gap : ℕ) × (gap < length slots) × (slice_index slots gap ≡ up z))
+gap_slots slots z few between =
+    let lt : slice_index slots between.0 < 4294967296 = (few between.0).fits in
+    let at : pos (slice_index slots between.0) ≡ z = (between.1).at in
+    (omega (arith, ints), omega (arith, ints), (between.0, (between.1).within, ap up at))
+
+-- one more gap found
+pub gaps_more : (slots : List ℕ) (places : List ℤ) (gaps : List ℕ) (i gap : ℕ) → length gaps ≡ i
+    → ((v : ℕ) → v < i → IsGap slots (place places v) (slice_index gaps v)) → IsBetween slots (place places i)
+    → gap < length slots → slice_index slots gap ≡ up (place places i)
+    → (v : ℕ) → v < i + 1 → IsGap slots (place places v) (slice_index (gaps ++ gap ∷ []) v)
+gaps_more slots places gaps i gap size so_far between lt at =
+    below_more _ _
+    (λ v less. let P : ℕ → Type 0 = λ g. IsGap slots (place places v) g in
+    subst P (sym (get_or-append gaps (gap ∷ []) 0 v (omega arith))) (so_far v less))
+    (let P : ℕ → Type 0 = λ g. IsGap slots (place places i) g in
+    subst P (sym (get_or_push gaps gap 0 i size)) record {
+      within = lt;
+      at = ap (λ (n : ℕ). pos n) (at ∙ sym (ap up (between.1).at)) ∙ (between.1).at;
+    })

@@ -3,3 +3,4 @@ pub mod Settled
 pub mod Networks
 pub mod Stays
 pub mod Batches
+pub mod Reaches

@@ -3,7 +3,7 @@ use Rattle.std.specs.Prelude.{◌≡◌, ℕ, ◌≤◌, ◌↔◌, List, length
 use Rattle.grove_tree.specs.Trees.{Rows}
 use Rattle.grove_plan.specs.declared.step.Step.{Step}
 use Rattle.grove_plan.specs.Plans.{IsLeast, IsLockedBy, IsForced, cost}
-use Rattle.grove_plan.specs.Slots.{lock_slot, release_slot}
+use Rattle.grove_plan.specs.Slots.{first_lock_slot, first_release_slot}
 use Rattle.grove_proof.specs.declared.flow.FlowRow.{FlowRow}
 use Rattle.grove_proof.specs.declared.fault.ProofFault.{ProofFault}
 use Rattle.grove_proof.specs.declared.fault.ProofFault.TheVariants.{Memory}
@@ -18,12 +18,12 @@ pub record IsSettled (rows : Rows) (nodes lengths : List ℕ) (plan : List Step)
   pub least : IsLeast rows nodes lengths plan
   pub locks : (node : ℕ) → IsLockedBy plan node ↔ IsForced rows nodes node
   pub lock_latest : (other : List Step) → IsLeast rows nodes lengths other → (node : ℕ) → IsForced rows nodes node
-      → lock_slot other node ≤ lock_slot plan node
+      → first_lock_slot other node ≤ first_lock_slot plan node
   pub release_latest : (other : List Step) → IsLeast rows nodes lengths other → (node : ℕ) → IsForced rows nodes node
-      → release_slot other node ≤ release_slot plan node
+      → first_release_slot other node ≤ first_release_slot plan node
   pub list : List ℕ
   pub is_forced_list : IsForcedList rows nodes list
-  pub laid : plan ≡ laid_out rows list (lock_slot plan) (release_slot plan) (length nodes)
+  pub laid : plan ≡ laid_out rows list (first_lock_slot plan) (first_release_slot plan) (length nodes)
 
 -- at most one plan is settled for a list
 abbrev pub SettledOnce : Type 0

@@ -1,64 +1,48 @@
-ghost use Rattle.std.specs.Prelude.{◌≡◌, ◌+◌, ◌≤◌, ◌<◌, ◌*◌, length, IfOk};
-ghost use Rattle.grove_build.specs.Networks.{width, row_width, amount_if, read_row, read_rows, arcs_from};
+ghost use Rattle.std.specs.Prelude.{◌≡◌, ◌<◌, length, map, IfOk, IfSome, All};
+ghost use Rattle.grove_build.specs.Networks.{amount_at, read_named, IsNamedWithin};
 
+use crate::network::RowArcs;
 use grove_proof::FlowRow;
-use grove_span::SpanRow;
 use grove_tree::NoMemory;
 use std::alloc::Global;
 
-/// The rows of the flow, read from amounts in the order of the network's arcs.
-pub fn flow_rows(alloc: Global, rows: &[SpanRow], amounts: &[u64]) -> Result<Vec<FlowRow>, NoMemory>
-    requires { length amounts.now ≡ length (arcs_from (2 * length rows.now) 0 rows.now) }
-    ensures { IfOk result (λ flow. flow.items ≡ read_rows rows.now amounts.now 0) }
+/// The rows of the flow, read from what is sent along the arcs with these names.
+pub fn flow_rows(
+    alloc: Global,
+    names: &[RowArcs],
+    amounts: &[u64],
+) -> Result<Vec<FlowRow>, NoMemory>
+    requires { All (IsNamedWithin (length amounts.now)) names.now }
+    ensures { IfOk result (λ flow. flow.items ≡ map (read_named amounts.now) names.now) }
 {
-    let mut flow = Vec::new(alloc);
-    let mut at = 0;
-    for row in rows {
-        flow.push(read_row(row, amounts, at))?;
-        at += row_width(row);
+    let mut flow = Vec::with_capacity(alloc, names.len())?;
+    for name in names {
+        flow.push(read_row(name, amounts))?;
     }
     Ok(flow)
 }
 
-fn read_row(row: &SpanRow, amounts: &[u64], at: usize) -> FlowRow
-    requires { at + row_width row.now ≤ length amounts.now }
-    ensures { result ≡ read_row row.now amounts.now at }
+fn read_row(name: &RowArcs, amounts: &[u64]) -> FlowRow
+    requires { IsNamedWithin (length amounts.now) name.now }
+    ensures { result ≡ read_named amounts.now name.now }
 {
-    let first = at + width(row.parent) + width(row.parent);
-    let last = first + width(row.from);
-    let own = last + width(row.until);
     FlowRow {
-        node: row.node,
-        above: amount_if(row.parent, amounts, at),
-        held: amount_if(row.parent, amounts, at + 1),
-        first: amount_if(row.from, amounts, first),
-        last: amount_if(row.until, amounts, last),
-        own: amounts[own],
+        node: name.node,
+        above: amount_at(name.above, amounts),
+        held: amount_at(name.held, amounts),
+        first: amount_at(name.first, amounts),
+        last: amount_at(name.last, amounts),
+        own: amounts[name.own],
     }
 }
 
-fn row_width(row: &SpanRow) -> usize
-    ensures { result ≡ row_width row.now }
+/// What is sent along the arc, where there is one.
+fn amount_at(arc: Option<usize>, amounts: &[u64]) -> u64
+    requires { IfSome arc (λ arc. arc < length amounts.now) }
+    ensures { result ≡ amount_at amounts.now arc }
 {
-    width(row.parent) + width(row.parent) + width(row.from) + width(row.until) + 1
-}
-
-fn width(constraint: Option<u32>) -> usize
-    ensures is { result ≡ width constraint }
-    ensures few { result ≤ 1 }
-{
-    match constraint {
-        Some(_) => 1,
-        None => 0,
-    }
-}
-
-fn amount_if(constraint: Option<u32>, amounts: &[u64], at: usize) -> u64
-    requires { at + width constraint ≤ length amounts.now }
-    ensures { result ≡ amount_if constraint amounts.now at }
-{
-    match constraint {
-        Some(_) => amounts[at],
+    match arc {
+        Some(arc) => amounts[arc],
         None => 0,
     }
 }

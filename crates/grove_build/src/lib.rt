@@ -3,15 +3,21 @@
 
 pub use batch::plan_batch;
 pub use laws::settled_laws;
-pub use planning::{Planned, plan};
+pub use planning::{Planned, plan, plan_watched};
+pub use watch::{Layer, Watch};
 
 mod batch;
+mod costs;
 mod flow_rows;
 mod laws;
 mod network;
 mod places;
 mod planning;
+mod proposing;
+mod slopes;
 mod solving;
 mod stays;
 mod steps;
 mod targets;
+mod variables;
+mod watch;

@@ -1,107 +1,165 @@
-ghost use Rattle.std.specs.Prelude.{◌≡◌, ◌+◌, ◌*◌, ◌<◌, ◌≤◌, ◌++◌, length, IfOk, OnOk, IfSome};
-ghost use Rattle.grove_build.specs.Networks.{parent_arcs, first_arcs, last_arcs, row_arcs, arcs_from, needs_of, start_of, AreRowsOf};
+ghost use Rattle.std.specs.Prelude.{◌≡◌, ◌+◌, ◌*◌, ◌<◌, ◌≤◌, ◌++◌, ◌∷◌, [], length, IfOk, OnOk, IfSome};
+ghost use Rattle.grove_build.specs.Networks.{arc, parent_arcs, first_arcs, last_arcs, row_arcs, arcs_from, arc_if, row_names, names_from, needs_from, start_of, weights_of, AreRowsOf, HaveOwnParents};
 
+use crate::variables::{base_of, lock_of, release_of};
 use grove_flow::{Arc, Network};
 use grove_span::SpanRow;
-use grove_tree::{NoMemory, Tree};
+use grove_tree::{NoMemory, Node, Tree};
 use std::alloc::Global;
 
+/// The network of some rows, and its arcs by name.
+#[derive(Drop)]
+pub struct RowsNetwork {
+    pub network: Network,
+    pub names: Vec<RowArcs>,
+}
+
+/// The numbers of a row's arcs in the network.
+#[derive(Clone, Copy, Debug)]
+pub struct RowArcs {
+    /// The node of the row.
+    pub node: Node,
+    /// From the parent's lock to the node's.
+    pub above: Option<usize>,
+    /// From the node's lock to the parent's release.
+    pub held: Option<usize>,
+    /// From the node's lock to the base.
+    pub first: Option<usize>,
+    /// From the base to the node's release.
+    pub last: Option<usize>,
+    /// From the node's lock to its release.
+    pub own: usize,
+}
+
 /// The network of the rows: arcs in the rows' order, and each node's weight as a need.
-pub fn network_of(alloc: Global, tree: &Tree, rows: &[SpanRow]) -> Result<Network, NoMemory>
-    requires { AreRowsOf tree.now rows.now }
-    ensures arcs { IfOk result (λ network. network.arcs.items ≡ arcs_from (2 * length rows.now) 0 rows.now) }
-    ensures needs { IfOk result (λ network. network.needs.items ≡ needs_of tree.now rows.now) }
+pub fn network_of(alloc: Global, rows: &[SpanRow], weights: &[u32]) -> Result<RowsNetwork, NoMemory>
+    requires few { length rows.now ≤ 4096 }
+    requires parents { HaveOwnParents rows.now }
+    ensures arcs { IfOk result (λ named. named.network.arcs.items ≡ arcs_from (2 * length rows.now) 0 rows.now) }
+    ensures names { IfOk result (λ named. named.names.items ≡ names_from rows.now 0) }
+    ensures needs { IfOk result (λ named. named.network.needs.items ≡ needs_from weights.now) }
 {
-    let arcs = arcs_of(alloc, tree, rows)?;
-    let needs = needs_of(alloc, tree, rows)?;
-    Ok(Network { arcs, needs })
-}
-
-fn arcs_of(alloc: Global, tree: &Tree, rows: &[SpanRow]) -> Result<Vec<Arc>, NoMemory>
-    requires { AreRowsOf tree.now rows.now }
-    ensures { IfOk result (λ arcs. arcs.items ≡ arcs_from (2 * length rows.now) 0 rows.now) }
-{
-    let base = 2 * rows.len() as u32;
-    let mut arcs = Vec::new(alloc);
+    let base = base_of(rows.len() as u32);
+    let mut arcs = Vec::with_capacity(alloc, 5 * rows.len())?;
+    let mut names = Vec::with_capacity(alloc, rows.len())?;
     for (k, row) in rows.iter().enumerate() {
-        push_row(&mut arcs, base, k as u32, row)?;
+        let name = push_row(&mut arcs, base, k as u32, row)?;
+        names.push(name)?;
     }
-    Ok(arcs)
+    let needs = needs_of(alloc, weights)?;
+    Ok(RowsNetwork {
+        network: Network { arcs, needs },
+        names,
+    })
 }
 
-fn push_row(arcs: &mut Vec<Arc>, base: u32, k: u32, row: &SpanRow) -> Result<(), NoMemory>
+fn push_row(arcs: &mut Vec<Arc>, base: u32, k: u32, row: &SpanRow) -> Result<RowArcs, NoMemory>
     requires place { k < 4096 }
     requires parent { IfSome row.now.parent (λ parent. parent < 4096) }
-    ensures { OnOk result (arcs.new.items ≡ arcs.old.items ++ row_arcs base k row.now) }
+    ensures arcs { OnOk result (arcs.new.items ≡ arcs.old.items ++ row_arcs base k row.now) }
+    ensures names { IfOk result (λ name. name ≡ row_names row.now (length arcs.old.items)) }
 {
-    push_parent(arcs, k, row.parent)?;
-    push_first(arcs, base, k, row.from)?;
-    push_last(arcs, base, k, row.until)?;
-    arcs.push(Arc {
-        from: 2 * k,
-        to: 2 * k + 1,
-        least: 0,
-    })?;
-    Ok(())
+    let (above, held) = push_parent(arcs, k, row.parent)?;
+    let first = push_first(arcs, base, k, row.from)?;
+    let last = push_last(arcs, base, k, row.until)?;
+    let own = push_arc(arcs, lock_of(k), release_of(k), 0)?;
+    Ok(RowArcs {
+        node: row.node,
+        above,
+        held,
+        first,
+        last,
+        own,
+    })
 }
 
-fn push_parent(arcs: &mut Vec<Arc>, k: u32, parent: Option<u32>) -> Result<(), NoMemory>
+fn push_parent(
+    arcs: &mut Vec<Arc>,
+    k: u32,
+    parent: Option<u32>,
+) -> Result<(Option<usize>, Option<usize>), NoMemory>
     requires place { k < 4096 }
     requires parent { IfSome parent (λ parent. parent < 4096) }
-    ensures { OnOk result (arcs.new.items ≡ arcs.old.items ++ parent_arcs k parent) }
+    ensures arcs { OnOk result (arcs.new.items ≡ arcs.old.items ++ parent_arcs k parent) }
+    ensures above { IfOk result (λ numbers. numbers.0 ≡ arc_if parent (length arcs.old.items)) }
+    ensures held { IfOk result (λ numbers. numbers.1 ≡ arc_if parent (length arcs.old.items + 1)) }
 {
-    if let Some(parent) = parent {
-        arcs.push(Arc {
-            from: 2 * parent,
-            to: 2 * k,
-            least: 0,
-        })?;
-        arcs.push(Arc {
-            from: 2 * k,
-            to: 2 * parent + 1,
-            least: 0,
-        })?;
+    match parent {
+        Some(parent) => {
+            let above = push_arc(arcs, lock_of(parent), lock_of(k), 0)?;
+            let held = push_arc(arcs, lock_of(k), release_of(parent), 0)?;
+            Ok((Some(above), Some(held)))
+        }
+        None => Ok((None, None)),
     }
-    Ok(())
 }
 
-fn push_first(arcs: &mut Vec<Arc>, base: u32, k: u32, from: Option<u32>) -> Result<(), NoMemory>
+fn push_first(
+    arcs: &mut Vec<Arc>,
+    base: u32,
+    k: u32,
+    from: Option<u32>,
+) -> Result<Option<usize>, NoMemory>
     requires place { k < 4096 }
-    ensures { OnOk result (arcs.new.items ≡ arcs.old.items ++ first_arcs base k from) }
+    ensures arcs { OnOk result (arcs.new.items ≡ arcs.old.items ++ first_arcs base k from) }
+    ensures first { IfOk result (λ number. number ≡ arc_if from (length arcs.old.items)) }
 {
-    if let Some(from) = from {
-        let least = -i64::from(from);
-        arcs.push(Arc {
-            from: 2 * k,
-            to: base,
-            least,
-        })?;
+    match from {
+        Some(from) => {
+            let first = push_arc(arcs, lock_of(k), base, -i64::from(from))?;
+            Ok(Some(first))
+        }
+        None => Ok(None),
     }
-    Ok(())
 }
 
-fn push_last(arcs: &mut Vec<Arc>, base: u32, k: u32, until: Option<u32>) -> Result<(), NoMemory>
+fn push_last(
+    arcs: &mut Vec<Arc>,
+    base: u32,
+    k: u32,
+    until: Option<u32>,
+) -> Result<Option<usize>, NoMemory>
     requires place { k < 4096 }
-    ensures { OnOk result (arcs.new.items ≡ arcs.old.items ++ last_arcs base k until) }
+    ensures arcs { OnOk result (arcs.new.items ≡ arcs.old.items ++ last_arcs base k until) }
+    ensures last { IfOk result (λ number. number ≡ arc_if until (length arcs.old.items)) }
 {
-    if let Some(until) = until {
-        let least = i64::from(until);
-        arcs.push(Arc {
-            from: base,
-            to: 2 * k + 1,
-            least,
-        })?;
+    match until {
+        Some(until) => {
+            let last = push_arc(arcs, base, release_of(k), i64::from(until))?;
+            Ok(Some(last))
+        }
+        None => Ok(None),
     }
-    Ok(())
 }
 
-fn needs_of(alloc: Global, tree: &Tree, rows: &[SpanRow]) -> Result<Vec<i64>, NoMemory>
+/// Pushes an arc, and notes its number.
+fn push_arc(arcs: &mut Vec<Arc>, from: u32, to: u32, least: i64) -> Result<usize, NoMemory>
+    ensures arcs { OnOk result (arcs.new.items ≡ arcs.old.items ++ arc from to least ∷ []) }
+    ensures number { IfOk result (λ number. number ≡ length arcs.old.items) }
+{
+    let number = arcs.len();
+    arcs.push(Arc { from, to, least })?;
+    Ok(number)
+}
+
+/// The weight of each row's node.
+pub fn weights_of(alloc: Global, tree: &Tree, rows: &[SpanRow]) -> Result<Vec<u32>, NoMemory>
     requires { AreRowsOf tree.now rows.now }
-    ensures { IfOk result (λ needs. needs.items ≡ needs_of tree.now rows.now) }
+    ensures { IfOk result (λ weights. weights.items ≡ weights_of tree.now rows.now) }
 {
-    let mut needs = Vec::new(alloc);
+    let mut weights = Vec::with_capacity(alloc, rows.len())?;
     for row in rows {
-        let weight = i64::from(tree.weight(row.node));
+        weights.push(tree.weight(row.node))?;
+    }
+    Ok(weights)
+}
+
+fn needs_of(alloc: Global, weights: &[u32]) -> Result<Vec<i64>, NoMemory>
+    ensures { IfOk result (λ needs. needs.items ≡ needs_from weights.now) }
+{
+    let mut needs = Vec::with_capacity(alloc, weights.len().saturating_mul(2).saturating_add(1))?;
+    for weight in weights {
+        let weight = i64::from(*weight);
         needs.push(-weight)?;
         needs.push(weight)?;
     }

@@ -1,10 +1,8 @@
-ghost use Rattle.std.specs.Prelude.{◌≡◌, ◌==◌, ℕ, suc, pos, ◌≤ℤ◌, length, map, IfOk};
+ghost use Rattle.std.specs.Prelude.{◌≡◌, ◌<◌, ◌≤◌, ℕ, pos, ◌≤ℤ◌, length, map, slice_index, IfOk};
 ghost use borrow.Author.Differences.{up};
-ghost use Rattle.grove_tree.specs.Numbers.{least_below};
 ghost use Rattle.grove_access.specs.Lists.{lengths_of};
-ghost use Rattle.grove_access.specs.Slots.{slots_before};
 ghost use Rattle.grove_flow.specs.Networks.{place};
-ghost use Rattle.grove_build.specs.Networks.{lowered, gap_at};
+ghost use Rattle.grove_build.specs.Networks.{lowered, AreSlots, AreRising, IsBetween, IsGap};
 
 use grove_access::AccessList;
 use grove_tree::NoMemory;
@@ -21,38 +19,51 @@ pub fn lower(places: &mut [i64], slots: u32)
     }
 }
 
-/// The gaps in which the places are.
-pub fn gaps_of(alloc: Global, list: &AccessList, places: &[i64]) -> Result<Vec<u32>, NoMemory>
-    requires low { (v : ℕ) → pos 0 ≤ℤ place places.now v }
-    requires high { (v : ℕ) → place places.now v ≤ℤ pos 64000 }
-    ensures { IfOk result (λ gaps. gaps.items ≡ map (gap_at (lengths_of list.now) (length list.now)) places.now) }
+/// How many slots lie before each gap.
+pub fn slots_of(alloc: Global, list: &AccessList) -> Result<Vec<u32>, NoMemory>
+    ensures { IfOk result (λ slots. AreSlots (lengths_of list.now) (length list.now) slots.items) }
 {
-    let mut gaps = Vec::new(alloc);
+    let mut slots = Vec::new(alloc);
+    for gap in 0..list.len() + 1 {
+        slots.push(list.slots_before(gap))?;
+    }
+    Ok(slots)
+}
+
+/// The gaps in which the places are.
+pub fn gaps_of(alloc: Global, slots: &[u32], places: &[i64]) -> Result<Vec<u32>, NoMemory>
+    requires few { length slots.now ≤ 65 }
+    requires rising { AreRising slots.now }
+    requires between { (v : ℕ) → IsBetween slots.now (place places.now v) }
+    ensures size { IfOk result (λ gaps. length gaps.items ≡ length places.now) }
+    ensures gaps { IfOk result (λ gaps. (v : ℕ) → v < length places.now → IsGap slots.now (place places.now v) (slice_index gaps.items v)) }
+{
+    let mut gaps = Vec::with_capacity(alloc, places.len())?;
     for place in places {
-        gaps.push(gap_of(list, slots_of(*place)))?;
+        gaps.push(gap_of(slots, slot_of(*place)))?;
     }
     Ok(gaps)
 }
 
 /// The place as a number of slots.
-fn slots_of(place: i64) -> u32
+fn slot_of(place: i64) -> u32
     requires low { pos 0 ≤ℤ place }
-    requires high { place ≤ℤ pos 64000 }
+    requires high { place ≤ℤ pos 4294967295 }
     ensures { result ≡ up place }
 {
     place as u32
 }
 
-/// The number of accesses before which there are so many slots.
-fn gap_of(list: &AccessList, slots: u32) -> u32
-    ensures { result ≡ least_below (suc (length list.now)) (λ gap. slots_before (lengths_of list.now) gap == slots) }
+/// The gap before which there are so many slots.
+fn gap_of(slots: &[u32], before: u32) -> u32
+    requires few { length slots.now ≤ 65 }
+    requires rising { AreRising slots.now }
+    requires between { (gap : ℕ) × (gap < length slots.now) × (slice_index slots.now gap ≡ before) }
+    ensures within { result < length slots.now }
+    ensures at { slice_index slots.now result ≡ before }
 {
-    let mut before = 0;
-    for gap in 0..list.len() {
-        if before == slots {
-            return gap;
-        }
-        before += list.get(gap).length;
+    match slots.binary_search(&before) {
+        Ok(gap) => gap as u32,
+        Err(_) => unreachable!(),
     }
-    list.len()
 }

@@ -3,12 +3,15 @@ ghost use Rattle.grove_access.specs.Lists.{nodes_of, lengths_of, AreNodes};
 ghost use Rattle.grove_plan.specs.Plans.{IsLeast, cost};
 ghost use Rattle.grove_proof.specs.Flows.{IsCertificate};
 ghost use Rattle.grove_build.specs.Settled.{IsSettled};
-ghost use Rattle.grove_build.specs.Networks.{IsSpan, IsSolved};
+ghost use Rattle.grove_build.specs.Networks.{IsSpan, IsSolved, AreSlots, names_from, weights_of};
 
 use crate::flow_rows::flow_rows;
+use crate::network::weights_of;
+use crate::places::slots_of;
 use crate::solving::{Solved, solve_rows};
 use crate::stays::{cost_of, needed_of, stays_of};
 use crate::steps::lay_out;
+use crate::watch::{Layer, Unwatched, Watch};
 use grove_access::AccessList;
 use grove_plan::Plan;
 use grove_proof::Flow;
@@ -34,23 +37,48 @@ pub fn plan(alloc: Global, tree: &Tree, list: &AccessList) -> Result<Planned, No
     ensures cost { IfOk result (λ planned. planned.cost ≡ cost tree.now (lengths_of list.now) planned.plan) }
     ensures certificate { IfOk result (λ planned. IsCertificate tree.now (nodes_of list.now) (lengths_of list.now) planned.flow (cost tree.now (lengths_of list.now) planned.plan)) }
 {
+    plan_watched(alloc, tree, list, &mut Unwatched)
+}
+
+/// The same plan. The watch is told of each part of the work when it is done.
+pub fn plan_watched<W: Watch>(
+    alloc: Global,
+    tree: &Tree,
+    list: &AccessList,
+    watch: &mut W,
+) -> Result<Planned, NoMemory>
+    requires fits { AreNodes tree.now (nodes_of list.now) }
+    ensures settled { IfOk result (λ planned. IsSettled tree.now (nodes_of list.now) (lengths_of list.now) planned.plan) }
+    ensures least { IfOk result (λ planned. IsLeast tree.now (nodes_of list.now) (lengths_of list.now) planned.plan) }
+    ensures cost { IfOk result (λ planned. planned.cost ≡ cost tree.now (lengths_of list.now) planned.plan) }
+    ensures certificate { IfOk result (λ planned. IsCertificate tree.now (nodes_of list.now) (lengths_of list.now) planned.flow (cost tree.now (lengths_of list.now) planned.plan)) }
+{
     // That the rows are a tree's is told with their number, and that the lengths are lengths with theirs.
     let _nodes = tree.len();
     let _accesses = list.len();
     let rows = span(alloc, tree, list)?;
-    let solved = solve_rows(alloc, tree, list, &rows)?;
-    settle(alloc, tree, list, &rows, &solved)
+    watch.done(Layer::Span);
+    let weights = weights_of(alloc, tree, &rows)?;
+    let slots = slots_of(alloc, list)?;
+    let solved = solve_rows(alloc, tree, list, &rows, &weights, &slots, watch)?;
+    settle(alloc, tree, list, &rows, &weights, &slots, &solved, watch)
 }
 
 /// The settled plan from the solved network.
-fn settle(
+fn settle<W: Watch>(
     alloc: Global,
     tree: &Tree,
     list: &AccessList,
     rows: &[SpanRow],
+    weights: &[u32],
+    slots: &[u32],
     solved: &Solved,
+    watch: &mut W,
 ) -> Result<Planned, NoMemory>
     requires span { IsSpan tree.now (nodes_of list.now) (lengths_of list.now) rows.now }
+    requires weights { weights.now ≡ weights_of tree.now rows.now }
+    requires slots { AreSlots (lengths_of list.now) (length (nodes_of list.now)) slots.now }
+    requires names { solved.now.names.items ≡ names_from rows.now 0 }
     requires solved { IsSolved tree.now (lengths_of list.now) (length (nodes_of list.now)) rows.now solved.now.amounts.items solved.now.gaps.items }
     ensures settled { IfOk result (λ planned. IsSettled tree.now (nodes_of list.now) (lengths_of list.now) planned.plan) }
     ensures cost { IfOk result (λ planned. planned.cost ≡ cost tree.now (lengths_of list.now) planned.plan) }
@@ -59,11 +87,13 @@ fn settle(
     // The limits that hold of every tree and every list are told with their lengths.
     let _nodes = tree.len();
     let accesses = list.len();
-    let needed = needed_of(alloc, tree, rows, &solved.gaps)?;
+    let needed = needed_of(alloc, rows, &solved.gaps)?;
     let stays = stays_of(alloc, rows, &solved.gaps, &needed)?;
     let steps = lay_out(alloc, &stays, accesses)?;
-    let flow = flow_rows(alloc, rows, &solved.amounts)?;
-    let cost = cost_of(tree, list, &stays);
+    watch.done(Layer::Layout);
+    let flow = flow_rows(alloc, &solved.names, &solved.amounts)?;
+    let cost = cost_of(weights, slots, &solved.gaps);
+    watch.done(Layer::Rows);
     Ok(Planned {
         plan: Plan::new(steps),
         cost,

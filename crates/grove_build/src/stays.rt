@@ -1,13 +1,9 @@
-ghost use Rattle.std.specs.Prelude.{◌≡◌, ℕ, ◌+◌, ◌*◌, ◌<◌, ◌≤◌, length, slice_get, slice_index_or, Some, false, IfOk};
-ghost use Rattle.grove_tree.specs.Trees.{weight_of};
-ghost use Rattle.grove_access.specs.Lists.{lengths_of};
-ghost use Rattle.grove_build.specs.Networks.{AreRowsOf};
-ghost use Rattle.grove_build.specs.Stays.{is_needed, stays_from, stays_cost};
-ghost use Rattle.grove_build.specs.declared.stays.Stay.{Stay};
+ghost use Rattle.std.specs.Prelude.{◌≡◌, ℕ, ◌+◌, ◌*◌, ◌<◌, ◌≤◌, length, slice_index, slice_index_or, false, IfOk};
+ghost use Rattle.grove_build.specs.Networks.{HaveOwnParents};
+ghost use Rattle.grove_build.specs.Stays.{is_needed, stays_from, rows_cost};
 
-use grove_access::AccessList;
 use grove_span::SpanRow;
-use grove_tree::{NoMemory, Node, Tree};
+use grove_tree::{NoMemory, Node};
 use std::alloc::Global;
 
 /// When a node is held.
@@ -22,13 +18,9 @@ pub struct Stay {
 }
 
 /// Which rows' nodes have a child that is locked in the gap of their own unlock.
-pub fn needed_of(
-    alloc: Global,
-    tree: &Tree,
-    rows: &[SpanRow],
-    gaps: &[u32],
-) -> Result<Vec<bool>, NoMemory>
-    requires rows { AreRowsOf tree.now rows.now }
+pub fn needed_of(alloc: Global, rows: &[SpanRow], gaps: &[u32]) -> Result<Vec<bool>, NoMemory>
+    requires few { length rows.now ≤ 4096 }
+    requires parents { HaveOwnParents rows.now }
     requires gaps { length gaps.now ≡ 2 * length rows.now + 1 }
     ensures size { IfOk result (λ needed. length needed.items ≡ length rows.now) }
     ensures needed { IfOk result (λ needed. (j : ℕ) → j < length rows.now → slice_index_or needed.items j false ≡ is_needed rows.now gaps.now (length rows.now) j) }
@@ -71,19 +63,21 @@ pub fn stays_of(
     Ok(stays)
 }
 
-/// What the stays cost, in weight times slots.
-pub fn cost_of(tree: &Tree, list: &AccessList, stays: &[Stay]) -> u64
-    requires few { length stays.now ≤ 4096 }
-    requires light { (v : ℕ) → weight_of tree.now v ≤ 1000 }
-    requires nodes { (i : ℕ) (stay : Stay) → slice_get stays.now i ≡ Some stay → stay.node < length tree.now }
-    requires own { (i : ℕ) (stay : Stay) → slice_get stays.now i ≡ Some stay → stay.lock ≤ stay.release }
-    requires end { (i : ℕ) (stay : Stay) → slice_get stays.now i ≡ Some stay → stay.release ≤ length list.now }
-    ensures { result ≡ stays_cost tree.now (lengths_of list.now) stays.now }
+/// What it costs to hold each row's node from the gap of its lock to that of its unlock, in weight times slots.
+pub fn cost_of(weights: &[u32], slots: &[u32], gaps: &[u32]) -> u64
+    requires few { length weights.now ≤ 4096 }
+    requires light { (k : ℕ) → slice_index weights.now k ≤ 1000 }
+    requires gaps { length gaps.now ≡ 2 * length weights.now + 1 }
+    requires within { (v : ℕ) → v < length gaps.now → slice_index gaps.now v < length slots.now }
+    requires own { (k : ℕ) → k < length weights.now → slice_index slots.now (slice_index gaps.now (2 * k)) ≤ slice_index slots.now (slice_index gaps.now (2 * k + 1)) }
+    requires end { (gap : ℕ) → slice_index slots.now gap ≤ 64000 }
+    ensures { result ≡ rows_cost weights.now slots.now gaps.now (length weights.now) }
 {
     let mut cost = 0;
-    for stay in stays {
-        let slots = list.slots_before(stay.release) - list.slots_before(stay.lock);
-        cost += u64::from(tree.weight(stay.node)) * u64::from(slots);
+    for (k, weight) in weights.iter().enumerate() {
+        let lock = slots[gaps[2 * k] as usize];
+        let release = slots[gaps[2 * k + 1] as usize];
+        cost += u64::from(*weight) * u64::from(release - lock);
     }
     cost
 }

@@ -10,13 +10,14 @@ use Rattle.grove_core.specs.Serial.{Deed, deeds_records, deeds_replies}
 use Rattle.grove_core.specs.Runs.{list_of, plan_of, AllLegal, IsRun, IsFinished, deeds}
 use Rattle.grove_core.specs.Orders.{locked_after, order_by, placement_order}
 use Rattle.grove_core.specs.Laws.{IsEachOnce, RunsAreSerial}
-use Rattle.grove_core.proofs.Swapping.{Same, Among, AllDeeds, all_map, own, dealt, serialized}
-use Rattle.grove_core.proofs.Dealing.{Once, stamped, whole, dealt_whole, whole_records, whole_replies}
-use Rattle.grove_core.proofs.Timing.{Precedes, within_jobs}
-use Rattle.grove_core.proofs.Placing.{order_agrees}
+use Rattle.grove_core.proofs.ConflictEquivalence.{Same, Among, AllDeeds, all_map, own, dealt, serialized}
+use Rattle.grove_core.proofs.WholeLists.{Once, stamped, whole, dealt_whole, whole_records, whole_replies}
+use Rattle.grove_core.proofs.Precedence.{Precedes, within_jobs}
+use Rattle.grove_core.proofs.PlacementOrder.{order_agrees}
 use Rattle.grove_core.proofs.EachOnce.{times, order_once, order_past, among_times, times_among, once_from, is_each_once}
-use Rattle.grove_core.proofs.Times.{run_timing, run_tests}
-use Rattle.grove_core.proofs.Doing.{Known, known_all, conflicts_agree, kept_run, did, whole_plan}
+use Rattle.grove_core.proofs.StepTimes.{run_timing, run_tests}
+use Rattle.grove_core.proofs.ConflictOrder.{Known, known_all, conflicts_agree}
+use Rattle.grove_core.proofs.OwnAccesses.{kept_run, did, whole_plan}
 
 -- the order has each job once, whatever the test
 pub order_each_once : (rows : Rows) → IsTree rows → (jobs : List Job) → AllLegal rows jobs → (after : ℕ → ℕ → Bool) → IsEachOnce (order_by rows jobs after) (length jobs)
@@ -55,6 +56,7 @@ kept_list rows jobs legal past run finished t lt =
     ∙ ap (did t (list_of jobs t)) (take-length (plan_of jobs t))
     ∙ whole_plan rows (list_of jobs t) (plan_of jobs t) (legal t lt) t
 
+-- a finished run is the serial run of its order
 pub runs_are_serial : RunsAreSerial
 runs_are_serial rows tree jobs legal opening past run finished =
     let order : List ℕ = placement_order rows jobs past in

@@ -1,6 +1,6 @@
 -- Small runs worked out by the definitions alone: jobs over a root, 0, with two children, 1 and 2. Nothing cites these:
 -- they show that the definitions say what one expects of them, and that there are runs of which the laws speak.
-use Rattle.std.proofs.Common.{◌≡◌, ◌≢◌, ℕ, ℤ, pos, false, List, [], ◌∷◌, length, Some, None, refl, ap, subst}
+use Rattle.std.proofs.Common.{◌≡◌, ℕ, ℤ, pos, false, List, [], ◌∷◌, length, Some, None, refl, ap, subst, ◌≢◌}
 use Rattle.std.specs.Prelude.{reverse}
 use Rattle.grove_tree.specs.Trees.{Rows}
 use Rattle.grove_access.specs.declared.access.Op.{Op}
@@ -11,10 +11,10 @@ use Rattle.grove_plan.specs.declared.step.Step.TheVariants.{Lock, Unlock, Access
 use Rattle.grove_core.specs.declared.job.Job.{Job}
 use Rattle.grove_core.specs.declared.event.Event.{Event}
 use Rattle.grove_core.specs.declared.event.Event.TheVariants.{Take, Mark}
-use Rattle.grove_tree.specs.Numbers.{any_below}
-use Rattle.grove_plan.proofs.Holding.{lock_same, unlock_no_lock, access_no_lock}
-use Rattle.grove_core.proofs.GoingOn.{free_if, is_other_holder}
-use Rattle.grove_core.specs.Runs.{place, next_step, IsFree, MayHappen, IsRun, run_records, run_replies, waits_of, most_events}
+use Rattle.grove_base.specs.Numbers.{any_below}
+use Rattle.grove_plan.proofs.Held.{lock_same, unlock_no_lock, access_no_lock}
+use Rattle.grove_core.proofs.NeverStalls.{free_if, is_other_holder}
+use Rattle.grove_core.specs.Runs.{steps_done, next_step, IsFree, MayHappen, IsRun, run_records, run_replies, waits_of, most_events}
 use Rattle.grove_core.specs.Orders.{placement_order}
 
 abbrev tree : Rows
@@ -192,7 +192,7 @@ run17 : IsRun followers past17
 run17 = (unlocks_any followers past16 1 2 refl, run16)
 
 -- it is finished, with the records and waits that one expects
-follower_places : (place past17 0 ≡ 8) × (place past17 1 ≡ 8)
+follower_places : (steps_done past17 0 ≡ 8) × (steps_done past17 1 ≡ 8)
 follower_places = (refl, refl)
 
 follower_records : run_records followers (pos 0 ∷ pos 0 ∷ pos 0 ∷ []) past17 ≡ pos 0 ∷ pos 2 ∷ pos 2 ∷ []

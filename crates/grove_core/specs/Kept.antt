@@ -1,10 +1,12 @@
 -- What a core keeps: the state that its history leads to.
-use Rattle.std.specs.Prelude.{◌≡◌, ◌≢◌, ℕ, ◌^◌, ◌<◌, ◌≤◌, ℤ, true, false, List, length, reverse, slice_get, Option, Some, None, vec_capacity}
+use Rattle.std.specs.Prelude.{◌≡◌, ◌≢◌, ℕ, ◌^◌, ◌<◌, ◌≤◌, ◌==◌, ℤ, true, false, List, [], ◌∷◌, length, reverse, slice_get, Option, Some, None, vec_capacity, if◌then◌else◌}
+use Rattle.grove_base.specs.Numbers.{count_below}
 use Rattle.grove_tree.specs.Trees.{Rows, IsTree}
 use Rattle.grove_core.specs.declared.job.Job.{Job}
 use Rattle.grove_core.specs.declared.event.Event.{Event}
+use Rattle.grove_core.specs.declared.locking.Locked.{Locked}
 use Rattle.grove_core.specs.declared.progress.Progress.{Progress}
-use Rattle.grove_core.specs.Runs.{list_of, plan_of, place, holds, is_marked, AllLegal, IsRun, run_records, run_replies, waits_of}
+use Rattle.grove_core.specs.Runs.{list_of, plan_of, steps_done, holds, is_marked, AllLegal, IsRun, run_records, run_replies, waits_of}
 use Rattle.grove_core.specs.Orders.{lock_time}
 
 -- a core, as its callers see it: what it was opened with, and the events since then
@@ -18,14 +20,22 @@ pub record State : Type 0 where
 abbrev pub past_of : State → List Event
 past_of core = reverse core.history
 
+-- when a node was locked, by the locks of a job
+abbrev pub time_in : List Locked → ℕ → Option ℕ
+time_in [] node = None
+time_in (lock ∷ locked) node = if lock.node == node then Some lock.time else time_in locked node
+
 -- how far a job has come
 pub record HasProgress (rows : Rows) (jobs : List Job) (opening : List ℤ) (past : List Event) (t : ℕ) (progress : Progress) : Type 0 where
-  pub at : progress.place ≡ place past t
+  pub at : progress.steps_done ≡ steps_done past t
   pub marks : progress.marked ≡ is_marked past t
   pub answers : progress.replies.items ≡ run_replies jobs opening past t
   pub room : length (list_of jobs t) ≤ vec_capacity progress.replies
-  pub nodes : length progress.lock_times.items ≡ length rows
-  pub times : (node : ℕ) → node < length rows → slice_get progress.lock_times.items node ≡ Some (lock_time jobs past t node)
+  pub spare : length (plan_of jobs t) ≤ vec_capacity progress.locked
+  pub locks : length progress.locked.items ≤ steps_done past t
+  pub times : (node : ℕ) → time_in progress.locked.items node ≡ lock_time jobs past t node
+  pub holding : progress.held_nodes ≡ count_below (length rows) (λ node. holds jobs past t node)
+  pub held : progress.held_nodes ≤ steps_done past t
 
 -- who holds a node
 abbrev pub Owns : List Job → List Event → ℕ → Option ℕ → Type 0

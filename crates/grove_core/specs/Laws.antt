@@ -8,7 +8,7 @@ use Rattle.grove_core.specs.declared.fault.StepFault.{StepFault}
 use Rattle.grove_core.specs.declared.fault.OpenFault.{OpenFault}
 use Rattle.grove_core.specs.declared.fault.OpenFault.TheVariants.{Memory}
 use Rattle.grove_core.specs.Serial.{serial_records, serial_replies}
-use Rattle.grove_core.specs.Runs.{list_of, plan_of, place, AllLegal, MayHappen, IsRun, IsFinished, IsRefused, run_records, run_replies}
+use Rattle.grove_core.specs.Runs.{list_of, plan_of, steps_done, AllLegal, MayHappen, IsRun, IsFinished, IsRefused, run_records, run_replies}
 use Rattle.grove_core.specs.Orders.{placement_order}
 use Rattle.grove_core.specs.Openings.{IsFirstFault}
 
@@ -34,7 +34,7 @@ CanGoOn jobs past = (next : ℕ) × MayHappen jobs past (Take next)
 
 abbrev pub RunsGoOn : Type 0
 RunsGoOn = (rows : Rows) → IsTree rows → (jobs : List Job) → AllLegal rows jobs → (past : List Event) → IsRun jobs past
-    → (t : ℕ) → place past t < length (plan_of jobs t) → CanGoOn jobs past
+    → (t : ℕ) → steps_done past t < length (plan_of jobs t) → CanGoOn jobs past
 
 -- an event that is refused may not happen
 abbrev pub RefusedMayNot : Type 0

@@ -5,3 +5,5 @@ pub mod Laws
 pub mod Kept
 pub mod Openings
 pub mod Carried
+pub mod CarriedTests
+pub mod Starts

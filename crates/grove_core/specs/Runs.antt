@@ -1,6 +1,6 @@
 -- Runs of jobs over their plans, as histories of events.
 use Rattle.std.specs.Prelude.{◌≡◌, ◌≢◌, ℕ, zero, suc, ◌+◌, ◌<◌, ◌≤◌, ◌==◌, ℤ, Bool, true, false, ⊤, List, [], ◌∷◌, ◌++◌, length, slice_get, Option, Some, None, if◌then◌else◌}
-use Rattle.grove_tree.specs.Numbers.{count_below, sum_below}
+use Rattle.grove_base.specs.Numbers.{count_below, sum_below}
 use Rattle.grove_tree.specs.Trees.{Rows}
 use Rattle.grove_access.specs.declared.access.Access.{Access as Visit}
 use Rattle.grove_access.specs.declared.reply.Reply.{Reply}
@@ -31,16 +31,16 @@ AllLegal rows jobs = (t : ℕ) → t < length jobs → IsLegal rows (nodes_of (l
 -- From here on a history is read back from its latest event: the past.
 
 -- how many steps a job has done
-abbrev pub place : List Event → ℕ → ℕ
-place [] t = 0
-place (Take u ∷ past) t = if u == t then suc (place past t) else place past t
-place (Mark u ∷ past) t = place past t
+abbrev pub steps_done : List Event → ℕ → ℕ
+steps_done [] t = 0
+steps_done (Take u ∷ past) t = if u == t then suc (steps_done past t) else steps_done past t
+steps_done (Mark u ∷ past) t = steps_done past t
 
 abbrev pub next_step : List Job → List Event → ℕ → Option Step
-next_step jobs past t = slice_get (plan_of jobs t) (place past t)
+next_step jobs past t = slice_get (plan_of jobs t) (steps_done past t)
 
 abbrev pub holds : List Job → List Event → ℕ → ℕ → Bool
-holds jobs past t node = held (plan_of jobs t) node (place past t)
+holds jobs past t node = held (plan_of jobs t) node (steps_done past t)
 
 -- the step that a job stands before has a mark
 abbrev pub is_marked : List Event → ℕ → Bool
@@ -67,7 +67,7 @@ IsRun jobs [] = ⊤
 IsRun jobs (event ∷ past) = MayHappen jobs past event × IsRun jobs past
 
 abbrev pub IsFinished : List Job → List Event → Type 0
-IsFinished jobs past = (t : ℕ) → t < length jobs → place past t ≡ length (plan_of jobs t)
+IsFinished jobs past = (t : ℕ) → t < length jobs → steps_done past t ≡ length (plan_of jobs t)
 
 -- The first reason why an event may not happen.
 

@@ -1,30 +1,30 @@
 ghost use Rattle.std.specs.Prelude.{◌≡◌, ◌+◌, ◌<◌, ◌≤◌, ◌^◌, length, true, false, Some, slice_get};
-ghost use Rattle.grove_core.specs.Carried.{is_owner, IsNext, Follows};
+ghost use Rattle.grove_core.specs.CarriedTests.{is_owner, IsNext, Follows};
 
 use crate::Job;
 use grove_access::{Entry, Known, Records};
 use grove_plan::Step;
 
-/// Are the entries the steps of the job's plan from this place on, each with the access of its number?
-pub fn follows(job: &Job, place: usize, entries: &[Entry]) -> bool
-    requires place { place < 2 ^ 32 }
+/// Are the entries the steps of the job's plan from this position on, each with the access of its number?
+pub fn follows(job: &Job, position: usize, entries: &[Entry]) -> bool
+    requires position { position < 2 ^ 32 }
     requires few { length entries.now ≤ 64 }
-    ensures yes { result ≡ true → Follows job.now.list job.now.plan place entries.now }
-    ensures no { result ≡ false → Follows job.now.list job.now.plan place entries.now → ⊥ }
+    ensures yes { result ≡ true → Follows job.now.list job.now.plan position entries.now }
+    ensures no { result ≡ false → Follows job.now.list job.now.plan position entries.now → ⊥ }
 {
     for (ahead, entry) in entries.iter().enumerate() {
-        if !is_next(job, place + ahead, entry) {
+        if !is_next(job, position + ahead, entry) {
             return false;
         }
     }
     true
 }
 
-fn is_next(job: &Job, place: usize, entry: &Entry) -> bool
-    ensures yes { result ≡ true → IsNext job.now.list job.now.plan place entry.now }
-    ensures no { result ≡ false → IsNext job.now.list job.now.plan place entry.now → ⊥ }
+fn is_next(job: &Job, position: usize, entry: &Entry) -> bool
+    ensures yes { result ≡ true → IsNext job.now.list job.now.plan position entry.now }
+    ensures no { result ≡ false → IsNext job.now.list job.now.plan position entry.now → ⊥ }
 {
-    let Some(step) = step_at(job, place) else {
+    let Some(step) = step_at(job, position) else {
         return false;
     };
     step == Step::Access(entry.number) && is_listed(job, entry)
@@ -37,11 +37,11 @@ fn is_listed(job: &Job, entry: &Entry) -> bool
     entry.number < job.list.len() && job.list.get(entry.number) == entry.access
 }
 
-/// The step of a job's plan at a place, if there is one.
-pub fn step_at(job: &Job, place: usize) -> Option<Step>
-    ensures { result ≡ slice_get job.now.plan place }
+/// The step of a job's plan at a position, if there is one.
+pub fn step_at(job: &Job, position: usize) -> Option<Step>
+    ensures { result ≡ slice_get job.now.plan position }
 {
-    job.plan.steps().get(place).copied()
+    job.plan.steps().get(position).copied()
 }
 
 /// Is the known value the record of its node?

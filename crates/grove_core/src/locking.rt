@@ -1,8 +1,28 @@
 ghost use Rattle.std.specs.Prelude.{◌≡◌};
+ghost use Rattle.grove_core.specs.Kept.{time_in};
 ghost use Rattle.grove_core.specs.Orders.{first_lock, earlier};
 
 use grove_plan::Step;
 use grove_tree::Node;
+
+/// That a job locked a node, after so many events.
+#[derive(Clone, Copy, Debug)]
+pub struct Locked {
+    pub node: Node,
+    pub time: usize,
+}
+
+/// How many events came before the lock of a node.
+pub fn time_in(locked: &[Locked], node: Node) -> Option<usize>
+    ensures { result ≡ time_in locked.now node }
+{
+    for lock in locked {
+        if lock.node == node {
+            return Some(lock.time);
+        }
+    }
+    None
+}
 
 /// The node that is locked first.
 pub fn first_lock(steps: &[Step]) -> Option<Node>

@@ -2,13 +2,13 @@ ghost use Rattle.std.specs.Prelude.{◌≡◌, ◌≤◌, ◌<◌, ◌∷◌, []
 ghost use Rattle.grove_access.specs.Effects.{record_at};
 ghost use Rattle.grove_core.specs.Runs.{plan_of, next_step, AllLegal, IsRun, IsFinished, MayHappen, IsRefused, IsFree, IsHeldBy, is_marked, run_records, run_replies, waits_of, most_events};
 ghost use Rattle.grove_tree.specs.Trees.{IsTree};
-ghost use Rattle.grove_core.specs.Orders.{first_lock, lock_time, locks_first_at, locked_after};
+ghost use Rattle.grove_core.specs.Orders.{first_lock, lock_time, locks_first_at};
 ghost use Rattle.grove_core.specs.Laws.{CanGoOn};
 ghost use Rattle.grove_core.specs.Openings.{AllFit, IsFirstFault};
 ghost use Rattle.grove_core.specs.Kept.{past_of};
 
 use crate::following::step_at;
-use crate::locking::{first_lock, is_earlier};
+use crate::locking::{first_lock, time_in};
 use crate::opening::{judge_all, room, start_all};
 use crate::progress::Progress;
 use crate::{Event, Job, OpenFault, StepFault};
@@ -66,7 +66,7 @@ impl<'a> Core<'a> {
         let opening = records.copy(alloc)?;
         let history = Vec::with_capacity(alloc, room(jobs))?;
         let records = records.copy(alloc)?;
-        let progress = start_all(alloc, nodes, jobs)?;
+        let progress = start_all(alloc, jobs)?;
         let owners = vec![in alloc; None; nodes]?;
         let waits = vec![in alloc; 0; nodes]?;
         Ok(Core {
@@ -94,6 +94,7 @@ impl<'a> Core<'a> {
         ensures few { length self.now.jobs ≤ 256 }
         ensures tree { IsTree self.now.tree }
         ensures legal { AllLegal self.now.tree self.now.jobs }
+        ensures opened { length self.now.opening ≡ length self.now.tree }
         ensures run { IsRun self.now.jobs (past_of self.now) }
     {
         self.jobs
@@ -222,7 +223,7 @@ impl<'a> Core<'a> {
         ensures going { result ≡ false → CanGoOn self.now.jobs (past_of self.now) }
     {
         for txn in 0..self.jobs.len() {
-            if self.progress[txn].place < self.jobs[txn].plan.steps().len() {
+            if self.progress[txn].steps_done < self.jobs[txn].plan.steps().len() {
                 return false;
             }
         }
@@ -250,24 +251,12 @@ impl<'a> Core<'a> {
     }
 
     /// How many events came before a job's lock of a node.
-    fn lock_time(&self, txn: u32, node: Node) -> Option<usize>
-        requires { node < length self.now.tree }
+    pub(crate) fn lock_time(&self, txn: u32, node: Node) -> Option<usize>
         ensures { result ≡ lock_time self.now.jobs (past_of self.now) txn node }
     {
         match self.progress.get(txn as usize) {
-            Some(progress) => progress.lock_times[node.number() as usize],
+            Some(progress) => time_in(&progress.locked, node),
             None => None,
-        }
-    }
-
-    /// Did the other job lock the first node of this one after this one did?
-    pub(crate) fn locked_after(&self, txn: u32, other: u32) -> bool
-        requires { txn < length self.now.jobs }
-        ensures { result ≡ locked_after self.now.jobs (past_of self.now) txn other }
-    {
-        match self.first_lock(txn) {
-            Some(node) => is_earlier(self.lock_time(txn, node), self.lock_time(other, node)),
-            None => false,
         }
     }
 
@@ -280,7 +269,7 @@ impl<'a> Core<'a> {
         let Some(progress) = self.progress.get(txn as usize) else {
             return Err(StepFault::NoTxn);
         };
-        match step_at(&self.jobs[txn as usize], progress.place) {
+        match step_at(&self.jobs[txn as usize], progress.steps_done) {
             Some(step) => Ok(step),
             None => Err(StepFault::Ended),
         }
@@ -312,7 +301,7 @@ impl<'a> Core<'a> {
     {
         let time = self.history.len();
         let progress = &mut self.progress[txn as usize];
-        progress.lock(node.number() as usize, time);
+        progress.lock(node, time);
         self.owners[node.number() as usize] = Some(txn);
         self.history.push_reserved(Event::Take(txn));
     }

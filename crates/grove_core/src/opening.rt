@@ -3,7 +3,8 @@ ghost use Rattle.grove_access.specs.Lists.{nodes_of, AreNodes};
 ghost use Rattle.grove_plan.specs.Plans.{IsLegal};
 ghost use Rattle.grove_core.specs.declared.progress.Progress.{Progress};
 ghost use Rattle.grove_core.specs.Runs.{list_of, plan_of, AllLegal, most_events};
-ghost use Rattle.grove_core.specs.Openings.{AllFit, fault_of, IsFaultOf, IsFirstFault, HasStarted};
+ghost use Rattle.grove_core.specs.Openings.{AllFit, IsFirstFault};
+ghost use Rattle.grove_core.specs.Starts.{fault_of, IsFaultOf, HasStarted};
 
 use crate::progress::Progress;
 use crate::{Job, OpenFault};
@@ -53,27 +54,28 @@ pub fn room(jobs: &[Job]) -> usize
 }
 
 /// The jobs' progress before the first event.
-pub fn start_all(alloc: Global, nodes: usize, jobs: &[Job]) -> Result<Vec<Progress>, AllocError>
+pub fn start_all(alloc: Global, jobs: &[Job]) -> Result<Vec<Progress>, AllocError>
     ensures number { IfOk result (λ progress. length progress.items ≡ length jobs.now) }
-    ensures started { IfOk result (λ all. (t : ℕ) (progress : Progress) → slice_get all.items t ≡ Some progress → HasStarted nodes (length (list_of jobs.now t)) progress) }
+    ensures started { IfOk result (λ all. (t : ℕ) (progress : Progress) → slice_get all.items t ≡ Some progress → HasStarted (length (plan_of jobs.now t)) (length (list_of jobs.now t)) progress) }
 {
     let mut progress = Vec::with_capacity(alloc, jobs.len())?;
     for txn in 0..jobs.len() {
-        let started = start(alloc, nodes, jobs[txn].list.len() as usize)?;
+        let started = start(alloc, &jobs[txn])?;
         progress.push(started)?;
     }
     Ok(progress)
 }
 
-fn start(alloc: Global, nodes: usize, accesses: usize) -> Result<Progress, AllocError>
-    ensures { IfOk result (λ progress. HasStarted nodes accesses progress) }
+fn start(alloc: Global, job: &Job) -> Result<Progress, AllocError>
+    ensures { IfOk result (λ progress. HasStarted (length job.now.plan) (length job.now.list) progress) }
 {
-    let replies = Vec::with_capacity(alloc, accesses)?;
-    let lock_times = vec![in alloc; None; nodes]?;
+    let replies = Vec::with_capacity(alloc, job.list.len() as usize)?;
+    let locked = Vec::with_capacity(alloc, job.plan.steps().len())?;
     Ok(Progress {
-        place: 0,
+        steps_done: 0,
         marked: false,
         replies,
-        lock_times,
+        locked,
+        held_nodes: 0,
     })
 }

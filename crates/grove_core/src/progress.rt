@@ -1,68 +1,81 @@
-ghost use Rattle.std.specs.Prelude.{◌≡◌, ◌+◌, ◌^◌, ◌<◌, ◌++◌, ◌∷◌, [], length, Some, slice_set, vec_len, vec_capacity, false, true};
+ghost use Rattle.std.specs.Prelude.{◌≡◌, ◌+◌, ◌^◌, ◌<◌, ◌≤◌, ◌++◌, ◌∷◌, [], vec_len, vec_capacity, false, true};
 
+use crate::locking::Locked;
 use grove_access::Reply;
+use grove_tree::Node;
 
 /// How far a job has come.
 #[derive(Debug, Drop)]
 pub struct Progress {
     /// The number of steps done.
-    pub place: usize,
+    pub steps_done: usize,
     /// The next step, a lock, has a mark.
     pub marked: bool,
     /// The replies of the accesses done; there is room for those of the whole list.
     pub replies: Vec<Reply>,
-    /// For each node, how many events came before the job's lock of it.
-    pub lock_times: Vec<Option<usize>>,
+    /// The nodes that the job locked, in order; there is room for as many as its plan has steps.
+    pub locked: Vec<Locked>,
+    /// How many nodes the job holds.
+    pub held_nodes: usize,
 }
 
 impl Progress {
     /// A lock is done, after so many events.
-    pub fn lock(&mut self, node: usize, time: usize)
-        requires few { self.old.place < 2 ^ 32 }
-        requires within { node < length self.old.lock_times.items }
-        ensures place { self.new.place ≡ self.old.place + 1 }
+    pub fn lock(&mut self, node: Node, time: usize)
+        requires few { self.old.steps_done < 2 ^ 32 }
+        requires hold { self.old.held_nodes ≤ self.old.steps_done }
+        requires room { vec_len self.old.locked < vec_capacity self.old.locked }
+        ensures steps_done { self.new.steps_done ≡ self.old.steps_done + 1 }
         ensures marked { self.new.marked ≡ false }
         ensures replies { self.new.replies ≡ self.old.replies }
-        ensures lock_times { self.new.lock_times.items ≡ slice_set self.old.lock_times.items node (Some time) }
+        ensures locked { self.new.locked.items ≡ self.old.locked.items ++ record { node = node; time = time } ∷ [] }
+        ensures room { vec_capacity self.new.locked ≡ vec_capacity self.old.locked }
+        ensures held_nodes { self.new.held_nodes ≡ self.old.held_nodes + 1 }
     {
-        self.place += 1;
+        self.steps_done += 1;
         self.marked = false;
-        self.lock_times[node] = Some(time);
+        self.held_nodes += 1;
+        self.locked.push_reserved(Locked { node, time });
     }
 
     /// An unlock is done.
     pub fn unlock(&mut self)
-        requires { self.old.place < 2 ^ 32 }
-        ensures place { self.new.place ≡ self.old.place + 1 }
+        requires few { self.old.steps_done < 2 ^ 32 }
+        requires hold { 0 < self.old.held_nodes }
+        ensures steps_done { self.new.steps_done ≡ self.old.steps_done + 1 }
         ensures marked { self.new.marked ≡ false }
         ensures replies { self.new.replies ≡ self.old.replies }
-        ensures lock_times { self.new.lock_times ≡ self.old.lock_times }
+        ensures locked { self.new.locked ≡ self.old.locked }
+        ensures held_nodes { self.new.held_nodes + 1 ≡ self.old.held_nodes }
     {
-        self.place += 1;
+        self.steps_done += 1;
         self.marked = false;
+        self.held_nodes -= 1;
     }
 
     /// An access is done, with this reply.
     pub fn answer(&mut self, reply: Reply)
-        requires few { self.old.place < 2 ^ 32 }
+        requires few { self.old.steps_done < 2 ^ 32 }
         requires room { vec_len self.old.replies < vec_capacity self.old.replies }
-        ensures place { self.new.place ≡ self.old.place + 1 }
+        ensures steps_done { self.new.steps_done ≡ self.old.steps_done + 1 }
         ensures marked { self.new.marked ≡ false }
         ensures replies { self.new.replies.items ≡ self.old.replies.items ++ reply ∷ [] }
         ensures room { vec_capacity self.new.replies ≡ vec_capacity self.old.replies }
-        ensures lock_times { self.new.lock_times ≡ self.old.lock_times }
+        ensures locked { self.new.locked ≡ self.old.locked }
+        ensures held_nodes { self.new.held_nodes ≡ self.old.held_nodes }
     {
-        self.place += 1;
+        self.steps_done += 1;
         self.marked = false;
         self.replies.push_reserved(reply);
     }
 
     /// The next step gets a mark.
     pub fn mark(&mut self)
-        ensures place { self.new.place ≡ self.old.place }
+        ensures steps_done { self.new.steps_done ≡ self.old.steps_done }
         ensures marked { self.new.marked ≡ true }
         ensures replies { self.new.replies ≡ self.old.replies }
-        ensures lock_times { self.new.lock_times ≡ self.old.lock_times }
+        ensures locked { self.new.locked ≡ self.old.locked }
+        ensures held_nodes { self.new.held_nodes ≡ self.old.held_nodes }
     {
         self.marked = true;
     }

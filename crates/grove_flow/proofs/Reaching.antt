@@ -1,153 +1,208 @@
--- What is reached, one variable more at a time.
-use Rattle.std.proofs.Common.{◌≡◌, ◌≢◌, ℕ, zero, suc, ◌+◌, ◌*◌, ◌<◌, ◌≤◌, ◌⊎◌, min, List, length, replicate, slice_index, slice_set, ℤ, pos, ◌+ℤ◌, ◌≤ℤ◌, refl, sym, ◌∙◌, ap, subst, inl, inr, arith, add-one, length-set, get_or-set_same, get_or-set_other}
+-- What is reached: its places are raised by the least slack of an arc that leads on, and then one variable more is reached.
+use Rattle.std.proofs.Common.{◌≡◌, ◌≢◌, ℕ, ◌+◌, ◌*◌, ◌<◌, ◌≤◌, Bool, ltb, List, length, slice_index, ℤ, pos, negsuc, ◌+ℤ◌, ◌-ℤ◌, ◌≤ℤ◌, eq-zero-or-pos, refl, sym, ◌∙◌, subst, inl, inr, ⊎_elim, arith, SFits, w64, lt-ltb, ltb-true, zero, suc, ◌⊎◌, min, replicate, slice_set, ap, add-one, length-set, get_or-set_same, get_or-set_other}
 use Rattle.std.specs.List.{sum_by}
 use Rattle.std.proofs.lemmas.Bool.{cases_eq, cases_lt}
+use borrow.Author.Differences.{ints}
+use Rattle.grove_flow.specs.declared.network.Arc.{Arc}
+use Rattle.grove_flow.specs.Networks.{arc_at, place, IsMet, IsModest, IsLawful, AreLawful}
+use Rattle.grove_flow.specs.States.{IsFrame, AreUnmoved, AreNear, IsState}
+use Rattle.grove_flow.specs.Reaches.{IsStep, AreNoSteps, IsLeastStep, IsReached, IsRaised, IsTight, AreWays, IsGrown, unranked, IsAhead, IsBehind, IsLinkedOn, IsLinkedBack}
+use Rattle.grove_flow.proofs.Closed.{IsClosed, none_to_give, excess_low}
 use Rattle.std.proofs.lemmas.List.{get_or-replicate, get_or_past, length-replicate}
 use Rattle.std.proofs.lemmas.List.Sums.{sum_by-set, sum_by-cons}
 use Rattle.std.proofs.lemmas.Grind.{common_steps}
-use borrow.Author.Differences.{ints}
-use Rattle.grove_flow.specs.declared.network.Arc.{Arc}
-use Rattle.grove_flow.specs.Networks.{arc_at, place, IsModest}
-use Rattle.grove_flow.specs.States.{IsState}
-use Rattle.grove_flow.specs.Reaches.{IsStep, IsAhead, IsBehind, IsLinkedOn, IsLinkedBack, IsLink, IsReached, IsGrown, IsRaised, IsLeastStep, unranked}
-use Rattle.grove_flow.proofs.Raising.{all_met, raised_reached, raised_state}
+
+-- what is reached but the last lacks nothing, and the last doesn't either
+pub all_met : (unmet ranks : List ℕ) (last : ℕ) → ((v : ℕ) → 0 < slice_index ranks v → v ≢ last → slice_index unmet v ≡ 0) → slice_index unmet last ≡ 0
+    → (v : ℕ) → 0 < slice_index ranks v → slice_index unmet v ≡ 0
+all_met unmet ranks last met none v reached = elim (cases_eq v last) [
+  | inl e ↦ rw e none
+  | inr ne ↦ met v reached ne
+]
+
+-- The search can't get stuck: where no arc leads on, what is reached is closed, and the source has nothing to give.
+pub never_stuck : {needs : List ℤ} {arcs : List Arc} {amounts : List ℕ} {places : List ℤ} {excess unmet ranks vias rooms : List ℕ} {source count last : ℕ}
+    → IsGrown needs arcs amounts places excess unmet ranks vias rooms source count last → slice_index unmet last ≡ 0
+    → AreNoSteps (length arcs) arcs amounts ranks → ⊥
+never_stuck {arcs} {amounts} {excess} {unmet} {ranks} {rooms} {source} {last} grown none stuck =
+    let is_reached : ℕ → Bool = λ v. ltb 0 (slice_index ranks v) in
+    let closed : IsClosed arcs amounts is_reached = record {
+      leaves = λ i lt e. lt-ltb 0 (slice_index ranks (arc_at arcs i).to) ((stuck i lt).leaves (ltb-true 0 (slice_index ranks (arc_at arcs i).from) e));
+      enters = λ i lt some e. lt-ltb 0 (slice_index ranks (arc_at arcs i).from) ((stuck i lt).enters some (ltb-true 0 (slice_index ranks (arc_at arcs i).to) e));
+    } in
+    let nothing : slice_index excess source ≡ 0 = none_to_give excess unmet grown.state.frame grown.state.balanced closed
+    (λ v lt e. all_met unmet ranks last grown.met none v (ltb-true 0 (slice_index ranks v) e))
+    source (omega arith) (lt-ltb 0 (slice_index ranks source) grown.reached.source_rank) in
+    omega (arith, grown.reached.ways.open_rooms source grown.reached.source_rank)
+
+-- no slack is negative, so neither is the least
+pub least_positive : {arcs : List Arc} {amounts : List ℕ} {places : List ℤ} {ranks : List ℕ} {chosen : ℕ} {by : ℤ}
+    → AreLawful arcs amounts places → IsLeastStep (length arcs) arcs amounts places ranks chosen by → pos 0 ≤ℤ by
+least_positive {arcs} {amounts} {places} {ranks} {chosen} {by} lawful least = slack_positive least.step
+  where
+    slack_positive : IsStep (arc_at arcs chosen) (slice_index amounts chosen) places ranks by → pos 0 ≤ℤ by
+    slack_positive (inl h) = omega (arith, ints, h.slack_is, (lawful chosen least.within).met)
+    slack_positive (inr h) = omega (arith, ints, h.none)
+
+-- the slack of an arc fits, and the numbers that it is worked out from
+pub slack_fits : (arc : Arc) (places : List ℤ) → IsModest arc.least → AreNear places → IsMet arc places
+    → SFits w64 (place places arc.from) × SFits w64 (place places arc.to) × SFits w64 arc.least × SFits w64 (place places arc.to -ℤ place places arc.from)
+    × (SFits w64 (place places arc.to -ℤ place places arc.from -ℤ arc.least) × (pos 0 ≤ℤ (place places arc.to -ℤ place places arc.from -ℤ arc.least)) × ((place places arc.to -ℤ place places arc.from -ℤ arc.least) ≤ℤ pos 36028797018963968))
+slack_fits arc places (least_low, least_high) near met = omega (arith, ints, near arc.from, near arc.to)
+
+-- a raised arc stays lawful
+raised_arc : {arc : Arc} {amount : ℕ} {ranks : List ℕ} {by : ℤ} {old new : List ℤ} → IsRaised ranks by old new → IsLawful arc amount old → pos 0 ≤ℤ by
+    → ((s : ℤ) → IsStep arc amount old ranks s → by ≤ℤ s) → IsLawful arc amount new
+raised_arc {arc} {ranks} {by} {old} {new} raised lawful positive least = elim (eq-zero-or-pos (slice_index ranks arc.from)) [
+  | inl no_from ↦ elim (eq-zero-or-pos (slice_index ranks arc.to)) [
+    | inl no_to ↦ omega (arith, ints, raised.still arc.from no_from, raised.still arc.to no_to)
+    | inr to ↦ record {
+      met = omega (arith, ints, raised.still arc.from no_from, raised.moved arc.to to);
+      tight = λ some. omega (
+        arith,
+        ints,
+        raised.still arc.from no_from,
+        raised.moved arc.to to,
+        lawful.tight some,
+        least (pos 0) (inr (record { leaves = to; arrives = no_from; some = some; none = refl })),
+      );
+    }
+  ]
+  | inr from ↦ elim (eq-zero-or-pos (slice_index ranks arc.to)) [
+    | inl no_to ↦ let slack : ℤ = place old arc.to -ℤ (place old arc.from +ℤ arc.least) in
+        let by_slack : by ≤ℤ slack = least slack (inl (record { leaves = from; arrives = no_to; slack_is = omega (arith, ints) })) in
+        omega (arith, ints, raised.moved arc.from from, raised.still arc.to no_to)
+    | inr to ↦ omega (arith, ints, raised.moved arc.from from, raised.moved arc.to to)
+  ]
+]
+
+-- the reached places are not far above that of the source
+raised_low : (source : ℕ) {ranks : List ℕ} {by : ℤ} {old new : List ℤ} → IsRaised ranks by old new → 0 < slice_index ranks source
+    → ((v : ℕ) → 0 < slice_index ranks v → place old v ≤ℤ (place old source +ℤ pos (1048576 * slice_index ranks v)))
+    → (v : ℕ) → 0 < slice_index ranks v → place new v ≤ℤ (place new source +ℤ pos (1048576 * slice_index ranks v))
+raised_low source {ranks} {by} {old} {new} raised some low v rank = omega (arith, ints, low v rank, raised.moved source some, raised.moved v rank)
+
+-- an arc by which a variable was reached stays tight: both its ends are raised
+raised_tight : {arcs : List Arc} {amounts ranks vias rooms : List ℕ} {source : ℕ} {by : ℤ} {old new : List ℤ} → IsRaised ranks by old new
+    → AreWays arcs amounts ranks vias rooms source → (v : ℕ) → 0 < slice_index ranks v → v ≢ source
+    → IsTight (arc_at arcs (slice_index vias v)) old → IsTight (arc_at arcs (slice_index vias v)) new
+raised_tight {arcs} {ranks} {vias} raised ways v rank other tight =
+    let arc : Arc = arc_at arcs (slice_index vias v) in
+    let from_rank : 0 < slice_index ranks arc.from = ⊎_elim (λ h. h.reached) (λ h. subst (λ u. 0 < slice_index ranks u) (sym h.here) rank) (ways.ends v rank other) in
+    let to_rank : 0 < slice_index ranks arc.to = ⊎_elim (λ h. subst (λ u. 0 < slice_index ranks u) (sym h.here) rank) (λ h. h.reached) (ways.ends v rank other) in
+    omega (arith, ints, raised.moved arc.to to_rank, raised.moved arc.from from_rank)
+
+-- the state with the raised places
+pub raised_state : {needs : List ℤ} {arcs : List Arc} {amounts : List ℕ} {excess unmet ranks vias rooms : List ℕ} {source count last chosen : ℕ} {by : ℤ} {old new : List ℤ}
+    → IsGrown needs arcs amounts old excess unmet ranks vias rooms source count last → slice_index unmet last ≡ 0
+    → IsLeastStep (length arcs) arcs amounts old ranks chosen by → IsRaised ranks by old new → IsState needs arcs amounts new excess unmet
+raised_state {needs} {arcs} {amounts} {excess} {unmet} {ranks} {vias} {rooms} {source} {count} {last} {by} {new} grown none least raised =
+    let positive : pos 0 ≤ℤ by = least_positive grown.state.lawful least in
+    let lawful : AreLawful arcs amounts new = λ i lt. raised_arc raised (grown.state.lawful i lt) positive (λ s step. least.least i s lt step) in
+    let unmoved : AreUnmoved new unmet = λ v some. elim (eq-zero-or-pos (slice_index ranks v)) [
+      | inl no_rank ↦ rw (raised.still v no_rank) (grown.state.unmoved v some)
+      | inr rank ↦ absurd (omega (arith, all_met unmet ranks last grown.met none v rank))
+    ] in
+    let some : 0 < slice_index rooms source = grown.reached.ways.open_rooms source grown.reached.source_rank in
+    let source_low : place new source ≤ℤ pos (1048576 * (length needs + 1)) =
+    excess_low amounts new excess unmet grown.state.frame lawful grown.state.balanced unmoved source (omega arith) (omega arith) in
+    record {
+      frame = grown.state.frame;
+      lawful = lawful;
+      balanced = grown.state.balanced;
+      unmoved = unmoved;
+      near = λ v. elim (eq-zero-or-pos (slice_index ranks v)) [
+        | inl no_rank ↦ omega (arith, ints, grown.state.near v, raised.still v no_rank)
+        | inr rank ↦ omega (
+          arith,
+          ints,
+          grown.state.near v,
+          raised.moved v rank,
+          raised_low source raised grown.reached.source_rank grown.low v rank,
+          grown.reached.ranks_le v,
+          grown.state.frame.few,
+        )
+      ];
+      amounts_size = grown.state.amounts_size;
+      places_size = raised.size ∙ grown.state.places_size;
+      excess_size = grown.state.excess_size;
+      unmet_size = grown.state.unmet_size;
+      sound = grown.state.sound;
+    }
+
+-- a variable with a rank isn't one without
+pub apart : (ranks : List ℕ) (w v : ℕ) → 0 < slice_index ranks w → slice_index ranks v ≡ 0 → w ≢ v
+apart ranks w v some none e = omega (arith, ap (slice_index ranks) e)
 
 -- a variable that an arc leads on to, once it has a rank and a room
 pub record IsEntered (arc : Arc) (amount : ℕ) (places : List ℤ) (ranks rooms : List ℕ) (source count v room : ℕ) : Type 0 where
   pub fresh : slice_index ranks v ≡ 0
   pub some : 0 < room
   pub low : place places v ≤ℤ (place places source +ℤ pos (1048576 * (count + 1)))
-  pub link : IsLink arc amount places (slice_set ranks v (count + 1)) (slice_set rooms v room) v
+  pub end : IsLinkedOn arc (slice_set ranks v (count + 1)) (slice_set rooms v room) v ⊎ IsLinkedBack arc amount (slice_set ranks v (count + 1)) (slice_set rooms v room) v
 
-pub entered : (arcs : List Arc) (amounts : List ℕ) (places : List ℤ) (excess ranks vias rooms : List ℕ) (source count : ℕ) (arc : Arc) (amount v room : ℕ)
-    → IsReached arcs amounts places excess ranks vias rooms source count → IsModest arc.least → place places arc.from +ℤ arc.least ≡ place places arc.to → v < length places
-    → IsAhead arc ranks rooms v room ⊎ IsBehind arc amount ranks rooms v room → IsEntered arc amount places ranks rooms source count v room
-entered arcs amounts places excess ranks vias rooms source count arc amount v room h (least_low, least_high) tight lt (inl entry) =
-    let fresh : slice_index ranks v ≡ 0 = subst (λ u. slice_index ranks u ≡ 0) entry.here entry.arrives in
-    let leaves : 0 < slice_index ranks arc.from = entry.leaves in
-    let other : arc.from ≢ v = λ e. absurd_at (slice_index ranks arc.from) leaves (subst (λ u. slice_index ranks u ≡ 0) (sym e) fresh) in
-    let ranks_size : length ranks ≡ length places = h.ranks_size in
-    let rooms_size : length rooms ≡ length places = h.rooms_size in
+entered : {n : ℕ} {arcs : List Arc} {amounts : List ℕ} {places : List ℤ} {excess ranks vias rooms : List ℕ} {source count : ℕ} {arc : Arc} {amount v room : ℕ}
+    → IsReached n arcs amounts excess ranks vias rooms source count
+    → ((u : ℕ) → 0 < slice_index ranks u → place places u ≤ℤ (place places source +ℤ pos (1048576 * slice_index ranks u)))
+    → IsModest arc.least → IsTight arc places → v < n → IsAhead arc ranks rooms v room ⊎ IsBehind arc amount ranks rooms v room
+    → IsEntered arc amount places ranks rooms source count v room
+entered {places} {ranks} {source} {count} {arc} {v} h low (least_low, least_high) tight lt (inl e) =
+    let fresh : slice_index ranks v ≡ 0 = rw e.here at e.arrives in
+    let other : arc.from ≢ v = apart ranks arc.from v e.leaves fresh in
     let rank_le : slice_index ranks arc.from ≤ count = h.ranks_le arc.from in
-    let room_is : room ≡ slice_index rooms arc.from = entry.room_is in
-    let low : place places arc.from ≤ℤ (place places source +ℤ pos (1048576 * slice_index ranks arc.from)) = h.low arc.from leaves in
-    let here : place places arc.to ≡ place places v = ap (place places) entry.here in
     record {
       fresh = fresh;
-      some = omega (arith, h.open_rooms arc.from leaves);
-      low = omega (arith, ints);
-      link = record { tight = tight; end = inl (record { here = entry.here; reached = grind (arith, common_steps); before = grind (arith, common_steps); room = grind (arith, common_steps) }) };
+      some = omega (arith, h.ways.open_rooms arc.from e.leaves);
+      low = omega (arith, ints, ap (place places) e.here, low arc.from e.leaves);
+      end = inl (record { here = e.here; reached = grind (arith, common_steps); before = grind (arith, common_steps); room = grind (arith, common_steps) });
     }
-  where
-    absurd_at : (n : ℕ) → 0 < n → n ≡ 0 → ⊥
-    absurd_at n some none = omega arith
-entered arcs amounts places excess ranks vias rooms source count arc amount v room h (least_low, least_high) tight lt (inr entry) =
-    let fresh : slice_index ranks v ≡ 0 = subst (λ u. slice_index ranks u ≡ 0) entry.here entry.arrives in
-    let leaves : 0 < slice_index ranks arc.to = entry.leaves in
-    let other : arc.to ≢ v = λ e. absurd_at (slice_index ranks arc.to) leaves (subst (λ u. slice_index ranks u ≡ 0) (sym e) fresh) in
-    let ranks_size : length ranks ≡ length places = h.ranks_size in
-    let rooms_size : length rooms ≡ length places = h.rooms_size in
+entered {places} {ranks} {rooms} {source} {count} {arc} {amount} {v} {room} h low (least_low, least_high) tight lt (inr e) =
+    let fresh : slice_index ranks v ≡ 0 = rw e.here at e.arrives in
+    let other : arc.to ≢ v = apart ranks arc.to v e.leaves fresh in
     let rank_le : slice_index ranks arc.to ≤ count = h.ranks_le arc.to in
-    let room_is : room ≡ min (slice_index rooms arc.to) amount = entry.room_is in
-    let some : 0 < amount = entry.some in
-    let low : place places arc.to ≤ℤ (place places source +ℤ pos (1048576 * slice_index ranks arc.to)) = h.low arc.to leaves in
-    let here : place places arc.from ≡ place places v = ap (place places) entry.here in
-    let room_le : (room ≤ slice_index rooms arc.to) × (room ≤ amount) = (omega arith, omega arith) in
+    let room_le : (room ≤ slice_index rooms arc.to) × (room ≤ amount) = omega arith in
     record {
       fresh = fresh;
-      some = omega (arith, h.open_rooms arc.to leaves);
-      low = omega (arith, ints);
-      link = record { tight = tight; end = inr (record { here = entry.here; reached = grind (arith, common_steps); before = grind (arith, common_steps); room = grind (arith, common_steps); sent = grind (arith, common_steps) }) };
+      some = omega (arith, h.ways.open_rooms arc.to e.leaves);
+      low = omega (arith, ints, ap (place places) e.here, low arc.to e.leaves);
+      end = inr (record { here = e.here; reached = grind (arith, common_steps); before = grind (arith, common_steps); room = grind (arith, common_steps); sent = grind (arith, common_steps) });
     }
-  where
-    absurd_at : (n : ℕ) → 0 < n → n ≡ 0 → ⊥
-    absurd_at n some none = omega arith
 
--- a link of another variable stays one
-link_stays : (arc : Arc) (amount : ℕ) (places : List ℤ) (ranks rooms : List ℕ) (v rank room u : ℕ) → slice_index ranks v ≡ 0 → u ≢ v
-    → IsLink arc amount places ranks rooms u → IsLink arc amount places (slice_set ranks v rank) (slice_set rooms v room) u
-link_stays arc amount places ranks rooms v rank room u fresh other link = record { tight = link.tight; end = stays link.end }
-  where
-    apart : (w : ℕ) → 0 < slice_index ranks w → w ≢ v
-    apart w some e = let none : slice_index ranks w ≡ 0 = subst (λ x. slice_index ranks x ≡ 0) (sym e) fresh in omega arith
-
-    stays : IsLinkedOn arc ranks rooms u ⊎ IsLinkedBack arc amount ranks rooms u → IsLinkedOn arc (slice_set ranks v rank) (slice_set rooms v room) u ⊎ IsLinkedBack arc amount (slice_set ranks v rank) (slice_set rooms v room) u
-    stays (inl h) = let from : arc.from ≢ v = apart arc.from h.reached in let reached : 0 < slice_index ranks arc.from = h.reached in
-        let before : slice_index ranks arc.from < slice_index ranks u = h.before in let room_le : slice_index rooms u ≤ slice_index rooms arc.from = h.room in
-        inl (record { here = h.here; reached = grind (arith, common_steps); before = grind (arith, common_steps); room = grind (arith, common_steps) })
-    stays (inr h) = let to : arc.to ≢ v = apart arc.to h.reached in let reached : 0 < slice_index ranks arc.to = h.reached in
-        let before : slice_index ranks arc.to < slice_index ranks u = h.before in let room_le : slice_index rooms u ≤ slice_index rooms arc.to = h.room in
-        let sent_le : slice_index rooms u ≤ amount = h.sent in
-        inr (record { here = h.here; reached = grind (arith, common_steps); before = grind (arith, common_steps); room = grind (arith, common_steps); sent = grind (arith, common_steps) })
+-- how another variable was reached stays as it is
+end_stays : {arc : Arc} {amount : ℕ} {ranks rooms : List ℕ} (v rank room : ℕ) {u : ℕ} → slice_index ranks v ≡ 0 → u ≢ v → IsLinkedOn arc ranks rooms u ⊎ IsLinkedBack arc amount ranks rooms u
+    → IsLinkedOn arc (slice_set ranks v rank) (slice_set rooms v room) u ⊎ IsLinkedBack arc amount (slice_set ranks v rank) (slice_set rooms v room) u
+end_stays {arc} {ranks} v rank room fresh other (inl h) = let from : arc.from ≢ v = apart ranks arc.from v h.reached fresh in
+    inl (record { here = h.here; reached = grind (arith, common_steps); before = grind (arith, common_steps); room = grind (arith, common_steps) })
+end_stays {arc} {ranks} v rank room fresh other (inr h) = let to : arc.to ≢ v = apart ranks arc.to v h.reached fresh in
+    inr (record { here = h.here; reached = grind (arith, common_steps); before = grind (arith, common_steps); room = grind (arith, common_steps); sent = grind (arith, common_steps) })
 
 -- one variable more
-pub reach_more : (arcs : List Arc) (amounts : List ℕ) (places : List ℤ) (excess ranks vias rooms : List ℕ) (source count i v room : ℕ)
-    → IsReached arcs amounts places excess ranks vias rooms source count → i < length arcs → v < length places
+reach_more : {n : ℕ} {arcs : List Arc} {amounts : List ℕ} {places : List ℤ} {excess ranks vias rooms : List ℕ} {source count : ℕ} (i : ℕ) {v room : ℕ}
+    → IsReached n arcs amounts excess ranks vias rooms source count → i < length arcs → v < n
     → IsEntered (arc_at arcs i) (slice_index amounts i) places ranks rooms source count v room
-    → IsReached arcs amounts places excess (slice_set ranks v (count + 1)) (slice_set vias v i) (slice_set rooms v room) source (count + 1)
-reach_more arcs amounts places excess ranks vias rooms source count i v room h i_lt lt entry =
-    let fresh : slice_index ranks v ≡ 0 = entry.fresh in
-    let source_rank : 0 < slice_index ranks source = h.source_rank in
-    let source_other : source ≢ v = λ e. not_fresh source source_rank e in
-    let ranks_size : length ranks ≡ length places = h.ranks_size in
-    let vias_size : length vias ≡ length places = h.vias_size in
-    let rooms_size : length rooms ≡ length places = h.rooms_size in
-    let rank_here : slice_index (slice_set ranks v (count + 1)) v ≡ count + 1 = get_or-set_same ranks v (count + 1) 0 (omega arith) in
+    → IsReached n arcs amounts excess (slice_set ranks v (count + 1)) (slice_set vias v i) (slice_set rooms v room) source (count + 1)
+reach_more {arcs} {ranks} {vias} {rooms} {source} {count} i {v} {room} h i_lt lt entry =
+    let source_other : source ≢ v = apart ranks source v h.source_rank entry.fresh in
     let via_here : slice_index (slice_set vias v i) v ≡ i = get_or-set_same vias v i 0 (omega arith) in
-    let room_here : slice_index (slice_set rooms v room) v ≡ room = get_or-set_same rooms v room 0 (omega arith) in
-    let source_rank_same : slice_index (slice_set ranks v (count + 1)) source ≡ slice_index ranks source = get_or-set_other ranks v source (count + 1) 0 source_other in
-    let source_room_same : slice_index (slice_set rooms v room) source ≡ slice_index rooms source = get_or-set_other rooms v source room 0 source_other in
-    let total : sum_by unranked (slice_set ranks v (count + 1)) + unranked (slice_index ranks v) ≡ sum_by unranked ranks + unranked (count + 1) = sum_by-set unranked ranks v (count + 1) 0 (omega arith) in
-    let was : unranked (slice_index ranks v) ≡ 1 = ap unranked fresh in
-    let is : unranked (count + 1) ≡ 0 = ap unranked (add-one count) in
-    let counted : sum_by unranked ranks + count ≡ length places = h.counted in
-    let source_room : slice_index rooms source ≤ slice_index excess source = h.source_room in
     record {
-      ranks_size = length-set ranks v (count + 1) ∙ ranks_size;
-      vias_size = length-set vias v i ∙ vias_size;
-      rooms_size = length-set rooms v room ∙ rooms_size;
+      ranks_size = length-set ranks v (count + 1) ∙ h.ranks_size;
+      vias_size = length-set vias v i ∙ h.vias_size;
+      rooms_size = length-set rooms v room ∙ h.rooms_size;
       source_within = h.source_within;
-      source_rank = omega arith;
-      source_room = omega arith;
-      counted = omega arith;
+      source_rank = omega (arith, get_or-set_other ranks v source (count + 1) 0 source_other);
+      source_room = omega (arith, get_or-set_other rooms v source room 0 source_other);
+      counted = omega (arith, sum_by-set unranked ranks v (count + 1) 0 (omega arith), ap unranked entry.fresh, ap unranked (add-one count));
       ranks_le = λ u. let le : slice_index ranks u ≤ count = h.ranks_le u in grind (arith, common_steps);
-      low = λ u some. elim (cases_eq u v) [
-        | inl e ↦ subst (λ w. place places w ≤ℤ (place places source +ℤ pos (1048576 * slice_index (slice_set ranks v (count + 1)) w))) (sym e)
-            (subst (λ r. place places v ≤ℤ (place places source +ℤ pos (1048576 * r))) (sym rank_here) entry.low)
-        | inr ne ↦ let same : slice_index (slice_set ranks v (count + 1)) u ≡ slice_index ranks u = get_or-set_other ranks v u (count + 1) 0 ne in
-            subst (λ r. place places u ≤ℤ (place places source +ℤ pos (1048576 * r))) (sym same) (h.low u (omega arith))
-      ];
-      open_rooms = λ u some. let entry_some : 0 < room = entry.some in let before : 0 < slice_index ranks u → 0 < slice_index rooms u = h.open_rooms u in grind (arith, common_steps);
-      vias_within = λ u some other. let before : 0 < slice_index ranks u → slice_index vias u < length arcs = λ reached. h.vias_within u reached other in grind (arith, common_steps);
-      links = λ u some other. elim (cases_eq u v) [
-        | inl e ↦ subst (λ w. IsLink (arc_at arcs (slice_index (slice_set vias v i) w)) (slice_index amounts (slice_index (slice_set vias v i) w)) places (slice_set ranks v (count + 1)) (slice_set rooms v room) w) (sym e)
-            (subst (λ j. IsLink (arc_at arcs j) (slice_index amounts j) places (slice_set ranks v (count + 1)) (slice_set rooms v room) v) (sym via_here) entry.link)
-        | inr ne ↦ let same : slice_index (slice_set ranks v (count + 1)) u ≡ slice_index ranks u = get_or-set_other ranks v u (count + 1) 0 ne in
-            let via_same : slice_index (slice_set vias v i) u ≡ slice_index vias u = get_or-set_other vias v u i 0 ne in
-            subst (λ j. IsLink (arc_at arcs j) (slice_index amounts j) places (slice_set ranks v (count + 1)) (slice_set rooms v room) u) (sym via_same)
-            (link_stays (arc_at arcs (slice_index vias u)) (slice_index amounts (slice_index vias u)) places ranks rooms v (count + 1) room u fresh ne (h.links u (omega arith) other))
-      ];
-    }
-  where
-    not_fresh : (w : ℕ) → 0 < slice_index ranks w → w ≡ v → ⊥
-    not_fresh w some e = let none : slice_index ranks w ≡ 0 = subst (λ x. slice_index ranks x ≡ 0) (sym e) entry.fresh in omega arith
-
--- what the search keeps, with one variable more
-pub grow_more : (needs : List ℤ) (arcs : List Arc) (amounts : List ℕ) (places : List ℤ) (excess unmet ranks vias rooms : List ℕ) (source count last i v room : ℕ)
-    → IsState needs arcs amounts places excess unmet → IsReached arcs amounts places excess ranks vias rooms source count
-    → ((u : ℕ) → 0 < slice_index ranks u → slice_index unmet u ≡ 0) → i < length arcs → v < length needs
-    → IsEntered (arc_at arcs i) (slice_index amounts i) places ranks rooms source count v room
-    → IsGrown needs arcs amounts places excess unmet (slice_set ranks v (count + 1)) (slice_set vias v i) (slice_set rooms v room) source (count + 1) v
-grow_more needs arcs amounts places excess unmet ranks vias rooms source count last i v room state h met i_lt lt entry =
-    let size : length places ≡ length needs = state.places_size in
-    let ranks_size : length ranks ≡ length places = h.ranks_size in
-    let rank_here : slice_index (slice_set ranks v (count + 1)) v ≡ count + 1 = get_or-set_same ranks v (count + 1) 0 (omega arith) in
-    record {
-      state = state;
-      reached = reach_more arcs amounts places excess ranks vias rooms source count i v room h i_lt (omega arith) entry;
-      within = lt;
-      rank = omega arith;
-      met = λ u some other. let same : slice_index (slice_set ranks v (count + 1)) u ≡ slice_index ranks u = get_or-set_other ranks v u (count + 1) 0 other in met u (omega arith);
+      ways = record {
+        open_rooms = λ u some. let before : 0 < slice_index ranks u → 0 < slice_index rooms u = h.ways.open_rooms u in grind (arith, common_steps);
+        vias_within = λ u some other. let before : 0 < slice_index ranks u → slice_index vias u < length arcs = λ reached. h.ways.vias_within u reached other in
+            grind (arith, common_steps);
+        ends = λ u some other. elim (cases_eq u v) [
+          | inl e ↦ rw (e, via_here) entry.end
+          | inr ne ↦ rw (get_or-set_other vias v u i 0 ne)
+              (end_stays v (count + 1) room entry.fresh ne (h.ways.ends u (omega (arith, get_or-set_other ranks v u (count + 1) 0 ne)) other))
+        ];
+      };
     }
 
 -- at first the source alone is reached
@@ -157,25 +212,21 @@ zeros n = replicate n 0
 pub no_ranks : (n v : ℕ) → slice_index (zeros n) v ≡ 0
 no_ranks n v = elim (cases_lt v n) [
   | inl lt ↦ get_or-replicate n v 0 0 lt
-  | inr le ↦ let size : length (zeros n) ≡ n = length-replicate n 0 in get_or_past (zeros n) v 0 (omega arith)
+  | inr le ↦ get_or_past (zeros n) v 0 (omega (arith, length-replicate {A = ℕ} n 0))
 ]
 
 all_unranked : (n : ℕ) → sum_by unranked (zeros n) ≡ n
 all_unranked zero = refl
 all_unranked (suc n) = omega (arith, all_unranked n, sum_by-cons unranked 0 (zeros n))
 
-pub start_grown : (needs : List ℤ) (arcs : List Arc) (amounts : List ℕ) (places : List ℤ) (excess unmet vias rooms : List ℕ) (n source : ℕ)
-    → IsState needs arcs amounts places excess unmet → n ≡ length places → length vias ≡ length places → length rooms ≡ length places
-    → source < length places → 0 < slice_index excess source
+pub start_grown : {needs : List ℤ} {arcs : List Arc} {amounts : List ℕ} {places : List ℤ} {excess unmet : List ℕ} (vias rooms : List ℕ) (n source : ℕ)
+    → IsState needs arcs amounts places excess unmet → n ≡ length needs → length vias ≡ length needs → length rooms ≡ length needs
+    → source < length needs → 0 < slice_index excess source
     → IsGrown needs arcs amounts places excess unmet (slice_set (zeros n) source 1) vias (slice_set rooms source (slice_index excess source)) source 1 source
-start_grown needs arcs amounts places excess unmet vias rooms n source state n_is vias_size rooms_size lt some =
-    let size : length places ≡ length needs = state.places_size in
+start_grown {places} {excess} vias rooms n source state n_is vias_size rooms_size lt some =
     let zeros_size : length (zeros n) ≡ n = length-replicate n 0 in
     let rank_here : slice_index (slice_set (zeros n) source 1) source ≡ 1 = get_or-set_same (zeros n) source 1 0 (omega arith) in
     let room_here : slice_index (slice_set rooms source (slice_index excess source)) source ≡ slice_index excess source = get_or-set_same rooms source (slice_index excess source) 0 (omega arith) in
-    let total : sum_by unranked (slice_set (zeros n) source 1) + unranked (slice_index (zeros n) source) ≡ sum_by unranked (zeros n) + unranked 1 = sum_by-set unranked (zeros n) source 1 0 (omega arith) in
-    let was : unranked (slice_index (zeros n) source) ≡ 1 = ap unranked (no_ranks n source) in
-    let all : sum_by unranked (zeros n) ≡ n = all_unranked n in
     record {
       state = state;
       reached = record {
@@ -185,13 +236,16 @@ start_grown needs arcs amounts places excess unmet vias rooms n source state n_i
         source_within = lt;
         source_rank = omega arith;
         source_room = omega arith;
-        counted = omega arith;
+        counted = omega (arith, sum_by-set unranked (zeros n) source 1 0 (omega arith), ap unranked (no_ranks n source), all_unranked n);
         ranks_le = λ v. let none : slice_index (zeros n) v ≡ 0 = no_ranks n v in grind (arith, common_steps);
-        low = λ v rank. subst (λ w. place places w ≤ℤ (place places source +ℤ pos (1048576 * slice_index (slice_set (zeros n) source 1) w))) (sym (only v rank)) (omega (arith, ints));
-        open_rooms = λ v rank. subst (λ w. 0 < slice_index (slice_set rooms source (slice_index excess source)) w) (sym (only v rank)) (omega arith);
-        vias_within = λ v rank other. absurd (other (only v rank));
-        links = λ v rank other. absurd (other (only v rank));
+        ways = record {
+          open_rooms = λ v rank. rw (only v rank) (omega arith);
+          vias_within = λ v rank other. absurd (other (only v rank));
+          ends = λ v rank other. absurd (other (only v rank));
+        };
       };
+      low = λ v rank. rw (only v rank) (omega (arith, ints));
+      tight = λ v rank other. absurd (other (only v rank));
       within = omega arith;
       rank = omega arith;
       met = λ v rank other. absurd (other (only v rank));
@@ -201,29 +255,40 @@ start_grown needs arcs amounts places excess unmet vias rooms n source state n_i
     only v rank = let none : slice_index (zeros n) v ≡ 0 = no_ranks n v in grind (arith, common_steps)
 
 -- the chosen arc is tight once the reached places are raised
-chosen_tight : (arc : Arc) (amount : ℕ) (ranks : List ℕ) (by : ℤ) (old new : List ℤ) → IsRaised ranks by old new → IsStep arc amount old ranks by
+chosen_tight : (arc : Arc) (amount : ℕ) {ranks : List ℕ} {by : ℤ} {old new : List ℤ} → IsRaised ranks by old new → IsStep arc amount old ranks by
     → (0 < amount → place new arc.from +ℤ arc.least ≡ place new arc.to) → place new arc.from +ℤ arc.least ≡ place new arc.to
-chosen_tight arc amount ranks by old new raised (inl h) tight =
-    let from_is : place new arc.from ≡ place old arc.from +ℤ by = raised.moved arc.from h.leaves in
-    let to_is : place new arc.to ≡ place old arc.to = raised.still arc.to h.arrives in
-    let slack_is : place old arc.from +ℤ arc.least +ℤ by ≡ place old arc.to = h.slack_is in
-    omega (arith, ints)
-chosen_tight arc amount ranks by old new raised (inr h) tight = tight h.some
+chosen_tight arc amount {by} {old} {new} raised (inl h) tight = omega (arith, ints, raised.still arc.to h.arrives, raised.moved arc.from h.leaves)
+chosen_tight arc amount raised (inr h) tight = tight h.some
 
 -- a step of the search
-pub grown : (needs : List ℤ) (arcs : List Arc) (amounts : List ℕ) (old new : List ℤ) (excess unmet ranks vias rooms : List ℕ) (source count last chosen : ℕ) (by : ℤ) (arc : Arc) (v room : ℕ)
+pub grown : {needs : List ℤ} {arcs : List Arc} {amounts : List ℕ} {old new : List ℤ} {excess unmet ranks vias rooms : List ℕ} {source count last chosen : ℕ} {by : ℤ} {arc : Arc} {v room : ℕ}
     → IsGrown needs arcs amounts old excess unmet ranks vias rooms source count last → slice_index unmet last ≡ 0
     → IsLeastStep (length arcs) arcs amounts old ranks chosen by → IsRaised ranks by old new → arc ≡ arc_at arcs chosen → v < length ranks
     → IsAhead arc ranks rooms v room ⊎ IsBehind arc (slice_index amounts chosen) ranks rooms v room
     → IsGrown needs arcs amounts new excess unmet (slice_set ranks v (count + 1)) (slice_set vias v chosen) (slice_set rooms v room) source (count + 1) v
-grown needs arcs amounts old new excess unmet ranks vias rooms source count last chosen by arc v room h none least raised is lt entry =
-    let state : IsState needs arcs amounts new excess unmet = raised_state needs arcs amounts excess unmet ranks vias rooms source count last chosen by old new h none least raised in
-    let reached : IsReached arcs amounts new excess ranks vias rooms source count = raised_reached arcs amounts excess ranks vias rooms source count by old new raised h.reached in
-    let ranks_size : length ranks ≡ length new = reached.ranks_size in
-    let size : length new ≡ length needs = state.places_size in
-    let tight : place new (arc_at arcs chosen).from +ℤ (arc_at arcs chosen).least ≡ place new (arc_at arcs chosen).to =
-    chosen_tight (arc_at arcs chosen) (slice_index amounts chosen) ranks by old new raised least.step (state.lawful chosen least.within).tight in
-    let entry_at : IsAhead (arc_at arcs chosen) ranks rooms v room ⊎ IsBehind (arc_at arcs chosen) (slice_index amounts chosen) ranks rooms v room =
+grown {needs} {arcs} {amounts} {new} {excess} {unmet} {ranks} {vias} {rooms} {source} {count} {last} {chosen} {v} {room} h none least raised is lt entry =
+    let state : IsState needs arcs amounts new excess unmet = raised_state h none least raised in
+    let low = raised_low source raised h.reached.source_rank h.low in
+    let tight = chosen_tight (arc_at arcs chosen) (slice_index amounts chosen) raised least.step (state.lawful chosen least.within).tight in
+    let at_arc : IsAhead (arc_at arcs chosen) ranks rooms v room ⊎ IsBehind (arc_at arcs chosen) (slice_index amounts chosen) ranks rooms v room =
     subst (λ a. IsAhead a ranks rooms v room ⊎ IsBehind a (slice_index amounts chosen) ranks rooms v room) is entry in
-    grow_more needs arcs amounts new excess unmet ranks vias rooms source count last chosen v room state reached (all_met unmet ranks last h.met none) least.within (omega arith)
-    (entered arcs amounts new excess ranks vias rooms source count (arc_at arcs chosen) (slice_index amounts chosen) v room reached (state.frame.arcs_of chosen least.within).modest tight (omega arith) entry_at)
+    let here = entered h.reached low (state.frame.arcs_of chosen least.within).modest tight (omega arith) at_arc in
+    let rank_here : slice_index (slice_set ranks v (count + 1)) v ≡ count + 1 = get_or-set_same ranks v (count + 1) 0 lt in
+    let via_here : slice_index (slice_set vias v chosen) v ≡ chosen = get_or-set_same vias v chosen 0 (omega arith) in
+    let rank_other : (u : ℕ) → u ≢ v → slice_index (slice_set ranks v (count + 1)) u ≡ slice_index ranks u = λ u ne. get_or-set_other ranks v u (count + 1) 0 ne in
+    record {
+      state = state;
+      reached = reach_more chosen h.reached least.within (omega arith) here;
+      low = λ u some. elim (cases_eq u v) [
+        | inl e ↦ rw (e, rank_here) here.low
+        | inr ne ↦ rw (rank_other u ne) (low u (omega (arith, rank_other u ne)))
+      ];
+      tight = λ u some other. elim (cases_eq u v) [
+        | inl e ↦ rw (e, via_here) tight
+        | inr ne ↦ let was : 0 < slice_index ranks u = omega (arith, rank_other u ne) in
+            rw (get_or-set_other vias v u chosen 0 ne) (raised_tight raised h.reached.ways u was other (h.tight u was other))
+      ];
+      within = omega arith;
+      rank = omega arith;
+      met = λ u some other. all_met unmet ranks last h.met none u (omega (arith, rank_other u other));
+    }

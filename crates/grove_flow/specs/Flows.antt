@@ -1,7 +1,7 @@
 -- Amounts along arcs, and what enters and leaves a variable. The public contracts cite this file.
 use Rattle.std.specs.Prelude.{◌≡◌, ℕ, ◌+◌, ◌-◌, ◌≤◌, ◌<◌, ◌==◌, Bool, cond, List, [], ◌∷◌, length, slice_index, ℤ, pos, ◌+ℤ◌}
 use borrow.Author.Differences.{up}
-use Rattle.grove_tree.specs.Numbers.{sum_below}
+use Rattle.grove_base.specs.Numbers.{sum_below}
 use Rattle.grove_flow.specs.declared.network.Arc.{Arc}
 use Rattle.grove_flow.specs.Networks.{AreLawful, place}
 

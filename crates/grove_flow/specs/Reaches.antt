@@ -67,44 +67,10 @@ pub record IsLinkedBack (arc : Arc) (amount : ℕ) (ranks rooms : List ℕ) (v :
   pub room : slice_index rooms v ≤ slice_index rooms arc.to
   pub sent : slice_index rooms v ≤ amount
 
--- the arc is tight, and the variable was reached by it
-pub record IsLink (arc : Arc) (amount : ℕ) (places : List ℤ) (ranks rooms : List ℕ) (v : ℕ) : Type 0 where
-  pub tight : place places arc.from +ℤ arc.least ≡ place places arc.to
-  pub end : IsLinkedOn arc ranks rooms v ⊎ IsLinkedBack arc amount ranks rooms v
-
 -- 1 for a variable without a rank
 abbrev pub unranked : ℕ → ℕ
 unranked zero = 1
 unranked (suc rank) = 0
-
--- what was reached from a source, `count` variables, and by which arcs
-pub record IsReached (arcs : List Arc) (amounts : List ℕ) (places : List ℤ) (excess ranks vias rooms : List ℕ) (source count : ℕ) : Type 0 where
-  pub ranks_size : length ranks ≡ length places
-  pub vias_size : length vias ≡ length places
-  pub rooms_size : length rooms ≡ length places
-  pub source_within : source < length places
-  pub source_rank : 0 < slice_index ranks source
-  pub source_room : slice_index rooms source ≤ slice_index excess source
-  pub counted : sum_by unranked ranks + count ≡ length places
-  pub ranks_le : (v : ℕ) → slice_index ranks v ≤ count
-  pub low : (v : ℕ) → 0 < slice_index ranks v → place places v ≤ℤ (place places source +ℤ pos (1048576 * slice_index ranks v))
-  pub open_rooms : (v : ℕ) → 0 < slice_index ranks v → 0 < slice_index rooms v
-  pub vias_within : (v : ℕ) → 0 < slice_index ranks v → v ≢ source → slice_index vias v < length arcs
-  pub links : (v : ℕ) → 0 < slice_index ranks v → v ≢ source → IsLink (arc_at arcs (slice_index vias v)) (slice_index amounts (slice_index vias v)) places ranks rooms v
-
--- the reached places are raised, and no other
-pub record IsRaised (ranks : List ℕ) (by : ℤ) (old new : List ℤ) : Type 0 where
-  pub size : length new ≡ length old
-  pub moved : (v : ℕ) → 0 < slice_index ranks v → place new v ≡ place old v +ℤ by
-  pub still : (v : ℕ) → slice_index ranks v ≡ 0 → place new v ≡ place old v
-
--- what the search keeps: all that is reached but the last variable lacks nothing
-pub record IsGrown (needs : List ℤ) (arcs : List Arc) (amounts : List ℕ) (places : List ℤ) (excess unmet ranks vias rooms : List ℕ) (source count last : ℕ) : Type 0 where
-  pub state : IsState needs arcs amounts places excess unmet
-  pub reached : IsReached arcs amounts places excess ranks vias rooms source count
-  pub within : last < length needs
-  pub rank : 0 < slice_index ranks last
-  pub met : (v : ℕ) → 0 < slice_index ranks v → v ≢ last → slice_index unmet v ≡ 0
 
 -- the ways back from what is reached to the source
 pub record AreWays (arcs : List Arc) (amounts ranks vias rooms : List ℕ) (source : ℕ) : Type 0 where
@@ -112,6 +78,38 @@ pub record AreWays (arcs : List Arc) (amounts ranks vias rooms : List ℕ) (sour
   pub vias_within : (v : ℕ) → 0 < slice_index ranks v → v ≢ source → slice_index vias v < length arcs
   pub ends : (v : ℕ) → 0 < slice_index ranks v → v ≢ source
       → IsLinkedOn (arc_at arcs (slice_index vias v)) ranks rooms v ⊎ IsLinkedBack (arc_at arcs (slice_index vias v)) (slice_index amounts (slice_index vias v)) ranks rooms v
+
+-- what was reached of n variables from a source, `count` of them, and by which arcs
+pub record IsReached (n : ℕ) (arcs : List Arc) (amounts excess ranks vias rooms : List ℕ) (source count : ℕ) : Type 0 where
+  pub ranks_size : length ranks ≡ n
+  pub vias_size : length vias ≡ n
+  pub rooms_size : length rooms ≡ n
+  pub source_within : source < n
+  pub source_rank : 0 < slice_index ranks source
+  pub source_room : slice_index rooms source ≤ slice_index excess source
+  pub counted : sum_by unranked ranks + count ≡ n
+  pub ranks_le : (v : ℕ) → slice_index ranks v ≤ count
+  pub ways : AreWays arcs amounts ranks vias rooms source
+
+-- the reached places are raised, and no other
+pub record IsRaised (ranks : List ℕ) (by : ℤ) (old new : List ℤ) : Type 0 where
+  pub size : length new ≡ length old
+  pub moved : (v : ℕ) → 0 < slice_index ranks v → place new v ≡ place old v +ℤ by
+  pub still : (v : ℕ) → slice_index ranks v ≡ 0 → place new v ≡ place old v
+
+abbrev pub IsTight : Arc → List ℤ → Type 0
+IsTight arc places = place places arc.from +ℤ arc.least ≡ place places arc.to
+
+-- What the search keeps: the places of what is reached are near that of the source, and the arcs by which it was reached are tight. All but
+-- the last variable lacks nothing.
+pub record IsGrown (needs : List ℤ) (arcs : List Arc) (amounts : List ℕ) (places : List ℤ) (excess unmet ranks vias rooms : List ℕ) (source count last : ℕ) : Type 0 where
+  pub state : IsState needs arcs amounts places excess unmet
+  pub reached : IsReached (length needs) arcs amounts excess ranks vias rooms source count
+  pub low : (v : ℕ) → 0 < slice_index ranks v → place places v ≤ℤ (place places source +ℤ pos (1048576 * slice_index ranks v))
+  pub tight : (v : ℕ) → 0 < slice_index ranks v → v ≢ source → IsTight (arc_at arcs (slice_index vias v)) places
+  pub within : last < length needs
+  pub rank : 0 < slice_index ranks last
+  pub met : (v : ℕ) → 0 < slice_index ranks v → v ≢ last → slice_index unmet v ≡ 0
 
 -- an amount changes only where a variable was reached
 abbrev pub AreAlong : List ℕ → List ℕ → List ℕ → List ℕ → ℕ → Type 0

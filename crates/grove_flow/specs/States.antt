@@ -1,7 +1,7 @@
 -- For the proofs alone (of `solve`): what holds of amounts and places while they are searched for.
 use Rattle.std.specs.Prelude.{◌≡◌, ℕ, zero, suc, ◌+◌, ◌-◌, ◌<◌, ◌≤◌, ◌==◌, cond, List, length, slice_index, ℤ, pos, negsuc, ◌+ℤ◌, ◌≤ℤ◌}
 use borrow.Author.Differences.{down}
-use Rattle.grove_tree.specs.Numbers.{sum_below}
+use Rattle.grove_base.specs.Numbers.{sum_below}
 use Rattle.grove_flow.specs.declared.network.Arc.{Arc}
 use Rattle.grove_flow.specs.Networks.{arc_at, place, AreLawful, AreArcsOf, HasOwnArcs}
 use Rattle.grove_flow.specs.Flows.{amount_in, amount_out, takes}

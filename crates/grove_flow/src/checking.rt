@@ -1,11 +1,11 @@
 ghost use Rattle.std.specs.Prelude.{◌≡◌, ℕ, ◌<◌, ◌≤◌, ◌↔◌, ◌-◌, ◌+ℤ◌, pos, length, replicate, slice_index, true, false, IfOk, IsTrue};
-ghost use Rattle.grove_tree.specs.Numbers.{sum_below};
+ghost use Rattle.grove_base.specs.Numbers.{sum_below};
 ghost use Rattle.grove_flow.specs.Networks.{AreArcsOf, AreLawful, IsArcOf, IsLawful, arc_at, place};
 ghost use Rattle.grove_flow.specs.Flows.{IsSolution, amount_in, amount_out, takes};
 ghost use Rattle.grove_flow.specs.Checks.{AreBounded, AreMet, AreTotals, IsBalanced};
 
 use crate::{Arc, Network};
-use grove_tree::NoMemory;
+use grove_base::NoMemory;
 use std::alloc::Global;
 
 /// Whether amounts and places are a solution of a network, as `solve` gives one. They may be any numbers. It takes one

@@ -3,7 +3,7 @@ ghost use Rattle.grove_flow.specs.Networks.{AreArcsOf};
 ghost use Rattle.grove_flow.specs.Fans.{AreFans, IsFan, end_of};
 
 use crate::{Arc, Network};
-use grove_tree::NoMemory;
+use grove_base::NoMemory;
 use std::alloc::Global;
 
 /// An end of an arc.

@@ -7,7 +7,7 @@ use crate::Network;
 use crate::fan::{Fan, Fans};
 use crate::state::State;
 use crate::tree::Tree;
-use grove_tree::NoMemory;
+use grove_base::NoMemory;
 use std::alloc::Global;
 use std::cmp::Reverse;
 use std::collections::BinaryHeap;

@@ -8,7 +8,7 @@ use crate::fan::Fans;
 use crate::queue::Queue;
 use crate::state::State;
 use crate::tree::Tree;
-use grove_tree::NoMemory;
+use grove_base::NoMemory;
 use std::alloc::Global;
 
 /// A search for the nearest variable that still has to take, by the way of Dijkstra with the slacks as lengths. The

@@ -4,7 +4,7 @@ ghost use Rattle.grove_flow.specs.Floors.{AreCapped, AreHeld, AreHighest, AreKep
 ghost use Rattle.grove_flow.specs.Ways.{arc_on};
 
 use crate::{Arc, Network, Solution};
-use grove_tree::NoMemory;
+use grove_base::NoMemory;
 use std::alloc::Global;
 
 /// The latest places that meet every arc, are tight on every arc with an amount, and are nowhere above `top`.

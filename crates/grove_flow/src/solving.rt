@@ -6,7 +6,7 @@ ghost use Rattle.grove_flow.specs.States.{AreNear, AreRebased};
 use crate::search::Search;
 use crate::state::State;
 use crate::{Network, Solution};
-use grove_tree::NoMemory;
+use grove_base::NoMemory;
 use std::alloc::Global;
 
 /// Sends what the network needs along its arcs, beginning from places that meet every arc. An arc with an

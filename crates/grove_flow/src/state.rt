@@ -8,7 +8,7 @@ ghost use Rattle.grove_flow.specs.Searches.{IsReady};
 use crate::pushing::push;
 use crate::search::Search;
 use crate::{Arc, Network};
-use grove_tree::NoMemory;
+use grove_base::NoMemory;
 use std::alloc::Global;
 
 /// A flow that is not whole yet, with the places as its potentials: what a network's conditions of optimality say

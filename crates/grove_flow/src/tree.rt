@@ -6,7 +6,7 @@ ghost use Rattle.grove_flow.specs.Reaches.{IsAhead, IsBehind, IsNew, IsNoStep};
 
 use crate::state::State;
 use crate::{Arc, Network};
-use grove_tree::NoMemory;
+use grove_base::NoMemory;
 use std::alloc::Global;
 
 /// What a search has reached from its source, along residual arcs: along an arc, or back along one with an amount.

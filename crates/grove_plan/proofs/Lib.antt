@@ -1,7 +1,7 @@
-pub mod Firsts
-pub mod Following
-pub mod Holding
-pub mod Rules
-pub mod Slotted
-pub mod Verdicts
-pub mod Watched
+pub mod LeastFound
+pub mod StepEffects
+pub mod Held
+pub mod StepFaults
+pub mod AccessCounts
+pub mod FaultlessIsLegal
+pub mod WatchState

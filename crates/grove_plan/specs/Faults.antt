@@ -1,6 +1,6 @@
 -- The first fault of a plan.
 use Rattle.std.specs.Prelude.{ℕ, zero, suc, ◌==◌, nat_lt, Bool, false, not, ◌&&◌, List, length, slice_get, Option, Some, None, if◌then◌else◌}
-use Rattle.grove_tree.specs.Numbers.{any_below, least_below}
+use Rattle.grove_base.specs.Numbers.{any_below, least_below}
 use Rattle.grove_tree.specs.Trees.{Rows, parent_of}
 use Rattle.grove_plan.specs.declared.step.Step.{Step}
 use Rattle.grove_plan.specs.declared.step.Step.TheVariants.{Lock, Unlock, Access}
@@ -9,42 +9,42 @@ use Rattle.grove_plan.specs.declared.fault.PlanFault.TheVariants.{Strange, Reloc
 use Rattle.grove_plan.specs.Plans.{locks, is_lock, held}
 use Rattle.grove_plan.specs.Slots.{accesses_before}
 
--- a node that may be missing is held at a place
+-- a node that may be missing is held at a position
 abbrev pub is_held : List Step → ℕ → Option ℕ → Bool
-is_held plan place None = false
-is_held plan place (Some node) = held plan node place
+is_held plan position None = false
+is_held plan position (Some node) = held plan node position
 
 -- an earlier step locks a node
 abbrev pub is_later : List Step → ℕ → Bool
-is_later plan place = any_below place (λ i. is_lock (slice_get plan i))
+is_later plan position = any_below position (λ i. is_lock (slice_get plan i))
 
 -- the first rule that a step breaks
 
 abbrev pub lock_fault : Rows → List Step → ℕ → ℕ → Option PlanFault
-lock_fault rows plan place node =
-    if not (nat_lt node (length rows)) then Some (Strange place)
-    else if any_below place (λ i. locks node (slice_get plan i)) then Some (Relock place)
-    else if is_later plan place && not (is_held plan place (parent_of rows node)) then Some (ParentNotHeld place)
+lock_fault rows plan position node =
+    if not (nat_lt node (length rows)) then Some (Strange position)
+    else if any_below position (λ i. locks node (slice_get plan i)) then Some (Relock position)
+    else if is_later plan position && not (is_held plan position (parent_of rows node)) then Some (ParentNotHeld position)
     else None
 
 abbrev pub unlock_fault : Rows → List Step → ℕ → ℕ → Option PlanFault
-unlock_fault rows plan place node =
-    if not (nat_lt node (length rows)) then Some (Strange place)
-    else if not (held plan node place) then Some (NotHeld place)
+unlock_fault rows plan position node =
+    if not (nat_lt node (length rows)) then Some (Strange position)
+    else if not (held plan node position) then Some (NotHeld position)
     else None
 
 abbrev pub access_fault : List ℕ → List Step → ℕ → ℕ → Option PlanFault
-access_fault nodes plan place access =
-    if not (nat_lt access (length nodes)) then Some (Strange place)
-    else if not (access == accesses_before plan place) then Some (WrongAccess place)
-    else if not (is_held plan place (slice_get nodes access)) then Some (AccessNotHeld place)
+access_fault nodes plan position access =
+    if not (nat_lt access (length nodes)) then Some (Strange position)
+    else if not (access == accesses_before plan position) then Some (WrongAccess position)
+    else if not (is_held plan position (slice_get nodes access)) then Some (AccessNotHeld position)
     else None
 
 abbrev pub step_fault : Rows → List ℕ → List Step → ℕ → Option Step → Option PlanFault
-step_fault rows nodes plan place (Some (Lock node)) = lock_fault rows plan place node
-step_fault rows nodes plan place (Some (Unlock node)) = unlock_fault rows plan place node
-step_fault rows nodes plan place (Some (Access access)) = access_fault nodes plan place access
-step_fault rows nodes plan place None = None
+step_fault rows nodes plan position (Some (Lock node)) = lock_fault rows plan position node
+step_fault rows nodes plan position (Some (Unlock node)) = unlock_fault rows plan position node
+step_fault rows nodes plan position (Some (Access access)) = access_fault nodes plan position access
+step_fault rows nodes plan position None = None
 
 -- the fault of the first of the first n steps that has one
 abbrev pub fault_or : Option PlanFault → Option PlanFault → Option PlanFault

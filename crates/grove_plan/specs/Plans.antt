@@ -1,6 +1,6 @@
 -- Lock plans, judged as whole lists of steps by their positions.
 use Rattle.std.specs.Prelude.{◌≡◌, ℕ, ◌*◌, ◌<◌, ◌≤◌, ◌==◌, nat_lt, Bool, true, false, not, ◌&&◌, IsTrue, List, [], ◌∷◌, length, slice_get, slice_index, Option, Some, None, if◌then◌else◌}
-use Rattle.grove_tree.specs.Numbers.{any_below, sum_below, numbers_below}
+use Rattle.grove_base.specs.Numbers.{any_below, sum_below, numbers_below}
 use Rattle.grove_tree.specs.Trees.{Rows, parent_of, weight_of}
 use Rattle.grove_plan.specs.declared.step.Step.{Step}
 use Rattle.grove_plan.specs.declared.step.Step.TheVariants.{Lock, Unlock, Access}
@@ -30,10 +30,10 @@ is_access (Some (Unlock v)) = false
 is_access (Some (Access i)) = true
 is_access None = false
 
--- A node is held at a place where some lock of it stands before the place and no unlock of it stands between the two.
+-- A node is held at a position where some lock of it stands before the position and no unlock of it stands between the two.
 abbrev pub held : List Step → ℕ → ℕ → Bool
-held plan node place =
-    any_below place (λ i. locks node (slice_get plan i) && not (any_below place (λ j. nat_lt i j && unlocks node (slice_get plan j))))
+held plan node position =
+    any_below position (λ i. locks node (slice_get plan i) && not (any_below position (λ j. nat_lt i j && unlocks node (slice_get plan j))))
 
 -- the accesses that a plan does, in order
 abbrev pub accesses_of : List Step → List ℕ
@@ -42,9 +42,9 @@ accesses_of (Lock v ∷ steps) = accesses_of steps
 accesses_of (Unlock v ∷ steps) = accesses_of steps
 accesses_of (Access i ∷ steps) = i ∷ accesses_of steps
 
--- some lock stands before the place
+-- some lock stands before the position
 abbrev pub IsLater : List Step → ℕ → Type 0
-IsLater plan place = (i : ℕ) × (node : ℕ) × (i < place) × (slice_get plan i ≡ Some (Lock node))
+IsLater plan position = (i : ℕ) × (node : ℕ) × (i < position) × (slice_get plan i ≡ Some (Lock node))
 
 -- The tree protocol.
 pub record ObeysTreeProtocol (rows : Rows) (plan : List Step) : Type 0 where
@@ -73,7 +73,7 @@ slots_of lengths None = 0
 
 -- for how many slots a plan holds a node: the lengths of the accesses that it does meanwhile, added up
 abbrev pub holding : List ℕ → List Step → ℕ → ℕ
-holding lengths plan node = sum_below (length plan) (λ place. if held plan node place then slots_of lengths (slice_get plan place) else 0)
+holding lengths plan node = sum_below (length plan) (λ position. if held plan node position then slots_of lengths (slice_get plan position) else 0)
 
 -- what a plan costs: each node's weight for each slot in which it is held
 abbrev pub cost : Rows → List ℕ → List Step → ℕ

@@ -1,6 +1,6 @@
--- For the proofs alone: what is known of a plan before the step at a place, as it is followed step by step.
+-- For the proofs alone: what is known of a plan before the step at a position, as it is followed step by step.
 use Rattle.std.specs.Prelude.{◌≡◌, ℕ, ◌*◌, ◌<◌, ◌≤◌, Bool, true, false, List, Option, Some, None, length, slice_get, slice_index_or, if◌then◌else◌}
-use Rattle.grove_tree.specs.Numbers.{any_below, sum_below, least_below}
+use Rattle.grove_base.specs.Numbers.{any_below, sum_below, least_below}
 use Rattle.grove_tree.specs.Trees.{Rows, weight_of}
 use Rattle.grove_plan.specs.declared.step.Step.{Step}
 use Rattle.grove_plan.specs.declared.watch.Hold.{Hold}
@@ -10,11 +10,11 @@ use Rattle.grove_plan.specs.Plans.{locks, held, slots_of}
 use Rattle.grove_plan.specs.Slots.{accesses_before}
 use Rattle.grove_plan.specs.Faults.{is_later}
 
--- what the steps before a place did with a node: locked it never, hold it, or let it go again
+-- what the steps before a position did with a node: locked it never, hold it, or let it go again
 abbrev pub hold_of : List Step → ℕ → ℕ → Hold
-hold_of plan node place =
-    if held plan node place then Held
-    else if any_below place (λ i. locks node (slice_get plan i)) then Done
+hold_of plan node position =
+    if held plan node position then Held
+    else if any_below position (λ i. locks node (slice_get plan i)) then Done
     else Free
 
 abbrev pub is_free : Hold → Bool
@@ -37,21 +37,21 @@ first_holding holds =
     if any_below (length holds) (λ node. holds_node holds (Some node)) then Some (least_below (length holds) (λ node. holds_node holds (Some node)))
     else None
 
--- the weights of the nodes held at a place, added up
+-- the weights of the nodes held at a position, added up
 abbrev pub held_weight : Rows → List Step → ℕ → ℕ
-held_weight rows plan place = sum_below (length rows) (λ node. if held plan node place then weight_of rows node else 0)
+held_weight rows plan position = sum_below (length rows) (λ node. if held plan node position then weight_of rows node else 0)
 
--- what the accesses before a place cost
+-- what the accesses before a position cost
 abbrev pub cost_before : Rows → List ℕ → List Step → ℕ → ℕ
-cost_before rows lengths plan place =
-    sum_below (length rows) (λ node. weight_of rows node * sum_below place (λ i. if held plan node i then slots_of lengths (slice_get plan i) else 0))
+cost_before rows lengths plan position =
+    sum_below (length rows) (λ node. weight_of rows node * sum_below position (λ i. if held plan node i then slots_of lengths (slice_get plan i) else 0))
 
--- a watch has followed a plan to a place
-pub record IsWatched (rows : Rows) (lengths : List ℕ) (plan : List Step) (place : ℕ) (watch : Watch) : Type 0 where
+-- a watch has followed a plan to a position
+pub record IsWatched (rows : Rows) (lengths : List ℕ) (plan : List Step) (position : ℕ) (watch : Watch) : Type 0 where
   pub nodes : length watch.holds.items ≡ length rows
-  pub each : (node : ℕ) → node < length rows → slice_index_or watch.holds.items node Free ≡ hold_of plan node place
-  pub later : watch.later ≡ is_later plan place
-  pub accesses : watch.accesses ≡ accesses_before plan place
-  pub weight : watch.weight ≡ held_weight rows plan place
-  pub cost : watch.cost ≡ cost_before rows lengths plan place
-  pub small : watch.cost ≤ 4096000000 * place
+  pub each : (node : ℕ) → node < length rows → slice_index_or watch.holds.items node Free ≡ hold_of plan node position
+  pub later : watch.later ≡ is_later plan position
+  pub accesses : watch.accesses ≡ accesses_before plan position
+  pub weight : watch.weight ≡ held_weight rows plan position
+  pub cost : watch.cost ≡ cost_before rows lengths plan position
+  pub small : watch.cost ≤ 4096000000 * position

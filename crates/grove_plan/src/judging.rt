@@ -46,6 +46,10 @@ fn judge_by(
     if watch.accesses < list.len() {
         return Err(PlanFault::AccessMissing(watch.accesses));
     }
+    // Every node weighs something: where nothing does, none is held, and no table has to be searched.
+    if watch.weight == 0 {
+        return Ok(watch.cost);
+    }
     if let Some(node) = watch.first_held() {
         return Err(PlanFault::StillHeld(node));
     }
@@ -63,11 +67,11 @@ fn follow(watch: &mut Watch, tree: &Tree, list: &AccessList, plan: &[Step]) -> R
     ensures faultless { OnOk result (steps_fault tree.now (nodes_of list.now) plan.now (length plan.now) ≡ None) }
     ensures fault { IfErr result (λ fault. steps_fault tree.now (nodes_of list.now) plan.now (length plan.now) ≡ Some fault) }
 {
-    for place in 0..plan.len() {
-        if let Some(fault) = watch.fault_at(tree, list, plan, place) {
+    for position in 0..plan.len() {
+        if let Some(fault) = watch.fault_at(tree, list, plan, position) {
             return Err(fault);
         }
-        watch.take(tree, list, plan, place);
+        watch.take(tree, list, plan, position);
     }
     Ok(())
 }

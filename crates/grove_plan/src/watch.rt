@@ -85,22 +85,22 @@ impl Watch {
         }
     }
 
-    /// The first rule that the step at the place breaks.
+    /// The first rule that the step at the position breaks.
     pub fn fault_at(
         &self,
         tree: &Tree,
         list: &AccessList,
         plan: &[Step],
-        place: usize,
+        position: usize,
     ) -> Option<PlanFault>
         requires fits { AreNodes tree.now (nodes_of list.now) }
-        requires within { place < length plan.now }
+        requires within { position < length plan.now }
         requires few { length plan.now < 2 ^ 32 }
-        requires watched { IsWatched tree.now (lengths_of list.now) plan.now place self.now }
-        ensures { result ≡ step_fault tree.now (nodes_of list.now) plan.now place (slice_get plan.now place) }
+        requires watched { IsWatched tree.now (lengths_of list.now) plan.now position self.now }
+        ensures { result ≡ step_fault tree.now (nodes_of list.now) plan.now position (slice_get plan.now position) }
     {
-        let step = place as u32;
-        match plan[place] {
+        let step = position as u32;
+        match plan[position] {
             Step::Lock(node) => {
                 if node.number() >= tree.len() {
                     Some(PlanFault::Strange(step))
@@ -135,17 +135,17 @@ impl Watch {
         }
     }
 
-    /// Takes the step at the place, which breaks no rule.
-    pub fn take(&mut self, tree: &Tree, list: &AccessList, plan: &[Step], place: usize)
+    /// Takes the step at the position, which breaks no rule.
+    pub fn take(&mut self, tree: &Tree, list: &AccessList, plan: &[Step], position: usize)
         requires limits { IsWithinLimits tree.now }
         requires lengths { AreLengths (lengths_of list.now) }
-        requires within { place < length plan.now }
+        requires within { position < length plan.now }
         requires few { length plan.now < 2 ^ 32 }
-        requires faultless { step_fault tree.now (nodes_of list.now) plan.now place (slice_get plan.now place) ≡ None }
-        requires watched { IsWatched tree.now (lengths_of list.now) plan.now place self.old }
-        ensures { IsWatched tree.now (lengths_of list.now) plan.now (place + 1) self.new }
+        requires faultless { step_fault tree.now (nodes_of list.now) plan.now position (slice_get plan.now position) ≡ None }
+        requires watched { IsWatched tree.now (lengths_of list.now) plan.now position self.old }
+        ensures { IsWatched tree.now (lengths_of list.now) plan.now (position + 1) self.new }
     {
-        match plan[place] {
+        match plan[position] {
             Step::Lock(node) => {
                 self.holds[node.number() as usize] = Hold::Held;
                 self.later = true;

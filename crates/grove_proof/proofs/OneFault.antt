@@ -8,15 +8,15 @@ use Rattle.grove_plan.specs.declared.step.Step.{Step}
 use Rattle.grove_plan.specs.declared.fault.PlanFault.{PlanFault}
 use Rattle.grove_plan.specs.Plans.{IsLegal, cost}
 use Rattle.grove_plan.specs.Faults.{plan_fault_of}
-use Rattle.grove_plan.proofs.Verdicts.{legal_faultless}
+use Rattle.grove_plan.proofs.FaultlessIsLegal.{legal_faultless}
 use Rattle.grove_proof.specs.declared.flow.FlowRow.{FlowRow}
 use Rattle.grove_proof.specs.declared.fault.ProofFault.{ProofFault}
 use Rattle.grove_proof.specs.declared.fault.ProofFault.TheVariants as fault
 use Rattle.grove_proof.specs.Flows.{node_of, is_sign_ok, is_small, is_lock_balanced, is_release_balanced, IsCertificate}
 use Rattle.grove_proof.specs.Faults.{IsFirstDifference, IsFirstStranger, IsFirstBad, IsFault}
 use Rattle.grove_proof.specs.Laws.{FaultIsOne, CertifiedIsFaultless}
-use Rattle.grove_proof.proofs.Listed.{forced_lists_same}
-use Rattle.grove_proof.proofs.Faults.{bad_refutes, stranger_refutes, fault_refutes}
+use Rattle.grove_proof.proofs.ForcedList.{forced_lists_same}
+use Rattle.grove_proof.proofs.Verdicts.{bad_refutes, stranger_refutes, fault_refutes}
 
 -- a plan with a fault isn't legal
 plan_refutes : (rows : Rows) (nodes : List ℕ) (plan : List Step) (f : PlanFault) → plan_fault_of rows nodes plan ≡ Some f → IsLegal rows nodes plan → ⊥

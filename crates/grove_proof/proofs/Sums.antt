@@ -5,8 +5,8 @@ use Rattle.std.specs.Prelude.{map}
 use Rattle.std.specs.List.{slice_get, sum_by}
 use Rattle.std.proofs.lemmas.Option.{none-some, same_Some}
 use Rattle.std.proofs.lemmas.List.Sums.{sum_by-cons, sum_by-append}
-use Rattle.grove_tree.specs.Numbers.{sum_below, passing_below, alone}
-use Rattle.grove_tree.proofs.Counting.{sum_zero}
+use Rattle.grove_base.specs.Numbers.{sum_below, passing_below, alone}
+use Rattle.grove_base.proofs.Counting.{sum_zero}
 
 -- terms that agree
 pub sums_same : {X : Type 0} (f g : X → ℕ) (xs : List X) → ((i : ℕ) (x : X) → slice_get xs i ≡ Some x → f x ≡ g x) → sum_by f xs ≡ sum_by g xs
@@ -46,6 +46,7 @@ sums_times f c (x ∷ xs) = sum_by-cons (λ x. f x * c) x xs
     ∙ (ap (λ (s : ℕ). f x * c + s) (sums_times f c xs)
     ∙ (sym (add-mul (f x) (sum_by f xs) c) ∙ ap (λ (s : ℕ). s * c) (sym (sum_by-cons f x xs))))
 
+-- and a factor before it
 pub sums_scale : {X : Type 0} (c : ℕ) (f : X → ℕ) (xs : List X) → sum_by (λ x. c * f x) xs ≡ c * sum_by f xs
 sums_scale c f [] = sym (mul-zero c)
 sums_scale c f (x ∷ xs) = sum_by-cons (λ x. c * f x) x xs

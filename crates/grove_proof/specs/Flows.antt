@@ -1,9 +1,9 @@
 -- The certificate: amounts on the constraints of the forced nodes, judged by arithmetic alone.
 use Rattle.std.specs.Prelude.{◌≡◌, ℕ, ◌+◌, ◌*◌, ◌^◌, ◌==◌, nat_le, Bool, true, false, ◌&&◌, ◌||◌, List, length, slice_get, map, sum_by, Option, Some, None, if◌then◌else◌}
-use Rattle.grove_tree.specs.Numbers.{any_below}
+use Rattle.grove_base.specs.Numbers.{any_below}
 use Rattle.grove_tree.specs.Trees.{Rows, parent_of, weight_of, is_at}
 use Rattle.grove_access.specs.Slots.{slots_before}
-use Rattle.grove_access.specs.Spanned.{is_accessed, first_access, last_end}
+use Rattle.grove_access.specs.Forced.{is_accessed, first_access, last_end}
 use Rattle.grove_proof.specs.declared.flow.FlowRow.{FlowRow}
 use Rattle.grove_proof.specs.Forced.{IsForcedList}
 

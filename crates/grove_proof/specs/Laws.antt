@@ -2,10 +2,10 @@
 use Rattle.std.specs.Prelude.{◌≡◌, ◌≢◌, ℕ, ◌+◌, ◌≤◌, ◌↔◌, List}
 use Rattle.grove_tree.specs.Trees.{Rows, IsTree}
 use Rattle.grove_access.specs.Lists.{AreNodes}
-use Rattle.grove_access.specs.Spanned.{IsSpanned, spanned_nodes}
+use Rattle.grove_access.specs.Forced.{IsForcedByTree, forced_nodes}
 use Rattle.grove_plan.specs.declared.step.Step.{Step}
 use Rattle.grove_plan.specs.Plans.{IsLegal, IsLeast, IsForced, cost}
-use Rattle.grove_plan.specs.Slots.{LocksAtSlot, UnlocksAtSlot, lock_slot, release_slot}
+use Rattle.grove_plan.specs.Slots.{LocksAtSlot, UnlocksAtSlot, first_lock_slot, first_release_slot}
 use Rattle.grove_proof.specs.declared.flow.FlowRow.{FlowRow}
 use Rattle.grove_proof.specs.declared.fault.ProofFault.{ProofFault}
 use Rattle.grove_proof.specs.declared.fault.ProofFault.TheVariants.{Memory}
@@ -15,18 +15,18 @@ use Rattle.grove_proof.specs.Changes.{IsChangedOnce}
 use Rattle.grove_proof.specs.Flows.{gains, losses, Balances, IsCertificate}
 use Rattle.grove_proof.specs.Faults.{IsFault}
 
--- the forced nodes are the spanned ones
-abbrev pub ForcedAreSpanned : Type 0
-ForcedAreSpanned = (rows : Rows) (nodes : List ℕ) (node : ℕ) → IsTree rows → AreNodes rows nodes → IsForced rows nodes node ↔ IsSpanned rows nodes node
+-- the nodes that every legal plan locks are those that the tree tells
+abbrev pub ForcedIsByTree : Type 0
+ForcedIsByTree = (rows : Rows) (nodes : List ℕ) (node : ℕ) → IsTree rows → AreNodes rows nodes → IsForced rows nodes node ↔ IsForcedByTree rows nodes node
 
-abbrev pub ForcedListIsSpan : Type 0
-ForcedListIsSpan = (rows : Rows) (nodes list : List ℕ) → IsTree rows → AreNodes rows nodes → IsForcedList rows nodes list ↔ (list ≡ spanned_nodes rows nodes)
+abbrev pub ForcedListIsByTree : Type 0
+ForcedListIsByTree = (rows : Rows) (nodes list : List ℕ) → IsTree rows → AreNodes rows nodes → IsForcedList rows nodes list ↔ (list ≡ forced_nodes rows nodes)
 
 -- in every legal plan the slots of the forced nodes are there and meet the five constraints
 abbrev pub LegalMeetsFive : Type 0
 LegalMeetsFive = (rows : Rows) (nodes lengths : List ℕ) (plan : List Step) → IsTree rows → IsLegal rows nodes plan
     → MeetsFive rows nodes lengths plan
-    × ((node : ℕ) → IsSpanned rows nodes node → LocksAtSlot plan node (lock_slot plan node) × UnlocksAtSlot plan node (release_slot plan node))
+    × ((node : ℕ) → IsForcedByTree rows nodes node → LocksAtSlot plan node (first_lock_slot plan node) × UnlocksAtSlot plan node (first_release_slot plan node))
 
 -- the bound of rows that balance is at most the cost of every legal plan
 abbrev pub WeakDuality : Type 0

@@ -1,11 +1,9 @@
--- What the checker makes of a tree, a list and rows on its way.
+-- For the proofs alone: what the checker makes of a tree, a list and rows on its way.
 use Rattle.std.specs.Prelude.{◌≡◌, ◌≢◌, ◌⊎◌, ℕ, ◌<◌, ◌≤◌, ◌^◌, pos, Bool, true, List, length, slice_get, sum_by, Some, Result, Ok, Err, map, if◌then◌else◌}
-use Rattle.grove_tree.specs.Numbers.{any_below, least_below, last_below}
+use Rattle.grove_base.specs.Numbers.{any_below, least_below, last_below}
 use Rattle.grove_tree.specs.Trees.{Rows, parent_of, IsAbove, IsTree, is_at}
-use Rattle.grove_access.specs.Spanned.{is_spanned, spanned_nodes, names_at}
+use Rattle.grove_access.specs.Forced.{is_forced, forced_nodes, names_at}
 use Rattle.grove_access.specs.Lists.{AreNodes}
-use Rattle.grove_plan.specs.declared.fault.PlanFault.{PlanFault}
-use Rattle.grove_plan.specs.declared.fault.PlanFault.TheVariants as plan
 use Rattle.grove_plan.specs.declared.step.Step.{Step}
 use Rattle.grove_plan.specs.Plans.{IsLegal, cost}
 use Rattle.grove_proof.specs.declared.flow.FlowRow.{FlowRow}
@@ -43,10 +41,10 @@ pub record MarksWay (rows : Rows) (top from : ℕ) (old new : List Bool) : Type 
   pub kept : (v : ℕ) → IsMarked old v → IsMarked new v
   pub done : (v : ℕ) → IsAbove rows v from → IsAbove rows top v → IsMarked new v
 
--- the marked nodes are the spanned ones
-pub record MarksSpan (rows : Rows) (nodes : List ℕ) (marks : List Bool) : Type 0 where
+-- the marked nodes are the forced ones
+pub record MarksForced (rows : Rows) (nodes : List ℕ) (marks : List Bool) : Type 0 where
   pub size : length marks ≡ length rows
-  pub marked : (v : ℕ) → v < length rows → slice_get marks v ≡ Some (is_spanned rows nodes v)
+  pub marked : (v : ℕ) → v < length rows → slice_get marks v ≡ Some (is_forced rows nodes v)
 
 -- the first access and the end of the last, of a node, among the first n accesses
 pub record AreVisits (nodes : List ℕ) (n v : ℕ) (visits : Visits) : Type 0 where
@@ -83,13 +81,13 @@ test_of rows nodes flow Release row = is_release_balanced rows flow row
 abbrev pub AreInTree : Rows → List FlowRow → Type 0
 AreInTree rows flow = (i : ℕ) (row : FlowRow) → slice_get flow i ≡ Some row → row.node < length rows
 
--- rows whose nodes are the spanned ones, with what their tests read
+-- rows whose nodes are the forced ones, with what their tests read
 pub record IsLedger (rows : Rows) (nodes : List ℕ) (flow : List FlowRow) (visits : List Visits) (above held : List ℕ) : Type 0 where
   pub tree : IsTree rows
   pub fits : AreNodes rows nodes
   pub short : length nodes ≤ 64
   pub few : length flow < 2 ^ 32
-  pub listed : map node_of flow ≡ spanned_nodes rows nodes
+  pub listed : map node_of flow ≡ forced_nodes rows nodes
   pub visits_right : VisitsByNode rows nodes (length nodes) visits
   pub above_right : SumsByNode rows Above flow above
   pub above_bounded : AreBounded above
@@ -114,18 +112,6 @@ IsRowsFault rows nodes lengths flow sum (fault.ReleaseBalance i) =
     AllRows (is_sign_ok rows nodes flow) flow × AllRows is_small flow × AllRows (is_lock_balanced rows flow) flow × IsFirstBad (is_release_balanced rows flow) flow i
 IsRowsFault rows nodes lengths flow sum (fault.Value c b) = PassAll rows nodes flow × (c ≡ sum) × (b ≡ bound nodes lengths flow) × (bound nodes lengths flow ≢ pos sum)
 IsRowsFault rows nodes lengths flow sum fault.Memory = ⊥
-
--- a plan's fault as the checker's: want of memory is the outer one
-abbrev pub as_proof_fault : PlanFault → ProofFault
-as_proof_fault (plan.Strange s) = fault.Plan (plan.Strange s)
-as_proof_fault (plan.Relock s) = fault.Plan (plan.Relock s)
-as_proof_fault (plan.ParentNotHeld s) = fault.Plan (plan.ParentNotHeld s)
-as_proof_fault (plan.NotHeld s) = fault.Plan (plan.NotHeld s)
-as_proof_fault (plan.WrongAccess s) = fault.Plan (plan.WrongAccess s)
-as_proof_fault (plan.AccessNotHeld s) = fault.Plan (plan.AccessNotHeld s)
-as_proof_fault (plan.AccessMissing i) = fault.Plan (plan.AccessMissing i)
-as_proof_fault (plan.StillHeld v) = fault.Plan (plan.StillHeld v)
-as_proof_fault plan.Memory = fault.Memory
 
 -- what the checker answers
 abbrev pub IsVerdict : Rows → List ℕ → List ℕ → List Step → List FlowRow → Result ℕ ProofFault → Type 0

@@ -1,7 +1,7 @@
 ghost use Rattle.std.specs.Prelude.{◌≡◌, ◌==◌, ◌&&◌, ◌||◌, not, ℕ, ◌<◌, ◌≤◌, ◌*◌, ◌^◌, ℤ, pos, length, slice_get, map, Some, IfOk, MatchOption, MatchResult};
 ghost use Rattle.grove_tree.specs.Trees.{IsTree};
 ghost use Rattle.grove_access.specs.Lists.{AreNodes, nodes_of, lengths_of};
-ghost use Rattle.grove_access.specs.Spanned.{spanned_nodes};
+ghost use Rattle.grove_access.specs.Forced.{forced_nodes};
 ghost use Rattle.grove_proof.specs.declared.flow.FlowRow.{FlowRow};
 ghost use Rattle.grove_proof.specs.Flows.{node_of, is_sign_ok, is_small, is_lock_balanced, is_release_balanced, AllRows, gains, losses};
 ghost use Rattle.grove_proof.specs.Faults.{IsFirstBad, bound};
@@ -47,7 +47,7 @@ impl<'a> Ledger<'a> {
         requires tree { IsTree tree.now }
         requires fits { AreNodes tree.now (nodes_of list.now) }
         requires few { length rows.now < 2 ^ 32 }
-        requires listed { map node_of rows.now ≡ spanned_nodes tree.now (nodes_of list.now) }
+        requires listed { map node_of rows.now ≡ forced_nodes tree.now (nodes_of list.now) }
         ensures right { IfOk result (λ ledger. IsRight ledger) }
         ensures tree { IfOk result (λ ledger. ledger.tree.now ≡ tree.now) }
         ensures list { IfOk result (λ ledger. ledger.list.now ≡ list.now) }

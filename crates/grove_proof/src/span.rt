@@ -1,10 +1,10 @@
 ghost use Rattle.std.specs.Prelude.{◌≡◌, ℕ, ◌<◌, ◌≤◌, ◌^◌, length, map, IfOk, MatchOption};
 ghost use Rattle.grove_tree.specs.Trees.{IsTree, IsAbove};
 ghost use Rattle.grove_access.specs.Lists.{nodes_of, AreNodes};
-ghost use Rattle.grove_access.specs.Spanned.{IsSpanned, spanned_nodes};
+ghost use Rattle.grove_access.specs.Forced.{IsForcedByTree, forced_nodes};
 ghost use Rattle.grove_proof.specs.Flows.{node_of};
 ghost use Rattle.grove_proof.specs.Faults.{IsFirstDifference};
-ghost use Rattle.grove_proof.specs.Tables.{IsMeet, IsLowest, IsMarked, MarksWay, MarksSpan};
+ghost use Rattle.grove_proof.specs.Tables.{IsMeet, IsLowest, IsMarked, MarksWay, MarksForced};
 
 use crate::FlowRow;
 use grove_access::AccessList;
@@ -76,8 +76,8 @@ fn mark_ways(tree: &Tree, list: &AccessList, top: Node, marks: &mut [bool])
     requires lowest { IsLowest tree.now (nodes_of list.now) (length list.now) top }
     requires size { length marks.old ≡ length tree.now }
     requires none { (v : ℕ) → IsMarked marks.old v → ⊥ }
-    ensures sound { (v : ℕ) → IsMarked marks.new v → IsSpanned tree.now (nodes_of list.now) v }
-    ensures complete { (v : ℕ) → IsSpanned tree.now (nodes_of list.now) v → IsMarked marks.new v }
+    ensures sound { (v : ℕ) → IsMarked marks.new v → IsForcedByTree tree.now (nodes_of list.now) v }
+    ensures complete { (v : ℕ) → IsForcedByTree tree.now (nodes_of list.now) v → IsMarked marks.new v }
 {
     for access in 0..list.len() {
         mark_way(tree, top, list.get(access).node, marks);
@@ -88,7 +88,7 @@ fn mark_ways(tree: &Tree, list: &AccessList, top: Node, marks: &mut [bool])
 fn forced_marks(alloc: Global, tree: &Tree, list: &AccessList) -> Result<Vec<bool>, AllocError>
     requires tree { IsTree tree.now }
     requires fits { AreNodes tree.now (nodes_of list.now) }
-    ensures { IfOk result (λ marks. MarksSpan tree.now (nodes_of list.now) marks.items) }
+    ensures { IfOk result (λ marks. MarksForced tree.now (nodes_of list.now) marks.items) }
 {
     let mut marks = vec![in alloc; false; tree.len() as usize]?;
     if list.len() > 0 {
@@ -102,7 +102,7 @@ fn forced_marks(alloc: Global, tree: &Tree, list: &AccessList) -> Result<Vec<boo
 pub fn forced_nodes(alloc: Global, tree: &Tree, list: &AccessList) -> Result<Vec<Node>, AllocError>
     requires tree { IsTree tree.now }
     requires fits { AreNodes tree.now (nodes_of list.now) }
-    ensures { IfOk result (λ span. span.items ≡ spanned_nodes tree.now (nodes_of list.now)) }
+    ensures { IfOk result (λ span. span.items ≡ forced_nodes tree.now (nodes_of list.now)) }
 {
     let marks = forced_marks(alloc, tree, list)?;
     let mut span = vec![in alloc]?;

@@ -1,9 +1,9 @@
-ghost use Rattle.grove_proof.specs.Laws.{ForcedAreSpanned, ForcedListIsSpan, LegalMeetsFive, WeakDuality, CertifiedIsLeast, OneChangeIsRefused, FaultIsOne, CertifiedIsFaultless};
+ghost use Rattle.grove_proof.specs.Laws.{ForcedIsByTree, ForcedListIsByTree, LegalMeetsFive, WeakDuality, CertifiedIsLeast, OneChangeIsRefused, FaultIsOne, CertifiedIsFaultless};
 
 /// The laws that `check` rests on, proved of every tree, list, plan and flow. The function does nothing.
 pub fn laws()
-    ensures forced { ForcedAreSpanned }
-    ensures span { ForcedListIsSpan }
+    ensures forced { ForcedIsByTree }
+    ensures span { ForcedListIsByTree }
     ensures constraints { LegalMeetsFive }
     ensures bound { WeakDuality }
     ensures least { CertifiedIsLeast }

@@ -5,33 +5,33 @@ use Rattle.std.proofs.lemmas.Bool.{both_ways, cond-true, cond-false}
 use Rattle.grove_tree.specs.Trees.{Rows}
 use Rattle.grove_plan.specs.declared.step.Step.{Step}
 use Rattle.grove_plan.specs.declared.step.Step.TheVariants.{Lock, Unlock, Access}
-use Rattle.grove_plan.proofs.Holding.{held_not, unlock_no_lock}
+use Rattle.grove_plan.proofs.Held.{held_not, unlock_no_lock}
 use Rattle.grove_core.specs.declared.job.Job.{Job}
 use Rattle.grove_core.specs.declared.event.Event.{Event}
 use Rattle.grove_core.specs.declared.event.Event.TheVariants.{Take, Mark}
 use Rattle.grove_core.specs.declared.fault.StepFault.{StepFault}
 use Rattle.grove_core.specs.declared.fault.StepFault.TheVariants.{NoTxn, Ended, Blocked, NotBlocked, Marked}
-use Rattle.grove_core.specs.Runs.{plan_of, place, next_step, holds, is_marked, AllLegal, MayHappen, IsBlocked, IsRefused}
+use Rattle.grove_core.specs.Runs.{plan_of, steps_done, next_step, holds, is_marked, AllLegal, MayHappen, IsBlocked, IsRefused}
 use Rattle.grove_core.specs.Kept.{State, past_of}
 use Rattle.grove_core.specs.Carried.{IsOf}
 use Rattle.grove_access.specs.Carries.{Carried, known_at, carry_settled}
-use Rattle.grove_access.proofs.Outside.{length-settled, none_found}
-use Rattle.grove_core.proofs.Timing.{within_jobs}
+use Rattle.grove_access.proofs.CarriedNodes.{length-settled, none_found}
+use Rattle.grove_core.proofs.Precedence.{within_jobs}
 use Rattle.grove_run.specs.Books.{after_event, marked, step_after, HasNoStep, IsBlockedAt}
 
 -- a job doesn't hold the node that it is to lock, and holds the one that it is to unlock
 pub free_before : (rows : Rows) (jobs : List Job) (past : List Event) (t v : ℕ) → AllLegal rows jobs → next_step jobs past t ≡ Some (Lock v) → holds jobs past t v ≡ false
-free_before rows jobs past t v legal next = held_not (plan_of jobs t) v (place past t) (λ lock.
-    let same : lock.at ≡ place past t = (legal t (within_jobs jobs t (place past t) (Lock v) next)).obeys.once lock.at (place past t) v lock.is_lock next in
-    let before : lock.at < place past t = lock.before in
+free_before rows jobs past t v legal next = held_not (plan_of jobs t) v (steps_done past t) (λ lock.
+    let same : lock.at ≡ steps_done past t = (legal t (within_jobs jobs t (steps_done past t) (Lock v) next)).obeys.once lock.at (steps_done past t) v lock.is_lock next in
+    let before : lock.at < steps_done past t = lock.before in
     absurd (omega arith))
 
 pub held_before : (rows : Rows) (jobs : List Job) (past : List Event) (t v : ℕ) → AllLegal rows jobs → next_step jobs past t ≡ Some (Unlock v) → holds jobs past t v ≡ true
-held_before rows jobs past t v legal next = (legal t (within_jobs jobs t (place past t) (Unlock v) next)).obeys.unlocks_held (place past t) v next
+held_before rows jobs past t v legal next = (legal t (within_jobs jobs t (steps_done past t) (Unlock v) next)).obeys.unlocks_held (steps_done past t) v next
 
 -- the node of a lock is one of the tree
 pub lock_within : (rows : Rows) (jobs : List Job) (past : List Event) (t v : ℕ) → AllLegal rows jobs → next_step jobs past t ≡ Some (Lock v) → v < length rows
-lock_within rows jobs past t v legal next = (legal t (within_jobs jobs t (place past t) (Lock v) next)).obeys.locks_nodes (place past t) v next
+lock_within rows jobs past t v legal next = (legal t (within_jobs jobs t (steps_done past t) (Lock v) next)).obeys.locks_nodes (steps_done past t) v next
 
 no_mark : (t u : ℕ) → Take t ≡ Mark u → ⊥
 no_mark t u e = absurd (cc)
@@ -42,7 +42,7 @@ no_take t u e = absurd (cc)
 -- a step that is refused is blocked
 pub refused_blocked : (jobs : List Job) (past : List Event) (t : ℕ) (step : Step) (fault : StepFault) → next_step jobs past t ≡ Some step → IsRefused jobs past (Take t) fault
     → (holder : ℕ) × IsBlocked jobs past t holder
-refused_blocked jobs past t step NoTxn next refused = let lt : t < length jobs = within_jobs jobs t (place past t) step next in let le : length jobs ≤ t = refused in absurd (omega arith)
+refused_blocked jobs past t step NoTxn next refused = let lt : t < length jobs = within_jobs jobs t (steps_done past t) step next in let le : length jobs ≤ t = refused in absurd (omega arith)
 refused_blocked jobs past t step Ended next refused = absurd (none-some step (sym refused.1 ∙ next))
 refused_blocked jobs past t step (Blocked holder) next refused = (holder, refused.1)
 refused_blocked jobs past t step NotBlocked next refused = absurd (no_mark t t refused.0)
@@ -57,7 +57,7 @@ unlock_done jobs past t v fault next refused =
 -- a mark that is refused was there
 mark_refused : (core : State) (t : ℕ) (fault : StepFault) → IsBlockedAt core t → IsRefused core.jobs (past_of core) (Mark t) fault → is_marked (past_of core) t ≡ true
 mark_refused core t NoTxn blocked refused =
-    let lt : t < length core.jobs = within_jobs core.jobs t (place (past_of core) t) (Lock blocked.1.0) blocked.1.1 in let le : length core.jobs ≤ t = refused in absurd (omega arith)
+    let lt : t < length core.jobs = within_jobs core.jobs t (steps_done (past_of core) t) (Lock blocked.1.0) blocked.1.1 in let le : length core.jobs ≤ t = refused in absurd (omega arith)
 mark_refused core t Ended blocked refused = absurd (none-some (Lock blocked.1.0) (sym refused.1 ∙ blocked.1.1))
 mark_refused core t (Blocked holder) blocked refused = absurd (no_take t t refused.0)
 mark_refused core t NotBlocked blocked refused =
@@ -91,9 +91,9 @@ put_read carry new v value read put is = put ∙ ap (λ (x : ℤ). record carry 
 
 -- the step after the entries, as it is read
 pub step_read : (core : State) (carry : Carried) (t n : ℕ) (found : Option Step) → t ≡ carry.txn → n ≡ length carry.entries
-    → found ≡ slice_get (plan_of core.jobs t) (place (past_of core) t + n) → found ≡ step_after core carry
+    → found ≡ slice_get (plan_of core.jobs t) (steps_done (past_of core) t + n) → found ≡ step_after core carry
 step_read core carry t n found e f is =
-    is ∙ ap (λ (k : ℕ). slice_get (plan_of core.jobs k) (place (past_of core) k + n)) e ∙ ap (λ (k : ℕ). slice_get (plan_of core.jobs carry.txn) (place (past_of core) carry.txn + k)) f
+    is ∙ ap (λ (k : ℕ). slice_get (plan_of core.jobs k) (steps_done (past_of core) k + n)) e ∙ ap (λ (k : ℕ). slice_get (plan_of core.jobs carry.txn) (steps_done (past_of core) carry.txn + k)) f
 
 -- a step of a carry that isn't foreign has room
 pub has_room : (core : State) (carry settled : Carried) (step : Step) → settled ≡ carry_settled carry → Some step ≡ step_after core carry → (HasNoStep carry (step_after core carry) → ⊥)

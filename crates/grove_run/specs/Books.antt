@@ -6,7 +6,7 @@ use Rattle.grove_plan.specs.declared.step.Step.{Step}
 use Rattle.grove_plan.specs.declared.step.Step.TheVariants.{Lock, Unlock, Access}
 use Rattle.grove_core.specs.declared.event.Event.{Event}
 use Rattle.grove_core.specs.declared.event.Event.TheVariants.{Take, Mark}
-use Rattle.grove_core.specs.Runs.{plan_of, place, is_marked, IsBlocked}
+use Rattle.grove_core.specs.Runs.{plan_of, steps_done, is_marked, IsBlocked}
 use Rattle.grove_core.specs.Kept.{State, past_of}
 use Rattle.grove_core.specs.Carried.{records_of, IsOf, after_steps}
 use Rattle.grove_run.specs.declared.steps.CarryStep.{CarryStep}
@@ -30,7 +30,7 @@ marked core t = if is_marked (past_of core) t then core else after_event core (M
 
 -- the step after the entries of a carry
 abbrev pub step_after : State → Carried → Option Step
-step_after core carry = slice_get (plan_of core.jobs carry.txn) (place (past_of core) carry.txn + length carry.entries)
+step_after core carry = slice_get (plan_of core.jobs carry.txn) (steps_done (past_of core) carry.txn + length carry.entries)
 
 -- the step can't be done with the carry: it is an access, or a lock for which there is no room
 abbrev pub HasNoStep : Carried → Option Step → Type 0

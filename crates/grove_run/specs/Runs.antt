@@ -1,5 +1,7 @@
 -- Batches of jobs, brought to a finished run.
-use Rattle.std.specs.Prelude.{◌≡◌, ℕ, ℤ, ⊤, List, length, slice_get, Some}
+use Rattle.std.specs.Prelude.{◌≡◌, ℕ, ◌==◌, ℤ, ⊤, List, map}
+use Rattle.std.specs.List.{position_or_len}
+use Rattle.grove_base.specs.Numbers.{numbers_below}
 use Rattle.grove_tree.specs.Trees.{Rows}
 use Rattle.grove_core.specs.declared.job.Job.{Job}
 use Rattle.grove_core.specs.declared.fault.OpenFault.{OpenFault}
@@ -31,7 +33,6 @@ pub record FinishedState : Type 0 where
   pub core : State
   pub order : List ℕ
 
--- for each of so many jobs its place in an order
-pub record ArePlaces (order : List ℕ) (jobs : ℕ) (places : List ℕ) : Type 0 where
-  pub all : length places ≡ jobs
-  pub placed : (place t : ℕ) → slice_get order place ≡ Some t → slice_get places t ≡ Some place
+-- the position of each of so many jobs in an order
+abbrev pub places_of : List ℕ → ℕ → List ℕ
+places_of order jobs = map (λ job. position_or_len (λ other. other == job) order) (numbers_below jobs)

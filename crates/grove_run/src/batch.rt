@@ -1,11 +1,12 @@
 ghost use Rattle.std.specs.Prelude.{◌≡◌, ◌≤◌, length, IfOk, IfErr};
-ghost use Rattle.grove_core.specs.Runs.{IsFinished};
+ghost use Rattle.grove_core.specs.Runs.{IsRun, IsFinished};
 ghost use Rattle.grove_core.specs.Orders.{placement_order};
 ghost use Rattle.grove_core.specs.Laws.{IsEachOnce, IsSerialBy};
 ghost use Rattle.grove_core.specs.Kept.{past_of};
 ghost use Rattle.grove_core.specs.Openings.{AllFit};
 ghost use Rattle.grove_run.specs.Runs.{IsRunFault, IsCoreOf};
 
+use crate::bells::Bells;
 use crate::carries::carries_of;
 use crate::register::{Batch, Register};
 use crate::working::work_all;
@@ -15,7 +16,7 @@ use grove_core::{Core, Job, serial_order_into};
 use grove_tree::{Gate, Tree};
 use std::alloc::Global;
 use std::marker::Brand;
-use std::sync::{Condvar, Mutex, Wait};
+use std::sync::{Mutex, Wait};
 use std::thread::Threads;
 
 /// Brings the jobs to a finished run over copies of the records, by so many threads. Before the first try of each step a
@@ -33,10 +34,11 @@ pub fn run_batch<'a, R: Threads + Wait + Sync, G: Gate + Sync>(
     requires records { length records.now ≡ length tree.now }
     requires few { length jobs.now ≤ 256 }
     ensures batch { IfOk result (λ finished. IsCoreOf tree.now jobs.now records.now finished.core) }
-    ensures ended { IfOk result (λ finished. IsFinished finished.core.jobs (past_of finished.core)) }
-    ensures order { IfOk result (λ finished. finished.order ≡ placement_order finished.core.tree finished.core.jobs (past_of finished.core)) }
-    ensures once { IfOk result (λ finished. IsEachOnce finished.order (length finished.core.jobs)) }
-    ensures serial { IfOk result (λ finished. IsSerialBy finished.order finished.core.jobs finished.core.opening (past_of finished.core)) }
+    ensures run { IfOk result (λ finished. IsRun jobs.now (past_of finished.core)) }
+    ensures ended { IfOk result (λ finished. IsFinished jobs.now (past_of finished.core)) }
+    ensures order { IfOk result (λ finished. finished.order ≡ placement_order tree.now jobs.now (past_of finished.core)) }
+    ensures once { IfOk result (λ finished. IsEachOnce finished.order (length jobs.now)) }
+    ensures serial { IfOk result (λ finished. IsSerialBy finished.order jobs.now records.now (past_of finished.core)) }
     ensures fault { IfErr result (λ fault. IsRunFault tree.now jobs.now fault) }
 {
     run_as::<Brand, R, G>(rt, alloc, tree, records, jobs, workers, gate)
@@ -58,23 +60,23 @@ fn run_as<'a, B: Batch + Send + Sync, R: Threads + Wait + Sync, G: Gate + Sync>(
     requires jobs { jobs.now ≡ B.jobs }
     requires opening { records.now ≡ B.opening }
     ensures batch { IfOk result (λ finished. IsCoreOf B.tree B.jobs B.opening finished.core) }
-    ensures ended { IfOk result (λ finished. IsFinished finished.core.jobs (past_of finished.core)) }
-    ensures order { IfOk result (λ finished. finished.order ≡ placement_order finished.core.tree finished.core.jobs (past_of finished.core)) }
-    ensures once { IfOk result (λ finished. IsEachOnce finished.order (length finished.core.jobs)) }
-    ensures serial { IfOk result (λ finished. IsSerialBy finished.order finished.core.jobs finished.core.opening (past_of finished.core)) }
-    ensures fault { IfErr result (λ fault. IsRunFault tree.now jobs.now fault) }
+    ensures run { IfOk result (λ finished. IsRun B.jobs (past_of finished.core)) }
+    ensures ended { IfOk result (λ finished. IsFinished B.jobs (past_of finished.core)) }
+    ensures order { IfOk result (λ finished. finished.order ≡ placement_order B.tree B.jobs (past_of finished.core)) }
+    ensures once { IfOk result (λ finished. IsEachOnce finished.order (length B.jobs)) }
+    ensures serial { IfOk result (λ finished. IsSerialBy finished.order B.jobs B.opening (past_of finished.core)) }
+    ensures fault { IfErr result (λ fault. IsRunFault B.tree B.jobs fault) }
 {
     let core = Core::open(alloc, tree, records, jobs)?;
     let mut order = Vec::with_capacity(alloc, jobs.len())?;
-    let carries = Mutex::new(carries_of(alloc, jobs)?);
-    let register = Mutex::new(Register::<B>::new(Book::open(core)));
-    let moved = Condvar::new();
+    let carries = carries_of(alloc, jobs)?;
+    let register = Mutex::new(Register::<B>::new(Book::open(core), carries));
+    let bells = Bells::new();
     work_all(
         rt,
         jobs,
         &register,
-        &moved,
-        &carries,
+        &bells,
         workers.min(jobs.len()),
         gate,
     );

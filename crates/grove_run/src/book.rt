@@ -1,7 +1,7 @@
 ghost use Rattle.std.specs.Prelude.{◌≡◌, ◌<◌, ◌≤◌, ◌+◌, [], length, true, false, Some, None, IfSome, IfNone};
 ghost use Rattle.grove_access.specs.Carries.{carry_settled};
 ghost use Rattle.grove_plan.specs.declared.step.Step.{Step as PlanStep};
-ghost use Rattle.grove_core.specs.Runs.{next_step, MayHappen};
+ghost use Rattle.grove_core.specs.Runs.{next_step, AllLegal, MayHappen};
 ghost use Rattle.grove_core.specs.Kept.{past_of};
 ghost use Rattle.grove_core.specs.Carried.{IsOf};
 ghost use Rattle.grove_run.specs.Books.{after_event, marked, core_taken, step_after, HasNoStep, IsForeign, IsBlockedAt, Moved, IsDone};
@@ -91,6 +91,7 @@ impl<'a> Book<'a> {
         ensures ended { result ≡ CarryStep.Ended → (step_after self.old.core carry.old ≡ None) × (self.new.core ≡ core_taken self.old.core carry.old) × (carry.new ≡ carry_settled carry.old) }
         ensures stepped { result ≡ CarryStep.Stepped → (step : PlanStep) × (step_after self.old.core carry.old ≡ Some step) × (self.new.core ≡ after_event (core_taken self.old.core carry.old) (Event.Take carry.old.txn)) × Moved (core_taken self.old.core carry.old) (carry_settled carry.old) step carry.new }
         ensures blocked { result ≡ CarryStep.Blocked → IsBlockedAt (core_taken self.old.core carry.old) carry.old.txn × (self.new.core ≡ marked (core_taken self.old.core carry.old) carry.old.txn) × (carry.new ≡ carry_settled carry.old) }
+        ensures stays { (result ≡ CarryStep.Foreign → ⊥) → IsOf self.new.core carry.new }
     {
         if is_foreign(&self.core, carry) {
             return CarryStep::Foreign;
@@ -137,8 +138,11 @@ fn do_step(core: &mut Core, carry: &mut Carry, step: Step) -> CarryStep
     requires settled { carry.old.entries ≡ [] }
     requires next { next_step core.old.jobs (past_of core.old) carry.old.txn ≡ Some step }
     requires room { HasNoStep carry.old (Some step) → ⊥ }
-    ensures { IsDone core.old carry.old step result core.new carry.new }
+    ensures done { IsDone core.old carry.old step result core.new carry.new }
+    ensures stays { IsOf core.new carry.new }
 {
+    let _ = core.jobs();
+    let _ = carry.txn();
     match step {
         Step::Lock(node) => lock(core, carry, node),
         Step::Unlock(node) => unlock(core, carry, node),
@@ -147,12 +151,12 @@ fn do_step(core: &mut Core, carry: &mut Carry, step: Step) -> CarryStep
 }
 
 fn lock(core: &mut Core, carry: &mut Carry, node: Node) -> CarryStep
+    requires legal { AllLegal core.old.tree core.old.jobs }
     requires of { IsOf core.old carry.old }
     requires next { next_step core.old.jobs (past_of core.old) carry.old.txn ≡ Some (Step.Lock node) }
     requires room { length carry.old.known ≡ carry.old.most_nodes → ⊥ }
     ensures { IsDone core.old carry.old (Step.Lock node) result core.new carry.new }
 {
-    let _ = core.jobs();
     let txn = carry.txn();
     let value = core.value(node);
     match core.step(Event::Take(txn)) {
@@ -168,12 +172,12 @@ fn lock(core: &mut Core, carry: &mut Carry, node: Node) -> CarryStep
 }
 
 fn unlock(core: &mut Core, carry: &mut Carry, node: Node) -> CarryStep
+    requires legal { AllLegal core.old.tree core.old.jobs }
     requires of { IsOf core.old carry.old }
     requires settled { carry.old.entries ≡ [] }
     requires next { next_step core.old.jobs (past_of core.old) carry.old.txn ≡ Some (Step.Unlock node) }
     ensures { IsDone core.old carry.old (Step.Unlock node) result core.new carry.new }
 {
-    let _ = core.jobs();
     let _ = core.step(Event::Take(carry.txn()));
     let _ = carry.give(node);
     CarryStep::Stepped

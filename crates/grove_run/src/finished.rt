@@ -1,6 +1,6 @@
 ghost use Rattle.std.specs.Prelude.{◌≡◌, ◌≤◌, length, IfOk};
-ghost use Rattle.grove_run.specs.Runs.{ArePlaces};
-ghost use Rattle.grove_core.specs.Runs.{IsFinished};
+ghost use Rattle.grove_run.specs.Runs.{places_of};
+ghost use Rattle.grove_core.specs.Runs.{IsRun, IsFinished};
 ghost use Rattle.grove_core.specs.Orders.{placement_order};
 ghost use Rattle.grove_core.specs.Laws.{IsEachOnce, IsSerialBy};
 ghost use Rattle.grove_core.specs.Kept.{past_of};
@@ -19,7 +19,7 @@ pub struct Finished<'a> {
 
 impl<'a> Model for Finished<'a> {
     ghost use Rattle.std.specs.Prelude.{◌≡◌, ◌≤◌, length};
-    ghost use Rattle.grove_core.specs.Runs.{IsFinished};
+    ghost use Rattle.grove_core.specs.Runs.{IsRun, IsFinished};
     ghost use Rattle.grove_core.specs.Orders.{placement_order};
     ghost use Rattle.grove_core.specs.Laws.{IsEachOnce, IsSerialBy};
     ghost use Rattle.grove_core.specs.Kept.{past_of};
@@ -29,11 +29,12 @@ impl<'a> Model for Finished<'a> {
 
     ghost view = { λ finished. record { core = finished.core; order = finished.order.items } };
 
-    ghost invariant = { λ finished. IsFinished finished.core.jobs (past_of finished.core) × (finished.order.items ≡ placement_order finished.core.tree finished.core.jobs (past_of finished.core)) × IsEachOnce finished.order.items (length finished.core.jobs) × IsSerialBy finished.order.items finished.core.jobs finished.core.opening (past_of finished.core) × (length finished.order.items ≤ 256) };
+    ghost invariant = { λ finished. IsRun finished.core.jobs (past_of finished.core) × IsFinished finished.core.jobs (past_of finished.core) × (finished.order.items ≡ placement_order finished.core.tree finished.core.jobs (past_of finished.core)) × IsEachOnce finished.order.items (length finished.core.jobs) × IsSerialBy finished.order.items finished.core.jobs finished.core.opening (past_of finished.core) × (length finished.order.items ≤ 256) };
 }
 
 impl<'a> Finished<'a> {
     pub(crate) fn new(core: Core<'a>, order: Vec<u32>) -> Finished<'a>
+        requires run { IsRun core.jobs (past_of core) }
         requires finished { IsFinished core.jobs (past_of core) }
         requires order { order.items ≡ placement_order core.tree core.jobs (past_of core) }
         requires once { IsEachOnce order.items (length core.jobs) }
@@ -48,6 +49,7 @@ impl<'a> Finished<'a> {
     /// The core of the run.
     pub fn core(&self) -> &Core<'a>
         ensures core { result.now ≡ self.now.core }
+        ensures run { IsRun self.now.core.jobs (past_of self.now.core) }
         ensures finished { IsFinished self.now.core.jobs (past_of self.now.core) }
         ensures serial { IsSerialBy self.now.order self.now.core.jobs self.now.core.opening (past_of self.now.core) }
     {
@@ -64,9 +66,9 @@ impl<'a> Finished<'a> {
         &self.order
     }
 
-    /// For each job its place in the order.
+    /// For each job its position in the order.
     pub fn places(&self, alloc: Global) -> Result<Vec<u32>, NoMemory>
-        ensures { IfOk result (λ places. ArePlaces self.now.order (length self.now.core.jobs) places.items) }
+        ensures { IfOk result (λ places. places.items ≡ places_of self.now.order (length self.now.core.jobs)) }
     {
         let order = self.order();
         let mut places = vec![in alloc; 0; self.core().jobs().len()]?;

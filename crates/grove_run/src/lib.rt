@@ -8,12 +8,11 @@ pub use finished::Finished;
 pub use steps::{BookStep, CarryStep};
 
 mod batch;
+mod bells;
 mod book;
 mod carries;
 mod fault;
 mod finished;
 mod register;
 mod steps;
-#[cfg(test)]
-mod tests;
 mod working;

@@ -32,7 +32,9 @@ impl Batch for Brand {
 #[derive(Drop)]
 pub struct Register<'a, B: Batch> {
     book: Book<'a>,
-    /// Some carry wasn't of its job.
+    /// The carry of each job, until it is claimed.
+    carries: Vec<Option<Carry>>,
+    /// Some worker can't go on: its carry wasn't of its job.
     foreign: bool,
     of: PhantomData<B>,
 }
@@ -49,36 +51,37 @@ impl<'a, B: Batch> Model for Register<'a, B> {
 }
 
 impl<'a, B: Batch> Register<'a, B> {
-    pub fn new(book: Book<'a>) -> Self
+    pub fn new(book: Book<'a>, carries: Vec<Option<Carry>>) -> Self
         requires { IsCoreOf B.tree B.jobs B.opening book.core }
     {
         Register {
             book,
+            carries,
             foreign: false,
             of: PhantomData,
         }
     }
 
-    /// Claims the lowest job that isn't claimed.
-    pub fn claim(&mut self) -> Option<u32> {
-        self.book.claim()
-    }
-
-    /// Does the step of a carry, and remembers whether it was foreign.
-    pub fn carry_step(&mut self, carry: &mut Carry) -> CarryStep {
-        let step = self.book.carry_step(carry);
-        if step == CarryStep::Foreign {
-            self.foreign = true;
+    /// Claims the lowest job that isn't claimed, and takes its carry out.
+    pub fn claim(&mut self) -> Option<Carry> {
+        let txn = self.book.claim()?;
+        match self.carries.get_mut(txn as usize) {
+            Some(carry) => carry.take(),
+            None => None,
         }
-        step
     }
 
-    /// Was some carry not of its job?
+    /// Does the step of a carry.
+    pub fn carry_step(&mut self, carry: &mut Carry) -> CarryStep {
+        self.book.carry_step(carry)
+    }
+
+    /// Can some worker not go on?
     pub fn is_foreign(&self) -> bool {
         self.foreign
     }
 
-    /// Remembers that some carry wasn't there.
+    /// Remembers that a worker can't go on, since its carry isn't of its job.
     pub fn set_foreign(&mut self) {
         self.foreign = true;
     }
@@ -89,6 +92,7 @@ impl<'a, B: Batch> Register<'a, B> {
     {
         let Register {
             book,
+            carries: _,
             foreign: _,
             of: _,
         } = self;

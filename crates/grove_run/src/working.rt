@@ -1,10 +1,11 @@
 use crate::CarryStep;
+use crate::bells::Bells;
 use crate::register::{Batch, Register};
 use grove_access::Carry;
 use grove_core::Job;
 use grove_plan::Step;
-use grove_tree::Gate;
-use std::sync::{Condvar, Mutex, Wait};
+use grove_tree::{Gate, Node};
+use std::sync::{Mutex, Wait};
 use std::thread;
 use std::thread::Threads;
 
@@ -13,21 +14,20 @@ pub fn work_all<'a, 'e, B: Batch + Send + Sync, R: Threads + Wait + Sync, G: Gat
     rt: &'e R,
     jobs: &'a [Job],
     register: &'e Mutex<Register<'a, B>>,
-    moved: &'e Condvar,
-    carries: &'e Mutex<Vec<Option<Carry>>>,
+    bells: &'e Bells,
     workers: usize,
     gate: &'e G,
 ) {
     thread::scope(thread::scope_env(), rt, move |scope| {
         for _ in 1..workers {
             if scope
-                .spawn(move || work(rt, jobs, register, moved, carries, gate))
+                .spawn(move || work(rt, jobs, register, bells, gate))
                 .is_err()
             {
                 break;
             }
         }
-        work(rt, jobs, register, moved, carries, gate);
+        work(rt, jobs, register, bells, gate);
     });
 }
 
@@ -36,82 +36,84 @@ fn work<'a, B: Batch, R: Wait, G: Gate>(
     rt: &R,
     jobs: &'a [Job],
     register: &Mutex<Register<'a, B>>,
-    moved: &Condvar,
-    carries: &Mutex<Vec<Option<Carry>>>,
+    bells: &Bells,
     gate: &G,
 ) {
     for _ in rt.forever() {
         let claimed = register.lock(rt).claim();
-        let Some(txn) = claimed else {
+        let Some(mut carry) = claimed else {
             break;
         };
-        let Some(job) = jobs.get(txn as usize) else {
+        let Some(job) = jobs.get(carry.txn() as usize) else {
             break;
         };
-        let Some(mut carry) = taken_out(rt, carries, txn) else {
-            register.lock(rt).set_foreign();
-            moved.notify_all();
-            break;
-        };
-        if !do_job(rt, job, txn, register, moved, &mut carry, gate) {
+        if !do_job(rt, job, register, bells, &mut carry, gate) {
             break;
         }
     }
-}
-
-// Takes a job's carry out.
-fn taken_out<R: Wait>(rt: &R, carries: &Mutex<Vec<Option<Carry>>>, txn: u32) -> Option<Carry> {
-    carries.lock(rt).get_mut(txn as usize)?.take()
 }
 
 // Does a job: accesses on the records that it has out, and locks and unlocks in the register. False where it can't go on.
 fn do_job<'a, B: Batch, R: Wait, G: Gate>(
     rt: &R,
     job: &Job,
-    txn: u32,
     register: &Mutex<Register<'a, B>>,
-    moved: &Condvar,
+    bells: &Bells,
     carry: &mut Carry,
     gate: &G,
 ) -> bool {
+    let txn = carry.txn();
     for (place, step) in job.plan.steps().iter().enumerate() {
         gate.at(txn, place as u32);
-        match *step {
+        let done = match *step {
             Step::Access(access) => {
                 let _ = carry.apply(&job.list, access);
+                true
             }
-            Step::Lock(_) | Step::Unlock(_) => {
-                if !pass(rt, register, moved, carry) {
-                    return false;
-                }
-            }
+            Step::Lock(node) => pass(rt, register, bells, carry, node),
+            Step::Unlock(node) => let_go(rt, register, bells, carry, node),
+        };
+        if !done {
+            return false;
         }
     }
     true
 }
 
-// Does the lock or unlock that a job stands before, once it can be done. False where the carry is foreign or another was.
+// Lets a node go, and wakes those that may wait for it. False where this worker or another can't go on.
+fn let_go<'a, B: Batch, R: Wait>(
+    rt: &R,
+    register: &Mutex<Register<'a, B>>,
+    bells: &Bells,
+    carry: &mut Carry,
+    node: Node,
+) -> bool {
+    let passed = pass(rt, register, bells, carry, node);
+    bells.of(node).notify_all();
+    passed
+}
+
+// Does the lock or unlock that a job stands before, once it can be done. False where this worker or another can't go on.
 fn pass<'a, B: Batch, R: Wait>(
     rt: &R,
     register: &Mutex<Register<'a, B>>,
-    moved: &Condvar,
+    bells: &Bells,
     carry: &mut Carry,
+    node: Node,
 ) -> bool {
+    let mut guard = register.lock(rt);
     for _ in rt.forever() {
-        let mut guard = register.lock(rt);
         match guard.carry_step(carry) {
-            CarryStep::Stepped => {
-                moved.notify_all();
-                return true;
-            }
+            CarryStep::Stepped => return true,
             CarryStep::Blocked => {
                 if guard.is_foreign() {
                     return false;
                 }
-                let _again = moved.wait(rt, guard);
+                guard = bells.of(node).wait(rt, guard);
             }
             CarryStep::Ended | CarryStep::Foreign => {
-                moved.notify_all();
+                guard.set_foreign();
+                bells.ring_all();
                 return false;
             }
         }

@@ -1,7 +1,6 @@
-pub mod Tables
-pub mod Climbing
-pub mod Marking
-pub mod Noting
-pub mod Listing
+pub mod LowestCommon
+pub mod ForcedMarks
+pub mod FirstAndLast
+pub mod ForcedRows
 pub mod Accesses
-pub mod Telling
+pub mod VisitSlots

@@ -2,7 +2,7 @@
 use Rattle.std.specs.Prelude.{◌≡◌, ℕ, suc, ◌-◌, ◌==◌, List, [], ◌∷◌, slice_get, Option, Some, None, option_map, option_and_then, if◌then◌else◌}
 use Rattle.grove_tree.specs.Trees.{Rows, parent_of}
 use Rattle.grove_access.specs.Slots.{slots_before}
-use Rattle.grove_access.specs.Spanned.{spanned_nodes, is_accessed, first_access, last_end}
+use Rattle.grove_access.specs.Forced.{forced_nodes, is_accessed, first_access, last_end}
 use Rattle.grove_span.specs.declared.row.SpanRow.{SpanRow}
 
 abbrev pub node_of_row : SpanRow → ℕ
@@ -31,9 +31,9 @@ from_of nodes lengths node = if is_accessed nodes node then Some (slots_before l
 abbrev pub until_of : List ℕ → List ℕ → ℕ → Option ℕ
 until_of nodes lengths node = if is_accessed nodes node then Some (slots_before lengths (last_end nodes node)) else None
 
--- each row has the place of its node's parent among the spanned nodes
+-- each row has the place of its node's parent among the forced nodes
 abbrev pub HaveParents : Rows → List ℕ → List SpanRow → Type 0
-HaveParents tree nodes rows = (i : ℕ) (row : SpanRow) → slice_get rows i ≡ Some row → row.parent ≡ parent_place tree (spanned_nodes tree nodes) row.node
+HaveParents tree nodes rows = (i : ℕ) (row : SpanRow) → slice_get rows i ≡ Some row → row.parent ≡ parent_place tree (forced_nodes tree nodes) row.node
 
 -- the first and last access of a row's node, and their slots
 pub record IsAccessedSo (nodes lengths : List ℕ) (row : SpanRow) : Type 0 where

@@ -1,8 +1,8 @@
 -- For the proofs alone: what the tables say while a span is found.
 use Rattle.std.specs.Prelude.{◌≡◌, ℕ, ◌-◌, ◌⊎◌, Bool, true, List, slice_get, Option, Some, None, if◌then◌else◌}
-use Rattle.grove_tree.specs.Numbers.{any_below, least_below, last_below}
+use Rattle.grove_base.specs.Numbers.{any_below, least_below, last_below}
 use Rattle.grove_tree.specs.Trees.{Rows, IsAbove}
-use Rattle.grove_access.specs.Spanned.{names_at, IsCommon}
+use Rattle.grove_access.specs.Forced.{names_at, IsCommon}
 use Rattle.grove_span.specs.declared.visit.Visits.{Visits}
 
 -- the lowest node above all accessed ones

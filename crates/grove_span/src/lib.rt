@@ -1,4 +1,4 @@
-//! The nodes that a list needs, with what the planner asks of each.
+//! The nodes that a list forces, with what the planner asks of each.
 #![tactic(auto)]
 
 pub use row::SpanRow;

@@ -1,7 +1,7 @@
 ghost use Rattle.std.specs.Prelude.{◌≡◌, ◌<◌, ℕ, ◌↔◌, length};
 ghost use Rattle.grove_tree.specs.Trees.{IsAbove, IsTree};
 ghost use Rattle.grove_access.specs.Lists.{nodes_of, AreNodes};
-ghost use Rattle.grove_access.specs.Spanned.{IsSpanned};
+ghost use Rattle.grove_access.specs.Forced.{IsForcedByTree};
 ghost use Rattle.grove_span.specs.Ways.{IsLowest, IsMarked, MarksWay};
 
 use grove_access::AccessList;
@@ -25,14 +25,14 @@ fn mark_way(tree: &Tree, top: Node, low: Node, marks: &mut [bool])
     }
 }
 
-/// Marks just the nodes that the list needs, in a table with no marks.
-pub fn mark_spanned(tree: &Tree, list: &AccessList, top: Node, marks: &mut [bool])
+/// Marks just the nodes that the list forces, in a table with no marks.
+pub fn mark_forced(tree: &Tree, list: &AccessList, top: Node, marks: &mut [bool])
     requires tree { IsTree tree.now }
     requires fits { AreNodes tree.now (nodes_of list.now) }
     requires top { IsLowest tree.now (nodes_of list.now) top }
     requires table { length marks.old ≡ length tree.now }
     requires unmarked { (node : ℕ) → IsMarked marks.old node → ⊥ }
-    ensures { (node : ℕ) → IsMarked marks.new node ↔ IsSpanned tree.now (nodes_of list.now) node }
+    ensures { (node : ℕ) → IsMarked marks.new node ↔ IsForcedByTree tree.now (nodes_of list.now) node }
 {
     for access in 0..list.len() {
         mark_way(tree, top, list.get(access).node, marks);

@@ -1,6 +1,6 @@
 use grove_tree::Node;
 
-/// A node that a list needs.
+/// A node that a list forces.
 #[derive(Clone, Copy, Debug, PartialEq, Eq)]
 pub struct SpanRow {
     pub node: Node,

@@ -1,7 +1,7 @@
 ghost use Rattle.std.specs.Prelude.{◌≡◌, ℕ, ◌<◌, ◌↔◌, length, IfOk, map, slice_get, Some, None, option_and_then, unwrap_or};
 ghost use Rattle.grove_tree.specs.Trees.{IsTree, parent_of};
 ghost use Rattle.grove_access.specs.Lists.{nodes_of, lengths_of, AreNodes};
-ghost use Rattle.grove_access.specs.Spanned.{IsSpanned, spanned_nodes};
+ghost use Rattle.grove_access.specs.Forced.{IsForcedByTree, forced_nodes};
 ghost use Rattle.grove_span.specs.SpanRows.{node_of_row, HaveParents, HaveAccesses, IsAccessedSo};
 ghost use Rattle.grove_span.specs.Ways.{IsMarked, TellsOf, TellVisits};
 
@@ -61,9 +61,9 @@ pub fn marked_rows(
     requires fits { AreNodes tree.now (nodes_of list.now) }
     requires marks { length marks.now ≡ length tree.now }
     requires table { length table.now ≡ length tree.now }
-    requires marked { (node : ℕ) → IsMarked marks.now node ↔ IsSpanned tree.now (nodes_of list.now) node }
+    requires marked { (node : ℕ) → IsMarked marks.now node ↔ IsForcedByTree tree.now (nodes_of list.now) node }
     requires visits { TellVisits (nodes_of list.now) (length (nodes_of list.now)) table.now }
-    ensures nodes { IfOk result (λ rows. map node_of_row rows.items ≡ spanned_nodes tree.now (nodes_of list.now)) }
+    ensures nodes { IfOk result (λ rows. map node_of_row rows.items ≡ forced_nodes tree.now (nodes_of list.now)) }
     ensures parents { IfOk result (λ rows. HaveParents tree.now (nodes_of list.now) rows.items) }
     ensures accesses { IfOk result (λ rows. HaveAccesses (nodes_of list.now) (lengths_of list.now) rows.items) }
 {

@@ -1,1 +1,10 @@
-pub mod Written
+pub mod Reweighing
+pub mod Fitting
+pub mod Equal
+pub mod Telling
+pub mod Jobs
+pub mod Together
+pub mod Leaving
+pub mod Keeping
+pub mod Lawful
+pub mod RoundsKeep

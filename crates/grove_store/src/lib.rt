@@ -1,20 +1,12 @@
-//! Devices: what bytes are read from and written to, over memory and over std's readers and writers.
+//! A store that answers lines, alone or in a round of batches.
 #![tactic(auto)]
 
-pub use bytes_sink::BytesSink;
-pub use bytes_source::BytesSource;
-pub use fault::{DeviceFault, ReadFault};
-pub use reader_source::ReaderSource;
-pub use sink::Sink;
-pub use source::Source;
-pub use whole::{read_whole, write_whole};
-pub use writer_sink::WriterSink;
+pub use refused::NoStore;
+pub use store::Store;
 
-mod bytes_sink;
-mod bytes_source;
-mod fault;
-mod reader_source;
-mod sink;
-mod source;
-mod whole;
-mod writer_sink;
+mod refused;
+mod round;
+mod running;
+mod same;
+mod store;
+mod texts;

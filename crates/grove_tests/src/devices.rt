@@ -1,4 +1,4 @@
-use grove_store::{BytesSink, BytesSource, DeviceFault, ReaderSource, Sink, Source, WriterSink};
+use grove_session::{BytesSink, BytesSource, DeviceFault, ReaderSource, Sink, Source, WriterSink};
 use std::io::{self, ErrorKind, Read, Write};
 use std::process::Abort;
 

@@ -4,6 +4,15 @@ use grove_tree::{Node, Row, Tree};
 use std::alloc::Global;
 use std::process::Abort;
 
+/// The root of the trees with two leaves.
+pub const ROOT: u32 = 0;
+
+/// Its first leaf, `/a`.
+pub const A: u32 = 1;
+
+/// Its second leaf, `/b`.
+pub const B: u32 = 2;
+
 /// A tree of the rows with these parents, names and weights.
 pub fn tree_of(rt: &impl Abort, alloc: Global, rows: &[(Option<u32>, &str, u32)]) -> Tree {
     let mut list = Vec::new(alloc);
@@ -18,9 +27,14 @@ pub fn tree_of(rt: &impl Abort, alloc: Global, rows: &[(Option<u32>, &str, u32)]
     Tree::build(alloc, &list).expect(rt, "a tree")
 }
 
-/// A root, node 0, with two children `/a` and `/b`, nodes 1 and 2; each weighs 1.
+/// A root with two leaves; each node weighs 1.
 pub fn two_leaves(rt: &impl Abort, alloc: Global) -> Tree {
-    let rows = [(None, "", 1), (Some(0), "a", 1), (Some(0), "b", 1)];
+    leaves_below(rt, alloc, 1)
+}
+
+/// A root of this weight with two leaves that weigh 1 each.
+pub fn leaves_below(rt: &impl Abort, alloc: Global, weight: u32) -> Tree {
+    let rows = [(None, "", weight), (Some(0), "a", 1), (Some(0), "b", 1)];
     tree_of(rt, alloc, &rows)
 }
 

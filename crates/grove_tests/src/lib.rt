@@ -4,6 +4,8 @@
 #[cfg(test)]
 mod batches;
 #[cfg(test)]
+mod carries;
+#[cfg(test)]
 mod devices;
 #[cfg(test)]
 mod fixtures;
@@ -14,8 +16,16 @@ mod lists;
 #[cfg(test)]
 mod meeting;
 #[cfg(test)]
+mod roll;
+#[cfg(test)]
 mod runs;
+#[cfg(test)]
+mod scripts;
+#[cfg(test)]
+mod sessions;
 #[cfg(test)]
 mod spans;
 #[cfg(test)]
 mod weights;
+#[cfg(test)]
+mod workers;

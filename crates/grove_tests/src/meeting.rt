@@ -6,6 +6,7 @@ const MOST_LOOKS: u32 = 20_000_000;
 /// A gate at which two of those that come wait for each other, so that two threads must be at work at once.
 #[derive(Drop)]
 pub struct Meeting {
+    step: u32,
     pair: (u32, u32),
     first: AtomicU64,
     second: AtomicU64,
@@ -14,8 +15,10 @@ pub struct Meeting {
 }
 
 impl Meeting {
-    pub fn of(first: u32, second: u32) -> Self {
+    /// A gate at which these two meet, each before its step of this number.
+    pub fn at_step(step: u32, first: u32, second: u32) -> Self {
         Meeting {
+            step,
             pair: (first, second),
             first: AtomicU64::new(0),
             second: AtomicU64::new(0),
@@ -52,9 +55,9 @@ impl Meeting {
 impl Gate for Meeting {
     fn at(&self, txn: u32, step: u32) {
         self.calls.fetch_add(1, Ordering::SeqCst);
-        if (txn, step) == (self.pair.0, 0) {
+        if (txn, step) == (self.pair.0, self.step) {
             self.wait(&self.first, &self.second);
-        } else if (txn, step) == (self.pair.1, 0) {
+        } else if (txn, step) == (self.pair.1, self.step) {
             self.wait(&self.second, &self.first);
         }
     }

@@ -1,25 +1,11 @@
-use crate::fixtures::{access, lock, two_leaves, unlock};
-use grove_access::{Access, AccessList, Op, Records, Reply};
-use grove_core::{
-    Core, Event, Job, OpenFault, StepFault, all_fit, serial_order, serial_order_into,
-};
-use grove_plan::{Plan, PlanFault, Step};
-use grove_tree::{Node, Tree};
+use crate::fixtures::{A, B, ROOT, access, lock, two_leaves, unlock};
+use crate::scripts::{Script, alone, job_of, open};
+use grove_access::{Op, Records, Reply};
+use grove_core::{Core, Event, StepFault, serial_order, serial_order_into};
+use grove_plan::Step;
+use grove_tree::Node;
 use std::alloc::Global;
 use std::process::Abort;
-
-const ROOT: u32 = 0;
-
-const A: u32 = 1;
-
-const B: u32 = 2;
-
-/// A job's accesses and the steps of its plan.
-#[derive(Clone, Copy)]
-struct Script<'a> {
-    accesses: &'a [Access],
-    steps: &'a [Step],
-}
 
 /// So many times an event, each with this answer.
 type Turn = (u32, Event, Result<(), StepFault>);
@@ -41,34 +27,6 @@ fn takes(count: u32, txn: u32) -> Turn {
 
 fn refuses(event: Event, fault: StepFault) -> Turn {
     (1, event, Err(fault))
-}
-
-/// The steps of a plan for one access, its node alone held.
-fn alone(node: u32) -> [Step; 3] {
-    [lock(node), Step::Access(0), unlock(node)]
-}
-
-fn job_of(rt: &impl Abort, alloc: Global, tree: &Tree, script: &Script) -> Job {
-    assert!(rt; script.steps.len() < 100);
-    let list = AccessList::new(alloc, tree, script.accesses).expect(rt, "a list");
-    let steps = Vec::from_slice(alloc, script.steps).expect(rt, "room for steps");
-    Job {
-        list,
-        plan: Plan::new(steps),
-    }
-}
-
-fn open<'a>(
-    rt: &impl Abort,
-    alloc: Global,
-    tree: &'a Tree,
-    records: &Records,
-    jobs: &'a [Job],
-) -> Result<Core<'a>, OpenFault> {
-    assert!(rt; records.fits(tree));
-    assert!(rt; all_fit(tree, jobs));
-    assert!(rt; jobs.len() <= 256);
-    Core::open(alloc, tree, records, jobs)
 }
 
 /// Opens a core of two jobs, takes the turns, and compares what comes of it.
@@ -346,18 +304,4 @@ fn who_locks_the_shared_node_first_comes_first(rt: HostRuntime) {
     let gets_first = [takes(6, 1), takes(3, 0)];
     let replies = [Reply::Value(0), Reply::Value(0)];
     a_set_and_two_gets(&rt, rt.alloc(), &gets_first, [1, 0], &replies);
-}
-
-#[test]
-fn a_plan_that_locks_twice_is_refused(rt: HostRuntime) {
-    let alloc = rt.alloc();
-    let tree = two_leaves(&rt, alloc);
-    let records = Records::new(alloc, &[0, 0, 0]).expect(&rt, "room for records");
-    let script = Script {
-        accesses: &[access(A, Op::Get)],
-        steps: &[lock(A), unlock(A), lock(A), Step::Access(0), unlock(A)],
-    };
-    let jobs = [job_of(&rt, alloc, &tree, &script)];
-    let opened = open(&rt, alloc, &tree, &records, &jobs);
-    assert!(rt; opened.err() == Some(OpenFault::BadPlan(0, PlanFault::Relock(2))));
 }

@@ -9,7 +9,7 @@ fn any_number_of_workers_weighs_by_waits(rt: HostRuntime) {
     for workers in [1, 2, 3, 16] {
         let mut tree = tree_of(&rt, rt.alloc(), &rows);
         assert_eq!(rt; tree.len(), 3);
-        let meeting = Meeting::of(1, 2);
+        let meeting = Meeting::at_step(0, 1, 2);
         assert_eq!(rt;
             reweigh(&rt, &mut tree, &[1, 0, 2000], workers, &meeting),
             2

@@ -5,12 +5,14 @@ use Rattle.std.proofs.lemmas.Option.{same_Some, none-some}
 use Rattle.grove_tree.specs.Trees.{NodeRow}
 use Rattle.grove_tree.specs.Outlines.{Under, KeepsInside, put_under, rows_under, total, AreNumbered, IsOutline}
 use Rattle.grove_tree.specs.OutlineFalls.{length-rows_under}
-use Rattle.grove_tree.proofs.Lists.{get_append_cases}
+use Rattle.grove_base.proofs.Lists.{get_append_cases}
 
+-- one child more has its own rows more
 pub total-append : (children : List Under) (child : Under) → total (children ++ child ∷ []) ≡ total children + length child.1
 total-append [] child = omega arith
 total-append (first ∷ rest) child = omega (arith, total-append rest child)
 
+-- the rows of one child more stand at the end
 pub rows_under-append : (parent : ℕ) (children : List Under) (child : Under)
     → rows_under parent (children ++ child ∷ []) ≡ rows_under parent children ++ put_under (Some parent) child.1
 rows_under-append parent [] child = append-nil (put_under (Some parent) child.1)

@@ -1,7 +1,7 @@
 -- The depth of a node is one more than its parent's.
 use Rattle.std.proofs.Common.{◌≡◌, ℕ, zero, suc, ◌<◌, length, Option, Some, None, refl, sym, ap, arith}
 use Rattle.grove_tree.specs.Trees.{Rows, parent_of, depth_within, depth_of}
-use Rattle.grove_tree.proofs.Ups.{parent_within}
+use Rattle.grove_tree.proofs.Above.{parent_within}
 
 depth_enough_by : (rows : Rows) (n v : ℕ) (o : Option ℕ) → parent_of rows v ≡ o
     → ((p : ℕ) → o ≡ Some p → depth_within rows (suc n) p ≡ depth_within rows n p) → depth_within rows (suc (suc n)) v ≡ depth_within rows (suc n) v

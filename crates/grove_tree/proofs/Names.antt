@@ -2,7 +2,7 @@
 use Rattle.std.proofs.Common.{◌≡◌, ℕ, zero, suc, ◌<◌, List, [], ◌∷◌, ◌++◌, length, Option, Some, None, refl, sym, ap, arith}
 use Rattle.grove_tree.specs.Trees.{Rows, parent_of, name_of, IsTree}
 use Rattle.grove_tree.specs.Paths.{names_within}
-use Rattle.grove_tree.proofs.Ups.{parent_lt, parent_within}
+use Rattle.grove_tree.proofs.Above.{parent_lt, parent_within}
 
 abbrev pub names_of : Rows → ℕ → List ℕ
 names_of rows node = names_within rows (length rows) node

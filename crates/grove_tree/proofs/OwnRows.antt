@@ -7,12 +7,15 @@ use Rattle.grove_tree.specs.Trees.{NodeRow, parent_of, name_of}
 use Rattle.grove_tree.specs.declared.row.Row.{Row}
 use Rattle.grove_tree.specs.Rules.{row_of, rows_of}
 
+-- a row of the list stands in the tree at its number
 pub own_row : (rows : List Row) (node : ℕ) (row : Row) → row ≡ get_or rows node row → node < length rows → slice_get (rows_of rows) node ≡ Some (row_of row)
 own_row rows node row is within =
     slice_get-map row_of rows node ∙ ap (λ (o : Option Row). option_map row_of o) (slice_get_read rows (length rows) node row refl within is)
 
+-- with its parent
 pub own_parent : (rows : List Row) (node : ℕ) (row : Row) → row ≡ get_or rows node row → node < length rows → parent_of (rows_of rows) node ≡ row.parent
 own_parent rows node row is within = ap (λ (o : Option NodeRow). option_and_then (λ (r : NodeRow). r.parent) o) (own_row rows node row is within)
 
+-- and with its name
 pub own_name : (rows : List Row) (node : ℕ) (row : Row) → row ≡ get_or rows node row → node < length rows → name_of (rows_of rows) node ≡ string_bytes row.name
 own_name rows node row is within = ap (λ (o : Option NodeRow). unwrap_or (option_map (λ (r : NodeRow). r.name) o) []) (own_row rows node row is within)

@@ -1,15 +1,14 @@
 -- Paths as names, each after a slash.
-use Rattle.std.proofs.Common.{◌≡◌, ℕ, zero, suc, ◌==◌, true, false, List, [], ◌∷◌, ◌++◌, length, take, drop, Some, refl, sym, ◌∙◌, ap, subst, true≢false, eqb-true, arith, bytes_eq}
+use Rattle.std.proofs.Common.{◌≡◌, ℕ, zero, suc, ◌==◌, true, false, List, [], ◌∷◌, ◌++◌, length, take, drop, Some, refl, sym, ◌∙◌, ap, subst, true≢false, eqb-true, arith, bytes_eq, append_assoc, append-nil}
 use Rattle.std.specs.List.{list_all}
 use Rattle.std.proofs.lemmas.Option.{same_Some, option_and_then_some}
 use Rattle.std.proofs.lemmas.List.{take-append-drop}
 use Rattle.std.proofs.Math.Seq.{take-append_seam}
 use Rattle.std.proofs.lemmas.Bool.{and_parts}
 use Rattle.std.proofs.lemmas.Slice.Eq.{bytes_eq-Decides}
-use Rattle.std.proofs.Common.{append_assoc, append-nil}
 use Rattle.grove_tree.specs.Trees.{Rows, parent_of, name_of, up, IsTree}
 use Rattle.grove_tree.specs.Rules.{is_name_byte, is_name}
-use Rattle.grove_tree.specs.Paths.{IsRest, GoesOn}
+use Rattle.grove_tree.specs.PathRests.{IsRest, GoesOn}
 use Rattle.grove_tree.proofs.Names.{names_of, names_step}
 
 -- a path that begins with a name goes on with what is left
@@ -18,6 +17,7 @@ goes_cut path name below rest first same left =
     let e : take (length name) below ≡ name = (bytes_eq-Decides (take (length name) below) name).0 same in
     first ∙ ap (λ (bytes : List ℕ). 47 ∷ bytes) (sym (take-append-drop (length name) below) ∙ ap (λ (bytes : List ℕ). bytes ++ drop (length name) below) e ∙ ap (λ (bytes : List ℕ). name ++ bytes) (sym left))
 
+-- lists that are one have one rest
 pub tail_same : (a b : ℕ) (xs ys : List ℕ) → a ∷ xs ≡ b ∷ ys → xs ≡ ys
 tail_same a b xs ys h = cc
 
@@ -69,6 +69,7 @@ pub not_nil : (bytes : List ℕ) → false ≡ (length bytes == 0) → bytes ≡
 not_nil [] h e = absurd (cc)
 not_nil (byte ∷ bytes) h e = absurd (cc)
 
+-- a list of no bytes is empty
 pub is_nil : (bytes : List ℕ) → true ≡ (length bytes == 0) → bytes ≡ []
 is_nil [] h = refl
 is_nil (byte ∷ bytes) h = let e : suc (length bytes) ≡ 0 = eqb-true (suc (length bytes)) 0 (sym h) in absurd (omega arith)

@@ -6,11 +6,11 @@ use Rattle.std.proofs.lemmas.Option.{same_Some, none-some}
 use Rattle.std.proofs.lemmas.List.Folds.{find-append}
 use Rattle.std.proofs.lemmas.Bool.{cases_lt, cases_Bool, and_parts, ltb-true}
 use Rattle.std.proofs.lemmas.Slice.Eq.{bytes_eq-Decides}
-use Rattle.grove_tree.specs.Numbers.{numbers_below}
+use Rattle.grove_base.specs.Numbers.{numbers_below}
 use Rattle.grove_tree.specs.Trees.{Rows, parent_of, name_of, IsTree}
 use Rattle.grove_tree.specs.Rules.{IsWithinLimits}
 use Rattle.grove_tree.specs.Paths.{or_slash, path_of, node_at}
-use Rattle.grove_tree.proofs.Ups.{parent_within}
+use Rattle.grove_tree.proofs.Above.{parent_within}
 use Rattle.grove_tree.proofs.Names.{names_of, names_step, names_root}
 
 -- no number passes
@@ -61,6 +61,7 @@ no_slash_by rows tree limits (suc node) (Some parent) own is =
     let joined = length-append (names_of rows parent) (47 ∷ name_of rows (suc node)) in
     absurd (omega arith)
 
+-- and so none has a slash alone for its names
 pub no_slash : (rows : Rows) → IsTree rows → IsWithinLimits rows → (node : ℕ) → names_of rows node ≡ 47 ∷ [] → ⊥
 no_slash rows tree limits node is = no_slash_by rows tree limits node (parent_of rows node) refl is
 
@@ -84,6 +85,7 @@ root_names rows tree limits node is = slash_empty (names_of rows node) (no_slash
 pub path_names : (rows : Rows) (path : List ℕ) (node : ℕ) → (path ≡ 47 ∷ [] → ⊥) → path_of rows node ≡ path → names_of rows node ≡ path
 path_names rows path node other is = slash_same (names_of rows node) path other is
 
+-- and the other way round
 pub names_path : (rows : Rows) (path : List ℕ) (node : ℕ) → (path ≡ [] → ⊥) → names_of rows node ≡ path → path_of rows node ≡ path
 names_path rows path node some is = slash_back (names_of rows node) path some is
 

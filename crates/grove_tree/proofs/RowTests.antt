@@ -1,14 +1,13 @@
 -- The rules of one row, as tests and as facts.
-use Rattle.std.proofs.Common.{◌≡◌, ℕ, zero, suc, ◌+◌, ◌-◌, ◌<◌, ◌≤◌, ◌↔◌, Bool, true, false, ◌&&◌, IsTrue, List, length, Option, Some, None, refl, sym, subst, inl, inr, get_or, arith, bytes_eq, string_bytes}
+use Rattle.std.proofs.Common.{◌≡◌, ℕ, zero, suc, ◌+◌, ◌-◌, ◌<◌, ◌≤◌, ◌↔◌, Bool, true, ◌&&◌, IsTrue, List, length, Option, Some, None, refl, subst, inl, inr, get_or, arith, bytes_eq, string_bytes}
 use Rattle.std.proofs.lemmas.Option.{none-some, same_Some}
 use Rattle.std.proofs.lemmas.Bool.{cases_lt}
 use Rattle.std.specs.Option.{is_none}
-use Rattle.grove_tree.specs.Numbers.{any_below}
 use Rattle.grove_tree.specs.Trees.{Rows, parent_of, up, IsAbove, is_at, is_above}
 use Rattle.grove_tree.specs.declared.row.Row.{Row}
 use Rattle.grove_tree.specs.Rules.{rows_of, is_well_placed, is_on_the_way, share_parent, is_twin}
-use Rattle.grove_tree.proofs.Ups.{up_le_from}
-use Rattle.grove_tree.proofs.Counting.{any_from}
+use Rattle.grove_tree.proofs.Above.{up_le_from}
+use Rattle.grove_base.proofs.Counting.{any_from, same_tests}
 use Rattle.grove_tree.proofs.Tests.{is_at_from, is_above_true}
 use Rattle.grove_tree.proofs.OwnRows.{own_parent, own_name}
 
@@ -18,12 +17,6 @@ pub is_above_within : (rows : Rows) (bound : ℕ) → ((v p : ℕ) → v < bound
 is_above_within rows bound less high low under way =
     let le : high + way.0 ≤ low = up_le_from rows bound less way.0 low high under way.1 in
     any_from (suc low) (λ n. is_at high (up rows n low)) way.0 (omega arith) (is_at_from high (up rows way.0 low) way.1)
-
--- two tests that pass together are one
-pub same_tests : (a b : Bool) → (a ≡ true → b ≡ true) → (b ≡ true → a ≡ true) → a ≡ b
-same_tests true b there back = sym (there refl)
-same_tests false true there back = back refl
-same_tests false false there back = refl
 
 -- a row that has a parent is well placed exactly where the parent is above the row before it
 pub placed_test : (rows : Rows) (row parent : ℕ) (test : Bool) → 0 < row → parent_of rows row ≡ Some parent
@@ -71,6 +64,3 @@ pub twin_test : (rows : List Row) (row other : ℕ) (first second : Row) → fir
     → is_twin (rows_of rows) row other ≡ (share_parent first.parent second.parent && bytes_eq (string_bytes second.name) (string_bytes first.name))
 twin_test rows row other first second is within is2 within2 =
     rw (own_parent rows row first is within, own_parent rows other second is2 within2, own_name rows row first is within, own_name rows other second is2 within2) refl
-
-pub any_more : (n : ℕ) (test : ℕ → Bool) → any_below n test ≡ false → test n ≡ false → any_below (suc n) test ≡ false
-any_more n test h k = rw (k, h) refl

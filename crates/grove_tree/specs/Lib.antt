@@ -1,4 +1,3 @@
-pub mod Numbers
 pub mod Trees
 pub mod Outlines
 pub mod OutlineFalls
@@ -6,3 +5,5 @@ pub mod Paths
 pub mod Rules
 pub mod Weights
 pub mod WeighedOutlines
+pub mod OutlinesInTrees
+pub mod PathRests

@@ -1,6 +1,6 @@
 -- Paths: a slash, or the names on the way down from the root, each after a slash.
-use Rattle.std.specs.Prelude.{◌≡◌, ⊤, ℕ, zero, suc, List, [], ◌∷◌, ◌++◌, length, Option, Some, None, find, bytes_eq}
-use Rattle.grove_tree.specs.Numbers.{numbers_below}
+use Rattle.std.specs.Prelude.{ℕ, zero, suc, List, [], ◌∷◌, ◌++◌, length, Option, Some, None, find, bytes_eq}
+use Rattle.grove_base.specs.Numbers.{numbers_below}
 use Rattle.grove_tree.specs.Trees.{Rows, parent_of, name_of}
 
 -- a name after what stands before it, and nothing at the root
@@ -24,12 +24,3 @@ path_of rows node = or_slash (names_within rows (length rows) node)
 -- the node with a path, if there is one
 abbrev pub node_at : Rows → List ℕ → Option ℕ
 node_at rows path = find (λ node. bytes_eq (path_of rows node) path) (numbers_below (length rows))
-
--- what is left of a path below a node: nothing, or more names, each after a slash
-abbrev pub IsRest : List ℕ → Type 0
-IsRest [] = ⊤
-IsRest (byte ∷ bytes) = byte ≡ 47
-
--- the path begins with a slash and the name, and goes on with the rest
-abbrev pub GoesOn : List ℕ → List ℕ → List ℕ → Type 0
-GoesOn path name rest = IsRest rest × (path ≡ 47 ∷ name ++ rest)

@@ -1,7 +1,7 @@
 -- What is asked of the rows that a tree is built from, and the first rule that they break.
 use Rattle.std.specs.Prelude.{◌≡◌, ℕ, zero, suc, ◌≤◌, ◌<◌, ◌==◌, nat_lt, nat_le, Bool, false, not, ◌&&◌, ◌||◌, List, [], length, map, Option, Some, None, is_none, string_bytes, bytes_eq, IsTrue, if◌then◌else◌}
 use Rattle.std.specs.List.{list_all}
-use Rattle.grove_tree.specs.Numbers.{any_below}
+use Rattle.grove_base.specs.Numbers.{any_below}
 use Rattle.grove_tree.specs.Trees.{Rows, NodeRow, IsTree, parent_of, name_of, weight_of, depth_of, is_at, is_above}
 use Rattle.grove_tree.specs.declared.row.Row.{Row}
 use Rattle.grove_tree.specs.declared.fault.TreeFault.{TreeFault}
@@ -21,6 +21,16 @@ is_name_byte byte = (nat_le 97 byte && nat_le byte 122) || ((nat_le 48 byte && n
 -- a name has 1 to 32 such bytes
 abbrev pub is_name : List ℕ → Bool
 is_name name = nat_lt 0 (length name) && (nat_le (length name) 32 && list_all is_name_byte name)
+
+-- how many rows a tree has at most, how deep they lie and how much they weigh
+abbrev pub most_rows : ℕ
+most_rows = 4096
+
+abbrev pub deepest : ℕ
+deepest = 32
+
+abbrev pub heaviest : ℕ
+heaviest = 1000
 
 -- the rules of one row, as tests
 
@@ -47,13 +57,13 @@ abbrev pub is_twin : Rows → ℕ → ℕ → Bool
 is_twin rows row other = share_parent (parent_of rows row) (parent_of rows other) && bytes_eq (name_of rows other) (name_of rows row)
 
 abbrev pub is_weight : ℕ → Bool
-is_weight weight = nat_le 1 weight && nat_le weight 1000
+is_weight weight = nat_le 1 weight && nat_le weight heaviest
 
 -- the first rule that a row breaks
 abbrev pub row_fault : Rows → ℕ → Option TreeFault
 row_fault rows row =
     if not (is_well_placed rows row) then Some (BadParent row)
-    else if nat_lt 32 (depth_of rows row) then Some (TooDeep row)
+    else if nat_lt deepest (depth_of rows row) then Some (TooDeep row)
     else if not (is_well_named rows row) then Some (BadName row)
     else if any_below row (is_twin rows row) then Some (TwiceNamed row)
     else if not (is_weight (weight_of rows row)) then Some (BadWeight row)
@@ -72,18 +82,18 @@ rows_fault rows (suc n) = first_fault rows n (rows_fault rows n)
 abbrev pub tree_fault_of : Rows → Option TreeFault
 tree_fault_of rows =
     if length rows == 0 then Some Empty
-    else if nat_lt 4096 (length rows) then Some TooMany
+    else if nat_lt most_rows (length rows) then Some TooMany
     else rows_fault rows (length rows)
 
 -- the limits of a tree's rows
 pub record IsWithinLimits (rows : Rows) : Type 0 where
-  pub few : length rows ≤ 4096
-  pub shallow : (node : ℕ) → depth_of rows node ≤ 32
+  pub few : length rows ≤ most_rows
+  pub shallow : (node : ℕ) → depth_of rows node ≤ deepest
   pub unnamed_root : name_of rows 0 ≡ []
   pub names : (node : ℕ) → suc node < length rows → IsTrue (is_name (name_of rows (suc node)))
   pub differ : (first second parent : ℕ) → parent_of rows first ≡ Some parent → parent_of rows second ≡ Some parent → name_of rows first ≡ name_of rows second → first ≡ second
   pub weighty : (node : ℕ) → node < length rows → 1 ≤ weight_of rows node
-  pub light : (node : ℕ) → weight_of rows node ≤ 1000
+  pub light : (node : ℕ) → weight_of rows node ≤ heaviest
 
 -- rows that a tree can be built from
 abbrev pub AreTreeRows : Rows → Type 0

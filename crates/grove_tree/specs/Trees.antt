@@ -1,6 +1,6 @@
 -- A tree: a list of rows of a parent, a name and a weight, in preorder.
 use Rattle.std.specs.Prelude.{◌≡◌, ℕ, zero, suc, ◌<◌, ◌==◌, Bool, false, List, length, slice_get, Option, Some, None, option_map, option_and_then, unwrap_or, []}
-use Rattle.grove_tree.specs.Numbers.{any_below}
+use Rattle.grove_base.specs.Numbers.{any_below}
 
 pub record NodeRow : Type 0 where
   pub parent : Option ℕ

@@ -1,8 +1,17 @@
--- For the proofs alone: outlines whose nodes get the weights that a rule gives.
-use Rattle.std.specs.Prelude.{ℕ, ◌+◌, ◌<◌, ⊤, List, [], ◌∷◌, length}
-use Rattle.grove_tree.specs.Trees.{Rows, weight_of}
+-- For the proofs alone: rows and outlines whose nodes get the weights that a rule gives.
+use Rattle.std.specs.Prelude.{ℕ, ◌+◌, ◌<◌, ⊤, List, [], ◌∷◌, length, ◌≡◌, suc, ◌==◌, if◌then◌else◌}
+use Rattle.grove_tree.specs.Trees.{Rows, weight_of, parent_of, name_of}
 use Rattle.grove_tree.specs.Outlines.{Under}
-use Rattle.grove_tree.specs.Weights.{weighed_from, changes_from}
+use Rattle.grove_tree.specs.Weights.{weighed_from}
+
+-- how many of the weights the rule changes
+abbrev pub changes_from : (ℕ → ℕ → ℕ) → ℕ → Rows → ℕ
+changes_from weight node [] = 0
+changes_from weight node (row ∷ rows) = (if weight node row.weight == row.weight then 0 else 1) + changes_from weight (suc node) rows
+
+-- a node has the same parent and the same name in both
+abbrev pub AgreeAt : Rows → Rows → ℕ → Type 0
+AgreeAt rows others node = (parent_of rows node ≡ parent_of others node) × (name_of rows node ≡ name_of others node)
 
 abbrev pub weighed : (ℕ → ℕ → ℕ) → Under → Under
 weighed weight outline = (outline.0, weighed_from weight outline.0 outline.1)

@@ -1,5 +1,5 @@
 ghost use Rattle.std.specs.Prelude.{ℕ, List, MatchOption, Decides};
-ghost use Rattle.grove_tree.specs.Paths.{IsRest, GoesOn};
+ghost use Rattle.grove_tree.specs.PathRests.{IsRest, GoesOn};
 
 fn is_rest(path: &[u8]) -> bool
     ensures { Decides result (IsRest path.now) }

@@ -1,7 +1,7 @@
 ghost use Rattle.std.specs.Prelude.{◌≡◌, ◌<◌, ◌≤◌, ◌↔◌, length, IsTrue, IfOk, Some};
 ghost use Rattle.grove_tree.specs.Trees.{IsTree, parent_of};
 ghost use Rattle.grove_tree.specs.Rules.{rows_of};
-ghost use Rattle.grove_tree.specs.Outlines.{IsGrown};
+ghost use Rattle.grove_tree.specs.OutlinesInTrees.{IsGrown};
 
 use crate::{Outline, Row};
 use std::alloc::{AllocError, Global};

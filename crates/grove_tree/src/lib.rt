@@ -1,11 +1,13 @@
 //! Trees of named, weighted nodes: built from rows, found by path.
 #![tactic(auto)]
 
-pub use fault::{NoMemory, TreeFault};
+pub use fault::TreeFault;
 pub use gate::{Gate, OpenGate};
+pub use grove_base::NoMemory;
 pub use node::Node;
 pub use outline::Outline;
 pub use row::Row;
+pub use rules::DEEPEST;
 pub use tree::Tree;
 pub use weighing::Rule;
 

@@ -1,7 +1,7 @@
 ghost use Rattle.std.specs.Prelude.{◌≡◌, ℕ, List, Some, MatchOption};
 ghost use Rattle.grove_tree.specs.Trees.{parent_of, name_of};
-ghost use Rattle.grove_tree.specs.Paths.{GoesOn};
-ghost use Rattle.grove_tree.specs.Outlines.{Covers, IsChild};
+ghost use Rattle.grove_tree.specs.PathRests.{GoesOn};
+ghost use Rattle.grove_tree.specs.OutlinesInTrees.{Covers, IsChild};
 
 use crate::finding::after_name;
 use std::marker::Model;

@@ -1,6 +1,6 @@
 ghost use Rattle.std.specs.Prelude.{◌≡◌, ℕ, ◌<◌, ◌≤◌, ◌↔◌, ◌&&◌, length, IsTrue, None, Some, string_bytes, bytes_eq};
 ghost use Rattle.std.specs.List.{list_all};
-ghost use Rattle.grove_tree.specs.Numbers.{any_below};
+ghost use Rattle.grove_base.specs.Numbers.{any_below};
 ghost use Rattle.grove_tree.specs.Trees.{IsAbove, parent_of, weight_of, depth_of};
 ghost use Rattle.grove_tree.specs.Rules.{
   rows_of,
@@ -20,7 +20,8 @@ use crate::{Row, TreeFault};
 
 const MOST_ROWS: usize = 4096;
 
-const DEEPEST: u32 = 32;
+/// No row of a tree lies deeper.
+pub const DEEPEST: u32 = 32;
 
 const LONGEST_NAME: usize = 32;
 

@@ -1,8 +1,7 @@
 ghost use Rattle.std.specs.Prelude.{◌≡◌, ℕ, ◌<◌, ◌^◌};
 ghost use Rattle.std.specs.Thread.{IsSync};
 ghost use Rattle.grove_tree.specs.Outlines.{total};
-ghost use Rattle.grove_tree.specs.Weights.{changes_from};
-ghost use Rattle.grove_tree.specs.WeighedOutlines.{weighed, weighed_all, changes_all, AreTaken, AllTaken};
+ghost use Rattle.grove_tree.specs.WeighedOutlines.{changes_from, weighed, weighed_all, changes_all, AreTaken, AllTaken};
 
 use crate::{Gate, Outline};
 use std::thread::{Threads, join_mut};

@@ -1,10 +1,8 @@
--- An array in a text has no more items than the text has bytes.
-use Rattle.std.proofs.Common.{◌≡◌, ℕ, suc, ◌+◌, ◌<◌, ◌≤◌, Bool, true, false, List, [], ◌∷◌, ◌++◌, length, Option, Some, None, IfSome, option_map, option_and_then, Ordering, Less, Equal, Greater, refl, subst, arith, ap, ◌∙◌, length-append}
+-- An array that members lead to in a text has no more items than the text has bytes.
+use Rattle.std.proofs.Common.{◌≡◌, ℕ, suc, ◌+◌, ◌<◌, ◌≤◌, List, [], ◌∷◌, ◌++◌, length, Option, Some, None, IfSome, option_map, option_and_then, Ordering, Less, Equal, Greater, refl, subst, arith, ap, ◌∙◌, length-append}
 use Rattle.std.specs.Ordering.{match_ordering}
-use Rattle.json.specs.Token as token
 use Rattle.json.specs.Token.{Token}
-use Rattle.json.specs.Lex.{Lexeme, comma, colon, Class, quote, backslash, operator, space, other, class, Mode, between, in_word, in_string, in_escape, lex_byte, lex, Place, fresh, after_value, after_comma, after_key, if_allowed, may_begin, may_close, begins_colon, place_token, punctuate, tokens}
-use Rattle.json.specs.Lex as lexeme
+use Rattle.json.specs.Lex.{tokens}
 use Rattle.json.specs.Json as json
 use Rattle.json.specs.Tree.{json_tokens, items_tokens, members_tokens}
 use Rattle.json.proofs.Unique.Spelling.{value-json_tokens_back}
@@ -16,72 +14,9 @@ use Rattle.grove_wire.specs.declared.fault.WireFault.TheVariants.{Shape}
 use Rattle.grove_wire.specs.declared.place.Part.{Part}
 use Rattle.grove_wire.specs.Places.{whole_of, part_word}
 use Rattle.grove_wire.specs.Outcomes.{or_fault}
-use Rattle.grove_wire.specs.Forms.{list_items, as_list, items_of, HasArraysWithin}
+use Rattle.grove_wire.specs.Forms.{list_items, as_list, items_of, HasArraysWithin, HasShortArrays}
 use Rattle.grove_wire.specs.Reading.{items_in}
-
--- ---- a text has at most one token more than it has bytes
-
-lex_byte_within : (n : ℕ) (m : Mode) (c : Class) (x : ℕ) (xs : List ℕ) (k : Mode → List Lexeme) → ((next : Mode) → length (k next) ≤ n) → length (lex_byte m c x xs k) ≤ suc n
-lex_byte_within n between quote x xs k h = omega (arith, h in_string)
-lex_byte_within n between backslash x xs k h = omega (arith, h in_word)
-lex_byte_within n between operator x xs k h = omega (arith, h between)
-lex_byte_within n between space x xs k h = omega (arith, h between)
-lex_byte_within n between other x xs k h = omega (arith, h in_word)
-lex_byte_within n in_word quote x xs k h = omega (arith, h in_word)
-lex_byte_within n in_word backslash x xs k h = omega (arith, h in_word)
-lex_byte_within n in_word operator x xs k h = omega (arith, h between)
-lex_byte_within n in_word space x xs k h = omega (arith, h between)
-lex_byte_within n in_word other x xs k h = omega (arith, h in_word)
-lex_byte_within n in_string quote x xs k h = omega (arith, h between)
-lex_byte_within n in_string backslash x xs k h = omega (arith, h in_escape)
-lex_byte_within n in_string operator x xs k h = omega (arith, h in_string)
-lex_byte_within n in_string space x xs k h = omega (arith, h in_string)
-lex_byte_within n in_string other x xs k h = omega (arith, h in_string)
-lex_byte_within n in_escape c x xs k h = omega (arith, h in_string)
-
-lex_within : (m : Mode) (xs : List ℕ) → length (lex m xs) ≤ length xs
-unfolding lex
-lex_within m [] = omega arith
-lex_within m (x ∷ xs) = lex_byte_within (length xs) m (class x) x xs (λ next. lex next xs) (λ next. lex_within next xs)
-
-allowed_within : (n : ℕ) (b : Bool) (t : Token) (k : Place → List Token) (next : Place) → length (k next) ≤ n → length (if_allowed b t k next) ≤ suc n
-allowed_within n true t k next h = omega arith
-allowed_within n false t k next h = omega arith
-
-place_within : (n : ℕ) (p : Place) (t : Token) (before_colon : Bool) (k : Place → List Token) → ((next : Place) → length (k next) ≤ n) → length (place_token p t before_colon k) ≤ suc n
-place_within n p token.begin_object b k h = allowed_within n (may_begin p) token.begin_object k fresh (h fresh)
-place_within n p token.end_object b k h = allowed_within n (may_close p) token.end_object k after_value (h after_value)
-place_within n p token.begin_array b k h = allowed_within n (may_begin p) token.begin_array k fresh (h fresh)
-place_within n p token.end_array b k h = allowed_within n (may_close p) token.end_array k after_value (h after_value)
-place_within n p (token.key s) b k h = omega arith
-place_within n p (token.string s) true k h = allowed_within n (may_begin p) (token.key s) k after_key (h after_key)
-place_within n p (token.string s) false k h = allowed_within n (may_begin p) (token.string s) k after_value (h after_value)
-place_within n p (token.number s) b k h = allowed_within n (may_begin p) (token.number s) k after_value (h after_value)
-place_within n p (token.boolean v) b k h = allowed_within n (may_begin p) (token.boolean v) k after_value (h after_value)
-place_within n p token.null b k h = allowed_within n (may_begin p) token.null k after_value (h after_value)
-place_within n p token.bad b k h = omega arith
-
-punctuate_within : (p : Place) (ls : List Lexeme) → length (punctuate p ls) ≤ suc (length ls)
-unfolding punctuate
-punctuate_within fresh [] = omega arith
-punctuate_within after_value [] = omega arith
-punctuate_within after_comma [] = omega arith
-punctuate_within after_key [] = omega arith
-punctuate_within fresh (lexeme.token t ∷ ls) = place_within (suc (length ls)) fresh t (begins_colon ls) (λ next. punctuate next ls) (λ next. punctuate_within next ls)
-punctuate_within after_value (lexeme.token t ∷ ls) = place_within (suc (length ls)) after_value t (begins_colon ls) (λ next. punctuate next ls) (λ next. punctuate_within next ls)
-punctuate_within after_comma (lexeme.token t ∷ ls) = place_within (suc (length ls)) after_comma t (begins_colon ls) (λ next. punctuate next ls) (λ next. punctuate_within next ls)
-punctuate_within after_key (lexeme.token t ∷ ls) = place_within (suc (length ls)) after_key t (begins_colon ls) (λ next. punctuate next ls) (λ next. punctuate_within next ls)
-punctuate_within fresh (comma ∷ ls) = omega arith
-punctuate_within after_value (comma ∷ ls) = omega (arith, punctuate_within after_comma ls)
-punctuate_within after_comma (comma ∷ ls) = omega arith
-punctuate_within after_key (comma ∷ ls) = omega arith
-punctuate_within fresh (colon ∷ ls) = omega arith
-punctuate_within after_value (colon ∷ ls) = omega arith
-punctuate_within after_comma (colon ∷ ls) = omega arith
-punctuate_within after_key (colon ∷ ls) = omega (arith, punctuate_within fresh ls)
-
-tokens_within : (text : List ℕ) → length (tokens text) ≤ suc (length text)
-tokens_within text = omega (arith, punctuate_within fresh (lex between text), lex_within between text)
+use Rattle.grove_wire.proofs.Tokens.{tokens_within}
 
 -- ---- an array has fewer items than tokens
 
@@ -106,18 +41,19 @@ count_within (json.item j js) = omega (arith, length-append (json_tokens j) (ite
 abbrev width : Items → ℕ
 width ds = length (list_items ds)
 
--- an array of at most n items
-abbrev IsFew : ℕ → Data → Type 0
-IsFew n null = Unit {0}
-IsFew n (boolean b) = Unit {0}
-IsFew n (number m) = Unit {0}
-IsFew n (string s) = Unit {0}
-IsFew n (array ds) = width ds ≤ n
-IsFew n (object ms) = Unit {0}
+-- each array that members lead to has at most n items
+abbrev mutual
+  IsFew : ℕ → Data → Type 0
+  IsFew n null = Unit {0}
+  IsFew n (boolean b) = Unit {0}
+  IsFew n (number m) = Unit {0}
+  IsFew n (string s) = Unit {0}
+  IsFew n (array ds) = width ds ≤ n
+  IsFew n (object ms) = AreFew n ms
 
-abbrev AreFew : ℕ → Members → Type 0
-AreFew n no_members = Unit {0}
-AreFew n (member k d ms) = IsFew n d × AreFew n ms
+  AreFew : ℕ → Members → Type 0
+  AreFew n no_members = Unit {0}
+  AreFew n (member k d ms) = IsFew n d × AreFew n ms
 
 one_more : (o : Option Data) (r : Option Items) (n : ℕ) → IfSome r (λ ds. width ds ≤ n) → IfSome (option_and_then (λ d. option_map (item d) r) o) (λ ds. width ds ≤ suc n)
 one_more None r n h = tt
@@ -139,17 +75,9 @@ array_few : (n m : ℕ) (o : Option Items) → m ≤ n → IfSome o (λ ds. widt
 array_few n m None le h = tt
 array_few n m (Some ds) le h = omega arith
 
-object_few : (n : ℕ) (o : Option Members) → IfSome (option_map object o) (IsFew n)
-object_few n None = tt
-object_few n (Some ms) = tt
-
-json_few : (n : ℕ) (j : json.Json) → length (json_tokens j) ≤ n → IfSome (of_json j) (IsFew n)
-json_few n json.null h = tt
-json_few n (json.boolean b) h = tt
-json_few n (json.number s) h = number_few n s
-json_few n (json.string s) h = tt
-json_few n (json.array js) h = array_few n (count js) (of_items js) (omega (arith, count_within js)) (items_few js)
-json_few n (json.object ms) h = object_few n (of_members ms no_members)
+object_few : (n : ℕ) (o : Option Members) → IfSome o (AreFew n) → IfSome (option_map object o) (IsFew n)
+object_few n None h = tt
+object_few n (Some ms) h = h
 
 -- ---- members
 
@@ -167,58 +95,34 @@ and_then_few : (n : ℕ) (f : Data → Option Members) (o : Option Data) → IfS
 and_then_few n f None few next = tt
 and_then_few n f (Some d) few next = next d few
 
-members_few : (n : ℕ) (ms : json.Members) (found : Members) → length (members_tokens ms) ≤ n → AreFew n found → IfSome (of_members ms found) (AreFew n)
-members_few n json.no_members found h few = few
-members_few n (json.member k j ms) found h few =
-    let front : length (json_tokens j) ≤ n = omega (arith, length-append (json_tokens j) (members_tokens ms)) in
-    let back : length (members_tokens ms) ≤ n = omega (arith, length-append (json_tokens j) (members_tokens ms)) in
-    and_then_few n (λ d. of_members ms (put k d found)) (of_json j) (json_few n j front)
-    (λ d one. members_few n ms (put k d found) back (put_few n k d found one few))
-
--- a document's members are few
-abbrev HoldsFew : ℕ → Data → Type 0
-HoldsFew n null = Unit {0}
-HoldsFew n (boolean b) = Unit {0}
-HoldsFew n (number m) = Unit {0}
-HoldsFew n (string s) = Unit {0}
-HoldsFew n (array ds) = Unit {0}
-HoldsFew n (object ms) = AreFew n ms
-
-number_holds : (n : ℕ) (s : List ℕ) → IfSome (option_map number (number_of s)) (HoldsFew n)
-number_holds n s = by_case (number_of s)
-  where
-    by_case : (o : Option _) → IfSome (option_map number o) (HoldsFew n)
-    by_case None = tt
-    by_case (Some m) = tt
-
-array_holds : (n : ℕ) (o : Option Items) → IfSome (option_map array o) (HoldsFew n)
-array_holds n None = tt
-array_holds n (Some ds) = tt
-
-object_holds : (n : ℕ) (o : Option Members) → IfSome o (AreFew n) → IfSome (option_map object o) (HoldsFew n)
-object_holds n None h = tt
-object_holds n (Some ms) h = h
-
-json_holds : (n : ℕ) (j : json.Json) → length (json_tokens j) ≤ suc n → IfSome (of_json j) (HoldsFew n)
-json_holds n json.null h = tt
-json_holds n (json.boolean b) h = tt
-json_holds n (json.number s) h = number_holds n s
-json_holds n (json.string s) h = tt
-json_holds n (json.array js) h = array_holds n (of_items js)
-json_holds n (json.object ms) h = object_holds n (of_members ms no_members) (members_few n ms no_members (omega arith) tt)
-
 -- ---- the whole text
 
-whole_holds : (n : ℕ) (ts : List Token) (o : Option (json.Json × List Token)) → length ts ≤ suc n → ((j : json.Json) (r : List Token) → o ≡ Some (j, r) → ts ≡ json_tokens j ++ r)
-    → IfSome (option_and_then of_json (option_and_then (λ p. json.if_last p.0 p.1) o)) (HoldsFew n)
-whole_holds n ts None within spelled = tt
-whole_holds n ts (Some (j, [])) within spelled =
-    let same : length ts ≡ length (json_tokens j) + length {A = Token} [] = ap length (spelled j [] refl) ∙ length-append (json_tokens j) [] in
-    json_holds n j (omega arith)
-whole_holds n ts (Some (j, t ∷ r)) within spelled = tt
+mutual
+  json_few : (n : ℕ) (j : json.Json) → length (json_tokens j) ≤ suc n → IfSome (of_json j) (IsFew n)
+  json_few n json.null h = tt
+  json_few n (json.boolean b) h = tt
+  json_few n (json.number s) h = number_few n s
+  json_few n (json.string s) h = tt
+  json_few n (json.array js) h = array_few n (count js) (of_items js) (omega (arith, count_within js)) (items_few js)
+  json_few n (json.object ms) h = object_few n (of_members ms no_members) (members_few n ms no_members (omega arith) tt)
 
-text_holds : (text : List ℕ) → IfSome (read text) (HoldsFew (length text))
-text_holds text = whole_holds (length text) (tokens text) (json.value max_depth (tokens text)) (tokens_within text) (λ j r is. value-json_tokens_back max_depth (tokens text) r j is)
+  members_few : (n : ℕ) (ms : json.Members) (found : Members) → length (members_tokens ms) ≤ n → AreFew n found → IfSome (of_members ms found) (AreFew n)
+  members_few n json.no_members found h few = few
+  members_few n (json.member k j ms) found h few =
+      let front : length (json_tokens j) ≤ suc n = omega (arith, length-append (json_tokens j) (members_tokens ms)) in
+      let back : length (members_tokens ms) ≤ n = omega (arith, length-append (json_tokens j) (members_tokens ms)) in
+      and_then_few n (λ d. of_members ms (put k d found)) (of_json j) (json_few n j front) (λ d one. members_few n ms (put k d found) back (put_few n k d found one few))
+
+whole_few : (n : ℕ) (ts : List Token) (o : Option (json.Json × List Token)) → length ts ≤ suc n → ((j : json.Json) (r : List Token) → o ≡ Some (j, r) → ts ≡ json_tokens j ++ r)
+    → IfSome (option_and_then of_json (option_and_then (λ p. json.if_last p.0 p.1) o)) (IsFew n)
+whole_few n ts None within spelled = tt
+whole_few n ts (Some (j, [])) within spelled =
+    let same : length ts ≡ length (json_tokens j) + length {A = Token} [] = ap length (spelled j [] refl) ∙ length-append (json_tokens j) [] in
+    json_few n j (omega arith)
+whole_few n ts (Some (j, t ∷ r)) within spelled = tt
+
+text_few : (text : List ℕ) → IfSome (read text) (IsFew (length text))
+text_few text = whole_few (length text) (tokens text) (json.value max_depth (tokens text)) (tokens_within text) (λ j r is. value-json_tokens_back max_depth (tokens text) r j is)
 
 -- ---- what is found in it
 
@@ -239,7 +143,7 @@ few_member : (n : ℕ) (name : List ℕ) (ms : Members) → AreFew n ms → IfSo
 few_member n name no_members few = tt
 few_member n name (member k d ms) few = chosen_member (IsFew n) _ (get_member name ms) d (few_member n name ms few.1) few.0
 
-few_found : (n : ℕ) (name : List ℕ) (d : Data) → HoldsFew n d → IfSome (get name d) (IsFew n)
+few_found : (n : ℕ) (name : List ℕ) (d : Data) → IsFew n d → IfSome (get name d) (IsFew n)
 few_found n name null few = tt
 few_found n name (boolean b) few = tt
 few_found n name (number m) few = tt
@@ -251,14 +155,13 @@ then_items : (n : ℕ) (o : Option Data) → IfSome o (IsFew n) → IfSome (opti
 then_items n None few = tt
 then_items n (Some d) few = few_items n d few
 
-member_items_few : (n : ℕ) (name : List ℕ) (d : Data) → HoldsFew n d → IfSome (items_of name d) (λ ds. length ds ≤ n)
+member_items_few : (n : ℕ) (name : List ℕ) (d : Data) → IsFew n d → IfSome (items_of name d) (λ ds. length ds ≤ n)
 unfolding items_of
 member_items_few n name d few = then_items n (get name d) (few_found n name d few)
 
-pub arrays_of_text : (text : List ℕ) (d : Data) → read text ≡ Some d → HasArraysWithin (length text) d
-arrays_of_text text d is = record {
-  within = λ name ds at. subst (λ o. IfSome o (λ xs. length xs ≤ length text)) at
-      (member_items_few (length text) name d (subst (λ o. IfSome o (HoldsFew (length text))) is (text_holds text)));
+arrays_within : (n : ℕ) (d : Data) → IsFew n d → HasArraysWithin n d
+arrays_within n d few = record {
+  within = λ name ds at. subst (λ o. IfSome o (λ xs. length xs ≤ n)) at (member_items_few n name d few);
 }
 
 -- fewer than few are few
@@ -267,10 +170,20 @@ arrays_of_short n m d less arrays = record {
   within = λ name ds at. let few : length ds ≤ n = arrays.within name ds at in omega arith;
 }
 
+-- the members of what a text reads as
+pub arrays_of_text : (text : List ℕ) (d : Data) → read text ≡ Some d → HasArraysWithin (length text) d
+arrays_of_text text d is = arrays_within (length text) d (subst (λ o. IfSome o (IsFew (length text))) is (text_few text))
+
+-- and the members of each of these
+pub arrays_of_member : (text : List ℕ) (d : Data) → read text ≡ Some d → length text ≤ 4194304 → (name : List ℕ) (e : Data) → get name d ≡ Some e → HasShortArrays e
+arrays_of_member text d is short name e at =
+    let few : IsFew (length text) d = subst (λ o. IfSome o (IsFew (length text))) is (text_few text) in
+    arrays_of_short (length text) 4194304 e short (arrays_within (length text) e (subst (λ o. IfSome o (IsFew (length text))) at (few_found (length text) name d few)))
+
 -- the items of a part are those of an array
-pub part_within : (n : ℕ) (part : Part) (d : Data) (ds : List Data) → HasArraysWithin n d → items_in part d ≡ Ok ds → length ds ≤ n
+pub part_within : (part : Part) (d : Data) (ds : List Data) → HasShortArrays d → items_in part d ≡ Ok ds → length ds ≤ 4194304
 unfolding items_in
-part_within n part d ds arrays at = arrays.within (part_word part) ds (found (items_of (part_word part) d) at)
+part_within part d ds arrays at = arrays.within (part_word part) ds (found (items_of (part_word part) d) at)
   where
     found : (o : Option (List Data)) → or_fault (Shape (whole_of part)) o ≡ Ok ds → o ≡ Some ds
     found None at = absurd (cc)

@@ -4,5 +4,10 @@ pub mod Each
 pub mod Columns
 pub mod Shorts
 pub mod Written
-pub mod Below
+pub mod Floatless
+pub mod Weights
+pub mod Only
+pub mod Fitting
+pub mod Tokens
 pub mod Lengths
+pub mod Requests

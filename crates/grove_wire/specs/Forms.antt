@@ -1,5 +1,5 @@
 -- The forms of rows, accesses and flow rows, as JSON values.
-use Rattle.std.specs.Prelude.{◌≡◌, ℕ, ◌≤◌, length, ◌^◌, ◌==◌, nat_lt, Bool, false, codes, bytes_eq, ℤ, pos, List, [], ◌∷◌, Option, Some, None, is_some, option_map, option_and_then, unwrap_or, if◌then◌else◌}
+use Rattle.std.specs.Prelude.{◌≡◌, ℕ, ◌≤◌, length, ◌^◌, ◌==◌, nat_lt, Bool, false, codes, bytes_eq, ℤ, pos, List, [], ◌∷◌, Option, Some, None, is_some, is_none, option_map, option_and_then, unwrap_or, if◌then◌else◌}
 use Rattle.serde_json.specs.Data.{Data, Items, no_items, item}
 use Rattle.serde_json.specs.Find.{get, as_null, as_number, as_str, as_array, as_i64, as_u64}
 use Rattle.grove_tree.specs.Trees.{NodeRow}
@@ -23,6 +23,10 @@ items_of name d = option_and_then as_list (get name d)
 -- each member that is an array has at most n items
 pub record HasArraysWithin (n : ℕ) (d : Data) : Type 0 where
   pub within : (name : List ℕ) (ds : List Data) → items_of name d ≡ Some ds → length ds ≤ n
+
+-- and at most as many as a document has bytes at most
+abbrev pub HasShortArrays : Data → Type 0
+HasShortArrays d = HasArraysWithin 4194304 d
 
 -- a signed number of 64 bits
 abbrev pub as_signed : Data → Option ℤ
@@ -75,12 +79,20 @@ abbrev pub version_of : Option Data → Option Version
 version_of None = Some First
 version_of (Some d) = option_and_then version_numbered (option_and_then as_u64 (as_number d))
 
--- ---- accesses: a path, an operation and a length
+-- ---- accesses: a path, an operation and, where one is told, a length
 
-unfoldable pub short_form : Data → Data → Option (List ℕ × Op)
-short_form word path = if is_word (codes "get") word then option_map (λ text. (text, Get)) (as_str path) else None
+pub record AccessForm : Type 0 where
+  pub path : List ℕ
+  pub op : Op
+  pub length : Option ℕ
 
--- the operation that a word names, with its number
+abbrev pub access_with : List ℕ → Op → Option ℕ → AccessForm
+access_with path op length = record { path = path; op = op; length = length }
+
+-- the operation that a word names alone, and that it names with a number
+abbrev pub get_of : Data → Option Op
+get_of word = if is_word (codes "get") word then Some Get else None
+
 abbrev pub op_of : Data → ℤ → Option Op
 op_of word value =
     if is_word (codes "set") word then Some (Set value)
@@ -88,38 +100,31 @@ op_of word value =
     else if is_word (codes "take") word then Some (Take value)
     else None
 
-unfoldable pub long_form : Data → Data → Data → Option (List ℕ × Op)
-long_form word path value =
-    option_and_then (λ text.
-    option_map (λ op. (text, op))
-    (option_and_then (op_of word) (as_signed value)))
-    (as_str path)
+abbrev pub numbered_op : Data → Data → Option Op
+numbered_op word value = option_and_then (op_of word) (as_signed value)
 
--- an access that tells no length takes one slot
-abbrev pub untimed : List ℕ × Op → List ℕ × Op × ℕ
-untimed form = (form.0, form.1, 1)
+-- a path with an operation, which tells no length or tells one
+abbrev pub form_with : Data → Option Op → Option ℕ → Option AccessForm
+form_with path op length = option_and_then (λ text. option_map (λ found. access_with text found length) op) (as_str path)
 
--- the first version has no access that tells one
-abbrev pub timed : Version → Data → List ℕ × Op → Option (List ℕ × Op × ℕ)
-timed First length form = None
-timed Second length form = option_map (λ slots. (form.0, form.1, slots)) (option_and_then as_u64 (as_number length))
+abbrev pub with_length : Data → Option Op → Data → Option AccessForm
+with_length path op length = option_and_then (λ slots. form_with path op (Some slots)) (option_and_then as_u64 (as_number length))
 
--- what the one reads as, or else the other
-abbrev pub or_else : {A : Type 0} → Option A → Option A → Option A
-or_else (Some x) other = Some x
-or_else None other = other
+abbrev pub form_of : List Data → Option AccessForm
+form_of [] = None
+form_of (word ∷ []) = None
+form_of (word ∷ path ∷ []) = form_with path (get_of word) None
+form_of (word ∷ path ∷ third ∷ []) = if is_word (codes "get") word then with_length path (Some Get) third else form_with path (numbered_op word third) None
+form_of (word ∷ path ∷ value ∷ length ∷ []) = with_length path (numbered_op word value) length
+form_of (word ∷ path ∷ value ∷ length ∷ other ∷ others) = None
 
-abbrev pub form_of : Version → List Data → Option (List ℕ × Op × ℕ)
-form_of version [] = None
-form_of version (word ∷ []) = None
-form_of version (word ∷ path ∷ []) = option_map untimed (short_form word path)
-form_of version (word ∷ path ∷ third ∷ []) =
-    or_else (option_map untimed (long_form word path third)) (option_and_then (timed version third) (short_form word path))
-form_of version (word ∷ path ∷ value ∷ length ∷ []) = option_and_then (timed version length) (long_form word path value)
-form_of version (word ∷ path ∷ value ∷ length ∷ other ∷ others) = None
+-- no access tells a length in the first version
+abbrev pub allowed : Version → AccessForm → Option AccessForm
+allowed First form = if is_none form.length then Some form else None
+allowed Second form = Some form
 
-unfoldable pub access_form : Version → Data → Option (List ℕ × Op × ℕ)
-access_form version d = option_and_then (form_of version) (as_list d)
+unfoldable pub access_form : Version → Data → Option AccessForm
+access_form version d = option_and_then (allowed version) (option_and_then form_of (as_list d))
 
 -- ---- flow rows: a path and the amounts
 

@@ -4,3 +4,6 @@ pub mod Forms
 pub mod Reading
 pub mod Writing
 pub mod Texts
+pub mod Requests
+pub mod Replies
+pub mod Names

@@ -1,5 +1,5 @@
 -- Where in a document something is amiss.
-use Rattle.std.specs.Prelude.{ℕ, codes, List, Some, None}
+use Rattle.std.specs.Prelude.{ℕ, codes, List, Option, Some, None}
 use Rattle.grove_wire.specs.declared.place.Part.{Part}
 use Rattle.grove_wire.specs.declared.place.Part.TheVariants as part
 use Rattle.grove_wire.specs.declared.place.Place.{Place}
@@ -11,6 +11,14 @@ whole_of part = record { part = part; at = None; item = None }
 -- one item of a part
 abbrev pub item_of : Part → ℕ → Place
 item_of part at = record { part = part; at = Some at; item = None }
+
+-- an item of what stands at a place: an item of a part, or an access of a list in `lists`
+abbrev pub item_within : Part → Option ℕ → ℕ → Place
+item_within part None at = item_of part at
+item_within part (Some list) at = record { part = part; at = Some list; item = Some at }
+
+abbrev pub item_on : Place → ℕ → Place
+item_on place at = item_within place.part place.at at
 
 -- the word of a part, which is also the name of the member where it stands
 abbrev pub part_word : Part → List ℕ

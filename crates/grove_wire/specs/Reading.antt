@@ -20,7 +20,7 @@ use Rattle.grove_wire.specs.declared.place.Part.{Part}
 use Rattle.grove_wire.specs.declared.place.Part.TheVariants as part
 use Rattle.grove_wire.specs.declared.place.Place.{Place}
 use Rattle.grove_wire.specs.Outcomes.{◌>>=◌, or_fault, each_from}
-use Rattle.grove_wire.specs.Places.{whole_of, item_of, part_word}
+use Rattle.grove_wire.specs.Places.{whole_of, item_of, item_on, part_word}
 use Rattle.grove_wire.specs.Forms.{version_of, items_of, as_list, as_short, is_word, row_form, access_form, FlowForm, flow_form}
 
 -- ---- the document: an object in UTF-8, of few bytes and of a version that there is
@@ -79,27 +79,47 @@ tree_in d = do
 abbrev pub node_on : Rows → Place → List ℕ → Result ℕ WireFault
 node_on tree place path = or_fault (NoPath place) (node_at tree path)
 
-abbrev pub length_on : Place → ℕ → Result ℕ WireFault
-length_on place slots = if is_length slots then Ok slots else Err (BadLength place)
+-- an access that tells no length takes one slot
+abbrev pub length_on : Place → Option ℕ → Result ℕ WireFault
+length_on place None = Ok 1
+length_on place (Some slots) = if is_length slots then Ok slots else Err (BadLength place)
 
 unfoldable pub access_at : Rows → Version → Place → Data → Result Access WireFault
 access_at tree version place d = do
   form ← or_fault (Shape place) (access_form version d)
-  node ← node_on tree place form.0
-  slots ← length_on place form.2
-  Ok (record { node = node; op = form.1; length = slots })
+  node ← node_on tree place form.path
+  slots ← length_on place form.length
+  Ok (record { node = node; op = form.op; length = slots })
 
-abbrev pub access_in : Rows → Version → ℕ → Data → Result Access WireFault
-access_in tree version at d = access_at tree version (item_of part.List at) d
+abbrev pub access_in : Rows → Version → Place → ℕ → Data → Result Access WireFault
+access_in tree version place at d = access_at tree version (item_on place at) d
 
-abbrev pub list_of : Rows → Version → List Data → Result (List Access) WireFault
-list_of tree version ds = if nat_lt 64 (length ds) then Err (Limit (whole_of part.List)) else each_from (access_in tree version) 0 ds
+abbrev pub list_of : Rows → Version → Place → List Data → Result (List Access) WireFault
+list_of tree version place ds = if nat_lt 64 (length ds) then Err (Limit place) else each_from (access_in tree version place) 0 ds
 
 unfoldable pub list_in : Rows → Data → Result (List Access) WireFault
 list_in tree d = do
   version ← version_in d
   ds ← items_in part.List d
-  list_of tree version ds
+  list_of tree version (whole_of part.List) ds
+
+-- ---- lists: few of them, each an array and then a list
+
+-- a value by itself, read as a list
+unfoldable pub list_on : Rows → Version → Place → Data → Result (List Access) WireFault
+list_on tree version place d = or_fault (Shape place) (as_list d) >>= list_of tree version place
+
+abbrev pub nth_list : Rows → Version → ℕ → Data → Result (List Access) WireFault
+nth_list tree version at d = list_on tree version (item_of part.Lists at) d
+
+abbrev pub lists_of : Rows → Version → List Data → Result (List (List Access)) WireFault
+lists_of tree version ds = if nat_lt 256 (length ds) then Err (Limit (whole_of part.Lists)) else each_from (nth_list tree version) 0 ds
+
+unfoldable pub lists_in : Rows → Data → Result (List (List Access)) WireFault
+lists_in tree d = do
+  version ← version_in d
+  ds ← items_in part.Lists d
+  lists_of tree version ds
 
 -- ---- a plan: its steps, each of its form and then with a path of the tree
 

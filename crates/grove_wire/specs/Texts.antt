@@ -9,6 +9,8 @@ use Rattle.grove_plan.specs.declared.fault.PlanFault.{PlanFault}
 use Rattle.grove_plan.specs.declared.fault.PlanFault.TheVariants as plan
 use Rattle.grove_proof.specs.declared.fault.ProofFault.{ProofFault}
 use Rattle.grove_proof.specs.declared.fault.ProofFault.TheVariants as proof
+use Rattle.grove_run.specs.declared.fault.RunFault.{RunFault}
+use Rattle.grove_run.specs.declared.fault.RunFault.TheVariants as run
 use Rattle.grove_wire.specs.declared.fault.WireFault.{WireFault}
 use Rattle.grove_wire.specs.declared.fault.WireFault.TheVariants.{BadJson, Shape, NoPath, BadLength, Limit, Tree, Memory}
 use Rattle.grove_wire.specs.declared.place.Place.{Place}
@@ -91,3 +93,18 @@ proof_text rows (proof.LockBalance row) = codes "lock-balance " ++ decimal row
 proof_text rows (proof.ReleaseBalance row) = codes "release-balance " ++ decimal row
 proof_text rows (proof.Value cost bound) = value_text cost bound
 proof_text rows proof.Memory = codes "memory"
+
+-- ---- faults of runs
+
+abbrev pub RunFaultFits : Rows → RunFault → Type 0
+RunFaultFits rows (run.BadPlan job fault) = FaultFits rows fault
+RunFaultFits rows run.Memory = Unit {0}
+RunFaultFits rows run.Foreign = Unit {0}
+RunFaultFits rows run.Unfinished = Unit {0}
+
+-- a bad plan has the text of its fault
+abbrev pub run_text : Rows → RunFault → List ℕ
+run_text rows (run.BadPlan job fault) = plan_text rows fault
+run_text rows run.Memory = codes "memory"
+run_text rows run.Foreign = codes "foreign"
+run_text rows run.Unfinished = codes "unfinished"

@@ -14,6 +14,9 @@ use Rattle.grove_proof.specs.declared.flow.FlowRow.{FlowRow}
 abbrev pub number_data : ℤ → Data
 number_data n = number (of_integer n)
 
+abbrev pub count_data : ℕ → Data
+count_data n = number (unsigned n)
+
 abbrev pub reply_data : Reply → Data
 reply_data (Value n) = number_data n
 reply_data Done = string (codes "ok")
@@ -41,7 +44,7 @@ abbrev pub pair_data : List ℕ → Data → Data
 pair_data word operand = array (item (string word) (item operand no_items))
 
 abbrev pub access_data : ℕ → Data
-access_data access = pair_data (codes "access") (number (unsigned access))
+access_data access = pair_data (codes "access") (count_data access)
 
 abbrev pub step_data : Rows → Step → Data
 step_data rows (Lock node) = pair_data (codes "lock") (string (path_of rows node))
@@ -56,17 +59,14 @@ plan_data rows plan = array (items_of (map (step_data rows) plan))
 abbrev pub FlowFits : Rows → List FlowRow → Type 0
 FlowFits rows flow = (place : ℕ) (row : FlowRow) → slice_get flow place ≡ Some row → row.node < length rows
 
-abbrev pub amount_data : ℕ → Data
-amount_data amount = number (unsigned amount)
-
 abbrev pub flow_row_data : Rows → FlowRow → Data
 flow_row_data rows row = object
-    (member (codes "above") (amount_data row.above)
-    (member (codes "first") (amount_data row.first)
-    (member (codes "held") (amount_data row.held)
-    (member (codes "last") (amount_data row.last)
+    (member (codes "above") (count_data row.above)
+    (member (codes "first") (count_data row.first)
+    (member (codes "held") (count_data row.held)
+    (member (codes "last") (count_data row.last)
     (member (codes "node") (string (path_of rows row.node))
-    (member (codes "own") (amount_data row.own) no_members))))))
+    (member (codes "own") (count_data row.own) no_members))))))
 
 abbrev pub flow_data : Rows → List FlowRow → Data
 flow_data rows flow = array (items_of (map (flow_row_data rows) flow))

@@ -1,6 +1,8 @@
-ghost use Rattle.std.specs.Prelude.{◌≡◌, ◌≤◌, IfOk, length, map, option_map};
+ghost use Rattle.std.specs.Prelude.{◌≡◌, ◌≤◌, ℕ, List, IfOk, Some, length, map, option_map};
+ghost use Rattle.serde_json.specs.Data.{Data};
+ghost use Rattle.serde_json.specs.Find.{get};
 ghost use Rattle.serde_json.specs.View.{view};
-ghost use Rattle.grove_wire.specs.Forms.{items_of, HasArraysWithin};
+ghost use Rattle.grove_wire.specs.Forms.{items_of, HasArraysWithin, HasShortArrays};
 ghost use Rattle.grove_wire.specs.Outcomes.{Gives, or_fault};
 ghost use Rattle.grove_wire.specs.Reading.{document_of, value_of, items_in};
 
@@ -18,7 +20,7 @@ pub const MOST_BYTES: usize = 4_194_304;
 #[tactic(auto, using(crate::proofs::Lengths::arrays_of_short), unfolding(crate::specs::Reading::document_of))]
 pub fn read_document(alloc: Global, bytes: &[u8]) -> Result<Value, WireFault>
     ensures read { Gives (λ document. view document) result (document_of bytes.now) }
-    ensures short { IfOk result (λ document. HasArraysWithin 4194304 (view document)) }
+    ensures short { IfOk result (λ document. HasShortArrays (view document)) }
 {
     if bytes.len() > MOST_BYTES {
         return Err(WireFault::Limit(Place::whole(Part::Whole)));
@@ -31,10 +33,12 @@ pub fn read_document(alloc: Global, bytes: &[u8]) -> Result<Value, WireFault>
     Ok(document)
 }
 
-#[tactic(auto, using(crate::proofs::Documents::value_read, crate::proofs::Documents::value_refused, crate::proofs::Lengths::arrays_of_text))]
-fn read_value(alloc: Global, bytes: &[u8]) -> Result<Value, WireFault>
+#[tactic(auto, using(crate::proofs::Documents::value_read, crate::proofs::Documents::value_refused, crate::proofs::Lengths::arrays_of_text, crate::proofs::Lengths::arrays_of_member))]
+pub(crate) fn read_value(alloc: Global, bytes: &[u8]) -> Result<Value, WireFault>
     ensures read { Gives (λ value. view value) result (or_fault WireFault.BadJson (value_of bytes.now)) }
     ensures short { IfOk result (λ value. HasArraysWithin (length bytes.now) (view value)) }
+    ensures members { IfOk result (λ value. length bytes.now ≤ 4194304
+        → (name : List ℕ) (member : Data) → get name (view value) ≡ Some member → HasShortArrays member) }
 {
     match Value::from_slice(alloc, bytes) {
         Ok(value) => Ok(value),
@@ -56,9 +60,8 @@ fn items_of<'v>(document: &'v Value, name: &str) -> Option<&'v [Value]>
 /// The items of a part of the document.
 #[tactic(auto, using(crate::proofs::Lengths::part_within), unfolding(crate::specs::Reading::items_in))]
 pub(crate) fn items_in(document: &Value, part: Part) -> Result<&[Value], WireFault>
-    requires { HasArraysWithin 4194304 (view document.now) }
     ensures items { Gives (λ items. map view items.now) result (items_in part (view document.now)) }
-    ensures few { IfOk result (λ items. length items.now ≤ 4194304) }
+    ensures few { IfOk result (λ items. HasShortArrays (view document.now) → length items.now ≤ 4194304) }
 {
     match items_of(document, part.word()) {
         Some(items) => Ok(items),

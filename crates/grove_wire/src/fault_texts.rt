@@ -1,9 +1,10 @@
 ghost use Rattle.std.specs.Prelude.{◌≡◌, IfOk, string_bytes};
-ghost use Rattle.grove_wire.specs.Texts.{number_text, place_text, tree_text, wire_text, plan_text, FaultFits, value_text, proof_text, ProofFaultFits};
+ghost use Rattle.grove_wire.specs.Texts.{tree_text, wire_text, plan_text, FaultFits, value_text, proof_text, ProofFaultFits, run_text, RunFaultFits};
 
-use crate::{Place, WireFault};
+use crate::WireFault;
 use grove_plan::PlanFault;
 use grove_proof::ProofFault;
+use grove_run::RunFault;
 use grove_tree::{NoMemory, Tree, TreeFault};
 use std::alloc::{AllocError, Global};
 
@@ -14,42 +15,12 @@ pub fn wire_fault_text(alloc: Global, fault: &WireFault) -> Result<String, NoMem
 {
     match *fault {
         WireFault::BadJson => Ok(String::from_str(alloc, "bad-json")?),
-        WireFault::Shape(place) => {
-            let place = place_text(alloc, place)?;
-            Ok(format!(in alloc; "shape {place}")?)
-        }
-        WireFault::NoPath(place) => {
-            let place = place_text(alloc, place)?;
-            Ok(format!(in alloc; "no-path {place}")?)
-        }
-        WireFault::BadLength(place) => {
-            let place = place_text(alloc, place)?;
-            Ok(format!(in alloc; "bad-length {place}")?)
-        }
-        WireFault::Limit(place) => {
-            let place = place_text(alloc, place)?;
-            Ok(format!(in alloc; "limit {place}")?)
-        }
+        WireFault::Shape(place) => Ok(format!(in alloc; "shape {place}")?),
+        WireFault::NoPath(place) => Ok(format!(in alloc; "no-path {place}")?),
+        WireFault::BadLength(place) => Ok(format!(in alloc; "bad-length {place}")?),
+        WireFault::Limit(place) => Ok(format!(in alloc; "limit {place}")?),
         WireFault::Tree(fault) => Ok(tree_text(alloc, fault)?),
         WireFault::Memory => Ok(String::from_str(alloc, "memory")?),
-    }
-}
-
-fn place_text(alloc: Global, place: Place) -> Result<String, AllocError>
-    ensures { IfOk result (λ text. string_bytes text ≡ place_text place) }
-{
-    let at = number_text(alloc, place.at)?;
-    let item = number_text(alloc, place.item)?;
-    format!(in alloc; "{}{at}{item}", place.part.word())
-}
-
-/// A space and the number, where there is one.
-fn number_text(alloc: Global, number: Option<u32>) -> Result<String, AllocError>
-    ensures { IfOk result (λ text. string_bytes text ≡ number_text number) }
-{
-    match number {
-        Some(number) => format!(in alloc; " {number}"),
-        None => Ok(String::new(alloc)),
     }
 }
 
@@ -111,4 +82,17 @@ fn value_text(alloc: Global, cost: u64, bound: i128) -> Result<String, AllocErro
 {
     let bound = format!(in alloc; " {bound}")?;
     format!(in alloc; "value {cost}{bound}")
+}
+
+/// The text of a run's fault, `foreign` or `unfinished`; a bad plan has the text of its fault.
+pub fn run_fault_text(alloc: Global, tree: &Tree, fault: &RunFault) -> Result<String, NoMemory>
+    requires { RunFaultFits tree.now fault.now }
+    ensures { IfOk result (λ text. string_bytes text ≡ run_text tree.now fault.now) }
+{
+    match *fault {
+        RunFault::BadPlan(_, fault) => plan_fault_text(alloc, tree, &fault),
+        RunFault::Memory => Ok(String::from_str(alloc, "memory")?),
+        RunFault::Foreign => Ok(String::from_str(alloc, "foreign")?),
+        RunFault::Unfinished => Ok(String::from_str(alloc, "unfinished")?),
+    }
 }

@@ -1,11 +1,11 @@
 ghost use Rattle.std.specs.Prelude.{◌≡◌, ◌<◌, ◌^◌, map, option_map, IfOk, length, vec_len};
 ghost use Rattle.serde_json.specs.View.{view};
-ghost use Rattle.grove_wire.specs.Forms.{HasArraysWithin, amount_of, flow_with, flow_form};
+ghost use Rattle.grove_wire.specs.Forms.{HasShortArrays, amount_of, flow_with, flow_form};
 ghost use Rattle.grove_wire.specs.Outcomes.{Gives, each_from};
 ghost use Rattle.grove_wire.specs.Reading.{flow_row_at, flow_row_in, flow_in};
 
 use crate::document::items_in;
-use crate::lists::node_on;
+use crate::paths::node_on;
 use crate::{Part, Place, WireFault};
 use grove_proof::{Flow, FlowRow};
 use grove_tree::Tree;
@@ -16,7 +16,7 @@ use std::alloc::Global;
 /// `NoPath`.
 #[tactic(auto, unfolding(crate::specs::Reading::flow_in))]
 pub fn read_flow(alloc: Global, tree: &Tree, document: &Value) -> Result<Flow, WireFault>
-    requires { HasArraysWithin 4194304 (view document.now) }
+    requires { HasShortArrays (view document.now) }
     ensures { Gives (λ flow. flow) result (flow_in tree.now (view document.now)) }
 {
     let items = items_in(document, Part::Flow)?;

@@ -1,37 +1,70 @@
-ghost use Rattle.std.specs.Prelude.{◌≡◌, ◌∷◌, [], map, option_map, true, IfOk, None, length, ◌<◌, ◌≤◌};
+ghost use Rattle.std.specs.Prelude.{◌≡◌, map, IfOk, length, ◌≤◌};
+ghost use Rattle.std.specs.List.{All};
 ghost use Rattle.serde_json.specs.View.{view};
-ghost use Rattle.grove_access.specs.Lists.{nodes_of, AreNodes, is_length, list_fault_of};
-ghost use Rattle.grove_wire.specs.Forms.{HasArraysWithin, short_form, long_form, timed, form_of, access_form, op_of};
+ghost use Rattle.grove_access.specs.Lists.{nodes_of, AreNodes};
 ghost use Rattle.grove_wire.specs.Outcomes.{Gives, each_from};
-ghost use Rattle.grove_wire.specs.Reading.{node_on, length_on, access_at, access_in, list_in};
+ghost use Rattle.grove_wire.specs.Reading.{access_in, list_of, list_in, list_on, nth_list, lists_of, lists_in};
 
+use crate::accesses::access_at;
 use crate::document::items_in;
-use crate::forms::{is_word, list_items};
+use crate::forms::list_items;
 use crate::versions::{Version, version_of};
 use crate::{Part, Place, WireFault};
-use grove_access::{Access, AccessList, ListFault, Op};
-use grove_tree::{Node, Tree};
+use grove_access::{Access, AccessList, ListFault};
+use grove_tree::Tree;
 use serde_json::Value;
 use std::alloc::Global;
 
 /// The greatest number of accesses of a list.
 const MOST_ACCESSES: usize = 64;
 
+/// The greatest number of lists of a batch.
+const MOST_LISTS: usize = 256;
+
 /// The accesses of the document's `list`, over the tree. More than 64 are `Limit`; then the accesses are read in order,
 /// each first for its `Shape`, then for its `NoPath` and last for its `BadLength`. Accesses tell lengths in version 2 alone.
 /// Any other version than 1 or 2 is `Shape` of the whole, before all this.
 #[tactic(auto, unfolding(crate::specs::Reading::list_in))]
 pub fn read_list(alloc: Global, tree: &Tree, document: &Value) -> Result<AccessList, WireFault>
-    requires { HasArraysWithin 4194304 (view document.now) }
     ensures read { Gives (λ list. list) result (list_in tree.now (view document.now)) }
     ensures fitting { IfOk result (λ list. AreNodes tree.now (nodes_of list)) }
 {
     let version = version_of(document)?;
     let items = items_in(document, Part::List)?;
+    list_of(alloc, tree, version, Place::whole(Part::List), items)
+}
+
+/// The document's `lists`, over the tree: more than 256 are `Limit`, and then they are read in order, each as a `list` is.
+#[tactic(auto, unfolding(crate::specs::Reading::lists_in))]
+pub fn read_lists(
+    alloc: Global,
+    tree: &Tree,
+    document: &Value,
+) -> Result<Vec<AccessList>, WireFault>
+    ensures read { Gives (λ lists. lists.items) result (lists_in tree.now (view document.now)) }
+    ensures fitting { IfOk result (λ lists. All (λ list. AreNodes tree.now (nodes_of list)) lists.items) }
+    ensures few { IfOk result (λ lists. length lists.items ≤ 256) }
+{
+    let version = version_of(document)?;
+    let items = items_in(document, Part::Lists)?;
+    lists_of(alloc, tree, version, items)
+}
+
+/// The values as a list of accesses that stands at the place.
+fn list_of(
+    alloc: Global,
+    tree: &Tree,
+    version: Version,
+    place: Place,
+    items: &[Value],
+) -> Result<AccessList, WireFault>
+    ensures read { Gives (λ list. list) result (list_of tree.now version place (map view items.now)) }
+    ensures fitting { IfOk result (λ list. AreNodes tree.now (nodes_of list)) }
+{
     if items.len() > MOST_ACCESSES {
-        return Err(WireFault::Limit(Place::whole(Part::List)));
+        return Err(WireFault::Limit(place));
     }
-    let accesses = read_accesses(alloc, tree, version, items)?;
+    let accesses = read_accesses(alloc, tree, version, place, items)?;
     match AccessList::new(alloc, tree, &accesses) {
         Ok(list) => Ok(list),
         Err(ListFault::Memory) => Err(WireFault::Memory),
@@ -44,143 +77,68 @@ fn read_accesses(
     alloc: Global,
     tree: &Tree,
     version: Version,
+    place: Place,
     items: &[Value],
 ) -> Result<Vec<Access>, WireFault>
     requires { length items.now ≤ 64 }
-    ensures read { Gives (λ accesses. accesses.items) result (each_from (access_in tree.now version) 0 (map view items.now)) }
-    ensures faultless { IfOk result (λ accesses. list_fault_of tree.now accesses.items ≡ None) }
+    ensures { Gives (λ accesses. accesses.items) result (each_from (access_in tree.now version place) 0 (map view items.now)) }
 {
     let mut accesses = Vec::new(alloc);
     for (at, item) in items.iter().enumerate() {
-        let access = access_at(tree, version, Place::item(Part::List, at as u32), item)?;
+        let access = access_at(tree, version, place.within(at as u32), item)?;
         accesses.push(access)?;
     }
     Ok(accesses)
 }
 
-/// The node with a path, or `NoPath` at the place.
-pub(crate) fn node_on(tree: &Tree, place: Place, path: &str) -> Result<Node, WireFault>
-    ensures node { result ≡ node_on tree.now place path.now }
-    ensures within { IfOk result (λ node. node < length tree.now) }
-{
-    match tree.find(path) {
-        Some(node) => Ok(node),
-        None => Err(WireFault::NoPath(place)),
-    }
-}
-
-#[tactic(auto, unfolding(crate::specs::Reading::access_at))]
-fn access_at(
+/// A value by itself as a list that stands at the place.
+#[tactic(auto, unfolding(crate::specs::Reading::list_on))]
+pub(crate) fn list_on(
+    alloc: Global,
     tree: &Tree,
     version: Version,
     place: Place,
     value: &Value,
-) -> Result<Access, WireFault>
-    ensures access { result ≡ access_at tree.now version place (view value.now) }
-    ensures within { IfOk result (λ access. access.node < length tree.now) }
-    ensures length { IfOk result (λ access. is_length access.length ≡ true) }
+) -> Result<AccessList, WireFault>
+    ensures read { Gives (λ list. list) result (list_on tree.now version place (view value.now)) }
+    ensures fitting { IfOk result (λ list. AreNodes tree.now (nodes_of list)) }
 {
-    let Some((path, op, slots)) = access_form(version, value) else {
-        return Err(WireFault::Shape(place));
-    };
-    let node = node_on(tree, place, path)?;
-    let length = length_on(place, slots)?;
-    Ok(Access { node, op, length })
-}
-
-/// So many slots as the length of an access, or `BadLength` at the place.
-fn length_on(place: Place, slots: u64) -> Result<u32, WireFault>
-    ensures slots { result ≡ length_on place slots }
-    ensures fit { IfOk result (λ length. is_length length ≡ true) }
-{
-    match slots {
-        1..=1000 => Ok(slots as u32),
-        _ => Err(WireFault::BadLength(place)),
+    match list_items(value) {
+        Some(items) => list_of(alloc, tree, version, place, items),
+        None => Err(WireFault::Shape(place)),
     }
 }
 
-/// The path, the operation and the length of an access.
-#[tactic(auto, unfolding(crate::specs::Forms::access_form))]
-fn access_form(version: Version, value: &Value) -> Option<(&str, Op, u64)>
-    ensures { option_map (λ form. (form.0.now, form.1, form.2)) result ≡ access_form version (view value.now) }
-{
-    let items = list_items(value)?;
-    match items {
-        [word, path] => {
-            let (path, op) = short_form(word, path)?;
-            Some((path, op, 1))
-        }
-        [word, path, third] => third_form(version, word, path, third),
-        [word, path, number, length] => {
-            let (path, op) = long_form(word, path, number)?;
-            timed(version, length, path, op)
-        }
-        _ => None,
-    }
-}
-
-/// What an access of three items reads as: its third item is a number or a length.
-fn third_form<'v>(
+/// The values as the lists of a batch.
+pub(crate) fn lists_of(
+    alloc: Global,
+    tree: &Tree,
     version: Version,
-    word: &Value,
-    path: &'v Value,
-    third: &Value,
-) -> Option<(&'v str, Op, u64)>
-    ensures { option_map (λ form. (form.0.now, form.1, form.2)) result
-        ≡ form_of version (view word.now ∷ view path.now ∷ view third.now ∷ []) }
+    items: &[Value],
+) -> Result<Vec<AccessList>, WireFault>
+    ensures { Gives (λ lists. lists.items) result (lists_of tree.now version (map view items.now)) }
 {
-    if let Some((path, op)) = long_form(word, path, third) {
-        return Some((path, op, 1));
+    if items.len() > MOST_LISTS {
+        return Err(WireFault::Limit(Place::whole(Part::Lists)));
     }
-    let (path, op) = short_form(word, path)?;
-    timed(version, third, path, op)
+    read_each_list(alloc, tree, version, items)
 }
 
-/// An access with the length that it tells.
-fn timed<'v>(version: Version, length: &Value, path: &'v str, op: Op) -> Option<(&'v str, Op, u64)>
-    ensures { option_map (λ form. (form.0.now, form.1, form.2)) result ≡ timed version (view length.now) (path.now, op) }
+/// The lists of a batch of few enough.
+fn read_each_list(
+    alloc: Global,
+    tree: &Tree,
+    version: Version,
+    items: &[Value],
+) -> Result<Vec<AccessList>, WireFault>
+    requires { length items.now ≤ 256 }
+    ensures { Gives (λ lists. lists.items) result (each_from (nth_list tree.now version) 0 (map view items.now)) }
 {
-    match version {
-        Version::First => None,
-        Version::Second => {
-            let slots = length.as_u64()?;
-            Some((path, op, slots))
-        }
+    let mut lists = Vec::new(alloc);
+    for (at, item) in items.iter().enumerate() {
+        let place = Place::item(Part::Lists, at as u32);
+        let list = list_on(alloc, tree, version, place, item)?;
+        lists.push(list)?;
     }
-}
-
-#[tactic(auto, unfolding(crate::specs::Forms::short_form))]
-fn short_form<'v>(word: &Value, path: &'v Value) -> Option<(&'v str, Op)>
-    ensures { option_map (λ form. (form.0.now, form.1)) result ≡ short_form (view word.now) (view path.now) }
-{
-    if !is_word(word, "get") {
-        return None;
-    }
-    let path = path.as_str()?;
-    Some((path, Op::Get))
-}
-
-#[tactic(auto, unfolding(crate::specs::Forms::long_form))]
-fn long_form<'v>(word: &Value, path: &'v Value, number: &Value) -> Option<(&'v str, Op)>
-    ensures { option_map (λ form. (form.0.now, form.1)) result
-        ≡ long_form (view word.now) (view path.now) (view number.now) }
-{
-    let path = path.as_str()?;
-    let number = number.as_i64()?;
-    let op = op_of(word, number)?;
-    Some((path, op))
-}
-
-fn op_of(word: &Value, number: i64) -> Option<Op>
-    ensures { result ≡ op_of (view word.now) number }
-{
-    if is_word(word, "set") {
-        Some(Op::Set(number))
-    } else if is_word(word, "add") {
-        Some(Op::Add(number))
-    } else if is_word(word, "take") {
-        Some(Op::Take(number))
-    } else {
-        None
-    }
+    Ok(lists)
 }

@@ -1,7 +1,7 @@
 ghost use Rattle.std.specs.Prelude.{◌≡◌, ◌<◌, ◌^◌, map, option_map, IfOk, length, vec_len};
 ghost use Rattle.serde_json.specs.View.{view};
 ghost use Rattle.grove_tree.specs.Rules.{row_of, rows_of, tree_fault_of};
-ghost use Rattle.grove_wire.specs.Forms.{HasArraysWithin, as_parent, as_record, row_with, row_form};
+ghost use Rattle.grove_wire.specs.Forms.{HasShortArrays, as_parent, as_record, row_with, row_form};
 ghost use Rattle.grove_wire.specs.Outcomes.{Gives};
 ghost use Rattle.grove_wire.specs.Reading.{row_at, columns_of, unless_fault, tree_in};
 
@@ -17,7 +17,7 @@ use std::alloc::Global;
 /// `Tree::build` says of the rows.
 #[tactic(auto, unfolding(crate::specs::Reading::tree_in))]
 pub fn read_tree(alloc: Global, document: &Value) -> Result<(Tree, Records), WireFault>
-    requires { HasArraysWithin 4194304 (view document.now) }
+    requires { HasShortArrays (view document.now) }
     ensures read { Gives (λ read. (read.0, read.1)) result (tree_in (view document.now)) }
     ensures fits { IfOk result (λ read. length read.1 ≡ length read.0) }
 {

@@ -1,5 +1,5 @@
 ghost use Rattle.std.specs.Prelude.{◌≡◌};
-ghost use Rattle.grove_wire.specs.Places.{whole_of, item_of, part_word};
+ghost use Rattle.grove_wire.specs.Places.{whole_of, item_of, item_on, part_word};
 
 use std::fmt;
 
@@ -60,6 +60,20 @@ impl Place {
             part,
             at: Some(at),
             item: None,
+        }
+    }
+
+    /// One item of what stands at this place, where that is a part or a list of `lists`.
+    pub(crate) fn within(self, at: u32) -> Place
+        ensures { result ≡ item_on self at }
+    {
+        match self.at {
+            None => Place::item(self.part, at),
+            Some(list) => Place {
+                part: self.part,
+                at: Some(list),
+                item: Some(at),
+            },
         }
     }
 }

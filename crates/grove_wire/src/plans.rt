@@ -1,12 +1,12 @@
 ghost use Rattle.std.specs.Prelude.{◌≡◌, ◌<◌, ◌^◌, map, IfOk, length, vec_len};
 ghost use Rattle.serde_json.specs.View.{view};
-ghost use Rattle.grove_wire.specs.Forms.{HasArraysWithin};
+ghost use Rattle.grove_wire.specs.Forms.{HasShortArrays};
 ghost use Rattle.grove_wire.specs.Outcomes.{Gives, each_from};
 ghost use Rattle.grove_wire.specs.Reading.{path_at, step_of, step_at, step_in, plan_in};
 
 use crate::document::items_in;
 use crate::forms::{is_word, list_items, short_number};
-use crate::lists::node_on;
+use crate::paths::node_on;
 use crate::{Part, Place, WireFault};
 use grove_plan::{Plan, Step};
 use grove_tree::{Node, Tree};
@@ -17,7 +17,7 @@ use std::alloc::Global;
 /// `NoPath`.
 #[tactic(auto, unfolding(crate::specs::Reading::plan_in))]
 pub fn read_plan(alloc: Global, tree: &Tree, document: &Value) -> Result<Plan, WireFault>
-    requires { HasArraysWithin 4194304 (view document.now) }
+    requires { HasShortArrays (view document.now) }
     ensures { Gives (λ plan. plan) result (plan_in tree.now (view document.now)) }
 {
     let items = items_in(document, Part::Plan)?;

@@ -1,9 +1,11 @@
 ghost use Rattle.std.specs.Prelude.{◌≡◌, ◌+◌, ◌<◌, ◌≤◌, ◌^◌, ℕ, ℤ, [], ◌∷◌, ◌++◌, length, true, false, Some, slice_get, is_some};
 ghost use Rattle.grove_access.specs.Effects.{record_at, reply_to};
 ghost use Rattle.grove_access.specs.Carries.{IsSound, present_at, carry_settled};
-ghost use Rattle.grove_core.specs.Runs.{list_of, plan_of, place, next_step, holds, run_replies};
+ghost use Rattle.grove_base.specs.Numbers.{count_below};
+ghost use Rattle.grove_core.specs.Runs.{list_of, plan_of, steps_done, next_step, holds, run_replies};
 ghost use Rattle.grove_core.specs.Kept.{past_of};
-ghost use Rattle.grove_core.specs.Carried.{records_of, IsOf, after_steps, replies_in, Knows, KnowsAll, HasAt, HasAll, Follows};
+ghost use Rattle.grove_core.specs.Carried.{records_of, IsOf, after_steps, replies_in};
+ghost use Rattle.grove_core.specs.CarriedTests.{Knows, KnowsAll, HasAll, Follows};
 
 use crate::Event;
 use crate::following::{follows, has_value, is_owner, step_at};
@@ -54,7 +56,7 @@ impl<'a> Core<'a> {
         ensures added { self.new ≡ after_steps self.old carry.now.txn (length carry.now.entries) }
         ensures records { (node : ℕ) (value : ℤ) → present_at carry.now node ≡ Some value → slice_get (records_of self.new) node ≡ Some value }
         ensures replies { run_replies self.old.jobs self.old.opening (past_of self.new) carry.now.txn ≡ run_replies self.old.jobs self.old.opening (past_of self.old) carry.now.txn ++ replies_in carry.now.entries }
-        ensures next { next_step self.old.jobs (past_of self.new) carry.now.txn ≡ slice_get (plan_of self.old.jobs carry.now.txn) (place (past_of self.old) carry.now.txn + length carry.now.entries) }
+        ensures next { next_step self.old.jobs (past_of self.new) carry.now.txn ≡ slice_get (plan_of self.old.jobs carry.now.txn) (steps_done (past_of self.old) carry.now.txn + length carry.now.entries) }
         ensures settled { IsOf self.new (carry_settled carry.now) }
     {
         let txn = carry.txn();
@@ -67,11 +69,11 @@ impl<'a> Core<'a> {
     pub fn step_ahead(&self, txn: u32, ahead: usize) -> Option<Step>
         requires job { txn < length self.now.jobs }
         requires few { ahead < 2 ^ 32 }
-        ensures { result ≡ slice_get (plan_of self.now.jobs txn) (place (past_of self.now) txn + ahead) }
+        ensures { result ≡ slice_get (plan_of self.now.jobs txn) (steps_done (past_of self.now) txn + ahead) }
     {
-        let place = self.place(txn);
+        let steps_done = self.steps_done(txn);
         let job = &self.jobs()[txn as usize];
-        step_at(job, place + ahead)
+        step_at(job, steps_done + ahead)
     }
 
     /// The record of a node as it is now.
@@ -83,12 +85,12 @@ impl<'a> Core<'a> {
     }
 
     // How many steps a job has done.
-    fn place(&self, txn: u32) -> usize
+    fn steps_done(&self, txn: u32) -> usize
         requires { txn < length self.now.jobs }
-        ensures place { result ≡ place (past_of self.now) txn }
+        ensures steps_done { result ≡ steps_done (past_of self.now) txn }
         ensures few { result < 2 ^ 32 }
     {
-        self.progress[txn as usize].place
+        self.progress[txn as usize].steps_done
     }
 
     // Does the job hold the node?
@@ -120,46 +122,33 @@ impl<'a> Core<'a> {
         self.holds(txn, item.node) && has_value(self.records(), item)
     }
 
+    // Is each node out that the job holds? What the carry knows is held and apart, so as many are.
     fn has_all(&self, carry: &Carry) -> bool
-        requires { carry.now.txn < length self.now.jobs }
-        ensures yes { result ≡ true → HasAll self.now carry.now (plan_of self.now.jobs carry.now.txn) }
-        ensures no { result ≡ false → HasAll self.now carry.now (plan_of self.now.jobs carry.now.txn) → ⊥ }
+        requires job { carry.now.txn < length self.now.jobs }
+        requires knows { KnowsAll self.now carry.now.txn carry.now.known }
+        ensures yes { result ≡ true → HasAll self.now carry.now }
+        ensures no { result ≡ false → HasAll self.now carry.now → ⊥ }
     {
-        let txn = carry.txn();
-        let job = &self.jobs()[txn as usize];
-        self.has_each(carry, job.plan.steps())
+        carry.known().len() == self.held_nodes(carry.txn())
     }
 
-    fn has_each(&self, carry: &Carry, steps: &[Step]) -> bool
-        ensures yes { result ≡ true → HasAll self.now carry.now steps.now }
-        ensures no { result ≡ false → HasAll self.now carry.now steps.now → ⊥ }
+    // How many nodes the job holds.
+    fn held_nodes(&self, txn: u32) -> usize
+        requires { txn < length self.now.jobs }
+        ensures number { result ≡ count_below (length self.now.tree) (λ node. holds self.now.jobs (past_of self.now) txn node) }
+        ensures within { (node : ℕ) → holds self.now.jobs (past_of self.now) txn node ≡ true → node < length self.now.tree }
     {
-        for step in steps {
-            if !self.has_at(carry, *step) {
-                return false;
-            }
-        }
-        true
-    }
-
-    fn has_at(&self, carry: &Carry, step: Step) -> bool
-        ensures yes { result ≡ true → HasAt self.now carry.now step }
-        ensures no { result ≡ false → HasAt self.now carry.now step → ⊥ }
-    {
-        match step {
-            Step::Lock(node) => !self.holds(carry.txn(), node) || carry.is_out(node),
-            Step::Unlock(_) | Step::Access(_) => true,
-        }
+        self.progress[txn as usize].held_nodes
     }
 
     fn continues(&self, txn: u32, entries: &[Entry]) -> bool
         requires job { txn < length self.now.jobs }
         requires few { length entries.now ≤ 64 }
-        ensures yes { result ≡ true → Follows (list_of self.now.jobs txn) (plan_of self.now.jobs txn) (place (past_of self.now) txn) entries.now }
-        ensures no { result ≡ false → Follows (list_of self.now.jobs txn) (plan_of self.now.jobs txn) (place (past_of self.now) txn) entries.now → ⊥ }
+        ensures yes { result ≡ true → Follows (list_of self.now.jobs txn) (plan_of self.now.jobs txn) (steps_done (past_of self.now) txn) entries.now }
+        ensures no { result ≡ false → Follows (list_of self.now.jobs txn) (plan_of self.now.jobs txn) (steps_done (past_of self.now) txn) entries.now → ⊥ }
     {
         let job = &self.jobs()[txn as usize];
-        follows(job, self.place(txn), entries)
+        follows(job, self.steps_done(txn), entries)
     }
 
     // Does an access with the reply that it had.

@@ -1,6 +1,7 @@
 ghost use Rattle.std.specs.Prelude.{◌≡◌, ◌<◌, ◌↔◌, length, IsTrue, IfOk};
 ghost use Rattle.grove_tree.specs.Trees.{name_of};
-ghost use Rattle.grove_tree.specs.Weights.{unweighed, AgreeAt};
+ghost use Rattle.grove_tree.specs.Weights.{unweighed};
+ghost use Rattle.grove_tree.specs.WeighedOutlines.{AgreeAt};
 
 use crate::copying::copy_of;
 use crate::{NoMemory, Node, Tree};

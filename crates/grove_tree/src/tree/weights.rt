@@ -1,5 +1,5 @@
 ghost use Rattle.std.specs.Prelude.{◌≡◌, ℕ, ◌<◌, ◌≤◌, ◌==◌, not, length};
-ghost use Rattle.grove_tree.specs.Numbers.{count_below};
+ghost use Rattle.grove_base.specs.Numbers.{count_below};
 ghost use Rattle.grove_tree.specs.Trees.{weight_of};
 ghost use Rattle.grove_tree.specs.Weights.{with_weights};
 

@@ -1,23 +1,33 @@
-use Rattle.std.proofs.Common.{IfOk, subst, sym}
-use Rattle.grove.specs.declared.command_line.Order.{Order}
-use Rattle.grove.specs.declared.command_line.Order.TheVariants.{Judge, Check, Plan}
-use Rattle.grove.specs.Judgements.{judgement}
-use Rattle.grove.specs.Outcomes.{IsSaidOf, SaysOne}
-use Rattle.grove.proofs.Printing.{says_only}
-use Rattle.grove.proofs.Saying.{answer_says}
+use Rattle.serde_json.specs.View.{view}
+use Rattle.grove.specs.declared.order.Command.TheVariants.{Judge, Check, Plan, Run}
+use Rattle.grove.specs.Outcomes.{MaySay}
+use Rattle.grove.proofs.Saying.{answer_says, names_no_port}
 use Rattle.grove.proofs.command.document_answer.Goals as goal
 
 pub returns-in-Judge-clause-said : goal.returns-in-Judge-clause-said
-returns-in-Judge-clause-said c =
-    let P : Order → Type 0 = λ order. IfOk c.answer_of.result (SaysOne (IsSaidOf order c.args.bytes.now)) in
-    subst P (sym c.in-Judge.is) (answer_says (IsSaidOf (Judge c.in-Judge.document) c.args.bytes.now) c.judge_document.result c.answer_of.result c.answer_of.ensures.said (says_only (judgement c.args.bytes.now) c.judge_document.result c.judge_document.ensures))
+returns-in-Judge-clause-said g c =
+    rw c.in-Judge.is (answer_says (MaySay Judge (view c.args.document.now)) c.judge_document.result c.answer_of.result c.judge_document.ensures c.answer_of.ensures.said)
+
+pub returns-in-Judge-clause-port : goal.returns-in-Judge-clause-port
+returns-in-Judge-clause-port g c = names_no_port _ c.answer_of.result c.answer_of.ensures.unlistened
 
 pub returns-in-Check-clause-said : goal.returns-in-Check-clause-said
-returns-in-Check-clause-said c =
-    let P : Order → Type 0 = λ order. IfOk c.answer_of-in-Check.result (SaysOne (IsSaidOf order c.args.bytes.now)) in
-    subst P (sym c.in-Check.is) (answer_says (IsSaidOf (Check c.in-Check.document) c.args.bytes.now) c.check_document.result c.answer_of-in-Check.result c.answer_of-in-Check.ensures.said c.check_document.ensures)
+returns-in-Check-clause-said g c =
+    rw c.in-Check.is (answer_says (MaySay Check (view c.args.document.now)) c.check_document.result c.answer_of-in-Check.result c.check_document.ensures c.answer_of-in-Check.ensures.said)
+
+pub returns-in-Check-clause-port : goal.returns-in-Check-clause-port
+returns-in-Check-clause-port g c = names_no_port _ c.answer_of-in-Check.result c.answer_of-in-Check.ensures.unlistened
 
 pub returns-in-Plan-clause-said : goal.returns-in-Plan-clause-said
-returns-in-Plan-clause-said c =
-    let P : Order → Type 0 = λ order. IfOk c.answer_of-in-Plan.result (SaysOne (IsSaidOf order c.args.bytes.now)) in
-    subst P (sym c.in-Plan.is) (answer_says (IsSaidOf (Plan c.in-Plan.document) c.args.bytes.now) c.plan_document.result c.answer_of-in-Plan.result c.answer_of-in-Plan.ensures.said c.plan_document.ensures)
+returns-in-Plan-clause-said g c =
+    rw c.in-Plan.is (answer_says (MaySay Plan (view c.args.document.now)) c.plan_document.result c.answer_of-in-Plan.result c.plan_document.ensures c.answer_of-in-Plan.ensures.said)
+
+pub returns-in-Plan-clause-port : goal.returns-in-Plan-clause-port
+returns-in-Plan-clause-port g c = names_no_port _ c.answer_of-in-Plan.result c.answer_of-in-Plan.ensures.unlistened
+
+pub returns-in-Run-clause-said : goal.returns-in-Run-clause-said
+returns-in-Run-clause-said g c =
+    rw c.in-Run.is (answer_says (MaySay Run (view c.args.document.now)) c.run_document.result c.answer_of-in-Run.result c.run_document.ensures c.answer_of-in-Run.ensures.said)
+
+pub returns-in-Run-clause-port : goal.returns-in-Run-clause-port
+returns-in-Run-clause-port g c = names_no_port _ c.answer_of-in-Run.result c.answer_of-in-Run.ensures.unlistened

@@ -15,9 +15,7 @@ returns-clause-asked c =
     line_reads words taken c.order_in.result
     (record {
       bare = λ none. c.order_in.ensures.bare (rows ∙ none);
-      judge = λ below at. c.order_in.ensures.judge below (rows ∙ at);
-      check = λ below at. c.order_in.ensures.check below (rows ∙ at);
-      plan = λ below at. c.order_in.ensures.plan below (rows ∙ at);
+      command = λ word below at. c.order_in.ensures.command word below (rows ∙ at);
       document = λ word below at. c.order_in.ensures.document word below (rows ∙ at);
     })
 

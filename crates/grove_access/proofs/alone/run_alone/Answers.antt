@@ -1,5 +1,5 @@
 use Rattle.std.proofs.Common.{◌<◌, length, refl, arith}
-use Rattle.grove_access.proofs.Doing.{do_next}
+use Rattle.grove_access.proofs.RunAlone.{do_next}
 use Rattle.grove_access.proofs.Lists.{node_at}
 use Rattle.grove_access.proofs.alone.run_alone.Goals as goal
 

@@ -1,7 +1,7 @@
 use Rattle.std.proofs.Common.{arith, ◌≡◌, Some}
 use Rattle.std.proofs.lemmas.Int.{to_z-of_z}
 use Rattle.grove_access.specs.Carries.{known_at}
-use Rattle.grove_access.proofs.Outside.{stands_value}
+use Rattle.grove_access.proofs.CarriedNodes.{stands_value}
 use Rattle.grove_access.proofs.carrying.known_value.Goals as goal
 
 pub returns : goal.returns

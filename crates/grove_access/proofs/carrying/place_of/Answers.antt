@@ -1,7 +1,7 @@
 use Rattle.std.proofs.Common.{refl, sym, ◌∙◌}
 use Rattle.std.proofs.lemmas.Bool.{eqb-true}
 use Rattle.std.proofs.lemmas.Option.{slice_get_read}
-use Rattle.grove_access.proofs.Outside.{sought_found}
+use Rattle.grove_access.proofs.CarriedNodes.{sought_found}
 use Rattle.grove_access.proofs.carrying.place_of.Goals as goal
 
 pub returns-then-eq : goal.returns-then-eq

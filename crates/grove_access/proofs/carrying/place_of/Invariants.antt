@@ -1,4 +1,4 @@
-use Rattle.grove_access.proofs.Outside.{IsSought}
+use Rattle.grove_access.proofs.CarriedNodes.{IsSought}
 use Rattle.grove_access.proofs.carrying.place_of.Given as goal
 
 abbrev pub invariant-loop-place : goal.invariant-loop-place

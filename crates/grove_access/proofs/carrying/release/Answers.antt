@@ -1,6 +1,6 @@
 use Rattle.std.proofs.Common.{sym, ◌∙◌, ap}
 use Rattle.grove_access.specs.Carries.{known_at}
-use Rattle.grove_access.proofs.Outside.{without_none}
+use Rattle.grove_access.proofs.CarriedNodes.{without_none}
 use Rattle.grove_access.proofs.carrying.release.Goals as goal
 
 pub returns-in_default-clause-items : goal.returns-in_default-clause-items

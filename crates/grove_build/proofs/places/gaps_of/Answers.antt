@@ -1,21 +1,45 @@
-use Rattle.std.proofs.Common.{◌≡◌, ◌≤ℤ◌, ℕ, suc, eqb, length, get_or, pos, to_z, of_z, w64, ◌∙◌, ap, arith}
+use Rattle.std.proofs.Common.{◌≡◌, ◌≤ℤ◌, ℤ, [], ◌∷◌, length, length-append, get_or, pos, to_z, of_z, w64, ap, sym, ◌∙◌, arith}
 use Rattle.std.proofs.lemmas.Int.{ints}
 use borrow.Author.Differences.{up}
-use Rattle.grove_tree.specs.Numbers.{least_below}
-use Rattle.grove_access.specs.Lists.{lengths_of}
-use Rattle.grove_access.specs.Slots.{slots_before}
-use Rattle.grove_build.specs.Networks.{gap_at}
-use Rattle.grove_build.proofs.Walks.{gaps_more}
+use Rattle.grove_build.proofs.Walks.{gap_slots, gaps_more}
 use Rattle.grove_build.proofs.places.gaps_of.Goals as goal
+
+pub slot_of-requires-clause-low : goal.slot_of-requires-clause-low
+slot_of-requires-clause-low c =
+    let z : ℤ = get_or c.args.places.now c.loop-place.place-index (pos 0) in
+    let in_gap = gap_slots c.args.slots.now z c.type_inv.slots (c.requires.between c.loop-place.place-index) in
+    let low : pos 0 ≤ℤ z = in_gap.0 in
+    let high : z ≤ℤ pos 4294967295 = in_gap.1 in
+    omega (arith, ints)
+
+pub slot_of-requires-clause-high : goal.slot_of-requires-clause-high
+slot_of-requires-clause-high c =
+    let z : ℤ = get_or c.args.places.now c.loop-place.place-index (pos 0) in
+    let in_gap = gap_slots c.args.slots.now z c.type_inv.slots (c.requires.between c.loop-place.place-index) in
+    let low : pos 0 ≤ℤ z = in_gap.0 in
+    let high : z ≤ℤ pos 4294967295 = in_gap.1 in
+    omega (arith, ints)
+
+pub gap_of-requires-clause-between : goal.gap_of-requires-clause-between
+gap_of-requires-clause-between c =
+    let z : ℤ = get_or c.args.places.now c.loop-place.place-index (pos 0) in
+    let in_gap = gap_slots c.args.slots.now z c.type_inv.slots (c.requires.between c.loop-place.place-index) in
+    let low : pos 0 ≤ℤ z = in_gap.0 in
+    let high : z ≤ℤ pos 4294967295 = in_gap.1 in
+    let kept : to_z w64 (of_z w64 z) ≡ z = omega (arith, ints) in
+    (in_gap.2.0, in_gap.2.1, in_gap.2.2 ∙ sym (c.slot_of.ensures ∙ ap up kept))
 
 pub loop-place-preserved : goal.loop-place-preserved
 loop-place-preserved c =
-    let low : pos 0 ≤ℤ get_or c.args.places.now c.loop-place.place-index (pos 0) = c.requires.low c.loop-place.place-index in
-    let high : get_or c.args.places.now c.loop-place.place-index (pos 0) ≤ℤ pos 64000 = c.requires.high c.loop-place.place-index in
-    let kept : to_z w64 (of_z w64 (get_or c.args.places.now c.loop-place.place-index (pos 0)))
-    ≡ get_or c.args.places.now c.loop-place.place-index (pos 0) = omega (arith, ints) in
-    c.in_ok-push.ensures.items
-    ∙ gaps_more (gap_at (lengths_of c.args.list.now) (length c.args.list.now)) c.args.places.now c.loop-place.place-index _ c.gap_of.result
-    (pos 0) c.loop-place-test.true c.loop-place.invariant
-    (c.gap_of.ensures
-    ∙ ap (λ (n : ℕ). least_below (suc (length c.args.list.now)) (λ gap. eqb (slots_before (lengths_of c.args.list.now) gap) n)) (c.slots_of.ensures ∙ ap up kept))
+    let z : ℤ = get_or c.args.places.now c.loop-place.place-index (pos 0) in
+    let in_gap = gap_slots c.args.slots.now z c.type_inv.slots (c.requires.between c.loop-place.place-index) in
+    let low : pos 0 ≤ℤ z = in_gap.0 in
+    let high : z ≤ℤ pos 4294967295 = in_gap.1 in
+    let kept : to_z w64 (of_z w64 z) ≡ z = omega (arith, ints) in
+    let size : length c.loop-place.gaps.items ≡ c.loop-place.place-index = c.loop-place.invariant.size in
+    rw c.in_ok-push.ensures.items record {
+      size = omega (arith, length-append c.loop-place.gaps.items (c.gap_of.result ∷ []));
+      gaps = gaps_more c.args.slots.now c.args.places.now c.loop-place.gaps.items c.loop-place.place-index c.gap_of.result size
+          c.loop-place.invariant.gaps (c.requires.between c.loop-place.place-index) c.gap_of.ensures.within
+          (c.gap_of.ensures.at ∙ (c.slot_of.ensures ∙ ap up kept));
+    }

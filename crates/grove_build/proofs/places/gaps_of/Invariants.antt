@@ -1,7 +1,10 @@
-use Rattle.std.proofs.Common.{◌≡◌, length, take, map}
-use Rattle.grove_access.specs.Lists.{lengths_of}
-use Rattle.grove_build.specs.Networks.{gap_at}
+use Rattle.std.proofs.Common.{◌≡◌, ◌<◌, ℕ, length, slice_index}
+use Rattle.grove_flow.specs.Networks.{place}
+use Rattle.grove_build.specs.Networks.{IsGap}
 use Rattle.grove_build.proofs.places.gaps_of.Given as goal
 
 abbrev pub invariant-loop-place : goal.invariant-loop-place
-invariant-loop-place l = l.gaps.items ≡ map (gap_at (lengths_of l.list) (length l.list)) (take l.place-index l.places)
+invariant-loop-place l = record {
+  size : length l.gaps.items ≡ l.place-index;
+  gaps : (v : ℕ) → v < l.place-index → IsGap l.slots (place l.places v) (slice_index l.gaps.items v);
+}

@@ -1,61 +1,55 @@
-use Rattle.std.proofs.Common.{◌≡◌, ◌+◌, ◌*◌, ◌≤◌, ◌≤ℤ◌, ℕ, length, map, ap, ap₂, sym, ◌∙◌, arith, pos, to_z, of_z, w64, vec_len}
+use Rattle.std.proofs.Common.{◌≡◌, ℕ, ℤ, List, suc, ◌-◌, ◌*◌, ◌≤◌, length, slice_index, map, ap, ap₂, sym, ◌∙◌, arith, pos, to_z, of_z, w64, vec_len}
 use Rattle.std.proofs.lemmas.Int.{ints}
-use Rattle.grove_tree.proofs.Lists.{map_length}
-use Rattle.grove_access.specs.Lists.{nodes_of, lengths_of}
+use Rattle.grove_base.proofs.Lists.{map_length}
+use Rattle.grove_access.specs.declared.access.Access.{Access}
+use Rattle.grove_access.specs.Lists.{nodes_of, lengths_of, AreLengths}
 use Rattle.grove_access.specs.Slots.{slots_before}
-use Rattle.grove_flow.specs.Networks.{IsLatest, place}
-use Rattle.grove_build.specs.Networks.{arcs_from, start_of, lowered, gap_at}
+use Rattle.grove_access.proofs.Slots.{slots_few}
+use Rattle.grove_build.specs.Networks.{needs_from, lowered, AreRowsOf, AreSlots}
 use Rattle.grove_build.proofs.Needs.{needs_size}
 use Rattle.grove_build.proofs.Walks.{take_whole}
-use Rattle.grove_build.proofs.Asked.{nodes_length, rows_of_span, is_network, is_start, lowered_candidate, latest_within}
+use Rattle.grove_build.proofs.Asked.{nodes_few, end_slots, slots_rising, gaps_are, rows_of_span, is_network, lowered_candidate, latest_between}
 use Rattle.grove_build.proofs.solving.solve_rows.Goals as goal
 
 pub network_of-requires : goal.network_of-requires
-network_of-requires c =
-    let size : length (nodes_of c.args.list.now) ≡ length c.args.list.now = nodes_length c.args.list.now in
-    let few : length c.args.list.now ≤ 64 = c.len.ensures.few in
-    rows_of_span c.args.tree.now (nodes_of c.args.list.now) (lengths_of c.args.list.now) c.args.rows.now c.requires c.len-nodes.ensures.limits
-    (omega arith)
+network_of-requires g c =
+    let of : AreRowsOf c.args.tree.now c.args.rows.now =
+    rows_of_span c.args.tree.now (nodes_of c.args.list.now) (lengths_of c.args.list.now) c.args.rows.now c.requires.span c.len-nodes.ensures.limits
+    (nodes_few c.args.list.now c.len-accesses.ensures.few) in
+    record { few = of.few; parents = of.parents }
 
-pub solve-requires-clause-network : goal.solve-requires-clause-network
-solve-requires-clause-network c =
-    let size : length (nodes_of c.args.list.now) ≡ length c.args.list.now = nodes_length c.args.list.now in
-    let few : length c.args.list.now ≤ 64 = c.len.ensures.few in
-    rw (c.in_ok-network.ensures.needs, c.in_ok-network.ensures.arcs)
-    (is_network c.args.tree.now (nodes_of c.args.list.now) (lengths_of c.args.list.now) c.args.rows.now c.requires c.len-nodes.ensures.limits
-    (omega arith))
-
-pub solve-requires-clause-start : goal.solve-requires-clause-start
-solve-requires-clause-start c =
-    let size : length (nodes_of c.args.list.now) ≡ length c.args.list.now = nodes_length c.args.list.now in
-    let few : length c.args.list.now ≤ 64 = c.len.ensures.few in
-    let number : c.slots_before-slots.result ≡ slots_before (lengths_of c.args.list.now) (length (nodes_of c.args.list.now)) =
-    c.slots_before-slots.ensures.slots ∙ ap (slots_before (lengths_of c.args.list.now)) (c.len.ensures.number ∙ sym size) in
-    let begin : c.deref.result.now ≡ start_of (slots_before (lengths_of c.args.list.now) (length (nodes_of c.args.list.now))) c.args.rows.now =
-    c.deref.ensures.value
-    ∙ (c.in_ok-start.ensures ∙ ap (λ n. start_of n c.args.rows.now) number) in
-    rw (c.in_ok-network.ensures.needs, c.in_ok-network.ensures.arcs, begin)
-    (is_start c.args.tree.now (nodes_of c.args.list.now) (lengths_of c.args.list.now) c.args.rows.now c.requires c.len-nodes.ensures.limits
-    (omega arith))
+pub solution_of-requires-clause-needs : goal.solution_of-requires-clause-needs
+solution_of-requires-clause-needs g c = c.in_ok-named.ensures.needs ∙ ap needs_from c.requires.weights
 
 pub latest-requires-clause-arcs : goal.latest-requires-clause-arcs
-latest-requires-clause-arcs c =
-    let size : length (nodes_of c.args.list.now) ≡ length c.args.list.now = nodes_length c.args.list.now in
-    let few : length c.args.list.now ≤ 64 = c.len.ensures.few in
-    rw (c.in_ok-network.ensures.needs, c.in_ok-network.ensures.arcs)
-    (is_network c.args.tree.now (nodes_of c.args.list.now) (lengths_of c.args.list.now) c.args.rows.now c.requires c.len-nodes.ensures.limits
-    (omega arith)).arcs_of
+latest-requires-clause-arcs g c =
+    rw (c.in_ok-named.ensures.needs, c.requires.weights, c.in_ok-named.ensures.arcs)
+    (is_network c.args.tree.now (nodes_of c.args.list.now) (lengths_of c.args.list.now) c.args.rows.now c.requires.span c.len-nodes.ensures.limits
+    (nodes_few c.args.list.now c.len-accesses.ensures.few)).arcs_of
+
+-- the slots of the whole list, as the highest place
+top_is : (list : List Access) (slots : List ℕ) (from : ℤ) → length list ≤ 64 → AreLengths (lengths_of list)
+    → AreSlots (lengths_of list) (length (nodes_of list)) slots → from ≡ pos (slice_index slots (length slots - 1))
+    → (to_z w64 (of_z w64 from) ≡ pos (slots_before (lengths_of list) (length (nodes_of list))))
+    × (slots_before (lengths_of list) (length (nodes_of list)) ≤ 64000)
+top_is list slots from few lengths are is =
+    let less : length (nodes_of list) ≤ 64 = nodes_few list few in
+    let short : slots_before (lengths_of list) (length (nodes_of list)) ≤ 1000 * length (nodes_of list) =
+    slots_few (lengths_of list) (length (nodes_of list)) lengths in
+    let end : from ≡ pos (slots_before (lengths_of list) (length (nodes_of list))) =
+    is ∙ ap (λ (n : ℕ). pos n) (end_slots (lengths_of list) slots (length (nodes_of list)) are) in (omega (arith, ints), omega arith)
+
+pub latest-requires-clause-modest : goal.latest-requires-clause-modest
+latest-requires-clause-modest g c =
+    let top = top_is c.args.list.now c.args.slots.now c.from.result c.len-accesses.ensures.few c.requires.span.are_lengths c.requires.slots c.from.ensures in
+    (omega (arith, ints), omega (arith, ints))
 
 pub latest-requires-clause-solved : goal.latest-requires-clause-solved
-latest-requires-clause-solved c =
-    let size : length (nodes_of c.args.list.now) ≡ length c.args.list.now = nodes_length c.args.list.now in
-    let few : length c.args.list.now ≤ 64 = c.len.ensures.few in
-    let number : c.slots_before-slots.result ≡ slots_before (lengths_of c.args.list.now) (length (nodes_of c.args.list.now)) =
-    c.slots_before-slots.ensures.slots ∙ ap (slots_before (lengths_of c.args.list.now)) (c.len.ensures.number ∙ sym size) in
-    let top : to_z w64 (of_z w64 c.from.result) ≡ pos (slots_before (lengths_of c.args.list.now) (length (nodes_of c.args.list.now))) = omega (arith, ints) in
+latest-requires-clause-solved g c =
     let places : c.lower.new.places
     ≡ map (lowered (pos (slots_before (lengths_of c.args.list.now) (length (nodes_of c.args.list.now))))) c.in_ok-solution.solution.places.items =
-    c.lower.ensures ∙ ap₂ (λ n l. map (lowered (pos n)) l) number c.deref_mut.ensures.value in
+    c.lower.ensures
+    ∙ ap₂ (λ n l. map (lowered (pos n)) l) (end_slots (lengths_of c.args.list.now) c.args.slots.now (length (nodes_of c.args.list.now)) c.requires.slots) c.deref_mut.ensures.value in
     let long : length c.lower.new.places ≡ length c.in_ok-solution.solution.places.items =
     ap length places ∙ map_length (lowered (pos (slots_before (lengths_of c.args.list.now) (length (nodes_of c.args.list.now)))))
     c.in_ok-solution.solution.places.items in
@@ -63,59 +57,37 @@ latest-requires-clause-solved c =
     sym c.deref_mut.ensures.len ∙ (ap length c.deref_mut.ensures.value ∙ sym long) in
     let whole = take_whole c.lower.new.places c.in_ok-solution.solution.places.items
     c.in_ok-solution.solution.places.len len (sym long) in
-    let solution = rw (c.in_ok-network.ensures.needs, c.in_ok-network.ensures.arcs) at
-    c.in_ok-solution.ensures.solution in
-    rw (whole, places, top, c.in_ok-network.ensures.needs, c.in_ok-network.ensures.arcs)
-    (lowered_candidate c.args.tree.now (nodes_of c.args.list.now) (lengths_of c.args.list.now) c.args.rows.now c.requires
-    c.len-nodes.ensures.limits (omega arith) c.in_ok-solution.solution.amounts.items
+    let solution = rw (c.in_ok-named.ensures.needs, c.requires.weights, c.in_ok-named.ensures.arcs) at
+    c.in_ok-solution.ensures in
+    rw (whole, places, (top_is c.args.list.now c.args.slots.now c.from.result c.len-accesses.ensures.few c.requires.span.are_lengths c.requires.slots c.from.ensures).0, c.in_ok-named.ensures.needs, c.requires.weights, c.in_ok-named.ensures.arcs)
+    (lowered_candidate c.args.tree.now (nodes_of c.args.list.now) (lengths_of c.args.list.now) c.args.rows.now c.requires.span
+    c.len-nodes.ensures.limits (nodes_few c.args.list.now c.len-accesses.ensures.few) c.in_ok-solution.solution.amounts.items
     c.in_ok-solution.solution.places.items solution)
 
-latest_is : (c : goal.After-deref-2)
-    → IsLatest (2 * length c.args.rows.now + 1) (arcs_from (2 * length c.args.rows.now) 0 c.args.rows.now)
-    c.in_ok-solution.solution.amounts.items (pos (slots_before (lengths_of c.args.list.now) (length (nodes_of c.args.list.now)))) c.in_ok-places.places.items
-latest_is c =
-    let size : length (nodes_of c.args.list.now) ≡ length c.args.list.now = nodes_length c.args.list.now in
-    let few : length c.args.list.now ≤ 64 = c.len.ensures.few in
-    let number : c.slots_before-slots.result ≡ slots_before (lengths_of c.args.list.now) (length (nodes_of c.args.list.now)) =
-    c.slots_before-slots.ensures.slots ∙ ap (slots_before (lengths_of c.args.list.now)) (c.len.ensures.number ∙ sym size) in
-    let top : to_z w64 (of_z w64 c.from.result) ≡ pos (slots_before (lengths_of c.args.list.now) (length (nodes_of c.args.list.now))) = omega (arith, ints) in
-    rw (top, c.in_ok-network.ensures.needs, c.in_ok-network.ensures.arcs, needs_size c.args.tree.now c.args.rows.now)
-    at c.in_ok-places.ensures.latest
+pub gaps_of-requires-clause-few : goal.gaps_of-requires-clause-few
+gaps_of-requires-clause-few g c =
+    let few : length (nodes_of c.args.list.now) ≤ 64 = nodes_few c.args.list.now c.len-accesses.ensures.few in
+    let size : length c.args.slots.now ≡ suc (length (nodes_of c.args.list.now)) = c.requires.slots.size in omega arith
 
-latest_in : (c : goal.After-deref-2) → (v : ℕ)
-    → (pos 0 ≤ℤ place c.in_ok-places.places.items v) × (place c.in_ok-places.places.items v ≤ℤ pos 64000)
-latest_in c =
-    let size : length (nodes_of c.args.list.now) ≡ length c.args.list.now = nodes_length c.args.list.now in
-    let few : length c.args.list.now ≤ 64 = c.len.ensures.few in
-    latest_within c.args.tree.now (nodes_of c.args.list.now) (lengths_of c.args.list.now) c.args.rows.now c.requires
-    c.len-nodes.ensures.limits (omega arith) c.in_ok-solution.solution.amounts.items c.in_ok-places.places.items
-    (latest_is c)
+pub gaps_of-requires-clause-rising : goal.gaps_of-requires-clause-rising
+gaps_of-requires-clause-rising g c = slots_rising (lengths_of c.args.list.now) c.args.slots.now (length (nodes_of c.args.list.now)) c.requires.slots
 
-pub gaps_of-requires-clause-low : goal.gaps_of-requires-clause-low
-gaps_of-requires-clause-low c = rw c.deref-2.ensures.value (λ v. (latest_in c v).0)
+pub gaps_of-requires-clause-between : goal.gaps_of-requires-clause-between
+gaps_of-requires-clause-between g c =
+    let latest = rw ((top_is c.args.list.now c.args.slots.now c.from.result c.len-accesses.ensures.few c.requires.span.are_lengths c.requires.slots c.from.ensures).0, c.in_ok-named.ensures.needs, c.requires.weights, c.in_ok-named.ensures.arcs, needs_size c.args.tree.now c.args.rows.now)
+    at c.in_ok-places.ensures.latest in
+    rw c.deref.ensures.value
+    (latest_between c.args.tree.now (nodes_of c.args.list.now) (lengths_of c.args.list.now) c.args.rows.now c.requires.span
+    c.len-nodes.ensures.limits (nodes_few c.args.list.now c.len-accesses.ensures.few) c.args.slots.now c.in_ok-solution.solution.amounts.items c.in_ok-places.places.items
+    c.requires.slots latest)
 
-pub gaps_of-requires-clause-high : goal.gaps_of-requires-clause-high
-gaps_of-requires-clause-high c = rw c.deref-2.ensures.value (λ v. (latest_in c v).1)
-
-pub returns : goal.returns
-returns c =
-    let size : length (nodes_of c.args.list.now) ≡ length c.args.list.now = nodes_length c.args.list.now in
-    let few : length c.args.list.now ≤ 64 = c.len.ensures.few in
-    let number : c.slots_before-slots.result ≡ slots_before (lengths_of c.args.list.now) (length (nodes_of c.args.list.now)) =
-    c.slots_before-slots.ensures.slots ∙ ap (slots_before (lengths_of c.args.list.now)) (c.len.ensures.number ∙ sym size) in
-    let top : to_z w64 (of_z w64 c.from.result) ≡ pos (slots_before (lengths_of c.args.list.now) (length (nodes_of c.args.list.now))) = omega (arith, ints) in
-    record {
-      solved = c.in_ok-solution.solution.places.items;
-      solution = rw (c.in_ok-network.ensures.needs, c.in_ok-network.ensures.arcs) at c.in_ok-solution.ensures.solution;
-      places = c.in_ok-places.places.items;
-      latest = rw (
-        top,
-        c.in_ok-network.ensures.needs,
-        c.in_ok-network.ensures.arcs,
-        needs_size c.args.tree.now
-            c.args.rows.now,
-      ) at c.in_ok-places.ensures.latest;
-      are_gaps = c.in_ok-gaps.ensures
-          ∙ (ap (λ l. map (gap_at (lengths_of c.args.list.now) (length c.args.list.now)) l) c.deref-2.ensures.value
-          ∙ ap (λ n. map (gap_at (lengths_of c.args.list.now) n) c.in_ok-places.places.items) (sym size));
-    }
+pub returns-clause-solved : goal.returns-clause-solved
+returns-clause-solved g c = record {
+  solved = c.in_ok-solution.solution.places.items;
+  solution = rw (c.in_ok-named.ensures.needs, c.requires.weights, c.in_ok-named.ensures.arcs) at c.in_ok-solution.ensures;
+  places = c.in_ok-places.places.items;
+  latest = rw ((top_is c.args.list.now c.args.slots.now c.from.result c.len-accesses.ensures.few c.requires.span.are_lengths c.requires.slots c.from.ensures).0, c.in_ok-named.ensures.needs, c.requires.weights, c.in_ok-named.ensures.arcs, needs_size c.args.tree.now c.args.rows.now)
+      at c.in_ok-places.ensures.latest;
+  are_gaps = gaps_are (lengths_of c.args.list.now) c.args.slots.now c.in_ok-gaps.gaps.items (length (nodes_of c.args.list.now)) c.in_ok-places.places.items
+      c.requires.slots (c.in_ok-gaps.ensures.size ∙ ap length c.deref.ensures.value) (rw c.deref.ensures.value at c.in_ok-gaps.ensures.gaps);
+}

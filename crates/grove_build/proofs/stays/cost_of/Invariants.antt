@@ -1,7 +1,6 @@
-use Rattle.std.proofs.Common.{◌≡◌, ◌*◌, ◌≤◌, take}
-use Rattle.grove_access.specs.Lists.{lengths_of}
-use Rattle.grove_build.specs.Stays.{stays_cost}
+use Rattle.std.proofs.Common.{◌≡◌, ◌*◌, ◌≤◌}
+use Rattle.grove_build.specs.Stays.{rows_cost}
 use Rattle.grove_build.proofs.stays.cost_of.Given as goal
 
-abbrev pub invariant-loop-stay : goal.invariant-loop-stay
-invariant-loop-stay l = (l.cost ≡ stays_cost l.tree (lengths_of l.list) (take l.stay-index l.stays)) × (l.cost ≤ 64000000 * l.stay-index)
+abbrev pub invariant-loop-k : goal.invariant-loop-k
+invariant-loop-k l = record { so_far : l.cost ≡ rows_cost l.weights l.slots l.gaps l.k; few : l.cost ≤ 64000000 * l.k }

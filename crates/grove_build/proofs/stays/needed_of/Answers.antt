@@ -13,7 +13,7 @@ loop-k-preserved c =
     elim c.match-row.branch [
       | in-Some+then-gaps-k w ↦
           let lt : w.in-Some.parent < length c.args.rows.now =
-          c.requires.rows.parents c.loop-k.k w.in-Some.parent c.index-rows-k.result there w.in-Some.is in
+          c.requires.parents c.loop-k.k w.in-Some.parent c.index-rows-k.result there w.in-Some.is in
           rw w.needed-is (
             length-set c.loop-k.needed.items w.in-Some.parent _ ∙ size,
             λ j within. needed_set c.args.rows.now c.args.gaps.now c.loop-k.needed.items c.loop-k.k w.in-Some.parent

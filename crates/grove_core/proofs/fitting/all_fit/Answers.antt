@@ -4,7 +4,8 @@ use Rattle.std.specs.List.{slice_get, slice_index_or}
 use Rattle.grove_access.specs.Lists.{nodes_of, AreNodes}
 use Rattle.grove_access.specs.declared.access.Access.{Access}
 use Rattle.grove_core.specs.Runs.{list_of}
-use Rattle.grove_core.proofs.Keeping.{read_at, list_of_at}
+use Rattle.grove_base.proofs.Lists.{read_at}
+use Rattle.grove_core.proofs.RunSteps.{list_of_at}
 use Rattle.grove_core.proofs.fitting.all_fit.Goals as goal
 
 pub returns-then-not-fits : goal.returns-then-not-fits

@@ -1,6 +1,6 @@
 use Rattle.grove_core.proofs.SerialRuns.{runs_are_serial}
-use Rattle.grove_core.proofs.GoingOn.{runs_go_on}
-use Rattle.grove_core.proofs.Refusing.{refused_may_not, refused_for_one, first_fault_is_one}
+use Rattle.grove_core.proofs.NeverStalls.{runs_go_on}
+use Rattle.grove_core.proofs.Refusals.{refused_may_not, refused_for_one, first_fault_is_one}
 use Rattle.grove_core.proofs.laws.run_laws.Goals as goal
 
 pub returns-clause-serial : goal.returns-clause-serial

@@ -5,8 +5,9 @@ use Rattle.grove_plan.specs.Plans.{IsLegal}
 use Rattle.grove_access.specs.declared.access.Access.{Access}
 use Rattle.grove_core.specs.Runs.{list_of, plan_of}
 use Rattle.grove_core.specs.Openings.{job_fault}
-use Rattle.grove_core.proofs.Keeping.{read_at, list_of_at, plan_of_at}
-use Rattle.grove_core.proofs.Started.{first_fault, job_fault_at}
+use Rattle.grove_base.proofs.Lists.{read_at}
+use Rattle.grove_core.proofs.RunSteps.{list_of_at, plan_of_at}
+use Rattle.grove_core.proofs.CoreOpens.{first_fault, job_fault_at}
 use Rattle.grove_core.proofs.opening.judge_all.Goals as goal
 
 pub judge_job-requires : goal.judge_job-requires

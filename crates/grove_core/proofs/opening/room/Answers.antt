@@ -3,8 +3,9 @@ use Rattle.std.specs.List.{slice_get, slice_index_or}
 use Rattle.grove_plan.specs.declared.step.Step.{Step}
 use Rattle.grove_core.specs.declared.job.Job.{Job}
 use Rattle.grove_core.specs.Runs.{plan_of}
-use Rattle.grove_core.proofs.Keeping.{read_at, plan_of_at}
-use Rattle.grove_core.proofs.Started.{room_more}
+use Rattle.grove_base.proofs.Lists.{read_at}
+use Rattle.grove_core.proofs.RunSteps.{plan_of_at}
+use Rattle.grove_core.proofs.CoreOpens.{room_more}
 use Rattle.grove_core.proofs.opening.room.Goals as goal
 
 pub loop-txn-preserved : goal.loop-txn-preserved

@@ -1,5 +1,5 @@
 use Rattle.std.proofs.Common.{ℕ, ◌+◌, ◌*◌, ◌^◌, ◌<◌, ◌≤◌, length}
-use Rattle.grove_tree.specs.Numbers.{sum_below}
+use Rattle.grove_base.specs.Numbers.{sum_below}
 use Rattle.grove_core.specs.Runs.{plan_of, lock_steps}
 use Rattle.grove_core.proofs.opening.room.Given as goal
 

@@ -1,5 +1,5 @@
 use Rattle.std.proofs.Common.{◌≡◌, ◌*◌, ◌≤◌}
-use Rattle.grove_tree.specs.Numbers.{sum_below}
+use Rattle.grove_base.specs.Numbers.{sum_below}
 use Rattle.grove_flow.specs.Flows.{takes}
 use Rattle.grove_flow.proofs.checking.all_taken.Given as goal
 

@@ -1,4 +1,4 @@
-use Rattle.grove_flow.proofs.Totals.{AreSummed}
+use Rattle.grove_flow.proofs.Sending.{AreSummed}
 use Rattle.grove_flow.proofs.checking.are_lawful.Given as goal
 
 abbrev pub invariant-loop-i : goal.invariant-loop-i

@@ -1,5 +1,5 @@
 use Rattle.std.proofs.Common.{slice_index}
-use Rattle.grove_flow.proofs.Walks.{IsMoving}
+use Rattle.grove_flow.proofs.Sending.{IsMoving}
 use Rattle.grove_flow.proofs.pushing.push.Given as goal
 
 abbrev pub invariant-loop-v : goal.invariant-loop-v

@@ -8,6 +8,5 @@ returns c =
     let rebased : AreRebased (length c.fulfil.new.self.places.items) c.fulfil.new.self.places.items c.rebase.new.places = rw c.deref_mut.ensures.value at c.rebase.ensures in
     record {
       solution = rw (take_at c.rebase.new.places (drop (length c.rebase.new.places) c.fulfil.new.self.places.items) c.fulfil.new.self.places.len (c.rebase.auto.places ∙ c.deref_mut.ensures.len))
-          (solution_is c.args.network.now.needs.items c.args.network.now.arcs.items c.fulfil.new.self.amounts.items c.fulfil.new.self.places.items c.rebase.new.places
-          c.fulfil.new.self.excess.items c.fulfil.new.self.unmet.items c.in_ok-fulfil.ensures.state c.in_ok-fulfil.ensures.given rebased);
+          (solution_is c.in_ok-fulfil.ensures.state c.in_ok-fulfil.ensures.given rebased);
     }

@@ -1,6 +1,6 @@
 use Rattle.std.proofs.Common.{arith, to_z-of_z}
 use borrow.Author.Differences.{ints}
-use Rattle.grove_flow.proofs.Fitting.{slack_fits}
+use Rattle.grove_flow.proofs.Reaching.{slack_fits}
 use Rattle.grove_flow.proofs.tree.slack.Goals as goal
 
 pub overflow_sub-result : goal.overflow_sub-result
@@ -11,10 +11,7 @@ pub overflow_cast-result : goal.overflow_cast-result
 overflow_cast-result c =
     let (from, to, least, apart, slack) = slack_fits c.args.arc c.args.places.now c.requires.arc.modest c.requires.near c.requires.met in simp to_z-of_z (omega (arith, ints))
 
-pub returns-clause-slack : goal.returns-clause-slack
-returns-clause-slack c =
-    let (from, to, least, apart, slack) = slack_fits c.args.arc c.args.places.now c.requires.arc.modest c.requires.near c.requires.met in simp to_z-of_z (omega (arith, ints))
-
-pub returns-clause-most : goal.returns-clause-most
-returns-clause-most c =
-    let (from, to, least, apart, slack) = slack_fits c.args.arc c.args.places.now c.requires.arc.modest c.requires.near c.requires.met in simp to_z-of_z (omega (arith, ints))
+pub returns : goal.returns
+returns c =
+    let (from, to, least, apart, slack) = slack_fits c.args.arc c.args.places.now c.requires.arc.modest c.requires.near c.requires.met in
+    record { slack = simp to_z-of_z (omega (arith, ints)); most = simp to_z-of_z (omega (arith, ints)) }

@@ -4,6 +4,6 @@ use Rattle.grove_plan.specs.Faults.{steps_fault}
 use Rattle.grove_plan.specs.Watching.{IsWatched}
 use Rattle.grove_plan.proofs.judging.follow.Given as goal
 
-abbrev pub invariant-loop-place : goal.invariant-loop-place
-invariant-loop-place l =
-    IsWatched l.tree (lengths_of l.list) l.plan l.place l.watch × (steps_fault l.tree (nodes_of l.list) l.plan l.place ≡ None)
+abbrev pub invariant-loop-position : goal.invariant-loop-position
+invariant-loop-position l =
+    IsWatched l.tree (lengths_of l.list) l.plan l.position l.watch × (steps_fault l.tree (nodes_of l.list) l.plan l.position ≡ None)

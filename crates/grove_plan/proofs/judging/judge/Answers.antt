@@ -1,5 +1,5 @@
 use Rattle.grove_access.specs.Lists.{nodes_of}
-use Rattle.grove_plan.proofs.Verdicts.{legal_of, illegal_of}
+use Rattle.grove_plan.proofs.FaultlessIsLegal.{legal_of, illegal_of}
 use Rattle.grove_plan.proofs.judging.judge.Goals as goal
 
 pub returns-clause-legal : goal.returns-clause-legal

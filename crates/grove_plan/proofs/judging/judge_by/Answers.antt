@@ -1,13 +1,19 @@
 use Rattle.std.proofs.Common.{◌≡◌, ◌≤◌, length, sym, ◌∙◌, arith}
 use Rattle.grove_access.specs.Lists.{nodes_of}
 use Rattle.grove_access.proofs.Lists.{nodes_length}
-use Rattle.grove_plan.proofs.Verdicts.{missing_is, still_is, none_is}
+use Rattle.grove_plan.proofs.FaultlessIsLegal.{missing_is, still_is, none_is, weightless_is}
 use Rattle.grove_plan.proofs.judging.judge_by.Goals as goal
 
 pub returns-then-watch-len-clause-fault : goal.returns-then-watch-len-clause-fault
 returns-then-watch-len-clause-fault c =
     let count : length (nodes_of c.args.list.now) ≡ length c.args.list.now = nodes_length c.args.list.now in
     missing_is c.args.tree.now (nodes_of c.args.list.now) c.args.plan.now c.follow.new.watch c.in_ok-follow.ensures.faultless c.in_ok-follow.ensures.watched (omega arith)
+
+pub returns-then-watch-eq0-clause-faultless : goal.returns-then-watch-eq0-clause-faultless
+returns-then-watch-eq0-clause-faultless c =
+    let count : length (nodes_of c.args.list.now) ≡ length c.args.list.now = nodes_length c.args.list.now in
+    let nothing : c.follow.new.watch.weight ≡ 0 = search (arith, c.if-watch-eq0.true) in
+    weightless_is c.args.tree.now (nodes_of c.args.list.now) c.args.plan.now c.follow.new.watch c.requires.limits c.in_ok-follow.ensures.faultless c.in_ok-follow.ensures.watched (omega arith) nothing
 
 pub first_held-requires : goal.first_held-requires
 first_held-requires c =

@@ -1,4 +1,4 @@
-use Rattle.grove_plan.proofs.Verdicts.{faultless_legal, legal_faultless}
+use Rattle.grove_plan.proofs.FaultlessIsLegal.{faultless_legal, legal_faultless}
 use Rattle.grove_plan.proofs.laws.plan_laws.Goals as goal
 
 pub returns : goal.returns

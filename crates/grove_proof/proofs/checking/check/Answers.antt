@@ -1,6 +1,6 @@
 -- Each clause follows from the verdict.
 use Rattle.grove_access.specs.Lists.{nodes_of, lengths_of}
-use Rattle.grove_proof.proofs.Faults.{verdict_cost, verdict_legal, verdict_certificate, verdict_least, verdict_fault, verdict_refused}
+use Rattle.grove_proof.proofs.Verdicts.{verdict_cost, verdict_legal, verdict_certificate, verdict_least, verdict_fault, verdict_refused}
 use Rattle.grove_proof.proofs.checking.check.Goals as goal
 
 pub returns : goal.returns

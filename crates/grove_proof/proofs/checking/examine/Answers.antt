@@ -5,7 +5,7 @@ use Rattle.grove_access.specs.Lists.{nodes_of, lengths_of}
 use Rattle.grove_proof.specs.declared.flow.FlowRow.{FlowRow}
 use Rattle.grove_proof.specs.Flows.{node_of}
 use Rattle.grove_proof.specs.Faults.{IsFirstDifference}
-use Rattle.grove_proof.proofs.Faults.{rows_verdict, verdict, say_same}
+use Rattle.grove_proof.proofs.Verdicts.{rows_verdict, verdict, say_same}
 use Rattle.grove_proof.proofs.checking.examine.Goals as goal
 
 pub returns-in-Some-clause-verdict : goal.returns-in-Some-clause-verdict

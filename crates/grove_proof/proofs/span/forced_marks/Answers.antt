@@ -4,8 +4,8 @@ use Rattle.std.proofs.Math.ListN.{replicate}
 use Rattle.std.proofs.lemmas.List.{length-replicate, with_items_is}
 use Rattle.grove_access.specs.Lists.{nodes_of}
 use Rattle.grove_access.proofs.Lists.{nodes_length}
-use Rattle.grove_proof.specs.Tables.{MarksSpan}
-use Rattle.grove_proof.proofs.Marks.{marks_span, none_marked, none_spanned}
+use Rattle.grove_proof.specs.Tables.{MarksForced}
+use Rattle.grove_proof.proofs.ForcedMarks.{marks_forced, none_marked, none_forced}
 use Rattle.grove_proof.proofs.span.forced_marks.Goals as goal
 use Rattle.grove_proof.proofs.span.forced_marks.Goals.{then-len-gt0, else-len-gt0}
 
@@ -16,10 +16,10 @@ returns c =
     elim c.if-len-gt0.branch [
       | then-len-gt0 w ↦
           let whole : length w.mark_ways.new.marks ≡ length c.in_ok-marks.marks.items = w.mark_ways.auto.marks ∙ ap length w.deref_mut.ensures.value in
-          rw w.marks-is (subst (λ (items : List Bool). MarksSpan c.args.tree.now (nodes_of c.args.list.now) items) (sym (with_items_is c.in_ok-marks.marks w.mark_ways.new.marks (w.mark_ways.auto.marks ∙ w.deref_mut.ensures.len)))
-          (marks_span c.args.tree.now (nodes_of c.args.list.now) w.mark_ways.new.marks c.requires.tree c.requires.fits (whole ∙ size) w.mark_ways.ensures.sound w.mark_ways.ensures.complete))
+          rw w.marks-is (subst (λ (items : List Bool). MarksForced c.args.tree.now (nodes_of c.args.list.now) items) (sym (with_items_is c.in_ok-marks.marks w.mark_ways.new.marks (w.mark_ways.auto.marks ∙ w.deref_mut.ensures.len)))
+          (marks_forced c.args.tree.now (nodes_of c.args.list.now) w.mark_ways.new.marks c.requires.tree c.requires.fits (whole ∙ size) w.mark_ways.ensures.sound w.mark_ways.ensures.complete))
       | else-len-gt0 w ↦ rw w.marks-is
-          (marks_span c.args.tree.now (nodes_of c.args.list.now) c.in_ok-marks.marks.items c.requires.tree c.requires.fits size
+          (marks_forced c.args.tree.now (nodes_of c.args.list.now) c.in_ok-marks.marks.items c.requires.tree c.requires.fits size
           (λ v is. absurd (none_marked c.len.result v (rw first at is)))
-          (λ v is. absurd (none_spanned c.args.tree.now (nodes_of c.args.list.now) v (nodes_length c.args.list.now ∙ omega arith) is)))
+          (λ v is. absurd (none_forced c.args.tree.now (nodes_of c.args.list.now) v (nodes_length c.args.list.now ∙ omega arith) is)))
     ]

@@ -1,7 +1,7 @@
 -- Each goal is a step of the lemmas on the lowest node so far.
 use Rattle.grove_access.specs.Lists.{nodes_of}
 use Rattle.grove_access.proofs.Lists.{node_at}
-use Rattle.grove_proof.proofs.Meets.{lowest_start, lowest_step}
+use Rattle.grove_proof.proofs.LowestCommon.{lowest_start, lowest_step}
 use Rattle.grove_proof.proofs.span.lowest_common.Goals as goal
 
 pub loop-access-init : goal.loop-access-init

@@ -1,6 +1,6 @@
 -- The lowest node above the nodes of the accesses so far.
 use Rattle.grove_access.specs.Lists.{nodes_of}
-use Rattle.grove_proof.proofs.Meets.{IsLowestIn}
+use Rattle.grove_proof.proofs.LowestCommon.{IsLowestIn}
 use Rattle.grove_proof.proofs.span.lowest_common.Given as goal
 
 abbrev pub invariant-loop-access : goal.invariant-loop-access

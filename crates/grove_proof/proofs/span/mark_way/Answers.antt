@@ -1,8 +1,8 @@
 -- Each goal is a step of the lemmas on a marked way.
 use Rattle.std.proofs.Common.{sym, ◌∙◌}
-use Rattle.grove_tree.proofs.Ups.{parent_lt}
-use Rattle.grove_proof.proofs.Meets.{differs, agrees}
-use Rattle.grove_proof.proofs.Marks.{way_start, way_step, way_end, way_goes_on}
+use Rattle.grove_tree.proofs.Above.{parent_lt}
+use Rattle.grove_proof.proofs.LowestCommon.{differs, agrees}
+use Rattle.grove_proof.proofs.ForcedMarks.{way_start, way_step, way_end, way_goes_on}
 use Rattle.grove_proof.proofs.span.mark_way.Goals as goal
 
 pub loop-top-init : goal.loop-top-init

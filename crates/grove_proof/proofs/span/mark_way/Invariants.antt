@@ -1,5 +1,5 @@
 -- The way below the node that is at hand is marked.
-use Rattle.grove_proof.proofs.Marks.{IsOnWay}
+use Rattle.grove_proof.proofs.ForcedMarks.{IsOnWay}
 use Rattle.grove_proof.proofs.span.mark_way.Given as goal
 
 abbrev pub invariant-loop-top : goal.invariant-loop-top

@@ -3,7 +3,7 @@ use Rattle.std.proofs.Common.{◌≡◌, ℕ, length, sym, ◌∙◌, subst, ari
 use Rattle.grove_access.specs.Lists.{nodes_of}
 use Rattle.grove_access.proofs.Lists.{node_at, nodes_length}
 use Rattle.grove_proof.specs.Tables.{IsLowest}
-use Rattle.grove_proof.proofs.Marks.{ways_step, ways_end}
+use Rattle.grove_proof.proofs.ForcedMarks.{ways_step, ways_end}
 use Rattle.grove_proof.proofs.span.mark_ways.Goals as goal
 
 pub mark_way-requires-clause-within : goal.mark_way-requires-clause-within

@@ -1,7 +1,7 @@
 -- Each goal is a step of the lemmas on what is above both nodes.
 use Rattle.std.proofs.Common.{◌≡◌, ◌<◌, ◌≤◌, sym, ◌∙◌, arith}
-use Rattle.grove_tree.proofs.Ups.{parent_lt}
-use Rattle.grove_proof.proofs.Meets.{less_true, less_false, differs, agrees, has_a_parent, meet_right, meet_left, meet_end}
+use Rattle.grove_tree.proofs.Above.{parent_lt}
+use Rattle.grove_proof.proofs.LowestCommon.{less_true, less_false, differs, agrees, has_a_parent, meet_right, meet_left, meet_end}
 use Rattle.grove_proof.proofs.span.meet.Goals as goal
 
 pub loop-right-smaller-in-Some : goal.loop-right-smaller-in-Some

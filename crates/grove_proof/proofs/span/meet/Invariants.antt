@@ -1,6 +1,6 @@
 -- What is above both nodes stays the same.
 use Rattle.std.proofs.Common.{◌+◌}
-use Rattle.grove_proof.proofs.Meets.{IsSameMeet}
+use Rattle.grove_proof.proofs.LowestCommon.{IsSameMeet}
 use Rattle.grove_proof.proofs.span.meet.Given as goal
 
 abbrev pub invariant-loop-right : goal.invariant-loop-right

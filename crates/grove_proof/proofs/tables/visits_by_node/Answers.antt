@@ -4,7 +4,7 @@ use Rattle.std.proofs.Math.ListN.{replicate}
 use Rattle.grove_access.specs.Lists.{nodes_of}
 use Rattle.grove_access.proofs.Lists.{node_at}
 use Rattle.grove_proof.specs.Tables.{VisitsByNode}
-use Rattle.grove_proof.proofs.ByNode.{read_same, first_kept, first_made, visits_start, visits_step}
+use Rattle.grove_proof.proofs.TablesByNode.{read_same, first_kept, first_made, visits_start, visits_step}
 use Rattle.grove_proof.proofs.tables.visits_by_node.Goals as goal
 use Rattle.grove_proof.proofs.tables.visits_by_node.Goals.{then-visits-eq0, else-visits-eq0}
 

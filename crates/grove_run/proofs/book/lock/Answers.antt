@@ -8,7 +8,7 @@ use Rattle.grove_run.proofs.book.lock.Goals as goal
 
 pub returns-in-Ok : goal.returns-in-Ok
 returns-in-Ok c =
-    let none : known_at c.args.carry.now.known c.args.node ≡ None = lock_not_out c.args.core.now c.args.carry.now c.args.node c.jobs.ensures.legal c.requires.of c.requires.next in
+    let none : known_at c.args.carry.now.known c.args.node ≡ None = lock_not_out c.args.core.now c.args.carry.now c.args.node c.requires.legal c.requires.of c.requires.next in
     let room : length c.args.carry.now.known < c.args.carry.now.most_nodes = omega (arith, c.txn-txn.ensures.nodes, c.requires.room) in
     let fits : FitsSigned w64 c.value-value.result = search rules in (
       c.in-Ok.ensures.added ∙ ap (λ (t : ℕ). after_event c.args.core.now (Take t)) c.txn-txn.ensures.txn,

@@ -1,8 +1,8 @@
 use Rattle.std.proofs.Common.{◌≡◌, ◌<◌, ℕ, Some, None, sym, ◌∙◌, subst, arith, length}
 use Rattle.std.proofs.lemmas.Bool.{both_ways}
 use Rattle.grove_tree.specs.Trees.{IsAbove, parent_of}
-use Rattle.grove_tree.proofs.Ups.{parent_lt, above_child}
-use Rattle.grove_span.proofs.Climbing.{top_above, above_parent}
+use Rattle.grove_tree.proofs.Above.{parent_lt, above_child, above_parent}
+use Rattle.grove_span.proofs.LowestCommon.{top_above}
 use Rattle.grove_span.proofs.lowest.+climb.Goals as goal
 
 pub climb-requires : goal.climb-requires
@@ -25,7 +25,7 @@ returns-clause-from t c =
 pub returns-clause-lowest : goal.returns-clause-lowest
 returns-clause-lowest t c = λ node over_from over_target.
     c.climb.ensures.lowest node
-    (above_parent c.args.tree.now node c.args.from c.in-Some.parent (sym c.parent.ensures ∙ c.in-Some.is) over_from
+    (above_parent c.args.tree.now node c.args.from c.in-Some.parent (sym c.parent.ensures ∙ c.in-Some.is)
     (λ same. both_ways c.is_above.result c.if-is_above.false
-    (c.is_above.ensures.1 (subst (λ (n : ℕ). IsAbove c.args.tree.now n c.args.target) same over_target))))
+    (c.is_above.ensures.1 (subst (λ (n : ℕ). IsAbove c.args.tree.now n c.args.target) same over_target))) over_from)
     over_target

@@ -2,7 +2,7 @@ use Rattle.std.proofs.Common.{◌≡◌, ◌≤◌, add-one, arith, length}
 use Rattle.grove_access.specs.Lists.{nodes_of}
 use Rattle.grove_access.proofs.Lists.{node_at, nodes_length}
 use Rattle.grove_span.proofs.Accesses.{access_within}
-use Rattle.grove_span.proofs.Climbing.{lowest_first, lowest_next, lowest_last}
+use Rattle.grove_span.proofs.LowestCommon.{lowest_first, lowest_next, lowest_last}
 use Rattle.grove_span.proofs.lowest.lowest_common.Goals as goal
 
 pub loop-access-init : goal.loop-access-init

@@ -1,5 +1,5 @@
 use Rattle.grove_access.specs.Lists.{nodes_of}
-use Rattle.grove_span.proofs.Climbing.{IsLowestTo}
+use Rattle.grove_span.proofs.LowestCommon.{IsLowestTo}
 use Rattle.grove_span.proofs.lowest.lowest_common.Given as goal
 
 -- the lowest node above the accessed ones so far

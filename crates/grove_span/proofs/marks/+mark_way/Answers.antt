@@ -2,10 +2,9 @@ use Rattle.std.proofs.Common.{◌≡◌, ◌<◌, ℕ, Some, sym, ◌∙◌, sub
 use Rattle.std.proofs.Math.ListN.{set, length-set}
 use Rattle.std.proofs.lemmas.Bool.{eqb-true, eq-eqb, both_ways}
 use Rattle.grove_tree.specs.Trees.{parent_of}
-use Rattle.grove_tree.proofs.Ups.{parent_lt}
+use Rattle.grove_tree.proofs.Above.{parent_lt, above_parent, above_top}
 use Rattle.grove_span.specs.Ways.{MarksWay}
-use Rattle.grove_span.proofs.Climbing.{above_parent}
-use Rattle.grove_span.proofs.Marking.{way_ends, way_on, only_top}
+use Rattle.grove_span.proofs.ForcedMarks.{way_ends, way_on}
 use Rattle.grove_span.proofs.marks.+mark_way.Goals as goal
 
 pub returns-then-eq : goal.returns-then-eq
@@ -24,8 +23,8 @@ mark_way-requires t c =
       (
         c.requires.tree,
         (
-          above_parent c.args.tree.now c.args.top c.args.low c.in-Some.parent is c.requires.above
-              (λ same. both_ways c.eq.result c.if-eq.false (c.eq.ensures ∙ eq-eqb c.args.low c.args.top (sym same))),
+          above_parent c.args.tree.now c.args.top c.args.low c.in-Some.parent is
+              (λ same. both_ways c.eq.result c.if-eq.false (c.eq.ensures ∙ eq-eqb c.args.low c.args.top (sym same))) c.requires.above,
           (omega arith, length-set c.args.marks.now c.number.result true ∙ c.requires.table),
         ),
       ),
@@ -34,7 +33,7 @@ mark_way-requires t c =
 pub unreachable-requires : goal.unreachable-requires
 unreachable-requires t c =
     both_ways c.eq.result c.if-eq.false (c.eq.ensures ∙ eq-eqb c.args.low c.args.top
-    (only_top c.args.tree.now c.args.top c.args.low (sym c.parent.ensures ∙ c.in-None.is) c.requires.above))
+    (sym (above_top c.args.tree.now c.args.top c.args.low (sym c.parent.ensures ∙ c.in-None.is) c.requires.above)))
 
 pub returns : goal.returns
 returns t c =

@@ -1,12 +1,12 @@
 use Rattle.std.proofs.Common.{◌≡◌, ℕ, ◌<◌, ◌∙◌, true, List, length, get_or, Option, None, slice_get, option_and_then, unwrap_or, refl, sym, ap, subst, add-one, arith}
 use Rattle.grove_tree.specs.Trees.{parent_of}
 use Rattle.grove_access.specs.Lists.{nodes_of, lengths_of}
-use Rattle.grove_access.specs.Spanned.{is_spanned}
+use Rattle.grove_access.specs.Forced.{is_forced}
 use Rattle.grove_span.specs.declared.visit.Visits.{Visits}
 use Rattle.grove_span.specs.Ways.{TellsOf}
 use Rattle.std.proofs.lemmas.Option.{slice_get-get_or}
-use Rattle.grove_span.proofs.Listing.{list_hit, list_miss, placed}
-use Rattle.grove_span.proofs.Marking.{mark_tells}
+use Rattle.grove_span.proofs.ForcedRows.{list_hit, list_miss, placed}
+use Rattle.grove_span.proofs.ForcedMarks.{mark_tells}
 use Rattle.grove_span.proofs.rows.marked_rows.Goals as goal
 
 pub loop-number-preserved-then-not-marks-number : goal.loop-number-preserved-then-not-marks-number
@@ -20,7 +20,7 @@ loop-number-preserved-then-not-marks-number c =
 pub loop-number-preserved : goal.loop-number-preserved
 loop-number-preserved c =
     let lt : c.loop-number.number < length c.args.tree.now = omega arith in
-    let hit : is_spanned c.args.tree.now (nodes_of c.args.list.now) c.loop-number.number ≡ true =
+    let hit : is_forced c.args.tree.now (nodes_of c.args.list.now) c.loop-number.number ≡ true =
     mark_tells c.args.tree.now (nodes_of c.args.list.now) c.args.marks.now c.len-number-end.ensures.tree c.requires.fits c.requires.marks c.requires.marked c.loop-number.number lt
     ∙ c.if-not-marks-number.false in
     rw (add-one, add-one, c.in_ok-push.ensures.items)

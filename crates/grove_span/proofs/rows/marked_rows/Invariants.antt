@@ -1,5 +1,5 @@
 use Rattle.grove_access.specs.Lists.{nodes_of, lengths_of}
-use Rattle.grove_span.proofs.Listing.{IsListedTo}
+use Rattle.grove_span.proofs.ForcedRows.{IsListedTo}
 use Rattle.grove_span.proofs.rows.marked_rows.Given as goal
 
 -- the rows of the nodes so far

@@ -1,7 +1,7 @@
 use Rattle.std.proofs.Common.{◌≡◌, ℕ, ◌<◌, ◌∙◌, length, get_or, Option, Some, None, slice_get, option_and_then, unwrap_or, sym, ap, arith}
 use Rattle.std.proofs.lemmas.Option.{unwrap_or-slice_get}
 use Rattle.grove_tree.specs.Trees.{parent_of}
-use Rattle.grove_tree.proofs.Ups.{parent_lt}
+use Rattle.grove_tree.proofs.Above.{parent_lt}
 use Rattle.grove_span.proofs.rows.parent_place.Goals as goal
 
 pub bounds-places-number : goal.bounds-places-number

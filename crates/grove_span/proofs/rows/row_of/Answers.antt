@@ -1,7 +1,7 @@
 use Rattle.std.proofs.Common.{◌<◌, ◌≤◌, ℕ, length, Some, sym, ◌∙◌, ap, arith}
 use Rattle.grove_access.specs.Lists.{nodes_of, lengths_of}
 use Rattle.grove_access.proofs.Lists.{nodes_length}
-use Rattle.grove_span.proofs.Telling.{first_told, last_told, none_first, none_last}
+use Rattle.grove_span.proofs.VisitSlots.{first_told, last_told, none_first, none_last}
 use Rattle.grove_span.proofs.rows.row_of.Goals as goal
 use Rattle.grove_span.proofs.rows.row_of.Goals.{in-Some, in-None, in-Some-last, in-None-last}
 

@@ -6,7 +6,7 @@ use Rattle.grove_access.proofs.Lists.{node_at}
 use Rattle.grove_span.specs.Ways.{TellVisits}
 use Rattle.grove_span.proofs.Accesses.{access_within}
 use Rattle.grove_access.proofs.Lists.{nodes_length}
-use Rattle.grove_span.proofs.Noting.{tell_next}
+use Rattle.grove_span.proofs.FirstAndLast.{tell_next}
 use Rattle.grove_span.proofs.visits.note_visits.Goals as goal
 
 pub slice_copy_out-with : goal.slice_copy_out-with

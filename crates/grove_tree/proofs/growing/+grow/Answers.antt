@@ -1,12 +1,12 @@
 use Rattle.std.proofs.Common.{◌≡◌, ℕ, ◌<◌, ◌∙◌, ap, List, Option, Some, true≢false, get_or, refl, sym, length, arith}
-use Rattle.grove_tree.proofs.Grown.{growing_none, growing_child, growing_done}
+use Rattle.grove_tree.proofs.OutlineGrowth.{growing_none, growing_child, growing_done}
 use Rattle.grove_tree.proofs.Children.{outline_size}
-use Rattle.grove_tree.proofs.Ups.{parent_within}
+use Rattle.grove_tree.proofs.Above.{parent_within}
 use Rattle.grove_tree.specs.declared.row.Row.{Row}
 use Rattle.std.specs.List.{slice_get}
 use Rattle.std.specs.Option.{option_map}
 use Rattle.std.proofs.lemmas.Option.{slice_get-map, slice_get_read}
-use Rattle.grove_tree.proofs.Lists.{map_length}
+use Rattle.grove_base.proofs.Lists.{map_length}
 use Rattle.grove_tree.specs.Rules.{row_of, rows_of}
 use Rattle.grove_tree.proofs.growing.+grow.Goals as goal
 

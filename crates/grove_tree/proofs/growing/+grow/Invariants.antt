@@ -1,6 +1,6 @@
 use Rattle.std.proofs.Common.{◌-◌, length}
 use Rattle.grove_tree.specs.Rules.{rows_of}
-use Rattle.grove_tree.proofs.Grown.{IsGrowing}
+use Rattle.grove_tree.proofs.OutlineGrowth.{IsGrowing}
 use Rattle.grove_tree.proofs.growing.+grow.Given as goal
 
 abbrev pub decreases-grow : goal.decreases-grow

@@ -1,6 +1,6 @@
 use Rattle.std.proofs.Common.{sym, add-one}
 use Rattle.grove_tree.specs.Rules.{rows_of}
-use Rattle.grove_tree.proofs.Faultless.{rows_less, fault_found, fault_not_found}
+use Rattle.grove_tree.proofs.FaultlessRows.{rows_less, fault_found, fault_not_found}
 use Rattle.grove_tree.proofs.rules.fault_of_rows.Goals as goal
 
 pub fault_of_row-fault-requires-clause-rising : goal.fault_of_row-fault-requires-clause-rising

@@ -1,7 +1,7 @@
 use Rattle.std.proofs.Common.{sym, ◌∙◌, add-one, arith}
 use Rattle.grove_tree.specs.Rules.{rows_of, is_twin}
-use Rattle.grove_tree.proofs.Counting.{any_from}
-use Rattle.grove_tree.proofs.RowTests.{twin_test, any_more}
+use Rattle.grove_base.proofs.Counting.{any_from, any_miss}
+use Rattle.grove_tree.proofs.RowTests.{twin_test}
 use Rattle.grove_tree.proofs.rules.has_twin.Goals as goal
 
 pub returns-then-are_twins : goal.returns-then-are_twins
@@ -12,4 +12,4 @@ returns-then-are_twins c =
 pub loop-other-preserved : goal.loop-other-preserved
 loop-other-preserved c =
     let e = twin_test c.args.rows.now c.args.row c.loop-other.other _ _ c.index-rows-row.is c.requires c.index-rows-other.is (omega arith) in
-    rw add-one (any_more c.loop-other.other (is_twin (rows_of c.args.rows.now) c.args.row) c.loop-other.invariant (e ∙ sym c.if-are_twins.ensures))
+    rw add-one (any_miss c.loop-other.other (is_twin (rows_of c.args.rows.now) c.args.row) (e ∙ sym c.if-are_twins.ensures) ∙ c.loop-other.invariant)

@@ -1,5 +1,5 @@
 use Rattle.std.proofs.Common.{◌≡◌, false}
-use Rattle.grove_tree.specs.Numbers.{any_below}
+use Rattle.grove_base.specs.Numbers.{any_below}
 use Rattle.grove_tree.specs.Rules.{rows_of, is_twin}
 use Rattle.grove_tree.proofs.rules.has_twin.Given as goal
 

@@ -1,8 +1,7 @@
 use Rattle.std.proofs.Common.{◌≡◌, ℕ, suc, ◌+◌, ◌<◌, ◌≤◌, sym, subst, arith, eq-eqb, eqb-true}
 use Rattle.grove_tree.specs.Trees.{IsAbove}
 use Rattle.grove_tree.specs.Rules.{rows_of}
-use Rattle.grove_tree.proofs.Ups.{up_le_from, above_child, above_self}
-use Rattle.grove_tree.proofs.Ways.{above_parent, above_top}
+use Rattle.grove_tree.proofs.Above.{up_le_from, above_child, above_self, above_parent, above_top}
 use Rattle.grove_tree.proofs.rules.is_on_way.Goals as goal
 
 pub loop-at-smaller : goal.loop-at-smaller

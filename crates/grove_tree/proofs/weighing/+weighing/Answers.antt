@@ -3,7 +3,7 @@ use Rattle.std.proofs.lemmas.List.{with_items_is}
 use Rattle.grove_tree.specs.Outlines.{total}
 use Rattle.grove_tree.specs.WeighedOutlines.{weighed_all, changes_all, AllTaken}
 use Rattle.grove_tree.proofs.Children.{outline_size}
-use Rattle.grove_tree.proofs.Weighed.{halves, weighed_halves, changes_halves, changes_all-le, weighed_all-append, taken_some, taken_node, weighed_node, changes_node, counts_none, counts_one, outline-weighed_all}
+use Rattle.grove_tree.proofs.WeightsByRule.{halves, weighed_halves, changes_halves, changes_all-le, weighed_all-append, taken_some, taken_node, weighed_node, changes_node, counts_none, counts_one, outline-weighed_all}
 use Rattle.grove_tree.proofs.weighing.+weighing.Goals as goal
 use Rattle.grove_tree.proofs.weighing.+weighing.Goals.{weigh-then-new-old, weigh-else-new-old}
 

@@ -1,7 +1,6 @@
 use Rattle.std.proofs.Common.{◌≡◌}
-use Rattle.std.specs.Prelude.{length, map, None}
+use Rattle.std.specs.Prelude.{map}
 use Rattle.serde_json.specs.View.{view}
-use Rattle.grove_access.specs.Lists.{nodes_of, lengths_of, AreNodes, first_bad_length}
 use Rattle.grove_wire.specs.Outcomes.{each_from}
 use Rattle.grove_wire.specs.Reading.{access_in}
 use Rattle.grove_wire.proofs.Each.{with_front, rest_read}
@@ -9,9 +8,4 @@ use Rattle.grove_wire.proofs.lists.read_accesses.Given as goal
 
 -- what is read so far, and then what is left, is what the whole reads as
 abbrev pub invariant-loop-at : goal.invariant-loop-at
-invariant-loop-at l = record {
-  read : with_front l.accesses.items (rest_read (access_in l.tree l.version) l.items l.at) ≡ each_from (access_in l.tree l.version) 0 (map view l.items);
-  few : length l.accesses.items ≡ l.at;
-  within : AreNodes l.tree (nodes_of l.accesses.items);
-  fit : first_bad_length 0 (lengths_of l.accesses.items) ≡ None;
-}
+invariant-loop-at l = with_front l.accesses.items (rest_read (access_in l.tree l.version l.place) l.items l.at) ≡ each_from (access_in l.tree l.version l.place) 0 (map view l.items)

@@ -1,7 +1,7 @@
 use Rattle.std.proofs.Common.{◌≡◌, length, ◌∙◌, ap, arith, rules, w64, FitsSigned}
 use Rattle.std.proofs.lemmas.Int.{to_z-of_z}
 use Rattle.grove_access.specs.Effects.{answer}
-use Rattle.grove_access.proofs.Outside.{sound_applied, length-more, grown}
+use Rattle.grove_access.proofs.CarriedNodes.{sound_applied, length-more, grown}
 use Rattle.grove_access.proofs.carry.Carry.apply.Goals as goal
 
 pub invariant_of-self : goal.invariant_of-self

@@ -1,7 +1,7 @@
 use Rattle.std.proofs.Common.{◌≤◌, length, sym, ◌∙◌, ap, vec_len, arith}
 use Rattle.std.proofs.lemmas.Bool.{eqb-true}
 use Rattle.grove_access.specs.Carries.{without}
-use Rattle.grove_access.proofs.Outside.{sound_without, length-without, nothing_in}
+use Rattle.grove_access.proofs.CarriedNodes.{sound_without, length-without, nothing_in}
 use Rattle.grove_access.proofs.carry.Carry.give.Goals as goal
 
 pub invariant_of-self : goal.invariant_of-self

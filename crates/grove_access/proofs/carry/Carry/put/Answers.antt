@@ -1,7 +1,7 @@
 use Rattle.std.proofs.Common.{◌≡◌, List, length, sym, ◌∙◌, ap, arith}
 use Rattle.grove_access.specs.declared.known.Known.{Known}
 use Rattle.grove_access.specs.Carries.{known_at}
-use Rattle.grove_access.proofs.Outside.{sound_held, none_found, length-more, grown}
+use Rattle.grove_access.proofs.CarriedNodes.{sound_held, none_found, length-more, grown}
 use Rattle.grove_access.proofs.carry.Carry.put.Goals as goal
 
 pub invariant_of-self : goal.invariant_of-self

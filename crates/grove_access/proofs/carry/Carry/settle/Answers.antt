@@ -1,6 +1,6 @@
 use Rattle.std.proofs.Common.{◌≡◌, length, ◌∙◌, ap, arith}
 use Rattle.grove_access.specs.Carries.{settled}
-use Rattle.grove_access.proofs.Outside.{sound_settled, length-settled}
+use Rattle.grove_access.proofs.CarriedNodes.{sound_settled, length-settled}
 use Rattle.grove_access.proofs.carry.Carry.settle.Goals as goal
 
 pub invariant_of-self : goal.invariant_of-self

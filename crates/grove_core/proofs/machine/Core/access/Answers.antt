@@ -6,7 +6,10 @@ use Rattle.std.proofs.lemmas.List.{length-reverse}
 use Rattle.grove_plan.specs.declared.step.Step.TheVariants.{Access}
 use Rattle.grove_core.specs.declared.event.Event.TheVariants.{Take}
 use Rattle.grove_core.specs.Runs.{list_of}
-use Rattle.grove_core.proofs.Keeping.{read_at, closed, job_there, progress_there, place_small, accessed_within, access_listed, event_room, reply_room, core_accessed, may_access, list_of_at}
+use Rattle.grove_base.proofs.Lists.{read_at}
+use Rattle.grove_core.proofs.CoreReads.{closed, job_there, progress_there, steps_small, accessed_within, access_listed, event_room, reply_room, may_access, progress_at}
+use Rattle.grove_core.proofs.CoreSteps.{core_accessed}
+use Rattle.grove_core.proofs.RunSteps.{list_of_at}
 use Rattle.grove_core.proofs.machine.Core.access.Goals as goal
 
 pub bounds-self-inside-txn : goal.bounds-self-inside-txn
@@ -45,17 +48,13 @@ index_mut-progress-requires c =
 pub answer-requires-clause-few : goal.answer-requires-clause-few
 answer-requires-clause-few c =
     let next = rw (← c.self.view_is) at c.requires in
-    let lt : c.args.txn < length c.self.inside.progress.items = progress_there _ _ _ _ _ _ _ _ c.self.invariant.0 c.args.txn (Access c.args.access) next in
-    let e : vec_len c.self.inside.progress ≡ length c.self.inside.progress.items = c.self.inside.progress.ok.0 in
-    let at : slice_get c.self.inside.progress.items c.args.txn ≡ Some c.index_mut-progress.result.now = read_at c.self.inside.progress.items c.args.txn c.index_mut-progress.result.now lt c.index_mut-progress.ensures.value in
-    place_small _ _ _ _ _ _ _ _ c.self.invariant.0 c.args.txn (Access c.args.access) next c.index_mut-progress.result.now at
+    let at : slice_get c.self.inside.progress.items c.args.txn ≡ Some c.index_mut-progress.result.now = progress_at _ _ _ _ _ _ _ _ c.self.invariant.0 c.args.txn (Access c.args.access) next c.index_mut-progress.result.now c.index_mut-progress.ensures.value in
+    steps_small _ _ _ _ _ _ _ _ c.self.invariant.0 c.args.txn (Access c.args.access) next c.index_mut-progress.result.now at
 
 pub answer-requires-clause-room : goal.answer-requires-clause-room
 answer-requires-clause-room c =
     let next = rw (← c.self.view_is) at c.requires in
-    let lt : c.args.txn < length c.self.inside.progress.items = progress_there _ _ _ _ _ _ _ _ c.self.invariant.0 c.args.txn (Access c.args.access) next in
-    let e : vec_len c.self.inside.progress ≡ length c.self.inside.progress.items = c.self.inside.progress.ok.0 in
-    let at : slice_get c.self.inside.progress.items c.args.txn ≡ Some c.index_mut-progress.result.now = read_at c.self.inside.progress.items c.args.txn c.index_mut-progress.result.now lt c.index_mut-progress.ensures.value in
+    let at : slice_get c.self.inside.progress.items c.args.txn ≡ Some c.index_mut-progress.result.now = progress_at _ _ _ _ _ _ _ _ c.self.invariant.0 c.args.txn (Access c.args.access) next c.index_mut-progress.result.now c.index_mut-progress.ensures.value in
     let room : length c.index_mut-progress.result.now.replies.items < vec_capacity c.index_mut-progress.result.now.replies =
     reply_room _ _ _ _ _ _ _ _ c.self.invariant.0 c.args.txn c.args.access next c.index_mut-progress.result.now at in
     let f : vec_len c.index_mut-progress.result.now.replies ≡ length c.index_mut-progress.result.now.replies.items = c.index_mut-progress.result.now.replies.ok.0 in
@@ -71,9 +70,7 @@ push_reserved-requires c =
 pub invariant_of-self : goal.invariant_of-self
 invariant_of-self c =
     let next = rw (← c.self.view_is) at c.requires in
-    let lt : c.args.txn < length c.self.inside.progress.items = progress_there _ _ _ _ _ _ _ _ c.self.invariant.0 c.args.txn (Access c.args.access) next in
-    let e : vec_len c.self.inside.progress ≡ length c.self.inside.progress.items = c.self.inside.progress.ok.0 in
-    let at : slice_get c.self.inside.progress.items c.args.txn ≡ Some c.index_mut-progress.result.now = read_at c.self.inside.progress.items c.args.txn c.index_mut-progress.result.now lt c.index_mut-progress.ensures.value in
+    let at : slice_get c.self.inside.progress.items c.args.txn ≡ Some c.index_mut-progress.result.now = progress_at _ _ _ _ _ _ _ _ c.self.invariant.0 c.args.txn (Access c.args.access) next c.index_mut-progress.result.now c.index_mut-progress.ensures.value in
     let job : slice_get c.self.inside.jobs.now c.args.txn ≡ Some c.index-self-txn.result =
     read_at c.self.inside.jobs.now c.args.txn c.index-self-txn.result (job_there _ _ _ _ _ _ _ _ c.self.invariant.0 c.args.txn (Access c.args.access) next) c.index-self-txn.is in
     let same : slice_index_or c.self.inside.jobs.now c.args.txn c.index-self-txn.result ≡ c.index-self-txn.result = sym c.index-self-txn.is in
@@ -84,6 +81,6 @@ invariant_of-self c =
     (closed _ _ _ c.self.inside.history.items c.push_reserved.new.self.items (Take c.args.txn) (vec_capacity c.self.inside.history) (vec_capacity c.push_reserved.new.self) _ _ _ _
     c.push_reserved.ensures.items c.push_reserved.ensures.capacity c.self.invariant.1
     (core_accessed _ _ _ _ _ _ _ _ c.self.invariant.0 c.args.txn c.args.access c.get-access.result next listed c.index_mut-progress.result.now c.answer.new.self at
-    c.answer.ensures.place c.answer.ensures.marked
+    c.answer.ensures.steps_done c.answer.ensures.marked
     (c.answer.ensures.replies ∙ ap (λ r. c.index_mut-progress.result.now.replies.items ++ r ∷ []) c.apply-reply.ensures.reply)
-    c.answer.ensures.room c.answer.ensures.lock_times))
+    c.answer.ensures.room c.answer.ensures.locked c.answer.ensures.held_nodes))

@@ -1,4 +1,4 @@
-use Rattle.grove_core.proofs.Ahead.{entry_ready, steps_whole, taken_all, records_taken, is_of_settled}
+use Rattle.grove_core.proofs.CarriedEntries.{entry_ready, steps_whole, taken_all, records_taken, is_of_settled}
 use Rattle.grove_core.proofs.machine.Core.add_entries.Goals as goal
 
 pub add_entry-requires-clause-next : goal.add_entry-requires-clause-next

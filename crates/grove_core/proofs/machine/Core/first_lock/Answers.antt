@@ -3,8 +3,9 @@ use Rattle.std.specs.List.{slice_get}
 use Rattle.grove_core.specs.declared.job.Job.{Job}
 use Rattle.grove_core.specs.Runs.{plan_of}
 use Rattle.grove_core.specs.Orders.{first_lock}
-use Rattle.grove_core.proofs.Keeping.{read_at, plan_of_at}
-use Rattle.grove_core.proofs.Filling.{first_within}
+use Rattle.grove_base.proofs.Lists.{read_at}
+use Rattle.grove_core.proofs.RunSteps.{plan_of_at}
+use Rattle.grove_core.proofs.OrderByLevels.{first_within}
 use Rattle.grove_core.proofs.machine.Core.first_lock.Goals as goal
 
 pub returns-clause-first : goal.returns-clause-first

@@ -1,22 +1,23 @@
-use Rattle.std.proofs.Common.{◌≡◌, ◌<◌, ℕ, List, length, sym, ◌∙◌, ap, subst}
-use Rattle.grove_plan.specs.declared.step.Step.{Step}
-use Rattle.grove_core.specs.Runs.{plan_of}
-use Rattle.grove_core.specs.Carried.{HasAll}
-use Rattle.grove_core.proofs.Ahead.{plan_read}
+use Rattle.std.proofs.Common.{◌≡◌, ℕ, ◌<◌, true, length, sym, ◌∙◌, ap, subst}
+use Rattle.std.proofs.lemmas.Bool.{eqb-true, eqb-false}
+use Rattle.grove_base.specs.Numbers.{count_below}
+use Rattle.grove_core.specs.Runs.{holds}
+use Rattle.grove_core.specs.Kept.{past_of}
+use Rattle.grove_core.proofs.CarriedCounts.{has_counted, counted_has}
 use Rattle.grove_core.proofs.machine.Core.has_all.Goals as goal
 
 pub returns-clause-yes : goal.returns-clause-yes
-returns-clause-yes c =
-    let job : c.txn-txn.result < length c.args.self.now.jobs = subst (λ (k : ℕ). k < length c.args.self.now.jobs) (sym c.txn-txn.ensures.txn) c.requires in
-    let steps : c.steps.result.now ≡ plan_of c.args.self.now.jobs c.args.carry.now.txn =
-    c.steps.ensures.steps ∙ plan_read c.args.self.now.jobs c.jobs.result.now c.txn-txn.result c.index-jobs-txn.result c.jobs.ensures.jobs job c.index-jobs-txn.is
-    ∙ ap (λ (k : ℕ). plan_of c.args.self.now.jobs k) c.txn-txn.ensures.txn in
-    λ is. subst (λ (plan : List Step). HasAll c.args.self.now c.args.carry.now plan) steps (c.has_each.ensures.yes is)
+returns-clause-yes c = λ is.
+    let within = subst (λ (t : ℕ). (node : ℕ) → holds c.args.self.now.jobs (past_of c.args.self.now) t node ≡ true → node < length c.args.self.now.tree) c.txn.ensures.txn c.held_nodes.ensures.within in
+    let number : c.held_nodes.result ≡ count_below (length c.args.self.now.tree) (λ node. holds c.args.self.now.jobs (past_of c.args.self.now) c.args.carry.now.txn node) =
+    subst (λ (t : ℕ). c.held_nodes.result ≡ count_below (length c.args.self.now.tree) (λ node. holds c.args.self.now.jobs (past_of c.args.self.now) t node)) c.txn.ensures.txn c.held_nodes.ensures.number in
+    has_counted c.args.self.now c.args.carry.now (length c.args.self.now.tree) c.txn.ensures.sound.apart c.requires.knows within
+    (sym (ap length c.known.ensures) ∙ eqb-true (length c.known.result.now) c.held_nodes.result is ∙ number)
 
 pub returns-clause-no : goal.returns-clause-no
-returns-clause-no c =
-    let job : c.txn-txn.result < length c.args.self.now.jobs = subst (λ (k : ℕ). k < length c.args.self.now.jobs) (sym c.txn-txn.ensures.txn) c.requires in
-    let steps : c.steps.result.now ≡ plan_of c.args.self.now.jobs c.args.carry.now.txn =
-    c.steps.ensures.steps ∙ plan_read c.args.self.now.jobs c.jobs.result.now c.txn-txn.result c.index-jobs-txn.result c.jobs.ensures.jobs job c.index-jobs-txn.is
-    ∙ ap (λ (k : ℕ). plan_of c.args.self.now.jobs k) c.txn-txn.ensures.txn in
-    λ is has. c.has_each.ensures.no is (subst (λ (plan : List Step). HasAll c.args.self.now c.args.carry.now plan) (sym steps) has)
+returns-clause-no c = λ is has.
+    let within = subst (λ (t : ℕ). (node : ℕ) → holds c.args.self.now.jobs (past_of c.args.self.now) t node ≡ true → node < length c.args.self.now.tree) c.txn.ensures.txn c.held_nodes.ensures.within in
+    let number : c.held_nodes.result ≡ count_below (length c.args.self.now.tree) (λ node. holds c.args.self.now.jobs (past_of c.args.self.now) c.args.carry.now.txn node) =
+    subst (λ (t : ℕ). c.held_nodes.result ≡ count_below (length c.args.self.now.tree) (λ node. holds c.args.self.now.jobs (past_of c.args.self.now) t node)) c.txn.ensures.txn c.held_nodes.ensures.number in
+    eqb-false (length c.known.result.now) c.held_nodes.result is
+    (ap length c.known.ensures ∙ counted_has c.args.self.now c.args.carry.now (length c.args.self.now.tree) c.txn.ensures.sound.apart c.requires.knows within has ∙ sym number)

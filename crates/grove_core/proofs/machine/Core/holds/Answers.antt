@@ -1,8 +1,8 @@
 use Rattle.std.proofs.Common.{◌≡◌, ◌<◌, ◌≤◌, ℕ, List, Option, Some, length, sym, ◌∙◌, ap, arith}
 use Rattle.std.specs.List.{slice_get}
 use Rattle.std.proofs.lemmas.Bool.{ltb-true, ltb-false}
-use Rattle.grove_core.proofs.Ahead.{owner_tells, owner_past}
-use Rattle.grove_core.proofs.Keeping.{read_at}
+use Rattle.grove_core.proofs.CarriedEntries.{owner_tells, owner_past}
+use Rattle.grove_base.proofs.Lists.{read_at}
 use Rattle.grove_core.proofs.machine.Core.holds.Goals as goal
 
 pub returns-in-Some : goal.returns-in-Some

@@ -2,7 +2,8 @@ use Rattle.std.proofs.Common.{◌≡◌, ◌<◌, length, Some, arith}
 use Rattle.std.specs.List.{slice_get}
 use Rattle.std.specs.Vec.{vec_len}
 use Rattle.grove_plan.specs.declared.step.Step.TheVariants.{Lock}
-use Rattle.grove_core.proofs.Keeping.{read_at, progress_there, marks_read}
+use Rattle.grove_base.proofs.Lists.{read_at}
+use Rattle.grove_core.proofs.CoreReads.{progress_there, marks_read}
 use Rattle.grove_core.proofs.machine.Core.is_marked.Goals as goal
 
 pub index-requires : goal.index-requires

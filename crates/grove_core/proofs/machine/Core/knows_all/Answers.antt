@@ -1,7 +1,7 @@
 use Rattle.std.proofs.Common.{ℕ}
 use Rattle.grove_access.specs.declared.known.Known.{Known}
-use Rattle.grove_core.specs.Carried.{Knows}
-use Rattle.grove_core.proofs.Ahead.{each_of}
+use Rattle.grove_core.specs.CarriedTests.{Knows}
+use Rattle.grove_core.proofs.CarriedEntries.{each_of}
 use Rattle.grove_core.proofs.machine.Core.knows_all.Goals as goal
 
 pub returns-clause-yes : goal.returns-clause-yes

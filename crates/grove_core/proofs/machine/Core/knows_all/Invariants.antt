@@ -1,7 +1,7 @@
 use Rattle.std.proofs.Common.{◌≡◌, ℕ, ◌<◌, Some}
 use Rattle.std.specs.List.{slice_get}
 use Rattle.grove_access.specs.declared.known.Known.{Known}
-use Rattle.grove_core.specs.Carried.{Knows}
+use Rattle.grove_core.specs.CarriedTests.{Knows}
 use Rattle.grove_core.proofs.machine.Core.knows_all.Given as goal
 
 abbrev pub invariant-loop-item : goal.invariant-loop-item

@@ -1,10 +1,11 @@
-use Rattle.std.proofs.Common.{◌≡◌, ℕ, ◌<◌, length, reverse, set, Some, sym, ◌∙◌, ap, arith}
+use Rattle.std.proofs.Common.{◌≡◌, ℕ, ◌<◌, [], ◌∷◌, ◌++◌, length, reverse, Some, sym, ◌∙◌, ap, arith}
 use Rattle.std.specs.List.{slice_get}
 use Rattle.std.specs.Vec.{vec_len, vec_capacity}
 use Rattle.std.proofs.lemmas.List.{length-reverse}
 use Rattle.grove_plan.specs.declared.step.Step.TheVariants.{Lock}
 use Rattle.grove_core.specs.declared.event.Event.TheVariants.{Take}
-use Rattle.grove_core.proofs.Keeping.{read_at, closed, progress_there, place_small, locked_within, event_room, owner_there, time_there, may_lock, core_locked}
+use Rattle.grove_core.proofs.CoreReads.{closed, progress_there, steps_small, event_room, owner_there, progress_at, held_small, lock_room}
+use Rattle.grove_core.proofs.CoreSteps.{locked_within, may_lock, core_locked}
 use Rattle.grove_core.proofs.machine.Core.lock.Goals as goal
 
 pub index_mut-progress-requires : goal.index_mut-progress-requires
@@ -17,26 +18,29 @@ index_mut-progress-requires c =
 pub lock-requires-clause-few : goal.lock-requires-clause-few
 lock-requires-clause-few c =
     let next = rw (← c.self.view_is) at c.requires.next in
-    let lt : c.args.txn < length c.self.inside.progress.items = progress_there _ _ _ _ _ _ _ _ c.self.invariant.0 c.args.txn (Lock c.args.node) next in
-    let e : vec_len c.self.inside.progress ≡ length c.self.inside.progress.items = c.self.inside.progress.ok.0 in
-    let at : slice_get c.self.inside.progress.items c.args.txn ≡ Some c.index_mut-progress.result.now = read_at c.self.inside.progress.items c.args.txn c.index_mut-progress.result.now lt c.index_mut-progress.ensures.value in
-    place_small _ _ _ _ _ _ _ _ c.self.invariant.0 c.args.txn (Lock c.args.node) next c.index_mut-progress.result.now at
+    let at : slice_get c.self.inside.progress.items c.args.txn ≡ Some c.index_mut-progress.result.now = progress_at _ _ _ _ _ _ _ _ c.self.invariant.0 c.args.txn (Lock c.args.node) next c.index_mut-progress.result.now c.index_mut-progress.ensures.value in
+    steps_small _ _ _ _ _ _ _ _ c.self.invariant.0 c.args.txn (Lock c.args.node) next c.index_mut-progress.result.now at
 
-pub lock-requires-clause-within : goal.lock-requires-clause-within
-lock-requires-clause-within c =
+pub lock-requires-clause-hold : goal.lock-requires-clause-hold
+lock-requires-clause-hold c =
     let next = rw (← c.self.view_is) at c.requires.next in
-    let lt : c.args.txn < length c.self.inside.progress.items = progress_there _ _ _ _ _ _ _ _ c.self.invariant.0 c.args.txn (Lock c.args.node) next in
-    let e : vec_len c.self.inside.progress ≡ length c.self.inside.progress.items = c.self.inside.progress.ok.0 in
-    let at : slice_get c.self.inside.progress.items c.args.txn ≡ Some c.index_mut-progress.result.now = read_at c.self.inside.progress.items c.args.txn c.index_mut-progress.result.now lt c.index_mut-progress.ensures.value in
-    rw c.number.ensures.is_it
-    (time_there _ _ _ _ _ _ _ _ c.self.invariant.0 c.args.txn c.index_mut-progress.result.now at c.args.node (locked_within _ _ _ _ _ _ _ _ c.self.invariant.0 c.args.txn c.args.node next))
+    let at : slice_get c.self.inside.progress.items c.args.txn ≡ Some c.index_mut-progress.result.now = progress_at _ _ _ _ _ _ _ _ c.self.invariant.0 c.args.txn (Lock c.args.node) next c.index_mut-progress.result.now c.index_mut-progress.ensures.value in
+    held_small _ _ _ _ _ _ _ _ c.self.invariant.0 c.args.txn c.index_mut-progress.result.now at
+
+pub lock-requires-clause-room : goal.lock-requires-clause-room
+lock-requires-clause-room c =
+    let next = rw (← c.self.view_is) at c.requires.next in
+    let at : slice_get c.self.inside.progress.items c.args.txn ≡ Some c.index_mut-progress.result.now = progress_at _ _ _ _ _ _ _ _ c.self.invariant.0 c.args.txn (Lock c.args.node) next c.index_mut-progress.result.now c.index_mut-progress.ensures.value in
+    let room : length c.index_mut-progress.result.now.locked.items < vec_capacity c.index_mut-progress.result.now.locked = lock_room _ _ _ _ _ _ _ _ c.self.invariant.0 c.args.txn (Lock c.args.node) next c.index_mut-progress.result.now at in
+    let e : vec_len c.index_mut-progress.result.now.locked ≡ length c.index_mut-progress.result.now.locked.items = c.index_mut-progress.result.now.locked.ok.0 in
+    omega arith
 
 pub index_mut-requires : goal.index_mut-requires
 index_mut-requires c =
     let next = rw (← c.self.view_is) at c.requires.next in
     let lt : c.args.node < length c.self.inside.owners.items = owner_there _ _ _ _ _ _ _ _ c.self.invariant.0 c.args.node (locked_within _ _ _ _ _ _ _ _ c.self.invariant.0 c.args.txn c.args.node next) in
     let e : vec_len c.self.inside.owners ≡ length c.self.inside.owners.items = c.self.inside.owners.ok.0 in
-    let f : c.number-2.result ≡ c.args.node = c.number-2.ensures.is_it in
+    let f : c.number.result ≡ c.args.node = c.number.ensures.is_it in
     omega arith
 
 pub push_reserved-requires : goal.push_reserved-requires
@@ -50,16 +54,13 @@ push_reserved-requires c =
 pub invariant_of-self : goal.invariant_of-self
 invariant_of-self c =
     let next = rw (← c.self.view_is) at c.requires.next in
-    let lt : c.args.txn < length c.self.inside.progress.items = progress_there _ _ _ _ _ _ _ _ c.self.invariant.0 c.args.txn (Lock c.args.node) next in
-    let e : vec_len c.self.inside.progress ≡ length c.self.inside.progress.items = c.self.inside.progress.ok.0 in
-    let at : slice_get c.self.inside.progress.items c.args.txn ≡ Some c.index_mut-progress.result.now = read_at c.self.inside.progress.items c.args.txn c.index_mut-progress.result.now lt c.index_mut-progress.ensures.value in
+    let at : slice_get c.self.inside.progress.items c.args.txn ≡ Some c.index_mut-progress.result.now = progress_at _ _ _ _ _ _ _ _ c.self.invariant.0 c.args.txn (Lock c.args.node) next c.index_mut-progress.result.now c.index_mut-progress.ensures.value in
     let free = rw (← c.self.view_is) at c.requires.free in
-    let times : c.lock.new.self.lock_times.items ≡ set c.index_mut-progress.result.now.lock_times.items c.args.node (Some (length (reverse c.self.inside.history.items))) =
-    c.lock.ensures.lock_times
-    ∙ ap (λ (n : ℕ). set c.index_mut-progress.result.now.lock_times.items n (Some c.len-time.result)) c.number.ensures.is_it
-    ∙ ap (λ (k : ℕ). set c.index_mut-progress.result.now.lock_times.items c.args.node (Some k)) (c.len-time.ensures ∙ c.self.inside.history.ok.0 ∙ sym (length-reverse c.self.inside.history.items)) in
-    rw c.number-2.ensures.is_it
+    let locked : c.lock.new.self.locked.items ≡ c.index_mut-progress.result.now.locked.items ++ record { node = c.args.node; time = length (reverse c.self.inside.history.items) } ∷ [] =
+    c.lock.ensures.locked
+    ∙ ap (λ (k : ℕ). c.index_mut-progress.result.now.locked.items ++ record { node = c.args.node; time = k } ∷ []) (c.len-time.ensures ∙ c.self.inside.history.ok.0 ∙ sym (length-reverse c.self.inside.history.items)) in
+    rw c.number.ensures.is_it
     (closed _ _ _ c.self.inside.history.items c.push_reserved.new.self.items (Take c.args.txn) (vec_capacity c.self.inside.history) (vec_capacity c.push_reserved.new.self) _ _ _ _
     c.push_reserved.ensures.items c.push_reserved.ensures.capacity c.self.invariant.1
     (core_locked _ _ _ _ _ _ _ _ c.self.invariant.0 c.args.txn c.args.node next free c.index_mut-progress.result.now c.lock.new.self at
-    c.lock.ensures.place c.lock.ensures.marked c.lock.ensures.replies times))
+    c.lock.ensures.steps_done c.lock.ensures.marked c.lock.ensures.replies locked c.lock.ensures.room c.lock.ensures.held_nodes))

@@ -1,7 +1,7 @@
 use Rattle.std.proofs.Common.{rules, ◌≡◌, ◌≤◌, length, sym, ◌∙◌, ap, arith}
 use Rattle.std.specs.Prelude.{vec_capacity}
 use Rattle.grove_core.specs.Runs.{most_events}
-use Rattle.grove_core.proofs.Started.{opened}
+use Rattle.grove_core.proofs.CoreOpens.{opened}
 use Rattle.grove_core.proofs.machine.Core.open.Goals as goal
 
 pub invariant_of-result : goal.invariant_of-result

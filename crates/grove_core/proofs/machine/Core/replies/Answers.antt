@@ -1,6 +1,7 @@
 use Rattle.std.proofs.Common.{◌≡◌, ◌<◌, length, Some, ◌∙◌, arith}
 use Rattle.std.specs.List.{slice_get}
-use Rattle.grove_core.proofs.Keeping.{read_at, answers_read}
+use Rattle.grove_base.proofs.Lists.{read_at}
+use Rattle.grove_core.proofs.CoreReads.{answers_read}
 use Rattle.grove_core.proofs.machine.Core.replies.Goals as goal
 
 pub returns : goal.returns

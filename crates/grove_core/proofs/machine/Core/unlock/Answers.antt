@@ -4,7 +4,9 @@ use Rattle.std.specs.Vec.{vec_len, vec_capacity}
 use Rattle.std.proofs.lemmas.List.{length-reverse}
 use Rattle.grove_plan.specs.declared.step.Step.TheVariants.{Unlock}
 use Rattle.grove_core.specs.declared.event.Event.TheVariants.{Take}
-use Rattle.grove_core.proofs.Keeping.{read_at, closed, progress_there, place_small, unlocked_within, event_room, owner_there, core_unlocked, may_unlock, item_there}
+use Rattle.grove_base.proofs.Lists.{item_there}
+use Rattle.grove_core.proofs.CoreReads.{closed, progress_there, steps_small, unlocked_within, event_room, owner_there, may_unlock, progress_at, unlocks_some}
+use Rattle.grove_core.proofs.CoreSteps.{core_unlocked}
 use Rattle.grove_core.proofs.machine.Core.unlock.Goals as goal
 
 pub index_mut-progress-requires : goal.index_mut-progress-requires
@@ -14,13 +16,17 @@ index_mut-progress-requires c =
     let e : vec_len c.self.inside.progress ≡ length c.self.inside.progress.items = c.self.inside.progress.ok.0 in
     omega arith
 
-pub unlock-requires : goal.unlock-requires
-unlock-requires c =
+pub unlock-requires-clause-few : goal.unlock-requires-clause-few
+unlock-requires-clause-few c =
     let next = rw (← c.self.view_is) at c.requires in
-    let lt : c.args.txn < length c.self.inside.progress.items = progress_there _ _ _ _ _ _ _ _ c.self.invariant.0 c.args.txn (Unlock c.args.node) next in
-    let e : vec_len c.self.inside.progress ≡ length c.self.inside.progress.items = c.self.inside.progress.ok.0 in
-    let at : slice_get c.self.inside.progress.items c.args.txn ≡ Some c.index_mut-progress.result.now = read_at c.self.inside.progress.items c.args.txn c.index_mut-progress.result.now lt c.index_mut-progress.ensures.value in
-    place_small _ _ _ _ _ _ _ _ c.self.invariant.0 c.args.txn (Unlock c.args.node) next c.index_mut-progress.result.now at
+    let at : slice_get c.self.inside.progress.items c.args.txn ≡ Some c.index_mut-progress.result.now = progress_at _ _ _ _ _ _ _ _ c.self.invariant.0 c.args.txn (Unlock c.args.node) next c.index_mut-progress.result.now c.index_mut-progress.ensures.value in
+    steps_small _ _ _ _ _ _ _ _ c.self.invariant.0 c.args.txn (Unlock c.args.node) next c.index_mut-progress.result.now at
+
+pub unlock-requires-clause-hold : goal.unlock-requires-clause-hold
+unlock-requires-clause-hold c =
+    let next = rw (← c.self.view_is) at c.requires in
+    let at : slice_get c.self.inside.progress.items c.args.txn ≡ Some c.index_mut-progress.result.now = progress_at _ _ _ _ _ _ _ _ c.self.invariant.0 c.args.txn (Unlock c.args.node) next c.index_mut-progress.result.now c.index_mut-progress.ensures.value in
+    unlocks_some _ _ _ _ _ _ _ _ c.self.invariant.0 c.args.txn c.args.node next c.index_mut-progress.result.now at
 
 pub index_mut-requires : goal.index_mut-requires
 index_mut-requires c =
@@ -40,13 +46,11 @@ push_reserved-requires c =
 pub invariant_of-self : goal.invariant_of-self
 invariant_of-self c =
     let next = rw (← c.self.view_is) at c.requires in
-    let lt : c.args.txn < length c.self.inside.progress.items = progress_there _ _ _ _ _ _ _ _ c.self.invariant.0 c.args.txn (Unlock c.args.node) next in
-    let e : vec_len c.self.inside.progress ≡ length c.self.inside.progress.items = c.self.inside.progress.ok.0 in
-    let at : slice_get c.self.inside.progress.items c.args.txn ≡ Some c.index_mut-progress.result.now = read_at c.self.inside.progress.items c.args.txn c.index_mut-progress.result.now lt c.index_mut-progress.ensures.value in
+    let at : slice_get c.self.inside.progress.items c.args.txn ≡ Some c.index_mut-progress.result.now = progress_at _ _ _ _ _ _ _ _ c.self.invariant.0 c.args.txn (Unlock c.args.node) next c.index_mut-progress.result.now c.index_mut-progress.ensures.value in
     let owner : (o : Option ℕ) × (slice_get c.self.inside.owners.items c.args.node ≡ Some o) = item_there c.self.inside.owners.items c.args.node
     (owner_there _ _ _ _ _ _ _ _ c.self.invariant.0 c.args.node (unlocked_within _ _ _ _ _ _ _ _ c.self.invariant.0 c.args.txn c.args.node next)) in
     rw c.number.ensures.is_it
     (closed _ _ _ c.self.inside.history.items c.push_reserved.new.self.items (Take c.args.txn) (vec_capacity c.self.inside.history) (vec_capacity c.push_reserved.new.self) _ _ _ _
     c.push_reserved.ensures.items c.push_reserved.ensures.capacity c.self.invariant.1
     (core_unlocked _ _ _ _ _ _ _ _ c.self.invariant.0 c.args.txn c.args.node next c.index_mut-progress.result.now c.unlock.new.self at
-    c.unlock.ensures.place c.unlock.ensures.marked c.unlock.ensures.replies c.unlock.ensures.lock_times owner.0 owner.1))
+    c.unlock.ensures.steps_done c.unlock.ensures.marked c.unlock.ensures.replies c.unlock.ensures.locked c.unlock.ensures.held_nodes owner.0 owner.1))

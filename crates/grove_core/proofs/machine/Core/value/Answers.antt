@@ -1,7 +1,7 @@
 use Rattle.std.proofs.Common.{rules, ◌≡◌, length, w64, FitsSigned, ℤ, List, ◌∙◌, ap, arith}
 use Rattle.std.proofs.lemmas.Int.{to_z-of_z}
 use Rattle.grove_access.specs.Effects.{record_at}
-use Rattle.grove_core.proofs.Ahead.{records_all}
+use Rattle.grove_core.proofs.CarriedEntries.{records_all}
 use Rattle.grove_core.proofs.machine.Core.value.Goals as goal
 
 pub get-requires : goal.get-requires

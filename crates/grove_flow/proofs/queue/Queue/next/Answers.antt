@@ -20,7 +20,7 @@ returns-then-eq-clause-within c = λ key i h. c.loop-key.invariant.within key i 
 pub loop-key-preserved : goal.loop-key-preserved
 loop-key-preserved c = record {
   queued = λ i key live. elim (c.in-Some.ensures.rest key i (c.loop-key.invariant.queued i key live)) [
-    | inl e ↦ absurd (dead c.args.network.now c.args.state.now c.args.tree.now c.in-Some.i c.in-Some.key c.key_at.result c.key_at.ensures c.if-eq.ensures i key e live)
+    | inl e ↦ absurd (dead c.in-Some.i c.in-Some.key c.key_at.result c.key_at.ensures c.if-eq.ensures e live)
     | inr rest ↦ rest
   ];
   within = λ key i h. c.loop-key.invariant.within key i (c.in-Some.ensures.back key i h);

@@ -9,7 +9,7 @@ returns c = record {
   searched = record {
     state_of = c.requires.state;
     fans = c.requires.ready.fans;
-    growing = growing_start c.args.network.now c.args.state.now c.args.self.now.tree c.begin.new.self c.args.source c.index.result.now c.requires.state c.requires.ready.tree
+    growing = growing_start c.requires.state c.requires.ready.tree
         c.requires.source c.requires.some c.index.ensures c.begin.ensures.ranks c.begin.ensures.vias c.begin.ensures.rooms c.begin.ensures.entries;
     queued = c.in_ok-offer.ensures.queued;
     within = c.in_ok-offer.ensures.within;

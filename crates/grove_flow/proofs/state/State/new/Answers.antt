@@ -1,11 +1,9 @@
 use Rattle.std.proofs.Common.{◌≡◌, length, replicate, drop, subst, ◌∙◌, rules, take_at}
-use Rattle.grove_flow.specs.States.{AreNamed}
 use Rattle.grove_flow.proofs.Starting.{start_state}
 use Rattle.grove_flow.proofs.state.State.new.Goals as goal
 
 pub returns : goal.returns
 returns c =
-    let named : AreNamed c.args.network.now.arcs.items = subst AreNamed c.deref.ensures.value c.read_ends.ensures in
     let excess_size : length c.share_out.new.excess ≡ c.in_ok-excess.excess.len = c.share_out.auto.excess ∙ c.deref_mut.ensures.len in
     let unmet_size : length c.share_out.new.unmet ≡ c.in_ok-unmet.unmet.len = c.share_out.auto.unmet ∙ c.deref_mut-2.ensures.len in
     let excess_len : c.in_ok-excess.excess.len ≡ length c.args.network.now.needs.items = search rules in
@@ -18,7 +16,6 @@ returns c =
         take_at c.share_out.new.unmet (drop (length c.share_out.new.unmet) c.in_ok-unmet.unmet.items) c.in_ok-unmet.unmet.len unmet_size,
         amounts_is,
         places_is,
-      )
-          (start_state c.args.network.now.needs.items c.args.network.now.arcs.items c.args.start.now c.share_out.new.excess c.share_out.new.unmet c.requires.network named c.requires.start
+      ) (start_state c.share_out.new.excess c.share_out.new.unmet c.requires.network (rw c.deref.ensures.value at c.read_ends.ensures) c.requires.start
           (excess_size ∙ excess_len) (unmet_size ∙ unmet_len) (rw c.deref-2.ensures.value at c.share_out.ensures.excess) (rw c.deref-2.ensures.value at c.share_out.ensures.unmet));
     }

@@ -1,4 +1,4 @@
-use Rattle.grove_flow.proofs.Keys.{AreSettled}
+use Rattle.grove_flow.proofs.Growing.{AreSettled}
 use Rattle.grove_flow.proofs.tree.Tree.settle.Given as goal
 
 abbrev pub invariant-loop-v : goal.invariant-loop-v

@@ -1,9 +1,9 @@
 use Rattle.std.proofs.Common.{◌≡◌, ◌<◌, ◌≤◌, ◌^◌, length, sym, ◌∙◌, ap, inl, inr, arith}
-use Rattle.grove_tree.proofs.Counting.{count_le}
+use Rattle.grove_base.proofs.Counting.{count_le}
 use Rattle.grove_plan.specs.Plans.{unlocks, is_access}
 use Rattle.grove_plan.specs.Slots.{accesses_before}
 use Rattle.std.specs.List.{slice_get}
-use Rattle.grove_plan.proofs.Slotted.{count_on, count_found}
+use Rattle.grove_plan.proofs.AccessCounts.{count_on, count_found}
 use Rattle.grove_plan.proofs.plan.Plan.release_slot.Goals as goal
 use Rattle.grove_plan.proofs.plan.Plan.release_slot.Goals.{then-is_access, else-is_access}
 

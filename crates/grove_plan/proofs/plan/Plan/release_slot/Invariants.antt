@@ -1,6 +1,6 @@
 use Rattle.std.proofs.Common.{◌≡◌, false}
 use Rattle.std.specs.List.{slice_get}
-use Rattle.grove_tree.specs.Numbers.{any_below}
+use Rattle.grove_base.specs.Numbers.{any_below}
 use Rattle.grove_plan.specs.Plans.{unlocks}
 use Rattle.grove_plan.specs.Slots.{accesses_before}
 use Rattle.grove_plan.proofs.plan.Plan.release_slot.Given as goal

@@ -1,6 +1,6 @@
 use Rattle.std.proofs.Common.{◌≡◌, ℕ, true, length, Some, sym, ◌∙◌, ap, arith}
 use Rattle.grove_plan.specs.Watching.{holds_node}
-use Rattle.grove_plan.proofs.Firsts.{found_first}
+use Rattle.grove_plan.proofs.LeastFound.{found_first}
 use Rattle.grove_plan.proofs.watch.Watch.first_held.Goals as goal
 
 pub returns-then-is_held : goal.returns-then-is_held

@@ -1,5 +1,5 @@
 use Rattle.std.proofs.Common.{◌≡◌, false, Some}
-use Rattle.grove_tree.specs.Numbers.{any_below}
+use Rattle.grove_base.specs.Numbers.{any_below}
 use Rattle.grove_plan.specs.Watching.{holds_node}
 use Rattle.grove_plan.proofs.watch.Watch.first_held.Given as goal
 

@@ -1,5 +1,5 @@
 use Rattle.std.proofs.Common.{◌<◌, sym, ◌∙◌, arith}
-use Rattle.grove_tree.proofs.Ups.{parent_lt}
+use Rattle.grove_tree.proofs.Above.{parent_lt}
 use Rattle.grove_plan.proofs.watch.Watch.holds_parent.Goals as goal
 
 pub hold-requires : goal.hold-requires

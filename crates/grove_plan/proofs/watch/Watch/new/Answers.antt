@@ -1,6 +1,6 @@
 use Rattle.std.proofs.Common.{replicate, refl, sym, ◌∙◌, ap}
 use Rattle.grove_plan.specs.declared.watch.Hold.TheVariants.{Free}
-use Rattle.grove_plan.proofs.Watched.{watch_starts}
+use Rattle.grove_plan.proofs.WatchState.{watch_starts}
 use Rattle.grove_plan.proofs.watch.Watch.new.Goals as goal
 
 pub returns : goal.returns

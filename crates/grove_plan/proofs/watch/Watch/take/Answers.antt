@@ -5,47 +5,47 @@ use Rattle.grove_access.specs.Lists.{nodes_of, lengths_of}
 use Rattle.grove_access.proofs.Lists.{nodes_length}
 use Rattle.grove_access.proofs.Slots.{length_read, few_slots}
 use Rattle.grove_tree.specs.Trees.{weight_of}
-use Rattle.grove_tree.proofs.Counting.{count_le}
+use Rattle.grove_base.proofs.Counting.{count_le}
 use Rattle.grove_plan.specs.declared.step.Step.TheVariants.{Unlock, Access}
 use Rattle.grove_plan.specs.Plans.{is_access}
 use Rattle.grove_plan.specs.Slots.{accesses_before}
-use Rattle.grove_plan.proofs.Rules.{unlock_kept, access_kept}
-use Rattle.grove_plan.proofs.Watched.{kept_read, watch_locked, watch_unlocked, watch_accessed, watched_weight, watched_part, part_small}
+use Rattle.grove_plan.proofs.StepFaults.{unlock_kept, access_kept}
+use Rattle.grove_plan.proofs.WatchState.{kept_read, watch_locked, watch_unlocked, watch_accessed, watched_weight, watched_part, part_small}
 use Rattle.grove_plan.proofs.watch.Watch.take.Goals as goal
 
 pub overflow_add-self : goal.overflow_add-self
 overflow_add-self c =
-    let held : c.args.self.now.weight ≤ 4096000 = watched_weight c.args.tree.now c.args.plan.now c.args.place c.args.self.now c.requires.limits c.requires.watched in
+    let held : c.args.self.now.weight ≤ 4096000 = watched_weight c.args.tree.now c.args.plan.now c.args.position c.args.self.now c.requires.limits c.requires.watched in
     let light : weight_of c.args.tree.now c.in-Lock.node ≤ 1000 = c.requires.limits.light c.in-Lock.node in
     omega arith
 
 pub index_mut-requires-in-Unlock : goal.index_mut-requires-in-Unlock
 index_mut-requires-in-Unlock c =
-    let lt : c.in-Unlock.node < length c.args.tree.now = (unlock_kept c.args.tree.now c.args.plan.now c.args.place c.in-Unlock.node
-    (kept_read c.args.tree.now (nodes_of c.args.list.now) c.args.plan.now c.args.place (Unlock c.in-Unlock.node) _ c.requires.within c.in-Unlock.is c.requires.faultless)).0 in
+    let lt : c.in-Unlock.node < length c.args.tree.now = (unlock_kept c.args.tree.now c.args.plan.now c.args.position c.in-Unlock.node
+    (kept_read c.args.tree.now (nodes_of c.args.list.now) c.args.plan.now c.args.position (Unlock c.in-Unlock.node) _ c.requires.within c.in-Unlock.is c.requires.faultless)).0 in
     omega (arith, c.requires.watched.nodes)
 
 pub weight-requires-in-Unlock : goal.weight-requires-in-Unlock
 weight-requires-in-Unlock c =
-    (unlock_kept c.args.tree.now c.args.plan.now c.args.place c.in-Unlock.node
-    (kept_read c.args.tree.now (nodes_of c.args.list.now) c.args.plan.now c.args.place (Unlock c.in-Unlock.node) _ c.requires.within c.in-Unlock.is c.requires.faultless)).0
+    (unlock_kept c.args.tree.now c.args.plan.now c.args.position c.in-Unlock.node
+    (kept_read c.args.tree.now (nodes_of c.args.list.now) c.args.plan.now c.args.position (Unlock c.in-Unlock.node) _ c.requires.within c.in-Unlock.is c.requires.faultless)).0
 
 pub overflow_sub-self : goal.overflow_sub-self
 overflow_sub-self c =
     let part : weight_of c.args.tree.now c.in-Unlock.node ≤ c.args.self.now.weight =
-    watched_part c.args.tree.now (nodes_of c.args.list.now) c.args.plan.now c.args.place c.in-Unlock.node _ c.args.self.now c.requires.within c.in-Unlock.is c.requires.watched c.requires.faultless in
+    watched_part c.args.tree.now (nodes_of c.args.list.now) c.args.plan.now c.args.position c.in-Unlock.node _ c.args.self.now c.requires.within c.in-Unlock.is c.requires.watched c.requires.faultless in
     omega arith
 
 pub overflow_add-self-in-Access : goal.overflow_add-self-in-Access
 overflow_add-self-in-Access c =
-    let count : c.args.self.now.accesses ≡ accesses_before c.args.plan.now c.args.place = c.requires.watched.accesses in
-    let at_most : accesses_before c.args.plan.now c.args.place ≤ c.args.place = count_le c.args.place (λ i. is_access (slice_get c.args.plan.now i)) in
+    let count : c.args.self.now.accesses ≡ accesses_before c.args.plan.now c.args.position = c.requires.watched.accesses in
+    let at_most : accesses_before c.args.plan.now c.args.position ≤ c.args.position = count_le c.args.position (λ i. is_access (slice_get c.args.plan.now i)) in
     omega arith
 
 pub overflow_add-self-in-Access-2 : goal.overflow_add-self-in-Access-2
 overflow_add-self-in-Access-2 c =
-    let held : c.args.self.now.weight ≤ 4096000 = watched_weight c.args.tree.now c.args.plan.now c.args.place c.args.self.now c.requires.limits c.requires.watched in
-    let small : c.args.self.now.cost ≤ 4096000000 * c.args.place = c.requires.watched.small in
+    let held : c.args.self.now.weight ≤ 4096000 = watched_weight c.args.tree.now c.args.plan.now c.args.position c.args.self.now c.requires.limits c.requires.watched in
+    let small : c.args.self.now.cost ≤ 4096000000 * c.args.position = c.requires.watched.small in
     let read : slice_index (lengths_of c.args.list.now) c.in-Access.access ≡ c.get.result.length = length_read c.args.list.now c.in-Access.access c.get.result c.get.ensures in
     let few : slice_index (lengths_of c.args.list.now) c.in-Access.access ≤ 1000 = few_slots (lengths_of c.args.list.now) c.in-Access.access c.requires.lengths in
     let same : c.from-in-Access.result ≡ c.get.result.length = c.from-in-Access.ensures in
@@ -54,7 +54,7 @@ overflow_add-self-in-Access-2 c =
 
 pub overflow_mul-self : goal.overflow_mul-self
 overflow_mul-self c =
-    let held : c.args.self.now.weight ≤ 4096000 = watched_weight c.args.tree.now c.args.plan.now c.args.place c.args.self.now c.requires.limits c.requires.watched in
+    let held : c.args.self.now.weight ≤ 4096000 = watched_weight c.args.tree.now c.args.plan.now c.args.position c.args.self.now c.requires.limits c.requires.watched in
     let read : slice_index (lengths_of c.args.list.now) c.in-Access.access ≡ c.get.result.length = length_read c.args.list.now c.in-Access.access c.get.result c.get.ensures in
     let few : slice_index (lengths_of c.args.list.now) c.in-Access.access ≤ 1000 = few_slots (lengths_of c.args.list.now) c.in-Access.access c.requires.lengths in
     let same : c.from-in-Access.result ≡ c.get.result.length = c.from-in-Access.ensures in
@@ -63,22 +63,22 @@ overflow_mul-self c =
 
 pub get-requires : goal.get-requires
 get-requires c =
-    let lt : c.in-Access.access < length (nodes_of c.args.list.now) = (access_kept (nodes_of c.args.list.now) c.args.plan.now c.args.place c.in-Access.access
-    (kept_read c.args.tree.now (nodes_of c.args.list.now) c.args.plan.now c.args.place (Access c.in-Access.access) _ c.requires.within c.in-Access.is c.requires.faultless)).0 in
+    let lt : c.in-Access.access < length (nodes_of c.args.list.now) = (access_kept (nodes_of c.args.list.now) c.args.plan.now c.args.position c.in-Access.access
+    (kept_read c.args.tree.now (nodes_of c.args.list.now) c.args.plan.now c.args.position (Access c.in-Access.access) _ c.requires.within c.in-Access.is c.requires.faultless)).0 in
     omega (arith, nodes_length c.args.list.now)
 
 pub returns-in-Lock : goal.returns-in-Lock
 returns-in-Lock c =
-    watch_locked c.args.tree.now (nodes_of c.args.list.now) c.args.plan.now c.args.place c.in-Lock.node c.number.result _ c.args.self.now _ c.requires.within c.in-Lock.is c.number.ensures.is_it
+    watch_locked c.args.tree.now (nodes_of c.args.list.now) c.args.plan.now c.args.position c.in-Lock.node c.number.result _ c.args.self.now _ c.requires.within c.in-Lock.is c.number.ensures.is_it
     c.requires.watched c.requires.faultless refl refl refl (ap (λ w. c.args.self.now.weight + w) (c.from.ensures ∙ c.weight.ensures)) refl
 
 pub returns-in-Unlock : goal.returns-in-Unlock
 returns-in-Unlock c =
-    watch_unlocked c.args.tree.now (nodes_of c.args.list.now) c.args.plan.now c.args.place c.in-Unlock.node c.number-in-Unlock.result _ c.args.self.now _ c.requires.within c.in-Unlock.is
+    watch_unlocked c.args.tree.now (nodes_of c.args.list.now) c.args.plan.now c.args.position c.in-Unlock.node c.number-in-Unlock.result _ c.args.self.now _ c.requires.within c.in-Unlock.is
     c.number-in-Unlock.ensures.is_it c.requires.watched c.requires.faultless refl refl refl
     (ap (λ w. c.args.self.now.weight - w) (c.from-in-Unlock.ensures ∙ c.weight-in-Unlock.ensures)) refl
 
 pub returns-in-Access : goal.returns-in-Access
 returns-in-Access c =
-    watch_accessed c.args.tree.now c.args.plan.now c.args.place c.in-Access.access _ c.args.self.now _ c.requires.limits c.requires.within c.in-Access.is c.requires.watched refl refl refl refl c.requires.lengths
+    watch_accessed c.args.tree.now c.args.plan.now c.args.position c.in-Access.access _ c.args.self.now _ c.requires.limits c.requires.within c.in-Access.is c.requires.watched refl refl refl refl c.requires.lengths
     (ap (λ n. c.args.self.now.cost + c.args.self.now.weight * n) (c.from-in-Access.ensures ∙ sym (length_read c.args.list.now c.in-Access.access c.get.result c.get.ensures)))

@@ -5,8 +5,8 @@ use Rattle.std.proofs.lemmas.Option.{slice_get_within}
 use Rattle.grove_access.specs.Lists.{nodes_of}
 use Rattle.grove_proof.specs.declared.flow.FlowRow.{FlowRow}
 use Rattle.grove_proof.specs.Tables.{test_of}
-use Rattle.grove_proof.proofs.ByNode.{item_there}
-use Rattle.grove_proof.proofs.Totals.{bad_here}
+use Rattle.grove_base.proofs.Lists.{item_there}
+use Rattle.grove_proof.proofs.LedgerRows.{bad_here}
 use Rattle.grove_proof.proofs.ledger.Ledger.first_bad.Goals as goal
 
 pub returns-then-not-passes : goal.returns-then-not-passes

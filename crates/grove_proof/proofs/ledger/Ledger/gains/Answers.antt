@@ -4,13 +4,13 @@ use Rattle.std.specs.List.{slice_get}
 use Rattle.grove_access.specs.Lists.{nodes_of, lengths_of}
 use Rattle.grove_access.proofs.Lists.{nodes_length}
 use Rattle.grove_proof.specs.Tables.{AreVisits}
-use Rattle.grove_proof.proofs.ByNode.{item_at}
-use Rattle.grove_proof.proofs.Totals.{IsInTables, node_in, visits_read, end_few, gain_step, rows_in_tree}
+use Rattle.grove_base.proofs.Lists.{read_at}
+use Rattle.grove_proof.proofs.LedgerRows.{IsInTables, node_in, visits_read, end_few, gain_step, rows_in_tree}
 use Rattle.grove_proof.proofs.ledger.Ledger.gains.Goals as goal
 
 pub index-requires : goal.index-requires
 index-requires c =
-    let there : slice_get c.args.self.now.rows.now c.loop-row.row-index ≡ Some c.row-item.result = item_at c.args.self.now.rows.now c.loop-row.row-index c.row-item.result (omega arith) c.row-item.is in
+    let there : slice_get c.args.self.now.rows.now c.loop-row.row-index ≡ Some c.row-item.result = read_at c.args.self.now.rows.now c.loop-row.row-index c.row-item.result (omega arith) c.row-item.is in
     let is : IsInTables c.args.self.now.tree.now c.args.self.now.visits.items c.args.self.now.above.items c.args.self.now.held.items c.row-item.result.node =
     node_in c.args.self.now.tree.now (nodes_of c.args.self.now.list.now) c.args.self.now.rows.now c.args.self.now.visits.items c.args.self.now.above.items c.args.self.now.held.items c.loop-row.row-index c.row-item.result c.requires there in
     let inside : c.row-item.result.node < length c.args.self.now.visits.items = is.in_visits in
@@ -18,7 +18,7 @@ index-requires c =
 
 pub slots_before-requires : goal.slots_before-requires
 slots_before-requires c =
-    let there : slice_get c.args.self.now.rows.now c.loop-row.row-index ≡ Some c.row-item.result = item_at c.args.self.now.rows.now c.loop-row.row-index c.row-item.result (omega arith) c.row-item.is in
+    let there : slice_get c.args.self.now.rows.now c.loop-row.row-index ≡ Some c.row-item.result = read_at c.args.self.now.rows.now c.loop-row.row-index c.row-item.result (omega arith) c.row-item.is in
     let are : AreVisits (nodes_of c.args.self.now.list.now) (length (nodes_of c.args.self.now.list.now)) c.row-item.result.node c.index.result.now =
     visits_read (nodes_of c.args.self.now.list.now) c.args.self.now.tree.now c.args.self.now.visits.items c.row-item.result.node c.number.result c.index.result.now c.requires.visits_right
     (rows_in_tree c.args.self.now.tree.now (nodes_of c.args.self.now.list.now) c.args.self.now.rows.now c.requires.listed c.loop-row.row-index c.row-item.result there)
@@ -28,7 +28,7 @@ slots_before-requires c =
 
 pub loop-row-preserved : goal.loop-row-preserved
 loop-row-preserved c =
-    let there : slice_get c.args.self.now.rows.now c.loop-row.row-index ≡ Some c.row-item.result = item_at c.args.self.now.rows.now c.loop-row.row-index c.row-item.result (omega arith) c.row-item.is in
+    let there : slice_get c.args.self.now.rows.now c.loop-row.row-index ≡ Some c.row-item.result = read_at c.args.self.now.rows.now c.loop-row.row-index c.row-item.result (omega arith) c.row-item.is in
     let are : AreVisits (nodes_of c.args.self.now.list.now) (length (nodes_of c.args.self.now.list.now)) c.row-item.result.node c.index.result.now =
     visits_read (nodes_of c.args.self.now.list.now) c.args.self.now.tree.now c.args.self.now.visits.items c.row-item.result.node c.number.result c.index.result.now c.requires.visits_right
     (rows_in_tree c.args.self.now.tree.now (nodes_of c.args.self.now.list.now) c.args.self.now.rows.now c.requires.listed c.loop-row.row-index c.row-item.result there)

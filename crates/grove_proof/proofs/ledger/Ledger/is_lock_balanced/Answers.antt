@@ -1,54 +1,32 @@
 -- What the ledger says of the row at the place.
 use Rattle.std.proofs.Common.{◌^◌, ◌<◌, ◌≤◌, length, get_or, arith}
-use Rattle.std.proofs.lemmas.Option.{slice_get-get_or, get_or_from_slice_get}
+use Rattle.std.proofs.lemmas.Option.{get_or_from_slice_get}
 use Rattle.grove_access.specs.Lists.{nodes_of}
-use Rattle.grove_proof.specs.declared.flow.FlowRow.{FlowRow}
-use Rattle.grove_proof.proofs.ByNode.{item_at}
-use Rattle.grove_proof.proofs.Totals.{IsInTables, node_in, lock_made, rows_in_tree}
+use Rattle.grove_proof.proofs.LedgerRows.{lock_made, rows_in_tree, row_in, sum_read}
 use Rattle.grove_proof.proofs.ledger.Ledger.is_lock_balanced.Goals as goal
 
 pub index-children-requires : goal.index-children-requires
-index-children-requires c =
-    let made : FlowRow = get_or c.args.self.now.rows.now c.args.place c.index-self-place.result in
-    let is : IsInTables c.args.self.now.tree.now c.args.self.now.visits.items c.args.self.now.above.items c.args.self.now.held.items made.node =
-    node_in c.args.self.now.tree.now (nodes_of c.args.self.now.list.now) c.args.self.now.rows.now c.args.self.now.visits.items c.args.self.now.above.items c.args.self.now.held.items c.args.place made c.requires.right (slice_get-get_or c.args.self.now.rows.now c.args.place c.index-self-place.result c.requires.place) in
-    let inside : made.node < length c.args.self.now.above.items = is.in_above in
-    omega arith
+index-children-requires c = let inside : (get_or c.args.self.now.rows.now c.args.place c.index-self-place.result).node < length c.args.self.now.above.items = (row_in _ _ _ _ _ _ c.args.place c.index-self-place.result c.requires.right c.requires.place).in_above in omega arith
 
 pub weight-requires : goal.weight-requires
-weight-requires c =
-    let made : FlowRow = get_or c.args.self.now.rows.now c.args.place c.index-self-place.result in
-    rows_in_tree c.args.self.now.tree.now (nodes_of c.args.self.now.list.now) c.args.self.now.rows.now c.requires.right.listed c.args.place made
-    (slice_get-get_or c.args.self.now.rows.now c.args.place c.index-self-place.result c.requires.place)
+weight-requires c = (row_in _ _ _ _ _ _ c.args.place c.index-self-place.result c.requires.right c.requires.place).in_tree
 
 pub overflow_add-result-2 : goal.overflow_add-result-2
 overflow_add-result-2 c =
-    let made : FlowRow = get_or c.args.self.now.rows.now c.args.place c.index-self-place.result in
-    let is : IsInTables c.args.self.now.tree.now c.args.self.now.visits.items c.args.self.now.above.items c.args.self.now.held.items made.node =
-    node_in c.args.self.now.tree.now (nodes_of c.args.self.now.list.now) c.args.self.now.rows.now c.args.self.now.visits.items c.args.self.now.above.items c.args.self.now.held.items c.args.place made c.requires.right (slice_get-get_or c.args.self.now.rows.now c.args.place c.index-self-place.result c.requires.place) in
-    let inside : made.node < length c.args.self.now.above.items = is.in_above in
-    let le : c.index-children.result.now ≤ 2 ^ 96 =
-    c.requires.right.above_bounded c.number.result c.index-children.result.now (item_at c.args.self.now.above.items c.number.result c.index-children.result.now (omega arith) c.index-children.ensures) in
+    let small : c.index-children.result.now ≤ 2 ^ 96 = sum_read c.args.self.now.above.items _ c.number.result c.index-children.result.now c.requires.right.above_bounded
+    (row_in _ _ _ _ _ _ c.args.place c.index-self-place.result c.requires.right c.requires.place).in_above c.number.ensures.is_it c.index-children.ensures in
     omega arith
 
 pub overflow_add-result-3 : goal.overflow_add-result-3
 overflow_add-result-3 c =
-    let made : FlowRow = get_or c.args.self.now.rows.now c.args.place c.index-self-place.result in
-    let is : IsInTables c.args.self.now.tree.now c.args.self.now.visits.items c.args.self.now.above.items c.args.self.now.held.items made.node =
-    node_in c.args.self.now.tree.now (nodes_of c.args.self.now.list.now) c.args.self.now.rows.now c.args.self.now.visits.items c.args.self.now.above.items c.args.self.now.held.items c.args.place made c.requires.right (slice_get-get_or c.args.self.now.rows.now c.args.place c.index-self-place.result c.requires.place) in
-    let inside : made.node < length c.args.self.now.above.items = is.in_above in
-    let le : c.index-children.result.now ≤ 2 ^ 96 =
-    c.requires.right.above_bounded c.number.result c.index-children.result.now (item_at c.args.self.now.above.items c.number.result c.index-children.result.now (omega arith) c.index-children.ensures) in
+    let small : c.index-children.result.now ≤ 2 ^ 96 = sum_read c.args.self.now.above.items _ c.number.result c.index-children.result.now c.requires.right.above_bounded
+    (row_in _ _ _ _ _ _ c.args.place c.index-self-place.result c.requires.right c.requires.place).in_above c.number.ensures.is_it c.index-children.ensures in
     omega arith
 
 pub overflow_add-result-4 : goal.overflow_add-result-4
 overflow_add-result-4 c =
-    let made : FlowRow = get_or c.args.self.now.rows.now c.args.place c.index-self-place.result in
-    let is : IsInTables c.args.self.now.tree.now c.args.self.now.visits.items c.args.self.now.above.items c.args.self.now.held.items made.node =
-    node_in c.args.self.now.tree.now (nodes_of c.args.self.now.list.now) c.args.self.now.rows.now c.args.self.now.visits.items c.args.self.now.above.items c.args.self.now.held.items c.args.place made c.requires.right (slice_get-get_or c.args.self.now.rows.now c.args.place c.index-self-place.result c.requires.place) in
-    let inside : made.node < length c.args.self.now.above.items = is.in_above in
-    let le : c.index-children.result.now ≤ 2 ^ 96 =
-    c.requires.right.above_bounded c.number.result c.index-children.result.now (item_at c.args.self.now.above.items c.number.result c.index-children.result.now (omega arith) c.index-children.ensures) in
+    let small : c.index-children.result.now ≤ 2 ^ 96 = sum_read c.args.self.now.above.items _ c.number.result c.index-children.result.now c.requires.right.above_bounded
+    (row_in _ _ _ _ _ _ c.args.place c.index-self-place.result c.requires.right c.requires.place).in_above c.number.ensures.is_it c.index-children.ensures in
     omega arith
 
 pub returns : goal.returns

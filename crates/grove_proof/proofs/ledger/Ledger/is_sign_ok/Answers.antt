@@ -3,7 +3,7 @@ use Rattle.std.proofs.Common.{◌≡◌, ◌<◌, length, get_or, ◌∙◌, ap,
 use Rattle.std.proofs.lemmas.Option.{slice_get-get_or, get_or_from_slice_get}
 use Rattle.grove_access.specs.Lists.{nodes_of}
 use Rattle.grove_proof.specs.declared.flow.FlowRow.{FlowRow}
-use Rattle.grove_proof.proofs.Totals.{IsInTables, node_in, visits_read, sign_made, rows_in_tree}
+use Rattle.grove_proof.proofs.LedgerRows.{IsInTables, node_in, visits_read, sign_made, rows_in_tree}
 use Rattle.grove_proof.proofs.ledger.Ledger.is_sign_ok.Goals as goal
 
 pub index-visits-requires : goal.index-visits-requires

@@ -1,6 +1,6 @@
 -- The sum of the rows so far.
 use Rattle.grove_access.specs.Lists.{nodes_of, lengths_of}
-use Rattle.grove_proof.proofs.Totals.{IsTotal, loss_of}
+use Rattle.grove_proof.proofs.LedgerRows.{IsTotal, loss_of}
 use Rattle.grove_proof.proofs.ledger.Ledger.losses.Given as goal
 
 abbrev pub invariant-loop-row : goal.invariant-loop-row

@@ -3,7 +3,7 @@ use Rattle.std.proofs.Common.{◌≡◌, ℕ, ◌≤◌, length, sym, subst, ari
 use Rattle.grove_access.specs.Lists.{nodes_of}
 use Rattle.grove_access.proofs.Lists.{nodes_length}
 use Rattle.grove_proof.specs.Tables.{VisitsByNode}
-use Rattle.grove_proof.proofs.Totals.{rows_in_tree}
+use Rattle.grove_proof.proofs.LedgerRows.{rows_in_tree}
 use Rattle.grove_proof.proofs.ledger.Ledger.new.Goals as goal
 
 pub sums_by_node-requires-clause-within : goal.sums_by_node-requires-clause-within

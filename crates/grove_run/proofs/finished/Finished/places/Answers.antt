@@ -1,7 +1,7 @@
-use Rattle.std.proofs.Common.{ℕ, List, length, get_or, sym, subst}
+use Rattle.std.proofs.Common.{ℕ, List, length, get_or, sym, ◌∙◌, ap, subst}
 use Rattle.std.proofs.lemmas.Option.{slice_get-get_or}
 use Rattle.grove_core.specs.Laws.{IsEachOnce}
-use Rattle.grove_run.specs.Runs.{ArePlaces}
+use Rattle.grove_run.specs.Runs.{places_of}
 use Rattle.grove_run.proofs.Places.{placed_more, placed_all}
 use Rattle.grove_run.proofs.finished.Finished.places.Goals as goal
 
@@ -13,5 +13,7 @@ loop-place-preserved c =
 
 pub returns : goal.returns
 returns c =
-    subst (λ (os : List ℕ). ArePlaces os (length c.args.self.now.core.jobs) c.loop-place.places.items) c.order-order.ensures.order
-    (placed_all c.order-order.result.now (length c.args.self.now.core.jobs) c.loop-place.place c.loop-place.places.items c.loop-place-test.false c.loop-place.invariant)
+    let jobs : ℕ = length c.args.self.now.core.jobs in
+    let each : IsEachOnce c.order-order.result.now jobs = subst (λ (os : List ℕ). IsEachOnce os jobs) (sym c.order-order.ensures.order) c.order-order.ensures.once in
+    placed_all c.order-order.result.now jobs c.loop-place.place c.loop-place.places.items each c.loop-place-test.false c.loop-place.invariant
+    ∙ ap (λ (os : List ℕ). places_of os jobs) c.order-order.ensures.order

@@ -3,9 +3,10 @@ use Rattle.std.specs.List.{slice_get}
 use Rattle.std.proofs.lemmas.Option.{slice_get_read, slice_get_within, same_Some}
 use Rattle.std.proofs.lemmas.Bool.{cases_lt}
 use Rattle.grove_tree.specs.Trees.{parent_of, name_of}
-use Rattle.grove_tree.specs.Paths.{GoesOn}
-use Rattle.grove_tree.specs.Outlines.{Under, IsChild}
-use Rattle.grove_tree.proofs.Places.{is_child, none_goes_on}
+use Rattle.grove_tree.specs.PathRests.{GoesOn}
+use Rattle.grove_tree.specs.Outlines.{Under}
+use Rattle.grove_tree.specs.OutlinesInTrees.{IsChild}
+use Rattle.grove_tree.proofs.ChildOfNode.{is_child, none_goes_on}
 use Rattle.grove_tree.proofs.outline.Outline.child_on.Goals as goal
 
 pub returns-in-Some : goal.returns-in-Some

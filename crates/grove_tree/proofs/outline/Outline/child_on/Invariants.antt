@@ -1,7 +1,7 @@
 use Rattle.std.proofs.Common.{◌≡◌, ℕ, ◌<◌, List, Some}
 use Rattle.std.specs.List.{slice_get}
 use Rattle.grove_tree.specs.Trees.{name_of}
-use Rattle.grove_tree.specs.Paths.{GoesOn}
+use Rattle.grove_tree.specs.PathRests.{GoesOn}
 use Rattle.grove_tree.specs.Outlines.{Under}
 use Rattle.grove_tree.proofs.outline.Outline.child_on.Given as goal
 

@@ -1,9 +1,10 @@
 use Rattle.std.proofs.Common.{◌≡◌, suc, ◌+◌, ◌-◌, ◌/◌, length, ap, ◌∙◌, refl, subst, arith, Some}
 use Rattle.std.specs.List.{slice_get}
 use Rattle.std.proofs.lemmas.Option.{slice_get_read}
-use Rattle.grove_tree.specs.Outlines.{Under, rows_under, IsChild}
+use Rattle.grove_tree.specs.Outlines.{Under, rows_under}
+use Rattle.grove_tree.specs.OutlinesInTrees.{IsChild}
 use Rattle.grove_tree.specs.OutlineFalls.{length-rows_under}
-use Rattle.grove_tree.proofs.Places.{before_all, before_next, numbered_at, is_child, some_child}
+use Rattle.grove_tree.proofs.ChildOfNode.{before_all, before_next, numbered_at, is_child, some_child}
 use Rattle.grove_tree.proofs.outline.Outline.towards.Goals as goal
 
 pub loop-high-init : goal.loop-high-init

@@ -1,5 +1,5 @@
 use Rattle.std.proofs.Common.{◌+◌, ◌-◌, ◌<◌, ◌≤◌, length}
-use Rattle.grove_tree.proofs.Places.{rows_before}
+use Rattle.grove_tree.proofs.ChildOfNode.{rows_before}
 use Rattle.grove_tree.proofs.outline.Outline.towards.Given as goal
 
 abbrev pub invariant-loop-high : goal.invariant-loop-high

@@ -3,8 +3,8 @@ use Rattle.grove_tree.specs.declared.fault.TreeFault.{TreeFault}
 use Rattle.grove_tree.specs.declared.fault.TreeFault.TheVariants.{Memory}
 use Rattle.grove_tree.specs.Trees.{Rows, IsTree}
 use Rattle.grove_tree.specs.Rules.{rows_of, IsWithinLimits}
-use Rattle.grove_tree.proofs.Faultless.{faultless_tree, faultless_within, faulty_refused, fault_not_memory}
-use Rattle.grove_tree.proofs.Grown.{grown_whole}
+use Rattle.grove_tree.proofs.FaultlessRows.{faultless_tree, faultless_within, faulty_refused, fault_not_memory}
+use Rattle.grove_tree.proofs.OutlineGrowth.{grown_whole}
 use Rattle.grove_tree.proofs.tree.Tree.build.Goals as goal
 
 pub grow-requires-clause-tree : goal.grow-requires-clause-tree

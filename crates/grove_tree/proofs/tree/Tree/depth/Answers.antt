@@ -1,8 +1,8 @@
 use Rattle.std.proofs.Common.{◌≡◌, ℕ, suc, None, sym, ◌∙◌, ap, subst, arith}
 use Rattle.grove_tree.specs.Trees.{Rows, IsTree, parent_of, depth_of}
-use Rattle.grove_tree.proofs.Ups.{parent_lt}
+use Rattle.grove_tree.proofs.Above.{parent_lt}
 use Rattle.grove_tree.proofs.Depths.{depth_step, depth_root}
-use Rattle.grove_tree.proofs.Placed.{reached_root, reached_child}
+use Rattle.grove_tree.proofs.OutlineRows.{reached_root, reached_child}
 use Rattle.grove_tree.proofs.tree.Tree.depth.Goals as goal
 
 pub loop-child-init : goal.loop-child-init

@@ -2,9 +2,9 @@ use Rattle.std.proofs.Common.{◌≡◌, ℕ, List, [], Some, ◌∙◌, ap, sub
 use Rattle.grove_tree.specs.Trees.{Rows, IsTree}
 use Rattle.grove_tree.specs.Rules.{IsWithinLimits}
 use Rattle.grove_tree.specs.Outlines.{Under}
-use Rattle.grove_tree.proofs.Ups.{root_above}
+use Rattle.grove_tree.proofs.Above.{root_above}
 use Rattle.grove_tree.proofs.PathParts.{is_nil, not_nil}
-use Rattle.grove_tree.proofs.Found.{IsFinding, finding_root, finding_child, finding_stuck, finding_end}
+use Rattle.grove_tree.proofs.PathDescent.{IsFinding, finding_root, finding_child, finding_stuck, finding_end}
 use Rattle.grove_tree.proofs.tree.Tree.find_names.Goals as goal
 
 pub loop-rest-init : goal.loop-rest-init

@@ -1,5 +1,5 @@
 use Rattle.std.proofs.Common.{length}
-use Rattle.grove_tree.proofs.Found.{IsFinding}
+use Rattle.grove_tree.proofs.PathDescent.{IsFinding}
 use Rattle.grove_tree.proofs.tree.Tree.find_names.Given as goal
 
 abbrev pub invariant-loop-rest : goal.invariant-loop-rest

@@ -1,9 +1,8 @@
 use Rattle.std.proofs.Common.{◌≡◌, ℕ, None, IsTrue, sym, ◌∙◌, ap, subst, eqb-true, eq-eqb, true≢false, inl, inr}
 use Rattle.grove_tree.specs.Trees.{Rows, IsTree, IsAbove, parent_of}
 use Rattle.grove_tree.specs.Outlines.{Under}
-use Rattle.grove_tree.proofs.Ups.{above_child, above_self}
-use Rattle.grove_tree.proofs.Ways.{above_parent, above_top}
-use Rattle.grove_tree.proofs.Placed.{reached_root, reached_child}
+use Rattle.grove_tree.proofs.Above.{above_child, above_self, above_parent, above_top}
+use Rattle.grove_tree.proofs.OutlineRows.{reached_root, reached_child}
 use Rattle.std.proofs.lemmas.Bool.{cases_eq}
 use Rattle.grove_tree.proofs.tree.Tree.is_above.Goals as goal
 

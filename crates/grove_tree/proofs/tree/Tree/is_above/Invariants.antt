@@ -1,6 +1,6 @@
 use Rattle.std.proofs.Common.{◌↔◌, IsTrue}
 use Rattle.grove_tree.specs.Trees.{IsAbove}
-use Rattle.grove_tree.proofs.Placed.{IsReached}
+use Rattle.grove_tree.proofs.OutlineRows.{IsReached}
 use Rattle.grove_tree.proofs.tree.Tree.is_above.Given as goal
 
 abbrev pub invariant-loop-child : goal.invariant-loop-child

@@ -1,7 +1,7 @@
 use Rattle.std.proofs.Common.{sym, subst}
 use Rattle.grove_tree.specs.Trees.{Rows, IsTree}
 use Rattle.grove_tree.specs.Rules.{IsWithinLimits}
-use Rattle.grove_tree.proofs.Reweighed.{root_weighed, root_counted, tree_alike, alike_weighed, limits_weighed}
+use Rattle.grove_tree.proofs.SameTree.{root_weighed, root_counted, tree_alike, alike_weighed, limits_weighed}
 use Rattle.grove_tree.proofs.tree.Tree.map_weights.Goals as goal
 
 pub invariant_of-self : goal.invariant_of-self

@@ -1,4 +1,4 @@
-use Rattle.grove_tree.proofs.Placed.{IsReached}
+use Rattle.grove_tree.proofs.OutlineRows.{IsReached}
 use Rattle.grove_tree.proofs.tree.Tree.name.Given as goal
 
 abbrev pub invariant-loop-child : goal.invariant-loop-child

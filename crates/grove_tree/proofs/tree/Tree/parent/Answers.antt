@@ -1,7 +1,7 @@
 use Rattle.std.proofs.Common.{◌≡◌, ℕ, Some, None, sym, ◌∙◌, ap, subst}
 use Rattle.grove_tree.specs.Trees.{Rows, IsTree, parent_of}
 use Rattle.grove_tree.specs.Outlines.{Under}
-use Rattle.grove_tree.proofs.Placed.{reached_root, reached_child}
+use Rattle.grove_tree.proofs.OutlineRows.{reached_root, reached_child}
 use Rattle.grove_tree.proofs.tree.Tree.parent.Goals as goal
 
 pub loop-child-init : goal.loop-child-init

@@ -3,8 +3,8 @@ use Rattle.grove_tree.specs.Trees.{Rows, IsTree, parent_of, name_of}
 use Rattle.grove_tree.specs.Rules.{IsWithinLimits}
 use Rattle.grove_tree.specs.Outlines.{Under, rows_under}
 use Rattle.grove_tree.proofs.Names.{names_of, names_step, names_root}
-use Rattle.grove_tree.proofs.Placed.{reached_root, reached_child, placed_own}
-use Rattle.grove_tree.proofs.Unique.{path_found}
+use Rattle.grove_tree.proofs.OutlineRows.{reached_root, reached_child, placed_own}
+use Rattle.grove_tree.proofs.UniquePaths.{path_found}
 use Rattle.grove_tree.proofs.tree.Tree.path_of.Goals as goal
 
 pub loop-child-init : goal.loop-child-init

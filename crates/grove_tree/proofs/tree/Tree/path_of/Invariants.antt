@@ -1,5 +1,5 @@
 use Rattle.std.proofs.Common.{◌≡◌, string_bytes}
-use Rattle.grove_tree.proofs.Placed.{IsReached}
+use Rattle.grove_tree.proofs.OutlineRows.{IsReached}
 use Rattle.grove_tree.proofs.Names.{names_of}
 use Rattle.grove_tree.proofs.tree.Tree.path_of.Given as goal
 

@@ -1,6 +1,6 @@
 use Rattle.std.proofs.Common.{ℕ, ◌<◌, length, refl, sym, true≢false, arith}
-use Rattle.grove_tree.specs.Weights.{AgreeAt}
-use Rattle.grove_tree.proofs.Unweighed.{unweighed_same, same_unweighed}
+use Rattle.grove_tree.specs.WeighedOutlines.{AgreeAt}
+use Rattle.grove_tree.proofs.SameNames.{unweighed_same, same_unweighed}
 use Rattle.grove_tree.proofs.tree.Tree.same_names.Goals as goal
 
 pub returns-then-not-agrees_at : goal.returns-then-not-agrees_at

@@ -1,0 +1,58 @@
+#!/usr/bin/env python3
+"""Times batches by 1, 2 and 4 workers: planning, weighing, and running beside a program that only takes the locks.
+
+    usage: bench/batches.py [RUNS]        (default: 3)
+
+`grove_bench batches` plans 256 lists of 64 accesses over 4,096 nodes, all different and all equal, changes the weights of
+4,096 nodes 100 times, and runs 256 jobs: of 64 accesses over 2,049 nodes each, and of one access at nodes of their own.
+`bench/locks.rs`, compiled here by `rustc`, takes the same locks for the same jobs by the same plans, with a Mutex a node. The
+two are run in turn, RUNS times; the median and the least time are printed, in milliseconds, and for the jobs how many are
+done in a second.
+"""
+import statistics
+import subprocess
+import sys
+import tempfile
+from pathlib import Path
+
+TOP = Path(__file__).resolve().parent.parent
+PROGRAM = TOP / "crates/grove_bench/out/grove_bench"
+JOBS = 256
+
+
+def microseconds(commands, runs):
+    """For each program its lines' names and workers with the times, the programs run in turn."""
+    found = {name: {} for name in commands}
+    for _ in range(runs):
+        for name, command in commands.items():
+            done = subprocess.run(command, check=True, capture_output=True, text=True)
+            for line in done.stdout.splitlines():
+                what, workers, spent, *_ = line.split()
+                found[name].setdefault((what, int(workers)), []).append(int(spent))
+    return found
+
+
+def show(name, times):
+    for what in dict.fromkeys(what for what, _ in times):
+        spent = [times[what, workers] for workers in (1, 2, 4)]
+        line = f"{name} {what}: " + ", ".join(f"{statistics.median(each) / 1000:.2f}" for each in spent) + " ms"
+        line += ", at best " + ", ".join(f"{min(each) / 1000:.2f}" for each in spent)
+        if what.startswith("run"):
+            line += "; " + ", ".join(f"{JOBS * 1_000_000 / statistics.median(each):,.0f}" for each in spent) + " jobs a second"
+        print(line)
+
+
+def main():
+    runs = int(sys.argv[1]) if len(sys.argv) > 1 else 3
+    if not PROGRAM.exists():
+        sys.exit(f"no program {PROGRAM}: cd crates/grove_bench && rt run")
+    print("by 1, 2 and 4 workers")
+    with tempfile.TemporaryDirectory() as folder:
+        locks = Path(folder) / "locks"
+        subprocess.run(["rustc", "-O", "-o", locks, TOP / "bench/locks.rs"], check=True)
+        found = microseconds({"grove": [PROGRAM, "batches"], "locks alone": [locks]}, runs)
+    for name, times in found.items():
+        show(name, times)
+
+
+main()

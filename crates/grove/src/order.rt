@@ -1,0 +1,22 @@
+/// What the words of a command line ask for.
+#[derive(Clone, Copy, Debug, PartialEq, Eq)]
+pub struct Order<'a> {
+    /// What is to be done.
+    pub command: Command,
+    /// The name of the document's file; without it, the document is standard input.
+    pub document: Option<&'a str>,
+    /// How many workers there are to run a batch.
+    pub workers: u32,
+    /// The port to listen on, where sessions are to be served.
+    pub port: Option<u16>,
+}
+
+/// What is to be done with a document.
+#[derive(Clone, Copy, Debug, PartialEq, Eq)]
+pub enum Command {
+    Judge,
+    Check,
+    Plan,
+    Run,
+    Serve,
+}

@@ -1,0 +1,73 @@
+ghost use Rattle.std.specs.Prelude.{◌≡◌, length, map, IfOk, string_bytes};
+ghost use Rattle.serde_json.specs.Written.{compact_text};
+ghost use Rattle.grove_wire.specs.Replies.{counts_data, lists_data};
+ghost use Rattle.grove_wire.specs.Writing.{replies_data, numbers_data, plan_data, flow_data, PlanFits, FlowFits};
+
+use grove_access::{Records, Reply};
+use grove_base::NoMemory;
+use grove_plan::Plan;
+use grove_proof::Flow;
+use grove_tree::{Node, Tree};
+use grove_wire::{counts_value, flow_value, lists_value, numbers_value, plan_value, replies_value};
+use std::alloc::{AllocError, Global};
+
+/// The replies of a list, as JSON.
+#[tactic(auto, using(grove_wire::proofs::Floatless::replies_have_no_float))]
+pub fn replies_text(alloc: Global, replies: &[Reply]) -> Result<String, NoMemory>
+    ensures { IfOk result (λ text. string_bytes text ≡ compact_text (replies_data replies.now)) }
+{
+    Ok(replies_value(alloc, replies)?.to_string(alloc)?)
+}
+
+/// Numbers, as JSON.
+#[tactic(auto, using(grove_wire::proofs::Floatless::numbers_have_no_float))]
+pub fn numbers_text(alloc: Global, numbers: &[i64]) -> Result<String, NoMemory>
+    ensures { IfOk result (λ text. string_bytes text ≡ compact_text (numbers_data numbers.now)) }
+{
+    Ok(numbers_value(alloc, numbers)?.to_string(alloc)?)
+}
+
+/// The records by node number.
+pub fn numbers_of(alloc: Global, tree: &Tree, records: &Records) -> Result<Vec<i64>, AllocError>
+    requires { length records.now ≡ length tree.now }
+    ensures { IfOk result (λ numbers. numbers.items ≡ records.now) }
+{
+    let mut numbers = Vec::new(alloc);
+    for number in 0..tree.len() {
+        numbers.push(records.get(Node::new(number)))?;
+    }
+    Ok(numbers)
+}
+
+/// A plan's steps, as JSON.
+pub fn plan_text(alloc: Global, tree: &Tree, plan: &Plan) -> Result<String, NoMemory>
+    requires { PlanFits tree.now plan.now }
+    ensures { IfOk result (λ text. string_bytes text ≡ compact_text (plan_data tree.now plan.now)) }
+{
+    Ok(plan_value(alloc, tree, plan)?.to_string(alloc)?)
+}
+
+/// A flow's rows, as JSON.
+#[tactic(auto, using(grove_wire::proofs::Floatless::flow_has_no_float))]
+pub fn flow_text(alloc: Global, tree: &Tree, flow: &Flow) -> Result<String, NoMemory>
+    requires { FlowFits tree.now flow.now }
+    ensures { IfOk result (λ text. string_bytes text ≡ compact_text (flow_data tree.now flow.now)) }
+{
+    Ok(flow_value(alloc, tree, flow)?.to_string(alloc)?)
+}
+
+/// Counts, as JSON.
+#[tactic(auto, using(grove_wire::proofs::Floatless::counts_have_no_float))]
+pub fn counts_text(alloc: Global, counts: &[u32]) -> Result<String, NoMemory>
+    ensures { IfOk result (λ text. string_bytes text ≡ compact_text (counts_data counts.now)) }
+{
+    Ok(counts_value(alloc, counts)?.to_string(alloc)?)
+}
+
+/// The replies of each list, as JSON.
+#[tactic(auto, using(grove_wire::proofs::Floatless::lists_have_no_float))]
+pub fn lists_text(alloc: Global, lists: &[&[Reply]]) -> Result<String, NoMemory>
+    ensures { IfOk result (λ text. string_bytes text ≡ compact_text (lists_data (map (λ list. list.now) lists.now))) }
+{
+    Ok(lists_value(alloc, lists)?.to_string(alloc)?)
+}

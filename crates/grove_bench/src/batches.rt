@@ -1,0 +1,210 @@
+ghost use Rattle.std.specs.Prelude.{◌≤◌, ◌<◌};
+
+use crate::running;
+use anyhow::{Result, bail};
+use grove_access::{Access, AccessList, Op, Records};
+use grove_build::plan_batch;
+use grove_core::{Job, all_fit};
+use grove_meter::reweigh;
+use grove_plan::{Plan, Step};
+use grove_run::run_batch;
+use grove_tree::{Node, OpenGate, Row, Tree};
+use std::alloc::Global;
+use std::rt::Runtime;
+use std::sync::Wait;
+use std::thread::Threads;
+use std::time::Instant;
+
+/// How many lists and jobs a batch has.
+const BATCH: u32 = 256;
+
+const ACCESSES: u32 = 64;
+/// Below the root are so many shops, with so many shelves each: 4,096 nodes.
+const SHOPS: u32 = 63;
+
+const SHELVES: u32 = 64;
+/// How often all weights are changed in one go.
+const TIMES: u32 = 100;
+
+/// Times batches by 1, 2 and 4 workers. Each line has what was done, by how many workers, and the microseconds.
+pub fn time<R: Runtime + Threads + Wait + Sync>(rt: &R, alloc: Global) -> Result<()> {
+    time_plans(rt, alloc)?;
+    time_weights(rt, alloc)?;
+    time_short_runs(rt, alloc)?;
+    time_long_runs(rt, alloc)
+}
+
+fn time_plans<R: Runtime + Threads + Sync>(rt: &R, alloc: Global) -> Result<()> {
+    let tree = shops(alloc)?;
+    let distinct = lists(alloc, &tree, 251)?;
+    time_lists(rt, alloc, "plan-distinct", &tree, &distinct)?;
+    let equal = lists(alloc, &tree, 0)?;
+    time_lists(rt, alloc, "plan-equal", &tree, &equal)
+}
+
+fn time_lists<R: Runtime + Threads + Sync>(
+    rt: &R,
+    alloc: Global,
+    what: &str,
+    tree: &Tree,
+    lists: &[AccessList],
+) -> Result<()> {
+    time_plan(rt, alloc, what, tree, lists, 1)?;
+    time_plan(rt, alloc, what, tree, lists, 2)?;
+    time_plan(rt, alloc, what, tree, lists, 4)
+}
+
+fn time_plan<R: Runtime + Threads + Sync>(
+    rt: &R,
+    alloc: Global,
+    what: &str,
+    tree: &Tree,
+    lists: &[AccessList],
+    workers: u32,
+) -> Result<()>
+    requires { (1 ≤ workers) × (workers ≤ 16) }
+{
+    if lists.len() > BATCH as usize || !lists.iter().all(|list| list.fits(tree)) {
+        bail!("the lists don't fit");
+    }
+    let since = Instant::now(rt)?;
+    let plans = plan_batch(rt, alloc, tree, lists, workers, &OpenGate)?;
+    let spent = since.elapsed(rt)?;
+    println!(rt;
+        "{what} {workers} {} of {} lists",
+        spent.as_micros(),
+        plans.len()
+    )?;
+    Ok(())
+}
+
+fn time_weights<R: Runtime + Threads + Sync>(rt: &R, alloc: Global) -> Result<()> {
+    time_weighing(rt, alloc, 1)?;
+    time_weighing(rt, alloc, 2)?;
+    time_weighing(rt, alloc, 4)
+}
+
+fn time_weighing<R: Runtime + Threads + Sync>(rt: &R, alloc: Global, workers: u32) -> Result<()>
+    requires { (1 ≤ workers) × (workers ≤ 16) }
+{
+    let mut tree = shops(alloc)?;
+    let waits = vec![in alloc; 7u32; 4096]?;
+    let since = Instant::now(rt)?;
+    for _time in 0..TIMES {
+        if tree.len() != 4096 {
+            bail!("the tree has other nodes");
+        }
+        reweigh(rt, &mut tree, &waits, workers, &OpenGate);
+    }
+    let spent = since.elapsed(rt)?;
+    println!(rt; "reweigh {workers} {} of {TIMES} times", spent.as_micros())?;
+    Ok(())
+}
+
+fn time_short_runs<R: Runtime + Threads + Wait + Sync>(rt: &R, alloc: Global) -> Result<()> {
+    let tree = shops(alloc)?;
+    let records = running::zeros(alloc, tree.len())?;
+    let jobs = short_jobs(alloc, &tree)?;
+    for workers in [1, 2, 4] {
+        time_run(rt, alloc, "run-short", &tree, &records, &jobs, workers)?;
+    }
+    Ok(())
+}
+
+fn time_long_runs<R: Runtime + Threads + Wait + Sync>(rt: &R, alloc: Global) -> Result<()> {
+    let tree = running::tree(alloc)?;
+    let records = running::zeros(alloc, tree.len())?;
+    let jobs = running::jobs(alloc, &tree)?;
+    for workers in [1, 2, 4] {
+        time_run(rt, alloc, "run-long", &tree, &records, &jobs, workers)?;
+    }
+    Ok(())
+}
+
+fn time_run<R: Runtime + Threads + Wait + Sync>(
+    rt: &R,
+    alloc: Global,
+    what: &str,
+    tree: &Tree,
+    records: &Records,
+    jobs: &[Job],
+    workers: usize,
+) -> Result<()> {
+    if !records.fits(tree) || !all_fit(tree, jobs) || jobs.len() > BATCH as usize {
+        bail!("the jobs don't fit");
+    }
+    let since = Instant::now(rt)?;
+    let finished = run_batch(rt, alloc, tree, records, jobs, workers, &OpenGate)?;
+    let spent = since.elapsed(rt)?;
+    let steps = finished.core().history().len();
+    println!(rt; "{what} {workers} {} of {steps} events", spent.as_micros())?;
+    Ok(())
+}
+
+/// A root, shops below it and shelves in these, numbered shop by shop.
+fn shops(alloc: Global) -> Result<Tree> {
+    let mut rows = Vec::new(alloc);
+    rows.push(row(alloc, None, 0)?)?;
+    for shop in 0..SHOPS {
+        let above = 1 + shop * (SHELVES + 1);
+        rows.push(row(alloc, Some(0), above)?)?;
+        for shelf in 0..SHELVES {
+            rows.push(row(alloc, Some(above), above + 1 + shelf)?)?;
+        }
+    }
+    Ok(Tree::build(alloc, &rows)?)
+}
+
+fn row(alloc: Global, parent: Option<u32>, number: u32) -> Result<Row> {
+    let name = match parent {
+        Some(_) => format!(in alloc; "n{number}")?,
+        None => String::new(alloc),
+    };
+    Ok(Row {
+        parent,
+        name,
+        weight: 1 + number % 1000,
+    })
+}
+
+/// Lists that add 1 to 64 nodes all over the tree, each list's nodes so many numbers after those of the one before.
+fn lists(alloc: Global, tree: &Tree, apart: u32) -> Result<Vec<AccessList>>
+    requires { apart < 4096 }
+{
+    let mut lists = Vec::new(alloc);
+    for number in 0..BATCH {
+        let mut accesses = Vec::new(alloc);
+        for access in 0..ACCESSES {
+            accesses.push(add_one(1 + (number * apart + access * 67) % 4095))?;
+        }
+        lists.push(AccessList::new(alloc, tree, &accesses)?)?;
+    }
+    Ok(lists)
+}
+
+fn add_one(node: u32) -> Access {
+    Access {
+        node: Node::new(node),
+        op: Op::Add(1),
+        length: 1,
+    }
+}
+
+/// Jobs of one access each, no two at the same shelf.
+fn short_jobs(alloc: Global, tree: &Tree) -> Result<Vec<Job>> {
+    let mut jobs = Vec::new(alloc);
+    for number in 0..BATCH {
+        let shelf = 2 + number % SHOPS * (SHELVES + 1) + number / SHOPS;
+        let node = Node::new(shelf);
+        let list = AccessList::new(alloc, tree, &[add_one(shelf)])?;
+        let mut steps = Vec::new(alloc);
+        steps.push(Step::Lock(node))?;
+        steps.push(Step::Access(0))?;
+        steps.push(Step::Unlock(node))?;
+        jobs.push(Job {
+            list,
+            plan: Plan::new(steps),
+        })?;
+    }
+    Ok(jobs)
+}

@@ -1,0 +1,207 @@
+use crate::costs::{Costs, RowSlopes};
+use crate::network::{RowArcs, RowsNetwork};
+use grove_flow::Solution;
+use grove_proof::FlowRow;
+use grove_span::SpanRow;
+use grove_tree::NoMemory;
+use std::alloc::Global;
+
+/// Where a row is locked and released, and what these still have to send to its children.
+#[derive(Clone, Copy)]
+struct Stand {
+    lock: usize,
+    release: usize,
+    above: i64,
+    held: i64,
+}
+
+/// What a walk over the rows proposes to be the solution of their network, with the amounts in the order of its arcs
+/// and the latest places. Of the slots, each number says how many there are before a gap, the last how many in all.
+/// The walk goes up and down once, and searches for nothing.
+///
+/// Nothing is promised of it but that it is safe: whoever uses a proposal asks `is_solution`.
+pub fn propose(
+    alloc: Global,
+    named: &RowsNetwork,
+    rows: &[SpanRow],
+    slots: &[u32],
+) -> Result<Solution, NoMemory> {
+    let end = slots.len().saturating_sub(1);
+    let network = &named.network;
+    let costs = Costs::new(alloc, rows, &network.needs, end)?;
+    let mut stands: Vec<Stand> = Vec::with_capacity(alloc, rows.len())?;
+    let mut solution = Solution {
+        amounts: vec![in alloc; 0u64; network.arcs.len()]?,
+        places: Vec::with_capacity(alloc, network.needs.len())?,
+    };
+    for (k, row) in rows.iter().enumerate() {
+        let (stand, flow) = stand_of(costs.of(k), row, end, &mut stands);
+        if let Some(name) = named.names.get(k) {
+            send(&mut solution.amounts, name, &flow);
+        }
+        solution.places.push(slot_at(slots, stand.lock))?;
+        solution.places.push(slot_at(slots, stand.release))?;
+        stands.push(stand)?;
+    }
+    solution.places.push(0)?;
+    Ok(solution)
+}
+
+/// What a parent leaves to a row: between which positions its lock stands, and what it gets and gives along their arcs.
+struct Share {
+    from: usize,
+    to: usize,
+    above: i64,
+    held: i64,
+}
+
+/// Where the row stands, and its row of the flow.
+fn stand_of(
+    slopes: RowSlopes<'_>,
+    row: &SpanRow,
+    end: usize,
+    stands: &mut [Stand],
+) -> (Stand, FlowRow) {
+    let Share {
+        from,
+        to,
+        above,
+        held,
+    } = share_of(slopes, row, end, stands);
+    let lock = slopes.lock(from, to);
+    let release = release_of(slopes, lock, end);
+    let mut stand = Stand {
+        lock,
+        release,
+        above: above.saturating_sub(held),
+        held: 0,
+    };
+    let own = stand.send_own(slopes);
+    let flow = FlowRow {
+        node: row.node,
+        above: above.unsigned_abs(),
+        held: held.unsigned_abs(),
+        first: stand.send_first(row),
+        last: stand.send_last(row),
+        own: own.unsigned_abs(),
+    };
+    (stand, flow)
+}
+
+/// What the row's parent leaves to it. The topmost row has all positions.
+fn share_of(slopes: RowSlopes<'_>, row: &SpanRow, end: usize, stands: &mut [Stand]) -> Share {
+    if let Some(parent) = row.parent
+        && let Some(parent) = stands.get_mut(parent as usize)
+    {
+        Share {
+            from: parent.lock,
+            to: parent.release,
+            above: parent.share_above(slopes),
+            held: parent.share_held(slopes),
+        }
+    } else {
+        Share {
+            from: 0,
+            to: end,
+            above: 0,
+            held: 0,
+        }
+    }
+}
+
+impl Stand {
+    /// What the row's lock sends to its own release. What is left to each for the children and the accesses is worked
+    /// out from their slopes.
+    fn send_own(&mut self, slopes: RowSlopes<'_>) -> i64 {
+        let here = slopes.at(self.lock);
+        let mut own = 0;
+        if self.lock == self.release {
+            let after = slopes.at(self.lock.saturating_add(1));
+            own = here
+                .release
+                .max(self.above.saturating_sub(after.lock))
+                .max(0);
+        }
+        let behind = slopes.at(self.release.saturating_add(1));
+        self.above = self.above.saturating_sub(own).saturating_sub(here.lock);
+        self.held = behind.release.saturating_sub(own);
+        own
+    }
+
+    /// What the row's lock sends to the base: all that is left, where the first access comes next.
+    fn send_first(&mut self, row: &SpanRow) -> u64 {
+        match row.first {
+            Some(first) if first as usize == self.lock => {
+                let left = self.above;
+                take_up_to(&mut self.above, left).unsigned_abs()
+            }
+            _ => 0,
+        }
+    }
+
+    /// What the base sends to the row's release: all that it lacks, where the last access is just over.
+    fn send_last(&mut self, row: &SpanRow) -> u64 {
+        match row.last {
+            Some(last) if last as usize + 1 == self.release => {
+                let left = self.held;
+                take_up_to(&mut self.held, left).unsigned_abs()
+            }
+            _ => 0,
+        }
+    }
+
+    /// What the row's lock sends to that of its child.
+    fn share_above(&mut self, child: RowSlopes<'_>) -> i64 {
+        let least = child.least_at(self.lock).max(0);
+        let most = child.least_at(self.lock.saturating_add(1)).max(0);
+        least.saturating_add(take_up_to(&mut self.above, most.saturating_sub(least)))
+    }
+
+    /// What the child's lock sends to the row's release.
+    fn share_held(&mut self, child: RowSlopes<'_>) -> i64 {
+        let least = child.least_at(self.release.saturating_add(1)).min(0);
+        let most = child.least_at(self.release).min(0);
+        take_up_to(&mut self.held, least.saturating_sub(most)).saturating_sub(least)
+    }
+}
+
+/// Takes as much as is left, and no more than `most`.
+fn take_up_to(left: &mut i64, most: i64) -> i64 {
+    let more = most.min(*left);
+    *left = left.saturating_sub(more);
+    more
+}
+
+/// The last position up to which the cost of the row's release doesn't rise.
+fn release_of(slopes: RowSlopes<'_>, lock: usize, end: usize) -> usize {
+    for position in lock..end {
+        if slopes.at(position + 1).release > 0 {
+            return position;
+        }
+    }
+    lock.max(end)
+}
+
+/// Sends the amounts along the row's arcs.
+fn send(amounts: &mut [u64], name: &RowArcs, flow: &FlowRow) {
+    send_along(amounts, name.above, flow.above);
+    send_along(amounts, name.held, flow.held);
+    send_along(amounts, name.first, flow.first);
+    send_along(amounts, name.last, flow.last);
+    send_along(amounts, Some(name.own), flow.own);
+}
+
+fn send_along(amounts: &mut [u64], arc: Option<usize>, sent: u64) {
+    if let Some(arc) = arc
+        && let Some(amount) = amounts.get_mut(arc)
+    {
+        *amount = sent;
+    }
+}
+
+fn slot_at(slots: &[u32], position: usize) -> i64 {
+    match slots.get(position) {
+        Some(slot) => i64::from(*slot),
+        None => 0,
+    }
+}

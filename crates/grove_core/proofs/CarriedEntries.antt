@@ -1,0 +1,381 @@
+-- A job's accesses that are done ahead of the core, and the core that has taken them.
+use Rattle.std.proofs.Common.{◌≡◌, ℕ, zero, suc, ◌+◌, ◌<◌, ◌≤◌, ℤ, Bool, true, false, eqb, List, [], ◌∷◌, ◌++◌, length, reverse, ◌^◌, take, replicate, get_or, Option, Some, None, is_some, refl, sym, ◌∙◌, ap, subst, inl, inr, arith, add-one, append_assoc}
+use Rattle.std.specs.List.{slice_get}
+use Rattle.std.proofs.lemmas.List.{append-nil}
+use Rattle.std.proofs.Math.Seq.{take-length}
+use Rattle.std.proofs.lemmas.Option.{none-some, same_Some, slice_get_within, get_or_from_slice_get}
+use Rattle.std.proofs.lemmas.Bool.{cases_eq, both_ways, eq-eqb, ne_eqb, cond-true, cond-false}
+use Rattle.grove_access.specs.declared.access.Access.{Access as Visit}
+use Rattle.grove_access.specs.declared.reply.Reply.{Reply}
+use Rattle.grove_access.specs.declared.known.Known.{Known}
+use Rattle.grove_access.specs.declared.entry.Entry.{Entry}
+use Rattle.grove_access.specs.Effects.{stored, answer, record_at, changed_by, reply_to}
+use Rattle.grove_access.specs.Carries.{Carried, known_at, value_after, present_from, present_at, carry_settled, AreApart, IsSound}
+use Rattle.grove_base.proofs.Lists.{take_next, get_set_same, get_set_other, read_at, item_there}
+use Rattle.grove_access.proofs.CarriedNodes.{known_first, known_later, settled_at, value_after-append, out_value}
+use Rattle.grove_plan.specs.declared.step.Step.{Step}
+use Rattle.grove_plan.specs.declared.step.Step.TheVariants.{Lock, Access}
+use Rattle.grove_plan.specs.Plans.{locks, unlocks}
+use Rattle.grove_plan.proofs.Held.{held_not}
+use Rattle.grove_core.specs.declared.job.Job.{Job}
+use Rattle.grove_core.specs.declared.event.Event.{Event}
+use Rattle.grove_core.specs.declared.event.Event.TheVariants.{Take}
+use Rattle.grove_core.specs.Runs.{list_of, plan_of, steps_done, next_step, holds, deeds, run_records, run_replies}
+use Rattle.grove_tree.specs.Trees.{Rows}
+use Rattle.grove_core.specs.declared.progress.Progress.{Progress}
+use Rattle.grove_core.specs.Kept.{State, past_of, IsCore}
+use Rattle.grove_core.specs.CarriedTests.{is_owner, KnowsAll, HasAll, Follows}
+use Rattle.grove_core.specs.Carried.{records_of, IsOf, after_steps, replies_in}
+use Rattle.grove_core.proofs.Precedence.{within_jobs}
+use Rattle.grove_core.proofs.NeverStalls.{steps_within}
+use Rattle.grove_core.proofs.StepTimes.{steps_new}
+use Rattle.grove_core.proofs.RunSteps.{deeds_length, plan_of_at, list_of_at, accessed_records, accessed_replies}
+use Rattle.grove_core.proofs.CoreReads.{reverse_last}
+use Rattle.grove_core.proofs.CoreSteps.{holds_same}
+
+-- The tests together say that the carry is of the core
+
+-- a node that is out stands somewhere
+pub known_item : (known : List Known) (node : ℕ) (value : ℤ) → known_at known node ≡ Some value → (i : ℕ) × (k : Known) × (slice_get known i ≡ Some k) × (k.node ≡ node) × (k.value ≡ value)
+known_item [] node value at = absurd (none-some value at)
+known_item (k ∷ known) node value at = elim (cases_eq k.node node) [
+  | inl same ↦ (0, k, refl, same, same_Some k.value value (sym (known_first (k ∷ known) k known node refl same) ∙ at))
+  | inr other ↦ let rest = known_item known node value (sym (known_later (k ∷ known) k known node refl other) ∙ at) in (suc rest.0, rest.1, rest.2, rest.3, rest.4)
+]
+
+-- and what stands somewhere is read there
+item_known : (known : List Known) (i : ℕ) (k : Known) → AreApart known → slice_get known i ≡ Some k → known_at known k.node ≡ Some k.value
+item_known [] i k apart at = absurd (none-some k at)
+item_known (x ∷ known) zero k apart at =
+    let same : x ≡ k = same_Some x k at in
+    known_first (x ∷ known) x known k.node refl (ap (λ (y : Known). y.node) same) ∙ ap (λ (y : Known). Some y.value) same
+item_known (x ∷ known) (suc i) k apart at =
+    let there : known_at known k.node ≡ Some k.value = item_known known i k apart.1 at in
+    known_later (x ∷ known) x known k.node refl (λ e. none-some k.value (sym (subst (λ (n : ℕ). known_at known n ≡ None) e apart.0) ∙ there)) ∙ there
+
+-- a value that is there
+pub some_true : (o : Option ℤ) → is_some o ≡ true → (v : ℤ) × (o ≡ Some v)
+some_true None h = absurd (cc)
+some_true (Some v) h = (v, refl)
+
+is_some_of : (o : Option ℤ) (v : ℤ) → o ≡ Some v → is_some o ≡ true
+is_some_of o v e = rw e refl
+
+not_true : (b : Bool) → (b ≡ true → ⊥) → b ≡ false
+not_true true h = absurd (h refl)
+not_true false h = refl
+
+out_at : (core : State) (carry : Carried) → KnowsAll core carry.txn carry.known → HasAll core carry → (node : ℕ) (o : Option ℤ) → known_at carry.known node ≡ o
+    → is_some o ≡ holds core.jobs (past_of core) carry.txn node
+out_at core carry knows has node None at = sym (not_true (holds core.jobs (past_of core) carry.txn node) (λ held.
+    both_ways (is_some (known_at carry.known node)) (ap (λ (o : Option ℤ). is_some o) at) (has node held)))
+out_at core carry knows has node (Some value) at =
+    let item = known_item carry.known node value at in
+    sym (subst (λ (n : ℕ). holds core.jobs (past_of core) carry.txn n ≡ true) item.3 (knows item.0 item.1 item.2).0)
+
+is_of_all : (core : State) (carry : Carried) → carry.txn < length core.jobs → KnowsAll core carry.txn carry.known → HasAll core carry
+    → Follows (list_of core.jobs carry.txn) (plan_of core.jobs carry.txn) (steps_done (past_of core) carry.txn) carry.entries → IsOf core carry
+is_of_all core carry job knows has follows = record {
+  job = job;
+  out = λ node. out_at core carry knows has node (known_at carry.known node) refl;
+  known = λ node value at.
+      let item = known_item carry.known node value at in
+      subst (λ (n : ℕ). slice_get (records_of core) n ≡ Some value) item.3 ((knows item.0 item.1 item.2).1 ∙ ap (λ (v : ℤ). Some v) item.4);
+  next = λ i e at. (follows i e at).0;
+  own = λ i e at. (follows i e at).1;
+}
+
+knows_of : (core : State) (carry : Carried) → AreApart carry.known → IsOf core carry → KnowsAll core carry.txn carry.known
+knows_of core carry apart of = λ i k at.
+    let there : known_at carry.known k.node ≡ Some k.value = item_known carry.known i k apart at in
+    (sym (of.out k.node) ∙ is_some_of (known_at carry.known k.node) k.value there, of.known k.node k.value there)
+
+-- a carry that is of the core has each node out that its job holds
+pub has_of : (core : State) (carry : Carried) → IsOf core carry → HasAll core carry
+has_of core carry of = λ node held. of.out node ∙ held
+
+follows_of : (core : State) (carry : Carried) → IsOf core carry → Follows (list_of core.jobs carry.txn) (plan_of core.jobs carry.txn) (steps_done (past_of core) carry.txn) carry.entries
+follows_of core carry of = λ i e at. (of.next i e at, of.own i e at)
+
+-- So many steps more of a job
+
+abbrev taken : ℕ → ℕ → List Event → List Event
+taken zero t past = past
+taken (suc n) t past = Take t ∷ taken n t past
+
+taken_shift : (n t : ℕ) (past : List Event) → taken n t (Take t ∷ past) ≡ Take t ∷ taken n t past
+taken_shift zero t past = refl
+taken_shift (suc n) t past = ap (λ (es : List Event). Take t ∷ es) (taken_shift n t past)
+
+past_taken : (history : List Event) (n t : ℕ) → reverse (history ++ replicate n (Take t)) ≡ taken n t (reverse history)
+past_taken history zero t = ap (λ (es : List Event). reverse es) (append-nil history)
+past_taken history (suc n) t =
+    ap (λ (es : List Event). reverse es) (sym (append_assoc history (Take t ∷ []) (replicate n (Take t))))
+    ∙ past_taken (history ++ Take t ∷ []) n t
+    ∙ ap (taken n t) (reverse_last history (Take t))
+    ∙ taken_shift n t (reverse history)
+
+replicate_more : {A : Type 0} (n : ℕ) (x : A) → replicate n x ++ x ∷ [] ≡ replicate (suc n) x
+replicate_more zero x = refl
+replicate_more (suc n) x = ap (λ xs. x ∷ xs) (replicate_more n x)
+
+-- one step more
+pub steps_more : (old now new : State) (t n : ℕ) → now ≡ after_steps old t n → new ≡ record now { history = now.history ++ Take t ∷ [] } → new ≡ after_steps old t (n + 1)
+steps_more old now new t n so_far more =
+    more ∙ ap (λ (s : State). record s { history = s.history ++ Take t ∷ [] }) so_far
+    ∙ ap (λ (es : List Event). record old { history = es })
+    (append_assoc old.history (replicate n (Take t)) (Take t ∷ []) ∙ ap (λ (es : List Event). old.history ++ es) (replicate_more n (Take t) ∙ ap (λ (k : ℕ). replicate k (Take t)) (sym (add-one n))))
+
+-- The entries up to one of them are done: the job is as many steps further, and its records are as the entries left them.
+record HasDone (core : State) (carry : Carried) (n : ℕ) (past : List Event) : Type 0 where
+  at : steps_done past carry.txn ≡ steps_done (past_of core) carry.txn + n
+  records : (node : ℕ) (value : ℤ) → known_at carry.known node ≡ Some value
+      → slice_get (run_records core.jobs core.opening past) node ≡ Some (value_after (take n carry.entries) node value)
+  replies : run_replies core.jobs core.opening past carry.txn ≡ run_replies core.jobs core.opening (past_of core) carry.txn ++ replies_in (take n carry.entries)
+  held : (node : ℕ) → holds core.jobs past carry.txn node ≡ holds core.jobs (past_of core) carry.txn node
+
+replies_in-append : (entries : List Entry) (e : Entry) → replies_in (entries ++ e ∷ []) ≡ replies_in entries ++ e.reply ∷ []
+replies_in-append [] e = refl
+replies_in-append (x ∷ entries) e = ap (λ rs. x.reply ∷ rs) (replies_in-append entries e)
+
+-- what the access of an entry finds, once the entries before it are done
+pub record IsReady (core : State) (carry : Carried) (n : ℕ) (e : Entry) (past : List Event) : Type 0 where
+  pub next : next_step core.jobs past carry.txn ≡ Some (Access e.number)
+  pub listed : slice_get (list_of core.jobs carry.txn) e.number ≡ Some e.access
+  pub value : ℤ
+  pub known : known_at carry.known e.access.node ≡ Some value
+  pub found : slice_get (run_records core.jobs core.opening past) e.access.node ≡ Some (value_after (take n carry.entries) e.access.node value)
+  pub replied : e.reply ≡ reply_to e.access (run_records core.jobs core.opening past)
+
+ready : (core : State) (carry : Carried) → IsOf core carry → IsSound carry.known carry.entries → (n : ℕ) (e : Entry) → slice_get carry.entries n ≡ Some e → (past : List Event)
+    → HasDone core carry n past → IsReady core carry n e past
+ready core carry of sound n e at past done =
+    let was = sound.replied n e at in
+    let found : slice_get (run_records core.jobs core.opening past) e.access.node ≡ Some (value_after (take n carry.entries) e.access.node was.0) = done.records e.access.node was.0 was.1 in
+    record {
+      next = ap (λ (k : ℕ). slice_get (plan_of core.jobs carry.txn) k) done.at ∙ of.next n e at;
+      listed = of.own n e at;
+      value = was.0;
+      known = was.1;
+      found = found;
+      replied = was.2 ∙ ap (answer e.access.op) (sym (get_or_from_slice_get (run_records core.jobs core.opening past) e.access.node _ _ found));
+    }
+
+record_next : (core : State) (carry : Carried) (n : ℕ) (e : Entry) → slice_get carry.entries n ≡ Some e → (past : List Event) → HasDone core carry n past → IsReady core carry n e past
+    → (node : ℕ) (value : ℤ) → known_at carry.known node ≡ Some value
+    → slice_get (run_records core.jobs core.opening (Take carry.txn ∷ past)) node ≡ Some (value_after (take (suc n) carry.entries) node value)
+record_next core carry n e at past done ready node value known =
+    let records : List ℤ = run_records core.jobs core.opening past in
+    let after : run_records core.jobs core.opening (Take carry.txn ∷ past) ≡ changed_by e.access records = accessed_records core.jobs core.opening past carry.txn e.number e.access ready.next ready.listed in
+    let now : slice_get records node ≡ Some (value_after (take n carry.entries) node value) = done.records node value known in
+    let old : ℤ = value_after (take n carry.entries) node value in
+    let left : value_after (take (suc n) carry.entries) node value ≡ value_after (e ∷ []) node old =
+    ap (λ (es : List Entry). value_after es node value) (take_next carry.entries n e at) ∙ value_after-append (take n carry.entries) e node value in
+    ap (λ (rs : List ℤ). slice_get rs node) after ∙ elim (cases_eq e.access.node node) [
+      | inl same ↦
+          let read : record_at records e.access.node ≡ old = get_or_from_slice_get records e.access.node old _ (ap (λ (k : ℕ). slice_get records k) same ∙ now) in
+          ap (λ (k : ℕ). slice_get (changed_by e.access records) k) (sym same)
+          ∙ get_set_same records e.access.node (stored e.access.op (record_at records e.access.node)) (slice_get_within records e.access.node old (ap (λ (k : ℕ). slice_get records k) same ∙ now))
+          ∙ ap (λ (v : ℤ). Some (stored e.access.op v)) read
+          ∙ ap (λ (v : ℤ). Some v) (sym (left ∙ cond-true (eqb e.access.node node) (stored e.access.op old) old (eq-eqb e.access.node node same)))
+      | inr other ↦ get_set_other records e.access.node node (stored e.access.op (record_at records e.access.node)) (λ e. other (sym e)) ∙ now
+          ∙ ap (λ (v : ℤ). Some v) (sym (left ∙ cond-false (eqb e.access.node node) (stored e.access.op old) old (ne_eqb e.access.node node other)))
+    ]
+
+-- and one entry more
+done_next : (core : State) (carry : Carried) (n : ℕ) (e : Entry) → slice_get carry.entries n ≡ Some e → (past : List Event) → HasDone core carry n past → IsReady core carry n e past
+    → HasDone core carry (suc n) (Take carry.txn ∷ past)
+done_next core carry n e at past done ready = record {
+  at = let here : steps_done past carry.txn ≡ steps_done (past_of core) carry.txn + n = done.at in
+      let new : steps_done (Take carry.txn ∷ past) carry.txn ≡ suc (steps_done past carry.txn) = steps_new past carry.txn carry.txn refl in
+      omega arith;
+  records = λ node value known. record_next core carry n e at past done ready node value known;
+  replies = accessed_replies core.jobs core.opening past carry.txn e.number e.access ready.next ready.listed
+      ∙ ap (λ rs. rs ++ reply_to e.access (run_records core.jobs core.opening past) ∷ []) done.replies
+      ∙ append_assoc (run_replies core.jobs core.opening (past_of core) carry.txn) (replies_in (take n carry.entries)) (reply_to e.access (run_records core.jobs core.opening past) ∷ [])
+      ∙ ap (λ rs. run_replies core.jobs core.opening (past_of core) carry.txn ++ rs)
+      (ap (λ (r : Reply). replies_in (take n carry.entries) ++ r ∷ []) (sym ready.replied) ∙ sym (replies_in-append (take n carry.entries) e) ∙ ap replies_in (sym (take_next carry.entries n e at)));
+  held = λ node. holds_same core.jobs past carry.txn node (ap (locks node) ready.next) (ap (unlocks node) ready.next) carry.txn ∙ done.held node;
+}
+
+done_all : (core : State) (carry : Carried) → IsOf core carry → IsSound carry.known carry.entries → (n : ℕ) → n ≤ length carry.entries → HasDone core carry n (taken n carry.txn (past_of core))
+done_all core carry of sound zero le = record {
+  at = omega arith;
+  records = of.known;
+  replies = sym (append-nil (run_replies core.jobs core.opening (past_of core) carry.txn));
+  held = λ node. refl;
+}
+done_all core carry of sound (suc n) le =
+    let item = item_there carry.entries n (omega arith) in
+    let before : HasDone core carry n (taken n carry.txn (past_of core)) = done_all core carry of sound n (omega arith) in
+    done_next core carry n item.0 item.1 (taken n carry.txn (past_of core)) before (ready core carry of sound n item.0 item.1 (taken n carry.txn (past_of core)) before)
+
+-- what an entry's access finds
+ready_at : (core now : State) (carry : Carried) (n : ℕ) (e : Entry) → IsOf core carry → IsSound carry.known carry.entries → slice_get carry.entries n ≡ Some e → now ≡ after_steps core carry.txn n
+    → IsReady core carry n e (past_of now)
+ready_at core now carry n e of sound at is =
+    let lt : n < length carry.entries = slice_get_within carry.entries n e at in
+    let past_is : past_of now ≡ taken n carry.txn (past_of core) = ap past_of is ∙ past_taken core.history n carry.txn in
+    subst (λ (past : List Event). IsReady core carry n e past) (sym past_is) (ready core carry of sound n e at (taken n carry.txn (past_of core)) (done_all core carry of sound n (omega arith)))
+
+-- All entries are done
+
+-- the core has taken all entries of a carry
+pub record HasTaken (core : State) (carry : Carried) (new : State) : Type 0 where
+  pub records : (node : ℕ) (value : ℤ) → present_at carry node ≡ Some value → slice_get (run_records core.jobs core.opening (past_of new)) node ≡ Some value
+  pub replies : run_replies core.jobs core.opening (past_of new) carry.txn ≡ run_replies core.jobs core.opening (past_of core) carry.txn ++ replies_in carry.entries
+  pub next : next_step core.jobs (past_of new) carry.txn ≡ slice_get (plan_of core.jobs carry.txn) (steps_done (past_of core) carry.txn + length carry.entries)
+  pub held : (node : ℕ) → holds core.jobs (past_of new) carry.txn node ≡ holds core.jobs (past_of core) carry.txn node
+
+-- after as many steps as there are entries it has
+pub taken_all : (core new : State) (carry : Carried) → IsOf core carry → IsSound carry.known carry.entries → new ≡ after_steps core carry.txn (length carry.entries) → HasTaken core carry new
+taken_all core new carry of sound is =
+    let n : ℕ = length carry.entries in
+    let past : List Event = taken n carry.txn (past_of core) in
+    let past_is : past_of new ≡ past = ap past_of is ∙ past_taken core.history n carry.txn in
+    let done : HasDone core carry n past = done_all core carry of sound n (omega arith) in
+    let whole : take n carry.entries ≡ carry.entries = take-length carry.entries in
+    record {
+      records = λ node value at.
+          let v = out_value carry.entries node (known_at carry.known node) value at in
+          ap (λ (p : List Event). slice_get (run_records core.jobs core.opening p) node) past_is ∙ done.records node v.0 v.1
+          ∙ ap (λ (es : List Entry). Some (value_after es node v.0)) whole ∙ ap (λ (x : ℤ). Some x) v.2;
+      replies = ap (λ (p : List Event). run_replies core.jobs core.opening p carry.txn) past_is ∙ done.replies ∙ ap (λ (es : List Entry). run_replies core.jobs core.opening (past_of core) carry.txn ++ replies_in es) whole;
+      next = ap (λ (p : List Event). next_step core.jobs p carry.txn) past_is ∙ ap (λ (k : ℕ). slice_get (plan_of core.jobs carry.txn) k) done.at;
+      held = λ node. ap (λ (p : List Event). holds core.jobs p carry.txn node) past_is ∙ done.held node;
+    }
+
+-- and the carry, settled, is of the core then
+is_some_present : (entries : List Entry) (node : ℕ) (o : Option ℤ) → is_some (present_from entries node o) ≡ is_some o
+is_some_present entries node None = refl
+is_some_present entries node (Some v) = refl
+
+-- so the settled carry is of the new core
+pub is_of_settled : (core new : State) (carry : Carried) → IsOf core carry → IsSound carry.known carry.entries → new ≡ after_steps core carry.txn (length carry.entries) → IsOf new (carry_settled carry)
+is_of_settled core new carry of sound is =
+    let taken : HasTaken core carry new = taken_all core new carry of sound is in
+    let jobs : new.jobs ≡ core.jobs = ap (λ (s : State). s.jobs) is in
+    let opening : new.opening ≡ core.opening = ap (λ (s : State). s.opening) is in
+    record {
+      job = subst (λ (js : List Job). carry.txn < length js) (sym jobs) of.job;
+      out = λ node. ap (λ (o : Option ℤ). is_some o) (settled_at carry.entries carry.known node) ∙ is_some_present carry.entries node (known_at carry.known node)
+          ∙ of.out node ∙ sym (taken.held node) ∙ ap (λ (js : List Job). holds js (past_of new) carry.txn node) (sym jobs);
+      known = λ node value at.
+          ap (λ (js : List Job). slice_get (run_records js new.opening (past_of new)) node) jobs ∙ ap (λ (os : List ℤ). slice_get (run_records core.jobs os (past_of new)) node) opening
+          ∙ taken.records node value (sym (settled_at carry.entries carry.known node) ∙ at);
+      next = λ i e at. absurd (none-some e at);
+      own = λ i e at. absurd (none-some e at);
+    }
+
+-- What the tests read
+
+-- what holds of each item before a place and of the next one holds up to that
+pub each_more : {A : Type 0} (P : ℕ → A → Type 0) (xs : List A) (n : ℕ) (x : A) → ((i : ℕ) (y : A) → i < n → slice_get xs i ≡ Some y → P i y) → slice_get xs n ≡ Some x → P n x
+    → (i : ℕ) (y : A) → i < n + 1 → slice_get xs i ≡ Some y → P i y
+each_more {A = A} P xs n x before at here i y lt read = elim (cases_eq n i) [
+  | inl e ↦
+      let same : x ≡ y = same_Some x y (sym at ∙ ap (λ (k : ℕ). slice_get xs k) e ∙ read) in
+      subst (λ (k : ℕ). P k y) e (subst (λ (z : A). P n z) same here)
+  | inr ne ↦ before i y (omega arith) read
+]
+
+-- what holds up to the end holds of each item
+pub each_of : {A : Type 0} (P : ℕ → A → Type 0) (xs : List A) (n : ℕ) → length xs ≤ n → ((i : ℕ) (y : A) → i < n → slice_get xs i ≡ Some y → P i y)
+    → (i : ℕ) (y : A) → slice_get xs i ≡ Some y → P i y
+each_of P xs n all before i y read = let lt : i < length xs = slice_get_within xs i y read in before i y (omega arith) read
+
+module _ (rows : Rows) (jobs : List Job) (opening : List ℤ) (past : List Event) (records : List ℤ) (progress : List Progress) (owners : List (Option ℕ)) (waits : List ℕ)
+    (core : IsCore rows jobs opening past records progress owners waits) where
+  -- the owner of a node tells whether a job holds it
+  pub owner_tells : (t node : ℕ) (owner : Option ℕ) → slice_get owners node ≡ Some owner → is_owner owner t ≡ holds jobs past t node
+  owner_tells t node None at = sym (core.owned node None at t)
+  owner_tells t node (Some u) at = let owns = core.owned node (Some u) at in elim (cases_eq u t) [
+    | inl e ↦ eq-eqb u t e ∙ sym (subst (λ (k : ℕ). holds jobs past k node ≡ true) e owns.0)
+    | inr ne ↦ ne_eqb u t ne ∙ sym (owns.1 t (λ e. ne (sym e)))
+  ]
+
+  -- beyond the last node nothing is held
+  pub owner_past : (t node : ℕ) → length owners ≤ node → false ≡ holds jobs past t node
+  owner_past t node beyond = sym (held_not (plan_of jobs t) node (steps_done past t) (λ lock.
+      let within : node < length rows = (core.legal t (within_jobs jobs t lock.at (Lock node) lock.is_lock)).obeys.locks_nodes lock.at node lock.is_lock in
+      let all : length owners ≡ length rows = core.all_owners in
+      absurd (omega arith)))
+
+  -- there is a record for each node
+  pub records_all : length records ≡ length rows
+  records_all = ap length core.recorded ∙ deeds_length (deeds jobs past) opening ∙ core.opened
+
+  -- a job has done few steps
+  pub steps_few : (t : ℕ) → t < length jobs → steps_done past t < 2 ^ 32
+  steps_few t lt =
+      let le : steps_done past t ≤ length (plan_of jobs t) = steps_within jobs past core.run t in
+      let few : length (plan_of jobs t) < 2 ^ 32 = core.short t lt in
+      omega arith
+
+-- what is read of a job
+pub plan_read : (jobs seen : List Job) (t : ℕ) (job : Job) → seen ≡ jobs → t < length jobs → job ≡ get_or seen t job → job.plan ≡ plan_of jobs t
+plan_read jobs seen t job same lt read = sym (plan_of_at jobs t job (read_at jobs t job lt (read ∙ ap (λ (js : List Job). get_or js t job) same)))
+
+-- the list that is read is the job's
+pub list_read : (jobs seen : List Job) (t : ℕ) (job : Job) → seen ≡ jobs → t < length jobs → job ≡ get_or seen t job → job.list ≡ list_of jobs t
+list_read jobs seen t job same lt read = sym (list_of_at jobs t job (read_at jobs t job lt (read ∙ ap (λ (js : List Job). get_or js t job) same)))
+
+-- entries that follow what is read follow the plan
+pub follows_read : (list listed : List Visit) (plan planned : List Step) (start begin : ℕ) (entries : List Entry) → list ≡ listed → plan ≡ planned → start ≡ begin
+    → Follows list plan start entries → Follows listed planned begin entries
+follows_read list listed plan planned start begin entries e f g follows =
+    subst (λ (l : List Visit). Follows l planned begin entries) e (subst (λ (p : List Step). Follows list p begin entries) f (subst (λ (k : ℕ). Follows list plan k entries) g follows))
+
+-- The tests as they are made, of what is read of the carry
+pub is_of_tests : (core : State) (carry : Carried) (t : ℕ) (known : List Known) (entries : List Entry) → t ≡ carry.txn → known ≡ carry.known → entries ≡ carry.entries → t < length core.jobs
+    → KnowsAll core t known → HasAll core carry → Follows (list_of core.jobs t) (plan_of core.jobs t) (steps_done (past_of core) t) entries → IsOf core carry
+is_of_tests core carry t known entries e f g job knows has follows =
+    is_of_all core carry (subst (λ (k : ℕ). k < length core.jobs) e job)
+    (subst (λ (k : ℕ). KnowsAll core k carry.known) e (subst (λ (ks : List Known). KnowsAll core t ks) f knows)) has
+    (subst (λ (k : ℕ). Follows (list_of core.jobs k) (plan_of core.jobs k) (steps_done (past_of core) k) carry.entries) e
+    (subst (λ (es : List Entry). Follows (list_of core.jobs t) (plan_of core.jobs t) (steps_done (past_of core) t) es) g follows))
+
+-- a carry of the core passes the test of what it knows
+pub knows_test : (core : State) (carry : Carried) (t : ℕ) (known : List Known) → t ≡ carry.txn → known ≡ carry.known → AreApart carry.known → IsOf core carry → KnowsAll core t known
+knows_test core carry t known e f apart of =
+    subst (λ (k : ℕ). KnowsAll core k known) (sym e) (subst (λ (ks : List Known). KnowsAll core carry.txn ks) (sym f) (knows_of core carry apart of))
+
+-- and the test of its entries
+pub follows_test : (core : State) (carry : Carried) (t : ℕ) (entries : List Entry) → t ≡ carry.txn → entries ≡ carry.entries → IsOf core carry
+    → Follows (list_of core.jobs t) (plan_of core.jobs t) (steps_done (past_of core) t) entries
+follows_test core carry t entries e f of =
+    subst (λ (k : ℕ). Follows (list_of core.jobs k) (plan_of core.jobs k) (steps_done (past_of core) k) entries) (sym e)
+    (subst (λ (es : List Entry). Follows (list_of core.jobs carry.txn) (plan_of core.jobs carry.txn) (steps_done (past_of core) carry.txn) es) (sym f) (follows_of core carry of))
+
+-- what an entry that is read finds
+pub record FindsItself (now : State) (t : ℕ) (e : Entry) : Type 0 where
+  pub next : next_step now.jobs (past_of now) t ≡ Some (Access e.number)
+  pub replied : e.reply ≡ reply_to e.access (records_of now)
+
+-- the entry that is read finds the record that it was done on
+pub entry_ready : (core now : State) (carry : Carried) (t n : ℕ) (e : Entry) (seen : List Entry) → IsOf core carry → IsSound carry.known carry.entries → t ≡ carry.txn → seen ≡ carry.entries
+    → n < length seen → e ≡ get_or seen n e → now ≡ after_steps core carry.txn n → FindsItself now t e
+entry_ready core now carry t n e seen of sound txn all lt read is =
+    let at : slice_get carry.entries n ≡ Some e = ap (λ (es : List Entry). slice_get es n) (sym all) ∙ read_at seen n e lt read in
+    let ready : IsReady core carry n e (past_of now) = ready_at core now carry n e of sound at is in
+    let jobs : now.jobs ≡ core.jobs = ap (λ (s : State). s.jobs) is in
+    let opening : now.opening ≡ core.opening = ap (λ (s : State). s.opening) is in
+    record {
+      next = ap (λ (js : List Job). next_step js (past_of now) t) jobs ∙ ap (λ (k : ℕ). next_step core.jobs (past_of now) k) txn ∙ ready.next;
+      replied = ready.replied ∙ ap (λ (js : List Job). reply_to e.access (run_records js core.opening (past_of now))) (sym jobs)
+          ∙ ap (λ (os : List ℤ). reply_to e.access (run_records now.jobs os (past_of now))) (sym opening);
+    }
+
+-- all entries are done
+pub steps_whole : (core new : State) (carry : Carried) (n : ℕ) (seen : List Entry) → seen ≡ carry.entries → length seen ≤ n → n ≤ length seen → new ≡ after_steps core carry.txn n
+    → new ≡ after_steps core carry.txn (length carry.entries)
+steps_whole core new carry n seen all over under is =
+    let whole : n ≡ length seen = omega arith in is ∙ ap (λ (k : ℕ). after_steps core carry.txn k) (whole ∙ ap length all)
+
+-- the records are then the carry's present values
+pub records_taken : (core new : State) (carry : Carried) → IsOf core carry → IsSound carry.known carry.entries → new ≡ after_steps core carry.txn (length carry.entries)
+    → (node : ℕ) (value : ℤ) → present_at carry node ≡ Some value → slice_get (records_of new) node ≡ Some value
+records_taken core new carry of sound is node value at =
+    ap (λ (js : List Job). slice_get (run_records js new.opening (past_of new)) node) (ap (λ (s : State). s.jobs) is)
+    ∙ ap (λ (os : List ℤ). slice_get (run_records core.jobs os (past_of new)) node) (ap (λ (s : State). s.opening) is)
+    ∙ (taken_all core new carry of sound is).records node value at

@@ -1,0 +1,94 @@
+-- The loops that open a core, a job further.
+use Rattle.std.proofs.Common.{◌≡◌, ℕ, zero, suc, ◌+◌, ◌*◌, ◌^◌, ◌<◌, ◌≤◌, ℤ, List, [], ◌∷◌, ◌++◌, length, replicate, Option, Some, None, refl, sym, ◌∙◌, ap, subst, inl, inr, arith, add-one}
+use Rattle.std.specs.List.{slice_get}
+use Rattle.std.proofs.lemmas.Option.{none-some, same_Some, slice_get_within}
+use Rattle.std.proofs.lemmas.List.{length-replicate}
+use Rattle.grove_base.specs.Numbers.{sum_below}
+use Rattle.grove_tree.specs.Trees.{Rows, IsTree}
+use Rattle.grove_base.proofs.Counting.{count_le}
+use Rattle.grove_base.proofs.Lists.{get_append_cases, replicate_got}
+use Rattle.grove_plan.specs.declared.step.Step.{Step}
+use Rattle.grove_plan.specs.Plans.{is_lock}
+use Rattle.grove_core.specs.declared.job.Job.{Job}
+use Rattle.grove_core.specs.declared.locking.Locked.{Locked}
+use Rattle.grove_core.specs.declared.progress.Progress.{Progress}
+use Rattle.grove_core.specs.declared.fault.OpenFault.{OpenFault}
+use Rattle.grove_core.specs.declared.fault.OpenFault.TheVariants.{BadPlan, Memory}
+use Rattle.grove_core.specs.Runs.{list_of, plan_of, holds, AllLegal, lock_steps}
+use Rattle.grove_core.specs.Kept.{time_in, Owns, IsCore}
+use Rattle.grove_core.specs.Starts.{fault_of, IsFaultOf, HasStarted}
+use Rattle.grove_core.specs.Openings.{job_fault, IsFirstFault}
+use Rattle.grove_core.proofs.CountChanges.{count_zero}
+use Rattle.grove_core.proofs.RunSteps.{plan_of_at}
+
+-- a plan's steps and lock steps are at most twice its steps
+pub room_more : (jobs : List Job) (n room steps : ℕ) (job : Job) → slice_get jobs n ≡ Some job → steps ≡ length job.plan
+    → sum_below n (λ t. length (plan_of jobs t) + lock_steps (plan_of jobs t)) ≤ room
+    → sum_below (n + 1) (λ t. length (plan_of jobs t) + lock_steps (plan_of jobs t)) ≤ room + 2 * steps
+room_more jobs n room steps job at size le =
+    let e : length (plan_of jobs n) ≡ length job.plan = ap (λ (p : List Step). length p) (plan_of_at jobs n job at) in
+    let few : lock_steps (plan_of jobs n) ≤ length (plan_of jobs n) = count_le (length (plan_of jobs n)) (λ i. is_lock (slice_get (plan_of jobs n) i)) in
+    rw add-one (omega arith)
+
+-- the fault of a job that is read is that of its number
+pub job_fault_at : (rows : Rows) (jobs : List Job) (t : ℕ) (job : Job) → slice_get jobs t ≡ Some job → job_fault rows jobs t ≡ fault_of rows job
+job_fault_at rows [] t job at = absurd (none-some job at)
+job_fault_at rows (x ∷ jobs) zero job at = ap (fault_of rows) (same_Some x job at)
+job_fault_at rows (x ∷ jobs) (suc t) job at = job_fault_at rows jobs t job at
+
+-- a fault of a job after faultless ones is the first fault
+pub first_fault : (rows : Rows) (jobs : List Job) (t : ℕ) (job : Job) → slice_get jobs t ≡ Some job → ((u : ℕ) → u < t → job_fault rows jobs u ≡ None)
+    → (fault : OpenFault) → IsFaultOf (fault_of rows job) t fault → IsFirstFault rows jobs fault
+first_fault rows jobs t job at before (BadPlan u fault) h =
+    subst (λ (k : ℕ). (k < length jobs) × (job_fault rows jobs k ≡ Some fault) × ((w : ℕ) → w < k → job_fault rows jobs w ≡ None)) (sym h.0)
+    (slice_get_within jobs t job at, job_fault_at rows jobs t job at ∙ h.1, before)
+first_fault rows jobs t job at before Memory h = tt
+
+started_last : (n : ℕ) (jobs : List Job) (p : Progress) (t : ℕ) (q : Progress) (i : ℕ) → slice_get (p ∷ []) i ≡ Some q → t ≡ n + i
+    → HasStarted (length (plan_of jobs n)) (length (list_of jobs n)) p → HasStarted (length (plan_of jobs t)) (length (list_of jobs t)) q
+started_last n jobs p t q zero at e here =
+    let f : t ≡ n = omega arith in
+    rw f (subst (λ (x : Progress). HasStarted (length (plan_of jobs n)) (length (list_of jobs n)) x) (same_Some p q at) here)
+started_last n jobs p t q (suc i) at e here = absurd (none-some q at)
+
+-- one job started more
+pub started_more : (n : ℕ) (jobs : List Job) (all more : List Progress) (p : Progress) → length all ≡ n → more ≡ all ++ p ∷ []
+    → ((t : ℕ) (q : Progress) → slice_get all t ≡ Some q → HasStarted (length (plan_of jobs t)) (length (list_of jobs t)) q) → HasStarted (length (plan_of jobs n)) (length (list_of jobs n)) p
+    → (t : ℕ) (q : Progress) → slice_get more t ≡ Some q → HasStarted (length (plan_of jobs t)) (length (list_of jobs t)) q
+started_more n jobs all more p size e so_far here t q at =
+    elim (get_append_cases all (p ∷ []) t q (ap (λ ps. slice_get ps t) (sym e) ∙ at)) [
+      | inl old ↦ so_far t q old
+      | inr new ↦ started_last n jobs p t q new.0 new.2 (let a : t ≡ length all + new.0 = new.1 in omega arith) here
+    ]
+
+-- the core before the first event
+pub opened : (rows : Rows) (jobs : List Job) (opening records : List ℤ) (progress : List Progress) (owners : List (Option ℕ)) (waits : List ℕ) (n : ℕ)
+    → IsTree rows → length jobs ≤ 256 → AllLegal rows jobs → ((t : ℕ) → t < length jobs → length (plan_of jobs t) < 2 ^ 32) → length opening ≡ length rows → n ≡ length rows
+    → records ≡ opening → length progress ≡ length jobs → ((t : ℕ) (p : Progress) → slice_get progress t ≡ Some p → HasStarted (length (plan_of jobs t)) (length (list_of jobs t)) p)
+    → owners ≡ replicate n None → waits ≡ replicate n 0
+    → IsCore rows jobs opening [] records progress owners waits
+opened rows jobs opening records progress owners waits n tree few legal short size nodes same all started free none = record {
+  tree = tree;
+  few = few;
+  legal = legal;
+  short = short;
+  opened = size;
+  run = tt;
+  recorded = same;
+  all_jobs = all;
+  come = λ t p at. let h : HasStarted (length (plan_of jobs t)) (length (list_of jobs t)) p = started t p at in record {
+    at = h.at;
+    marks = h.unmarked;
+    answers = h.silent;
+    room = h.room;
+    spare = h.spare;
+    locks = let e : length p.locked.items ≡ 0 = ap length h.unlocked in omega arith;
+    times = λ node. ap (λ (ls : List Locked). time_in ls node) h.unlocked;
+    holding = h.holding ∙ sym (count_zero (length rows) (λ node. holds jobs [] t node) (λ node. refl));
+    held = let e : p.held_nodes ≡ 0 = h.holding in omega arith;
+  };
+  all_owners = ap length free ∙ length-replicate n None ∙ nodes;
+  owned = λ node owner at. subst (λ (o : Option ℕ). Owns jobs [] node o) (replicate_got n None node owner (ap (λ (os : List (Option ℕ)). slice_get os node) (sym free) ∙ at)) (λ t. refl);
+  all_waits = ap length none ∙ length-replicate n 0 ∙ nodes;
+  waited = λ node count at. sym (replicate_got n 0 node count (ap (λ (ws : List ℕ). slice_get ws node) (sym none) ∙ at));
+}

@@ -1,0 +1,213 @@
+-- What a core keeps, as its functions read it: what there is room for, and what may happen next.
+use Rattle.std.proofs.Common.{◌≡◌, ℕ, suc, ◌+◌, ◌^◌, ◌<◌, ◌≤◌, ℤ, true, List, [], ◌∷◌, ◌++◌, length, reverse, get_or, Option, Some, sym, ◌∙◌, ap, subst, arith, ltb}
+use Rattle.std.specs.List.{slice_get}
+use Rattle.std.specs.Vec.{vec_capacity}
+use Rattle.std.proofs.lemmas.List.{reverse-append}
+use Rattle.std.proofs.lemmas.Option.{slice_get_within}
+use Rattle.std.proofs.lemmas.Bool.{ltb-true}
+use Rattle.grove_tree.specs.Trees.{Rows}
+use Rattle.grove_access.specs.declared.access.Access.{Access as Visit}
+use Rattle.grove_plan.specs.declared.step.Step.{Step}
+use Rattle.grove_plan.specs.declared.step.Step.TheVariants.{Lock, Unlock, Access}
+use Rattle.grove_plan.proofs.Held.{unlock_no_lock, access_no_lock, HeldAt, held_at}
+use Rattle.grove_core.specs.declared.job.Job.{Job}
+use Rattle.grove_core.specs.declared.event.Event.{Event}
+use Rattle.grove_core.specs.declared.event.Event.TheVariants.{Take}
+use Rattle.grove_core.specs.declared.progress.Progress.{Progress}
+use Rattle.grove_core.specs.Runs.{list_of, plan_of, steps_done, next_step, holds, is_marked, MayHappen, deeds, run_replies, waits_of, most_events}
+use Rattle.grove_core.specs.Orders.{lock_time}
+use Rattle.grove_core.specs.Kept.{time_in, HasProgress, Owns, IsCore}
+use Rattle.grove_core.proofs.Precedence.{within_jobs}
+use Rattle.grove_core.proofs.ConflictOrder.{access_held}
+use Rattle.grove_core.proofs.RunBounds.{history_bound, Accessing, accessing, waits_most}
+use Rattle.grove_core.proofs.RunSteps.{plan_of_at, deeds_length}
+use Rattle.grove_base.specs.Numbers.{count_below}
+use Rattle.grove_base.proofs.Lists.{read_at}
+use Rattle.grove_core.proofs.CoreSteps.{locked_within, holding_unlocked}
+
+-- the latest event stands first
+pub reverse_last : {A : Type 0} (xs : List A) (x : A) → reverse (xs ++ x ∷ []) ≡ x ∷ reverse xs
+reverse_last xs x = reverse-append xs (x ∷ [])
+
+-- What the code may do
+
+module _ (rows : Rows) (jobs : List Job) (opening : List ℤ) (past : List Event) (records : List ℤ) (progress : List Progress) (owners : List (Option ℕ)) (waits : List ℕ)
+    (core : IsCore rows jobs opening past records progress owners waits) where
+  -- a job with a next step is there
+  pub job_there : (t : ℕ) (s : Step) → next_step jobs past t ≡ Some s → t < length jobs
+  job_there t s next = within_jobs jobs t (steps_done past t) s next
+
+  -- its progress is there
+  pub progress_there : (t : ℕ) (s : Step) → next_step jobs past t ≡ Some s → t < length progress
+  progress_there t s next = let e : length progress ≡ length jobs = core.all_jobs in let lt : t < length jobs = job_there t s next in omega arith
+
+  -- and has done few steps
+  pub steps_small : (t : ℕ) (s : Step) → next_step jobs past t ≡ Some s → (p : Progress) → slice_get progress t ≡ Some p → p.steps_done < 2 ^ 32
+  steps_small t s next p at =
+      let e : p.steps_done ≡ steps_done past t = (core.come t p at).at in
+      let lt : steps_done past t < length (plan_of jobs t) = slice_get_within (plan_of jobs t) (steps_done past t) s next in
+      let few : length (plan_of jobs t) < 2 ^ 32 = core.short t (job_there t s next) in
+      omega arith
+
+  -- the node of an unlock is one of the tree
+  pub unlocked_within : (t node : ℕ) → next_step jobs past t ≡ Some (Unlock node) → node < length rows
+  unlocked_within t node next =
+      let lt : t < length jobs = job_there t (Unlock node) next in
+      let at : HeldAt (plan_of jobs t) node (steps_done past t) = held_at (plan_of jobs t) node (steps_done past t) ((core.legal t lt).obeys.unlocks_held (steps_done past t) node next) in
+      (core.legal t lt).obeys.locks_nodes at.at node at.is_lock
+
+  -- an accessed node too
+  pub accessed_within : (t number : ℕ) (visit : Visit) → next_step jobs past t ≡ Some (Access number) → slice_get (list_of jobs t) number ≡ Some visit → visit.node < length records
+  accessed_within t number visit next listed =
+      let lt : t < length jobs = job_there t (Access number) next in
+      let at : HeldAt (plan_of jobs t) visit.node (steps_done past t) = access_held rows jobs core.legal t (steps_done past t) number visit next listed in
+      let within : visit.node < length rows = (core.legal t lt).obeys.locks_nodes at.at visit.node at.is_lock in
+      let e : length records ≡ length opening = ap length core.recorded ∙ deeds_length (deeds jobs past) opening in
+      let f : length opening ≡ length rows = core.opened in
+      omega arith
+
+  -- there is room for the event
+  pub event_room : (event : Event) → MayHappen jobs past event → (room : ℕ) → most_events jobs ≤ room → length past < room
+  event_room event may room le = let h : length (event ∷ past) ≤ most_events jobs = history_bound jobs (event ∷ past) (may, core.run) in omega arith
+
+  -- and for the reply
+  pub reply_room : (t number : ℕ) → next_step jobs past t ≡ Some (Access number) → (p : Progress) → slice_get progress t ≡ Some p → length p.replies.items < vec_capacity p.replies
+  reply_room t number next p at =
+      let h : HasProgress rows jobs opening past t p = core.come t p at in
+      let a : Accessing jobs opening past t number = accessing rows jobs core.legal opening past core.run t number next in
+      let fewer : length (run_replies jobs opening past t) < length (list_of jobs t) = a.fewer in
+      let e : length p.replies.items ≡ length (run_replies jobs opening past t) = ap length h.answers in
+      let room : length (list_of jobs t) ≤ vec_capacity p.replies = h.room in
+      omega arith
+
+  -- an access that comes next is one of the list
+  pub access_listed : (t number : ℕ) → next_step jobs past t ≡ Some (Access number) → number < length (list_of jobs t)
+  access_listed t number next = (accessing rows jobs core.legal opening past core.run t number next).listed
+
+  -- and for the wait
+  pub wait_room : (node count : ℕ) → slice_get waits node ≡ Some count → count + 1 < 2 ^ 32
+  wait_room node count at =
+      let e : count ≡ waits_of jobs past node = core.waited node count at in
+      let le : waits_of jobs past node ≤ length jobs = waits_most rows jobs core.legal past core.run node in
+      let few : length jobs ≤ 256 = core.few in
+      omega arith
+
+  -- the tables have an entry for each node
+  pub owner_there : (node : ℕ) → node < length rows → node < length owners
+  owner_there node lt = let e : length owners ≡ length rows = core.all_owners in omega arith
+
+  -- a node has its count of waits
+  pub wait_there : (node : ℕ) → node < length rows → node < length waits
+  wait_there node lt = let e : length waits ≡ length rows = core.all_waits in omega arith
+
+  -- a node that a job holds is one of the tree
+  pub held_within : (t node : ℕ) → holds jobs past t node ≡ true → node < length rows
+  held_within t node held =
+      let lock : HeldAt (plan_of jobs t) node (steps_done past t) = held_at (plan_of jobs t) node (steps_done past t) held in
+      (core.legal t (within_jobs jobs t lock.at (Lock node) lock.is_lock)).obeys.locks_nodes lock.at node lock.is_lock
+
+  -- a job holds no more nodes than it has done steps
+  pub held_small : (t : ℕ) (p : Progress) → slice_get progress t ≡ Some p → p.held_nodes ≤ p.steps_done
+  held_small t p at =
+      let h : HasProgress rows jobs opening past t p = core.come t p at in
+      let e : p.steps_done ≡ steps_done past t = h.at in
+      let le : p.held_nodes ≤ steps_done past t = h.held in
+      omega arith
+
+  -- there is room for its next lock
+  pub lock_room : (t : ℕ) (s : Step) → next_step jobs past t ≡ Some s → (p : Progress) → slice_get progress t ≡ Some p → length p.locked.items < vec_capacity p.locked
+  lock_room t s next p at =
+      let h : HasProgress rows jobs opening past t p = core.come t p at in
+      let lt : steps_done past t < length (plan_of jobs t) = slice_get_within (plan_of jobs t) (steps_done past t) s next in
+      let le : length p.locked.items ≤ steps_done past t = h.locks in
+      let room : length (plan_of jobs t) ≤ vec_capacity p.locked = h.spare in
+      omega arith
+
+  -- a job that unlocks a node holds some
+  pub unlocks_some : (t node : ℕ) → next_step jobs past t ≡ Some (Unlock node) → (p : Progress) → slice_get progress t ≡ Some p → 0 < p.held_nodes
+  unlocks_some t node next p at =
+      let counted : p.held_nodes ≡ count_below (length rows) (λ v. holds jobs past t v) = (core.come t p at).holding in
+      let one : count_below (length rows) (λ v. holds jobs past t v) ≡ suc (count_below (length rows) (λ v. holds jobs (Take t ∷ past) t v)) =
+      holding_unlocked rows jobs past t node (length rows) (core.legal t (job_there t (Unlock node) next)).obeys next (unlocked_within t node next) in
+      omega arith
+
+  -- the next step, as it is read
+  pub next_read : (t : ℕ) (p : Progress) (job : Job) → slice_get progress t ≡ Some p → slice_get jobs t ≡ Some job → slice_get job.plan p.steps_done ≡ next_step jobs past t
+  next_read t p job at there =
+      ap (λ (n : ℕ). slice_get job.plan n) (core.come t p at).at ∙ ap (λ (plan : List Step). slice_get plan (steps_done past t)) (sym (plan_of_at jobs t job there))
+
+  -- the progress of a job, as it is read
+  pub progress_seen : (seen : List Progress) (t : ℕ) (p : Progress) → seen ≡ progress → ltb t (length seen) ≡ true → p ≡ get_or seen t p → slice_get progress t ≡ Some p
+  progress_seen seen t p same lt read =
+      read_at progress t p (subst (λ (ps : List Progress). t < length ps) same (ltb-true t (length seen) lt)) (subst (λ (ps : List Progress). p ≡ get_or ps t p) same read)
+
+  -- that of a job with a next step
+  pub progress_at : (t : ℕ) (s : Step) → next_step jobs past t ≡ Some s → (p : Progress) → p ≡ get_or progress t p → slice_get progress t ≡ Some p
+  progress_at t s next p read = read_at progress t p (progress_there t s next) read
+
+  -- the next step by what is read of the job's progress and of the job
+  pub next_seen : (seen : List Progress) (t : ℕ) (p : Progress) (job : Job) → seen ≡ progress → ltb t (length seen) ≡ true → p ≡ get_or seen t p → job ≡ get_or jobs t job
+      → (t < length jobs) × (slice_get job.plan p.steps_done ≡ next_step jobs past t)
+  next_seen seen t p job same lt read is =
+      let at : slice_get progress t ≡ Some p = progress_seen seen t p same lt read in
+      let within : t < length progress = slice_get_within progress t p at in
+      let all : length progress ≡ length jobs = core.all_jobs in
+      let there : t < length jobs = omega arith in
+      (there, next_read t p job at (read_at jobs t job there is))
+
+  -- how far a job has come and how far it goes, by what is read of its progress and of its plan
+  pub end_seen : (t : ℕ) → t < length jobs → (p : Progress) → p ≡ get_or progress t p → (job : Job) → job ≡ get_or jobs t job → (steps : List Step) → steps ≡ job.plan
+      → (p.steps_done ≡ steps_done past t) × (length steps ≡ length (plan_of jobs t))
+  end_seen t lt p read job is steps same =
+      let all : length progress ≡ length jobs = core.all_jobs in
+      ((core.come t p (read_at progress t p (omega arith) read)).at, ap length (same ∙ sym (plan_of_at jobs t job (read_at jobs t job lt is))))
+
+  -- what is read of a job and of a node
+  pub marks_read : (t : ℕ) (p : Progress) → slice_get progress t ≡ Some p → p.marked ≡ is_marked past t
+  marks_read t p at = (core.come t p at).marks
+
+  -- its replies
+  pub answers_read : (t : ℕ) (p : Progress) → slice_get progress t ≡ Some p → p.replies.items ≡ run_replies jobs opening past t
+  answers_read t p at = (core.come t p at).answers
+
+  -- how far it has come
+  pub steps_read : (t : ℕ) (p : Progress) → slice_get progress t ≡ Some p → p.steps_done ≡ steps_done past t
+  steps_read t p at = (core.come t p at).at
+
+  -- how many nodes it holds
+  pub held_read : (t : ℕ) (p : Progress) → slice_get progress t ≡ Some p → p.held_nodes ≡ count_below (length rows) (λ v. holds jobs past t v)
+  held_read t p at = (core.come t p at).holding
+
+  -- when it locked a node
+  pub time_read : (t : ℕ) (p : Progress) → slice_get progress t ≡ Some p → (node : ℕ) → time_in p.locked.items node ≡ lock_time jobs past t node
+  time_read t p at node = (core.come t p at).times node
+
+  -- who holds a node
+  pub owner_read : (node : ℕ) (owner : Option ℕ) → slice_get owners node ≡ Some owner → Owns jobs past node owner
+  owner_read node owner at = core.owned node owner at
+
+  -- who holds a node that is to be locked, and how often it was waited for, by what is read at its number
+  pub owner_seen : (t node number : ℕ) → next_step jobs past t ≡ Some (Lock node) → number ≡ node → (owner o : Option ℕ) → owner ≡ get_or owners number owner → owner ≡ o → Owns jobs past node o
+  owner_seen t node number next same owner o read is =
+      core.owned node o (read_at owners node owner (owner_there node (locked_within rows jobs opening past records progress owners waits core t node next))
+      (subst (λ (n : ℕ). owner ≡ get_or owners n owner) same read) ∙ ap (λ x. Some x) is)
+
+  -- how often a node that is to be locked was waited for
+  pub wait_seen : (t node number : ℕ) → next_step jobs past t ≡ Some (Lock node) → number ≡ node → (count : ℕ) → count ≡ get_or waits number count → slice_get waits node ≡ Some count
+  wait_seen t node number next same count read =
+      read_at waits node count (wait_there node (locked_within rows jobs opening past records progress owners waits core t node next)) (subst (λ (n : ℕ). count ≡ get_or waits n count) same read)
+
+  -- unlocks and accesses may always be done
+  pub may_unlock : (t node : ℕ) → next_step jobs past t ≡ Some (Unlock node) → MayHappen jobs past (Take t)
+  may_unlock t node next = (Unlock node, next, λ n e. absurd (unlock_no_lock node n (ap (λ (s : Step). Some s) e)))
+
+  -- an access may always be done
+  pub may_access : (t number : ℕ) → next_step jobs past t ≡ Some (Access number) → MayHappen jobs past (Take t)
+  may_access t number next = (Access number, next, λ n e. absurd (access_no_lock number n (ap (λ (s : Step). Some s) e)))
+
+-- what a core keeps, as the model has it, with one event more
+pub closed : (rows : Rows) (jobs : List Job) (opening : List ℤ) (items more : List Event) (event : Event) (room spare : ℕ) (records : List ℤ) (progress : List Progress) (owners : List (Option ℕ)) (waits : List ℕ)
+    → more ≡ items ++ event ∷ [] → spare ≡ room → most_events jobs ≤ room → IsCore rows jobs opening (event ∷ reverse items) records progress owners waits
+    → IsCore rows jobs opening (reverse more) records progress owners waits × (most_events jobs ≤ spare)
+closed rows jobs opening items more event room spare records progress owners waits e f le core =
+    (subst (λ (past : List Event). IsCore rows jobs opening past records progress owners waits) (sym (ap (λ (es : List Event). reverse es) e ∙ reverse_last items event)) core, omega arith)

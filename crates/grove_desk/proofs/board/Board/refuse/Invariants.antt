@@ -1,0 +1,12 @@
+use Rattle.std.proofs.Common.{◌≡◌}
+use Rattle.std.specs.Vec.{vec_capacity}
+use Rattle.grove_desk.proofs.board.Board.refuse.Given as goal
+
+abbrev pub invariant-loop-asked : goal.invariant-loop-asked
+invariant-loop-asked l = record {
+  same : l.self ≡ l.fn.self;
+  room : vec_capacity l.batch ≡ vec_capacity l.fn.batch;
+}
+
+abbrev pub decreases-loop-asked : goal.decreases-loop-asked
+decreases-loop-asked l = l.batch.len

@@ -1,0 +1,7 @@
+use Rattle.std.proofs.Common.{◌≡◌, []}
+use Rattle.std.specs.Vec.{vec_capacity}
+use Rattle.grove_desk.proofs.desk.Desk.receipt.Given as goal
+
+abbrev pub invariant-loop : goal.invariant-loop
+invariant-loop g l =
+    (goal.iterator-loop g).can_next l.iterator' × (goal.iterator-loop g).is_finite l.iterator' × (l.batch.items ≡ []) × (vec_capacity l.batch ≡ 16)

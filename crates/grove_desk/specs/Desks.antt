@@ -1,0 +1,25 @@
+-- A desk and a visit to it, as their callers see them, and the text that a visitor's session writes.
+use Rattle.std.specs.Prelude.{◌≡◌, ℕ, ◌≤◌, Bool, List, Option, Some, None}
+use Rattle.grove_store.specs.Stocks.{Stock}
+use Rattle.grove_desk.specs.Receipts.{Names, Entry, Allows}
+
+-- the store that a desk was opened with, and whether it keeps a journal
+pub record Office : Type 0 where
+  pub opening : Stock
+  pub kept : Bool
+
+-- the names of a desk's tree, and the highest count of rounds that a visitor has seen
+pub record Visited : Type 0 where
+  pub names : Names
+  pub rounds : ℕ
+
+-- the count of rounds of a last receipt, 0 before the first
+abbrev pub rounds_seen : Option Entry → ℕ
+rounds_seen None = 0
+rounds_seen (Some receipt) = receipt.rounds
+
+-- a lawful reply to a line among those of others: some round over these names allows it, and the count of rounds never falls
+pub record IsShared (old : Visited) (line reply : List ℕ) (new : Visited) : Type 0 where
+  pub names : new.names ≡ old.names
+  pub rises : old.rounds ≤ new.rounds
+  pub allowed : Allows old.names line reply new.rounds

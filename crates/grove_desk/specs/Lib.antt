@@ -1,0 +1,5 @@
+pub mod Receipts
+pub mod Histories
+pub mod Desks
+pub mod Ledgers
+pub mod Boards

@@ -1,0 +1,45 @@
+use grove_session::AnswerFault;
+use grove_tree::NoMemory;
+use std::alloc::AllocError;
+use thiserror::Error;
+
+/// Why a line has no receipt.
+#[derive(Clone, Copy, Debug, PartialEq, Eq, Error)]
+pub enum DeskFault {
+    /// What came back isn't the line's receipt, or isn't of this desk.
+    #[error("foreign")]
+    Foreign,
+    /// A growth was refused.
+    #[error("memory")]
+    Memory,
+}
+
+impl From<AllocError> for DeskFault {
+    ghost use Rattle.std.specs.Prelude.{◌≡◌};
+    ghost use Rattle.grove_desk.specs.declared.fault.DeskFault.TheVariants.{Memory};
+
+    ghost from_gives = { λ _ fault. fault ≡ Memory };
+
+    fn from(_error: AllocError) -> DeskFault {
+        DeskFault::Memory
+    }
+}
+
+impl From<NoMemory> for DeskFault {
+    ghost use Rattle.std.specs.Prelude.{◌≡◌};
+    ghost use Rattle.grove_desk.specs.declared.fault.DeskFault.TheVariants.{Memory};
+
+    ghost from_gives = { λ _ fault. fault ≡ Memory };
+
+    fn from(_error: NoMemory) -> DeskFault {
+        DeskFault::Memory
+    }
+}
+
+/// What a session is told of it.
+pub(crate) fn answer_fault(fault: DeskFault) -> AnswerFault {
+    match fault {
+        DeskFault::Foreign => AnswerFault::Foreign,
+        DeskFault::Memory => AnswerFault::Memory,
+    }
+}

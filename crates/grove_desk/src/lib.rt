@@ -1,0 +1,21 @@
+//! A desk, at which many callers share one store: batches that wait together are answered as one round, and each line has a
+//! receipt.
+#![tactic(auto)]
+
+pub use desk::{Closed, Desk};
+pub use fault::DeskFault;
+pub use journal::Kept;
+pub use receipt::Receipt;
+pub use visit::{Visit, desk_session};
+
+mod answering;
+mod board;
+mod desk;
+mod fault;
+mod journal;
+mod ledger;
+mod line;
+mod receipt;
+mod slot;
+mod standing;
+mod visit;

@@ -1,0 +1,78 @@
+ghost use Rattle.std.specs.Prelude.{◌≡◌, ◌≤◌, length, map, All, IfOk, IfSome, IfNone, Some};
+ghost use Rattle.grove_desk.specs.declared.slot.State.TheVariants as state;
+
+use crate::Receipt;
+use crate::line::Line;
+use grove_tree::NoMemory;
+use std::alloc::Global;
+use std::mem;
+
+/// Where a line that was put has got to.
+#[derive(Drop)]
+pub(crate) enum State {
+    Waiting(Line),
+    /// The line left with the store.
+    Running,
+    /// What the caller of the line is to take.
+    Done(Result<Receipt, NoMemory>),
+}
+
+/// A line that was put, by the ticket of its caller.
+#[derive(Drop)]
+pub(crate) struct Slot {
+    pub ticket: u64,
+    pub state: State,
+}
+
+/// A line that left with the store.
+#[derive(Drop)]
+pub(crate) struct Asked {
+    pub ticket: u64,
+    pub line: Line,
+}
+
+impl Slot {
+    pub(crate) fn is_waiting(&self) -> bool {
+        matches!(self.state, State::Waiting(_))
+    }
+
+    pub(crate) fn is_done(&self) -> bool {
+        matches!(self.state, State::Done(_))
+    }
+
+    /// The line, where it waits. It leaves then.
+    pub(crate) fn start(&mut self) -> Option<Asked>
+        ensures some { IfSome result (λ asked. self.new.state ≡ State.Running) }
+        ensures none { IfNone result (self.new ≡ self.old) }
+    {
+        match mem::replace(&mut self.state, State::Running) {
+            State::Waiting(line) => Some(Asked {
+                ticket: self.ticket,
+                line,
+            }),
+            state => {
+                self.state = state;
+                None
+            }
+        }
+    }
+
+    /// Where the line has got to now.
+    pub(crate) fn set(&mut self, state: State)
+        ensures { self.new.state ≡ state }
+    {
+        self.state = state;
+    }
+}
+
+/// The lines of a batch, in order.
+pub(crate) fn lines_of(alloc: Global, batch: &[Asked]) -> Result<Vec<&[u8]>, NoMemory>
+    ensures lines { IfOk result (λ lines. map (λ line. line.now) lines.items ≡ map (λ asked. asked.line.bytes.items) batch.now) }
+    ensures limit { IfOk result (λ lines. All (λ line. length line.now ≤ 1048576) lines.items) }
+{
+    let mut lines = Vec::with_capacity(alloc, batch.len())?;
+    for asked in batch {
+        lines.push(asked.line.bytes())?;
+    }
+    Ok(lines)
+}

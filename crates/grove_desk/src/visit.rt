@@ -1,0 +1,113 @@
+ghost use Rattle.std.specs.Prelude.{◌≡◌, ℕ, ◌+◌, ◌^◌, ◌<◌, ◌≤◌, false, List, Err};
+ghost use Rattle.std.specs.Io.KnownBytes.{Appends, Consumes};
+ghost use Rattle.grove_session.specs.declared.session_fault.SessionFault.TheVariants.{Turns};
+ghost use Rattle.grove_session.specs.Sessions.{SessionEnds, is_read, is_write};
+ghost use Rattle.grove_tree.specs.Weights.{unweighed};
+ghost use Rattle.grove_desk.specs.Desks.{Visited, IsShared};
+
+use crate::fault::answer_fault;
+use crate::{Desk, Receipt};
+use grove_session::{AnswerFault, Answers, SessionFault, Sink, Source, session};
+use grove_tree::OpenGate;
+use std::alloc::{AllocGlobal, Global};
+use std::marker::Model;
+use std::sync::Wait;
+use std::thread::Threads;
+
+/// A visitor of a desk, whose lines are answered there one after the other.
+#[derive(Drop)]
+pub struct Visit<'a> {
+    desk: &'a Desk,
+    /// What the last line was answered.
+    seen: Option<Receipt>,
+}
+
+impl<'a> Model for Visit<'a> {
+    ghost use Rattle.grove_tree.specs.Weights.{unweighed};
+    ghost use Rattle.grove_desk.specs.Desks.{Visited, rounds_seen};
+
+    ghost Value = { Visited };
+
+    ghost view = { λ visit. record { names = unweighed visit.desk.now.opening.rows; rounds = rounds_seen visit.seen } };
+}
+
+impl<'a> Visit<'a> {
+    /// A visitor who has seen nothing yet.
+    pub fn new(desk: &'a Desk) -> Visit<'a>
+        ensures { result ≡ record { names = unweighed desk.entry.now.opening.rows; rounds = 0 } }
+    {
+        Visit { desk, seen: None }
+    }
+}
+
+impl<'a, R: Threads + Wait + Sync + AllocGlobal> Answers<R> for Visit<'a> {
+    ghost use Rattle.std.specs.Prelude.{true};
+    ghost use Rattle.std.specs.Thread.{IsSync};
+    ghost use Rattle.grove_desk.specs.Desks.{IsShared};
+
+    ghost lawful = { λ old line reply new. IsShared old line reply new };
+
+    ghost is_shared = { true };
+
+    ghost asks = { IsSync R.row };
+
+    fn answer(&mut self, rt: &R, line: &[u8]) -> Result<Vec<u8>, AnswerFault> {
+        let alloc = rt.alloc();
+        match self
+            .desk
+            .answer(rt, alloc, self.seen.as_ref(), line, &OpenGate)
+        {
+            Ok(receipt) => {
+                let (seen, reply) = without_reply(alloc, receipt);
+                self.seen = Some(seen);
+                Ok(reply)
+            }
+            Err(fault) => Err(answer_fault(fault)),
+        }
+    }
+}
+
+/// The receipt without its reply, and the reply.
+fn without_reply(alloc: Global, receipt: Receipt) -> (Receipt, Vec<u8>)
+    ensures rounds { result.0.rounds ≡ receipt.rounds }
+    ensures number { result.0.number ≡ receipt.number }
+    ensures reply { result.1.items ≡ receipt.reply }
+{
+    let Receipt {
+        number,
+        line,
+        reply,
+        rounds,
+    } = receipt;
+    let seen = Receipt {
+        number,
+        line,
+        reply: Vec::new(alloc),
+        rounds,
+    };
+    (seen, reply)
+}
+
+/// Answers the lines of the source at the desk, one after the other, each with its reply and a line feed, and gives their
+/// number. Between two of them others may have changed the store. After `Foreign` the replies of the lines before went out
+/// whole, and the line may have had its effect.
+pub fn desk_session<R: Threads + Wait + Sync + AllocGlobal, I: Source, O: Sink>(
+    rt: &R,
+    desk: &Desk,
+    source: &mut I,
+    sink: &mut O,
+) -> Result<u64, SessionFault>
+    requires sound_source { I.has_failed source.old ≡ false }
+    requires sound_sink { O.has_failed sink.old ≡ false }
+    requires reads { I.read_count source.old < 2 ^ 63 }
+    ensures text { (input out : List ℕ) × (new : Visited) × Consumes (I.remaining source.old) (I.remaining source.new) input
+        × Appends (O.contents sink.old) (O.contents sink.new) out
+        × SessionEnds IsShared (record { names = unweighed desk.now.opening.rows; rounds = 0 }) result (I.remaining source.new) input out new }
+    ensures source { I.has_failed source.new ≡ is_read result }
+    ensures sink { O.has_failed sink.new ≡ is_write result }
+    ensures turns { result ≡ Err Turns → I.read_count source.new ≡ I.read_count source.old + 2 ^ 32 }
+    ensures few { I.read_count source.new ≤ I.read_count source.old + 2 ^ 32 }
+{
+    let mut visit = Visit::new(desk);
+    session(rt, &mut visit, source, sink)
+}

@@ -1,0 +1,242 @@
+-- A watch: what it tells of the next step, and that it goes on with it.
+use Rattle.std.proofs.Common.{◌≡◌, ℕ, suc, ◌+◌, ◌-◌, ◌*◌, ◌<◌, ◌≤◌, Bool, true, false, not, ◌&&◌, ◌||◌, List, length, get_or, set, replicate, Option, Some, None, refl, sym, ◌∙◌, ap, add-one, mul-le-mul_left, arith}
+use Rattle.std.specs.Prelude.{slice_index}
+use Rattle.std.specs.List.{slice_get}
+use Rattle.std.proofs.lemmas.List.{length-set, get_or-replicate, length-replicate}
+use Rattle.std.proofs.lemmas.Bool.{and_left, and_right, and_from, both_ways, false_from_ne_true}
+use Rattle.grove_base.specs.Numbers.{any_below}
+use Rattle.grove_tree.specs.Trees.{Rows, IsTree, parent_of, weight_of}
+use Rattle.grove_tree.specs.Rules.{IsWithinLimits}
+use Rattle.grove_base.proofs.Counting.{count_hit, count_miss, sum_zero}
+use Rattle.grove_tree.proofs.Above.{parent_lt}
+use Rattle.grove_access.specs.Lists.{AreLengths}
+use Rattle.grove_access.proofs.Slots.{few_slots}
+use Rattle.grove_plan.specs.declared.step.Step.{Step}
+use Rattle.grove_plan.specs.declared.step.Step.TheVariants.{Lock, Unlock, Access}
+use Rattle.grove_plan.specs.declared.fault.PlanFault.{PlanFault}
+use Rattle.grove_plan.specs.declared.watch.Hold.TheVariants.{Free, Held, Done}
+use Rattle.grove_plan.specs.declared.watch.Watch.{Watch}
+use Rattle.grove_plan.specs.Plans.{locks, is_lock, is_access, held, slots_of}
+use Rattle.grove_plan.specs.Faults.{is_held, is_later, step_fault}
+use Rattle.grove_plan.specs.Watching.{is_free, is_holding, holds_node, held_weight, cost_before, IsWatched}
+use Rattle.grove_plan.proofs.StepFaults.{step_is, lock_kept, unlock_kept}
+use Rattle.grove_plan.proofs.StepEffects.{held_locked, holding_tells, free_tells, node_tells, each_locked, each_unlocked, each_accessed, weight_locked, weight_unlocked, weight_accessed, weight_small, weight_part, cost_same, cost_accessed}
+use Rattle.std.proofs.lemmas.Option.{slice_get-get_or}
+
+-- what is read at a position of the plan stands there, whatever is read beyond its end
+read_or : (plan : List Step) (position : ℕ) (step d : Step) → position < length plan → get_or plan position d ≡ step → slice_get plan position ≡ Some step
+read_or plan position step d within read = slice_get-get_or plan position d within ∙ ap (λ s. Some s) read
+
+-- The step at a position is judged by what is read there
+
+-- the fault of the step that is read is that of the position
+pub fault_read : (rows : Rows) (nodes : List ℕ) (plan : List Step) (position : ℕ) (step d : Step) (fault : Option PlanFault) → position < length plan → get_or plan position d ≡ step
+    → step_fault rows nodes plan position (Some step) ≡ fault → fault ≡ step_fault rows nodes plan position (slice_get plan position)
+fault_read rows nodes plan position step d fault within read judged =
+    sym (step_is rows nodes plan position step (read_or plan position step d within read) ∙ judged)
+
+-- and where the position has none, the step that is read has none
+pub kept_read : (rows : Rows) (nodes : List ℕ) (plan : List Step) (position : ℕ) (step d : Step) → position < length plan → get_or plan position d ≡ step
+    → step_fault rows nodes plan position (slice_get plan position) ≡ None → step_fault rows nodes plan position (Some step) ≡ None
+kept_read rows nodes plan position step d within read kept = sym (step_is rows nodes plan position step (read_or plan position step d within read)) ∙ kept
+
+-- What the table tells
+
+flip : (a b : Bool) → b ≡ not a → a ≡ not b
+flip true b e = rw e refl
+flip false b e = rw e refl
+
+-- the table tells whether a node was locked before
+pub locked_by : {lengths : List ℕ} (rows : Rows) (plan : List Step) (position node : ℕ) (b : Bool) (watch : Watch) → IsWatched rows lengths plan position watch → node < length rows
+    → is_free (get_or watch.holds.items node Free) ≡ b → any_below position (λ i. locks node (slice_get plan i)) ≡ not b
+locked_by rows plan position node b watch watched lt test =
+    flip (any_below position (λ i. locks node (slice_get plan i))) b (sym test ∙ ap is_free (watched.each node lt) ∙ free_tells plan node position)
+
+-- and whether it is held
+pub held_by : {lengths : List ℕ} (rows : Rows) (plan : List Step) (position node : ℕ) (b : Bool) (watch : Watch) → IsWatched rows lengths plan position watch → node < length rows
+    → is_holding (get_or watch.holds.items node Free) ≡ b → held plan node position ≡ b
+held_by rows plan position node b watch watched lt test = sym (holding_tells plan node position) ∙ sym (ap is_holding (watched.each node lt)) ∙ test
+
+-- a parent is held just where the table says so
+pub parent_by : {lengths : List ℕ} (rows : Rows) (plan : List Step) (position node : ℕ) (watch : Watch) → IsTree rows → IsWatched rows lengths plan position watch → node < length rows
+    → holds_node watch.holds.items (parent_of rows node) ≡ is_held plan position (parent_of rows node)
+parent_by rows plan position node watch tree watched lt =
+    node_tells (length rows) plan position watch.holds.items (parent_of rows node)
+    (λ parent is. let less : parent < node = parent_lt rows tree node parent is in omega arith)
+    watched.each
+
+-- where the table doesn't have the parent held, a later lock lacks it
+pub parent_missed : {lengths : List ℕ} (rows : Rows) (plan : List Step) (position node : ℕ) (watch : Watch) → IsTree rows → IsWatched rows lengths plan position watch → node < length rows
+    → watch.later ≡ true → holds_node watch.holds.items (parent_of rows node) ≡ false → (is_later plan position && not (is_held plan position (parent_of rows node))) ≡ true
+parent_missed rows plan position node watch tree watched lt later free =
+    and_from (is_later plan position) (not (is_held plan position (parent_of rows node))) (sym watched.later ∙ later)
+    (ap not (sym (parent_by rows plan position node watch tree watched lt) ∙ free))
+
+-- where it has, none is lacking
+pub parent_kept : {lengths : List ℕ} (rows : Rows) (plan : List Step) (position node : ℕ) (watch : Watch) → IsTree rows → IsWatched rows lengths plan position watch → node < length rows
+    → holds_node watch.holds.items (parent_of rows node) ≡ true → (is_later plan position && not (is_held plan position (parent_of rows node))) ≡ false
+parent_kept rows plan position node watch tree watched lt holds =
+    and_right (is_later plan position) (not (is_held plan position (parent_of rows node))) (ap not (sym (parent_by rows plan position node watch tree watched lt) ∙ holds))
+
+-- the first lock needs no parent
+pub first_kept : {lengths : List ℕ} (rows : Rows) (plan : List Step) (position node : ℕ) (watch : Watch) → IsWatched rows lengths plan position watch
+    → watch.later ≡ false → (is_later plan position && not (is_held plan position (parent_of rows node))) ≡ false
+first_kept rows plan position node watch watched first =
+    and_left (is_later plan position) (not (is_held plan position (parent_of rows node))) (sym watched.later ∙ first)
+
+-- whether the node of an access is held
+pub access_by : (plan : List Step) (position : ℕ) (o : Option ℕ) (node : ℕ) (b : Bool) → o ≡ Some node → held plan node position ≡ b → is_held plan position o ≡ b
+access_by plan position o node b is test = rw is test
+
+-- A watch goes on
+
+-- a node that no step locked is not held
+free_held : (plan : List Step) (v position : ℕ) → any_below position (λ i. locks v (slice_get plan i)) ≡ false → held plan v position ≡ false
+free_held plan v position none = false_from_ne_true (held plan v position) (λ holds. both_ways (any_below position (λ i. locks v (slice_get plan i))) none (held_locked plan v position holds))
+
+-- before the first step
+pub watch_starts : {lengths : List ℕ} (rows : Rows) (plan : List Step) (watch : Watch) → watch.holds.items ≡ replicate (length rows) Free → watch.later ≡ false
+    → watch.accesses ≡ 0 → watch.weight ≡ 0 → watch.cost ≡ 0 → IsWatched rows lengths plan 0 watch
+watch_starts rows plan watch holds later accesses weight cost = record {
+  nodes = ap length holds ∙ length-replicate (length rows) Free;
+  each = λ node lt. rw holds (get_or-replicate (length rows) node Free Free lt);
+  later = later;
+  accesses = accesses;
+  weight = weight ∙ sym (sum_zero (length rows) (λ node. 0) (λ node lt. refl));
+  cost = cost ∙ sym (sum_zero (length rows) (λ node. weight_of rows node * 0) (λ node lt. omega arith));
+  small = omega arith;
+}
+
+later_lock : (plan : List Step) (position u : ℕ) → slice_get plan position ≡ Some (Lock u) → is_later plan (suc position) ≡ true
+later_lock plan position u at = ap (λ (s : Option Step). is_lock s || is_later plan position) at
+
+later_unlock : (plan : List Step) (position u : ℕ) → slice_get plan position ≡ Some (Unlock u) → is_later plan (suc position) ≡ is_later plan position
+later_unlock plan position u at = ap (λ (s : Option Step). is_lock s || is_later plan position) at
+
+later_access : (plan : List Step) (position a : ℕ) → slice_get plan position ≡ Some (Access a) → is_later plan (suc position) ≡ is_later plan position
+later_access plan position a at = ap (λ (s : Option Step). is_lock s || is_later plan position) at
+
+lock_access : (step : Option Step) (u : ℕ) → step ≡ Some (Lock u) → is_access step ≡ false
+lock_access step u at = rw at refl
+
+unlock_access : (step : Option Step) (u : ℕ) → step ≡ Some (Unlock u) → is_access step ≡ false
+unlock_access step u at = rw at refl
+
+lock_slots : (lengths : List ℕ) (step : Option Step) (u : ℕ) → step ≡ Some (Lock u) → slots_of lengths step ≡ 0
+lock_slots lengths step u at = rw at refl
+
+unlock_slots : (lengths : List ℕ) (step : Option Step) (u : ℕ) → step ≡ Some (Unlock u) → slots_of lengths step ≡ 0
+unlock_slots lengths step u at = rw at refl
+
+-- what an access costs at most
+pub part_small : (weight slots : ℕ) → weight ≤ 4096000 → slots ≤ 1000 → weight * slots ≤ 4096000000
+part_small weight slots light few = let le : weight * slots ≤ weight * 1000 = mul-le-mul_left weight few in omega arith
+
+access_access : (step : Option Step) (a : ℕ) → step ≡ Some (Access a) → is_access step ≡ true
+access_access step a at = rw at refl
+
+next_locked : {lengths : List ℕ} (rows : Rows) (plan : List Step) (position u : ℕ) (watch after : Watch) → IsWatched rows lengths plan position watch → slice_get plan position ≡ Some (Lock u)
+    → (u < length rows) × (any_below position (λ i. locks u (slice_get plan i)) ≡ false) → after.holds.items ≡ set watch.holds.items u Held → after.later ≡ true → after.accesses ≡ watch.accesses
+    → after.weight ≡ watch.weight + weight_of rows u → after.cost ≡ watch.cost → IsWatched rows lengths plan (suc position) after
+next_locked {lengths} rows plan position u watch after watched at kept holds later accesses weight cost =
+    let nodes : length watch.holds.items ≡ length rows = watched.nodes in
+    let lt : u < length rows = kept.0 in
+    let quick : slots_of lengths (slice_get plan position) ≡ 0 = lock_slots lengths (slice_get plan position) u at in
+    let none : is_access (slice_get plan position) ≡ false = lock_access (slice_get plan position) u at in
+    let weighed : held_weight rows plan (suc position) ≡ held_weight rows plan position + weight_of rows u = weight_locked rows plan position u at lt (free_held plan u position kept.1) in
+    record {
+      nodes = ap length holds ∙ length-set watch.holds.items u Held ∙ nodes;
+      each = rw holds (each_locked (length rows) plan position u watch.holds.items at (omega arith) watched.each);
+      later = later ∙ sym (later_lock plan position u at);
+      accesses = accesses ∙ watched.accesses ∙ sym (count_miss position (λ i. is_access (slice_get plan i)) none);
+      weight = weight ∙ ap (λ (w : ℕ). w + weight_of rows u) watched.weight ∙ sym weighed;
+      cost = cost ∙ watched.cost ∙ sym (cost_same rows lengths plan position quick);
+      small = let small : watch.cost ≤ 4096000000 * position = watched.small in omega arith;
+    }
+
+next_unlocked : {lengths : List ℕ} (rows : Rows) (plan : List Step) (position u : ℕ) (watch after : Watch) → IsWatched rows lengths plan position watch → slice_get plan position ≡ Some (Unlock u)
+    → (u < length rows) × (held plan u position ≡ true) → after.holds.items ≡ set watch.holds.items u Done → after.later ≡ watch.later → after.accesses ≡ watch.accesses
+    → after.weight ≡ watch.weight - weight_of rows u → after.cost ≡ watch.cost → IsWatched rows lengths plan (suc position) after
+next_unlocked {lengths} rows plan position u watch after watched at kept holds later accesses weight cost =
+    let nodes : length watch.holds.items ≡ length rows = watched.nodes in
+    let lt : u < length rows = kept.0 in
+    let quick : slots_of lengths (slice_get plan position) ≡ 0 = unlock_slots lengths (slice_get plan position) u at in
+    let none : is_access (slice_get plan position) ≡ false = unlock_access (slice_get plan position) u at in
+    let weighed : held_weight rows plan position ≡ held_weight rows plan (suc position) + weight_of rows u = weight_unlocked rows plan position u at lt kept.1 in
+    let was : watch.weight ≡ held_weight rows plan position = watched.weight in
+    record {
+      nodes = ap length holds ∙ length-set watch.holds.items u Done ∙ nodes;
+      each = rw holds (each_unlocked (length rows) plan position u watch.holds.items at kept.1 (omega arith) watched.each);
+      later = later ∙ watched.later ∙ sym (later_unlock plan position u at);
+      accesses = accesses ∙ watched.accesses ∙ sym (count_miss position (λ i. is_access (slice_get plan i)) none);
+      weight = omega arith;
+      cost = cost ∙ watched.cost ∙ sym (cost_same rows lengths plan position quick);
+      small = let small : watch.cost ≤ 4096000000 * position = watched.small in omega arith;
+    }
+
+next_accessed : {lengths : List ℕ} (rows : Rows) (plan : List Step) (position a : ℕ) (watch after : Watch) → IsWithinLimits rows → IsWatched rows lengths plan position watch → slice_get plan position ≡ Some (Access a)
+    → after.holds.items ≡ watch.holds.items → after.later ≡ watch.later → after.accesses ≡ watch.accesses + 1
+    → after.weight ≡ watch.weight → AreLengths lengths → after.cost ≡ watch.cost + watch.weight * slice_index lengths a → IsWatched rows lengths plan (suc position) after
+next_accessed {lengths} rows plan position a watch after limits watched at holds later accesses weight are cost =
+    let access : is_access (slice_get plan position) ≡ true = access_access (slice_get plan position) a at in
+    let light : held_weight rows plan position ≤ 4096000 = weight_small rows plan position limits in
+    let was : watch.weight ≡ held_weight rows plan position = watched.weight in
+    let spent : watch.cost ≡ cost_before rows lengths plan position = watched.cost in
+    let slots : slots_of lengths (slice_get plan position) ≡ slice_index lengths a = ap (slots_of lengths) at in
+    let costs : cost_before rows lengths plan (suc position) ≡ cost_before rows lengths plan position + held_weight rows plan position * slots_of lengths (slice_get plan position) =
+    cost_accessed rows lengths plan position in
+    let product : watch.weight * slice_index lengths a ≡ held_weight rows plan position * slots_of lengths (slice_get plan position) = rw (was, slots) refl in
+    let few : slice_index lengths a ≤ 1000 = few_slots lengths a are in
+    let small_part : watch.weight * slice_index lengths a ≤ 4096000000 = part_small watch.weight (slice_index lengths a) (omega arith) few in
+    record {
+      nodes = ap length holds ∙ watched.nodes;
+      each = rw holds (each_accessed (length rows) plan position a watch.holds.items at watched.each);
+      later = later ∙ watched.later ∙ sym (later_access plan position a at);
+      accesses = accesses ∙ add-one watch.accesses ∙ ap suc watched.accesses ∙ sym (count_hit position (λ i. is_access (slice_get plan i)) access);
+      weight = weight ∙ was ∙ sym (weight_accessed rows plan position a at);
+      cost = omega arith;
+      small = let small : watch.cost ≤ 4096000000 * position = watched.small in omega arith;
+    }
+
+-- The same as the code reads a step and writes the table
+
+-- a watch that takes a lock has followed the plan past it
+pub watch_locked : {lengths : List ℕ} (rows : Rows) (nodes : List ℕ) (plan : List Step) (position u i : ℕ) (d : Step) (watch after : Watch) → position < length plan → get_or plan position d ≡ Lock u → i ≡ u
+    → IsWatched rows lengths plan position watch → step_fault rows nodes plan position (slice_get plan position) ≡ None → after.holds.items ≡ set watch.holds.items i Held → after.later ≡ true
+    → after.accesses ≡ watch.accesses → after.weight ≡ watch.weight + weight_of rows u → after.cost ≡ watch.cost → IsWatched rows lengths plan (position + 1) after
+watch_locked rows nodes plan position u i d watch after within read is watched kept holds later accesses weight cost =
+    let rules = lock_kept rows plan position u (kept_read rows nodes plan position (Lock u) d within read kept) in
+    rw add-one (next_locked rows plan position u watch after watched (read_or plan position (Lock u) d within read) (rules.0, rules.1)
+    (holds ∙ ap (λ (n : ℕ). set watch.holds.items n Held) is) later accesses weight cost)
+
+-- and so has one that takes an unlock
+pub watch_unlocked : {lengths : List ℕ} (rows : Rows) (nodes : List ℕ) (plan : List Step) (position u i : ℕ) (d : Step) (watch after : Watch) → position < length plan → get_or plan position d ≡ Unlock u → i ≡ u
+    → IsWatched rows lengths plan position watch → step_fault rows nodes plan position (slice_get plan position) ≡ None → after.holds.items ≡ set watch.holds.items i Done → after.later ≡ watch.later
+    → after.accesses ≡ watch.accesses → after.weight ≡ watch.weight - weight_of rows u → after.cost ≡ watch.cost → IsWatched rows lengths plan (position + 1) after
+watch_unlocked rows nodes plan position u i d watch after within read is watched kept holds later accesses weight cost =
+    rw add-one (next_unlocked rows plan position u watch after watched (read_or plan position (Unlock u) d within read)
+    (unlock_kept rows plan position u (kept_read rows nodes plan position (Unlock u) d within read kept))
+    (holds ∙ ap (λ (n : ℕ). set watch.holds.items n Done) is) later accesses weight cost)
+
+-- and one that takes an access
+pub watch_accessed : {lengths : List ℕ} (rows : Rows) (plan : List Step) (position a : ℕ) (d : Step) (watch after : Watch) → IsWithinLimits rows → position < length plan → get_or plan position d ≡ Access a
+    → IsWatched rows lengths plan position watch → after.holds.items ≡ watch.holds.items → after.later ≡ watch.later → after.accesses ≡ watch.accesses + 1
+    → after.weight ≡ watch.weight → AreLengths lengths → after.cost ≡ watch.cost + watch.weight * slice_index lengths a → IsWatched rows lengths plan (position + 1) after
+watch_accessed rows plan position a d watch after limits within read watched holds later accesses weight are cost =
+    rw add-one (next_accessed rows plan position a watch after limits watched (read_or plan position (Access a) d within read) holds later accesses weight are cost)
+
+-- What the watch holds is in range
+
+-- the weight held fits its type
+pub watched_weight : {lengths : List ℕ} (rows : Rows) (plan : List Step) (position : ℕ) (watch : Watch) → IsWithinLimits rows → IsWatched rows lengths plan position watch → watch.weight ≤ 4096000
+watched_weight rows plan position watch limits watched =
+    let was : watch.weight ≡ held_weight rows plan position = watched.weight in
+    let light : held_weight rows plan position ≤ 4096000 = weight_small rows plan position limits in omega arith
+
+-- and a held node's weight is part of it
+pub watched_part : {lengths : List ℕ} (rows : Rows) (nodes : List ℕ) (plan : List Step) (position u : ℕ) (d : Step) (watch : Watch) → position < length plan → get_or plan position d ≡ Unlock u
+    → IsWatched rows lengths plan position watch → step_fault rows nodes plan position (slice_get plan position) ≡ None → weight_of rows u ≤ watch.weight
+watched_part rows nodes plan position u d watch within read watched kept =
+    let rules = unlock_kept rows plan position u (kept_read rows nodes plan position (Unlock u) d within read kept) in
+    let was : watch.weight ≡ held_weight rows plan position = watched.weight in
+    let part : weight_of rows u ≤ held_weight rows plan position = weight_part rows plan position u rules.0 rules.1 in omega arith

@@ -1,0 +1,99 @@
+-- A certificate with one amount changed doesn't balance at the row of the change.
+use Rattle.std.proofs.Common.{◌≡◌, ◌≢◌, ℕ, suc, ◌+◌, ◌≤◌, false, cond, List, [], ◌∷◌, Option, Some, None, refl, sym, ◌∙◌, ap, subst, inl, inr, arith}
+use Rattle.std.specs.List.{slice_get, sum_by}
+use Rattle.std.proofs.lemmas.Option.{none-some, same_Some}
+use Rattle.std.proofs.lemmas.Bool.{cases_eq, cases_Bool, eqb-true}
+use Rattle.std.proofs.lemmas.List.Sums.{sum_by-cons}
+use Rattle.grove_tree.specs.Trees.{Rows, parent_of, weight_of, is_at, IsTree}
+use Rattle.grove_tree.proofs.Above.{parent_lt}
+use Rattle.grove_tree.proofs.Tests.{is_at_true}
+use Rattle.grove_proof.specs.declared.flow.FlowRow.{FlowRow}
+use Rattle.grove_proof.specs.Changes.{Constraint, Above, Held, First, Last, Own, amount_on, DifferInOne, IsChangedOnce}
+use Rattle.grove_proof.specs.Flows.{child_sum}
+use Rattle.grove_proof.specs.Laws.{OneChangeIsRefused}
+
+-- a function of an item that may be missing
+abbrev seen : (FlowRow → ℕ) → Option FlowRow → Option ℕ
+seen f None = None
+seen f (Some row) = Some (f row)
+
+-- sums of terms that are the same place by place
+sums_alike : (f : FlowRow → ℕ) (xs ys : List FlowRow) → ((i : ℕ) → seen f (slice_get xs i) ≡ seen f (slice_get ys i)) → sum_by f xs ≡ sum_by f ys
+sums_alike f [] [] same = refl
+sums_alike f [] (y ∷ ys) same = absurd (none-some (f y) (same 0))
+sums_alike f (x ∷ xs) [] same = absurd (none-some (f x) (sym (same 0)))
+sums_alike f (x ∷ xs) (y ∷ ys) same =
+    let here : f x ≡ f y = same_Some (f x) (f y) (same 0) in
+    let rest : sum_by f xs ≡ sum_by f ys = sums_alike f xs ys (λ i. same (suc i)) in
+    omega (arith, sum_by-cons f x xs, sum_by-cons f y ys)
+
+-- no node is its own parent
+not_own_parent : (rows : Rows) (v : ℕ) → IsTree rows → is_at v (parent_of rows v) ≡ false
+not_own_parent rows v tree = elim (cases_Bool (is_at v (parent_of rows v))) [
+  | inl own ↦ let less : suc v ≤ v = parent_lt rows tree v v (is_at_true v (parent_of rows v) own) in absurd (omega arith)
+  | inr other ↦ other
+]
+
+module _ (rows : Rows) (flow other : List FlowRow) (tree : IsTree rows) (once : IsChangedOnce flow other) where
+  -- what the row's children add up to is the same before and after the change
+  children_kept : (amount : FlowRow → ℕ) → child_sum rows amount flow once.row ≡ child_sum rows amount other once.changed
+  children_kept amount =
+      let v : ℕ = once.row.node in
+      let term : FlowRow → ℕ = λ child. cond (is_at once.row.node (parent_of rows child.node)) (amount child) 0 in
+      let none : (child : FlowRow) → once.row.node ≡ child.node → cond (is_at once.row.node (parent_of rows child.node)) (amount child) 0 ≡ 0 = λ child same.
+      let P : ℕ → Type 0 = λ n. cond (is_at once.row.node (parent_of rows n)) (amount child) 0 ≡ 0 in
+      subst P same (ap (λ b. cond b (amount child) 0) (not_own_parent rows once.row.node tree)) in
+      sums_alike term flow other (λ i. elim (cases_eq i once.place) [
+        | inl e ↦
+            let P : ℕ → Type 0 = λ n. seen term (slice_get flow n) ≡ seen term (slice_get other n) in
+            subst P (sym e) (ap (seen term) once.before ∙ (ap (λ (n : ℕ). Some n) (none once.row refl ∙ sym (none once.changed once.differ.node)) ∙ sym (ap (seen term) once.after)))
+        | inr ne ↦ ap (seen term) (once.kept i ne)
+      ])
+      ∙ ap (λ n. sum_by (λ child. cond (is_at n (parent_of rows child.node)) (amount child) 0) other) once.differ.node
+
+  -- so both can't balance
+  unbalanced : (a c h f l o d a2 c2 h2 f2 l2 o2 d2 w w2 : ℕ) (changed : Constraint) → w ≡ w2 → c ≡ c2 → d ≡ d2
+      → a + w ≡ c + h + f + o → a2 + w2 ≡ c2 + h2 + f2 + o2 → d + l + o ≡ w → d2 + l2 + o2 ≡ w2
+      → (Above ≢ changed → a ≡ a2) → (Held ≢ changed → h ≡ h2) → (First ≢ changed → f ≡ f2) → (Last ≢ changed → l ≡ l2) → (Own ≢ changed → o ≡ o2)
+      → (a ≡ a2) × (h ≡ h2) × (f ≡ f2) × (l ≡ l2) × (o ≡ o2)
+  unbalanced a c h f l o d a2 c2 h2 f2 l2 o2 d2 w w2 Above e1 e2 e3 b1 b2 b3 b4 k1 k2 k3 k4 k5 =
+      let p : h ≡ h2 = k2 (λ e. absurd (cc)) in let q : f ≡ f2 = k3 (λ e. absurd (cc)) in let r : l ≡ l2 = k4 (λ e. absurd (cc)) in let s : o ≡ o2 = k5 (λ e. absurd (cc)) in
+      (omega arith, p, q, r, s)
+  unbalanced a c h f l o d a2 c2 h2 f2 l2 o2 d2 w w2 Held e1 e2 e3 b1 b2 b3 b4 k1 k2 k3 k4 k5 =
+      let p : a ≡ a2 = k1 (λ e. absurd (cc)) in let q : f ≡ f2 = k3 (λ e. absurd (cc)) in let r : l ≡ l2 = k4 (λ e. absurd (cc)) in let s : o ≡ o2 = k5 (λ e. absurd (cc)) in
+      (p, omega arith, q, r, s)
+  unbalanced a c h f l o d a2 c2 h2 f2 l2 o2 d2 w w2 First e1 e2 e3 b1 b2 b3 b4 k1 k2 k3 k4 k5 =
+      let p : a ≡ a2 = k1 (λ e. absurd (cc)) in let q : h ≡ h2 = k2 (λ e. absurd (cc)) in let r : l ≡ l2 = k4 (λ e. absurd (cc)) in let s : o ≡ o2 = k5 (λ e. absurd (cc)) in
+      (p, q, omega arith, r, s)
+  unbalanced a c h f l o d a2 c2 h2 f2 l2 o2 d2 w w2 Last e1 e2 e3 b1 b2 b3 b4 k1 k2 k3 k4 k5 =
+      let p : a ≡ a2 = k1 (λ e. absurd (cc)) in let q : h ≡ h2 = k2 (λ e. absurd (cc)) in let r : f ≡ f2 = k3 (λ e. absurd (cc)) in let s : o ≡ o2 = k5 (λ e. absurd (cc)) in
+      (p, q, r, omega arith, s)
+  unbalanced a c h f l o d a2 c2 h2 f2 l2 o2 d2 w w2 Own e1 e2 e3 b1 b2 b3 b4 k1 k2 k3 k4 k5 =
+      let p : a ≡ a2 = k1 (λ e. absurd (cc)) in let q : h ≡ h2 = k2 (λ e. absurd (cc)) in let r : f ≡ f2 = k3 (λ e. absurd (cc)) in let s : l ≡ l2 = k4 (λ e. absurd (cc)) in
+      (p, q, r, s, omega arith)
+
+-- the changed amount is the same, against what is said of it
+no_change : (row other : FlowRow) (constraint : Constraint) → (row.above ≡ other.above) × (row.held ≡ other.held) × (row.first ≡ other.first) × (row.last ≡ other.last) × (row.own ≡ other.own)
+    → amount_on constraint row ≡ amount_on constraint other
+no_change row other Above same = same.0
+no_change row other Held same = same.1
+no_change row other First same = same.2
+no_change row other Last same = same.3
+no_change row other Own same = same.4
+
+-- a certificate with one amount changed is none
+pub one_change_is_refused : OneChangeIsRefused
+one_change_is_refused rows nodes lengths flow other cost claim tree certificate once changed =
+    let row : FlowRow = once.row in
+    let new : FlowRow = once.changed in
+    let differ : DifferInOne once.row once.changed = once.differ in
+    differ.differ (no_change once.row once.changed differ.changed
+    (unbalanced rows flow other tree once
+    once.row.above (child_sum rows (λ child. child.above) flow once.row) once.row.held once.row.first once.row.last once.row.own (child_sum rows (λ child. child.held) flow once.row)
+    once.changed.above (child_sum rows (λ child. child.above) other once.changed) once.changed.held once.changed.first once.changed.last once.changed.own (child_sum rows (λ child. child.held) other once.changed)
+    (weight_of rows once.row.node) (weight_of rows once.changed.node) differ.changed
+    (ap (weight_of rows) differ.node)
+    (children_kept rows flow other tree once (λ child. child.above)) (children_kept rows flow other tree once (λ child. child.held))
+    (eqb-true _ _ (certificate.balances.locks once.place once.row once.before)) (eqb-true _ _ (changed.balances.locks once.place once.changed once.after))
+    (eqb-true _ _ (certificate.balances.releases once.place once.row once.before)) (eqb-true _ _ (changed.balances.releases once.place once.changed once.after))
+    (differ.kept Above) (differ.kept Held) (differ.kept First) (differ.kept Last) (differ.kept Own)))

@@ -1,0 +1,32 @@
+use grove_tree::Node;
+use std::array;
+use std::sync::Condvar;
+
+/// How many bells there are.
+const BELLS: usize = 16;
+
+/// Where workers sleep until a lock is let go: each node has one of a few bells, by its number.
+#[derive(Drop)]
+pub struct Bells {
+    bells: [Condvar; BELLS],
+}
+
+impl Bells {
+    pub fn new() -> Bells {
+        Bells {
+            bells: array::from_fn(|_| Condvar::new()),
+        }
+    }
+
+    /// The bell of a node.
+    pub fn of(&self, node: Node) -> &Condvar {
+        &self.bells[node.number() as usize % BELLS]
+    }
+
+    /// Wakes every worker that sleeps.
+    pub fn ring_all(&self) {
+        for bell in &self.bells {
+            bell.notify_all();
+        }
+    }
+}

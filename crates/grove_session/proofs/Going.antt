@@ -1,0 +1,241 @@
+-- How a session goes on with the bytes that it reads.
+use Rattle.std.proofs.Common.{◌≡◌, ◌≢◌, ℕ, ◌+◌, Bool, true, false, cond, List, [], ◌∷◌, ◌++◌, Option, None, Some, Result, Ok, Err, length, take, refl, sym, ap, subst, ◌∙◌, append_assoc, append-nil, inl, inr, arith, length-append}
+use Rattle.std.specs.Prelude.{slice_get, nat_lt}
+use Rattle.std.specs.Io.KnownBytes.{IsAtEnd}
+use Rattle.std.proofs.lemmas.List.{length_push}
+use Rattle.std.proofs.lemmas.Option.{same_Some}
+use Rattle.std.proofs.lemmas.Bool.{cond-true, ltb-true, lt-ltb}
+use Rattle.std.proofs.Math.Seq.{take-length}
+use Rattle.grove_session.specs.declared.intake.Intake.{Intake}
+use Rattle.grove_session.specs.declared.session_fault.SessionFault.{SessionFault}
+use Rattle.grove_session.specs.declared.session_fault.SessionFault.TheVariants.{Read, Write, Memory, Turns, Foreign}
+use Rattle.grove_session.specs.Sessions.{Lawful, UnlessLong, whole_lines, rest_of, last_line, lines_of, lines_from, IsReplied, IsAnswered, StopsBefore, StopsWithin, SessionEnds}
+use Rattle.grove_session.specs.Intakes.{clip, with_byte, held_line, IsHeldReplied, RepliesWhole, FailsNext, AnswersNext, TakesBytes, IsUnderWay, EndsAmong, Continues, Breaks, Finishes}
+use Rattle.grove_session.proofs.Lines.{whole_lines-feed, rest_of-feed, whole_lines-byte, rest_of-byte, lines_from-append}
+use Rattle.grove_session.proofs.Answering.{one_more_answer, get_here, take_before, stops_before, stops_within, ends_among}
+
+-- ---- a line that is held
+
+held_more : (b : Bool) (line : List ℕ) (byte : ℕ) → nat_lt 1048576 (length line) ≡ b → with_byte (cond b None (Some line)) byte ≡ clip (line ++ byte ∷ [])
+held_more true line byte long =
+    let more = length_push line byte in
+    let less = ltb-true 1048576 (length line) long in
+    sym (cond-true (nat_lt 1048576 (length (line ++ byte ∷ []))) None (Some (line ++ byte ∷ [])) (lt-ltb 1048576 (length (line ++ byte ∷ [])) (omega arith)))
+held_more false line byte short = refl
+
+-- a byte more of a line is one more of what is held of it
+pub clip-grow : (line : List ℕ) (byte : ℕ) → with_byte (clip line) byte ≡ clip (line ++ byte ∷ [])
+clip-grow line byte = held_more (nat_lt 1048576 (length line)) line byte refl
+
+held_nothing : (b : Bool) (line : List ℕ) → ◌≡◌ {A = Option (List ℕ)} (cond b None (Some line)) (Some []) → line ≡ []
+held_nothing true line h = absurd (cc)
+held_nothing false line h = same_Some line [] h
+
+-- where nothing is held, the line is empty
+pub clip-nothing : (line : List ℕ) → clip line ≡ Some [] → line ≡ []
+clip-nothing line h = held_nothing (nat_lt 1048576 (length line)) line h
+
+last_line-some : (line : List ℕ) → (line ≡ [] → ⊥) → last_line line ≡ line ∷ []
+last_line-some [] some = absurd (some refl)
+last_line-some (byte ∷ line) some = refl
+
+module _ {S : Type 0} (lawful : Lawful S) where
+  unless_long : (b : Bool) (old : S) (line reply : List ℕ) (new : S) → IsHeldReplied lawful old (cond b None (Some line)) reply new → UnlessLong lawful b old line reply new
+  unless_long true old line reply new h = h
+  unless_long false old line reply new h = h
+
+  -- the reply to what is held of a line is one to the line
+  pub held_replied : (old : S) (line reply : List ℕ) (held : Option (List ℕ)) (new : S) → held ≡ clip line → IsHeldReplied lawful old held reply new → IsReplied lawful old line reply new
+  held_replied old line reply held new is h =
+      unless_long (nat_lt 1048576 (length line)) old line reply new (subst (λ (it : Option (List ℕ)). IsHeldReplied lawful old it reply new) is h)
+
+  -- the line that is held is one answer more
+  answered_with : (first old new : S) (input text more : List ℕ) (before after : Intake) → IsUnderWay lawful first input text old before
+      → RepliesWhole lawful old before more new after → IsAnswered lawful first (whole_lines input ++ rest_of input ∷ []) (text ++ more) new
+  answered_with first old new input text more before after h whole =
+      subst (λ (t : List ℕ). IsAnswered lawful first (whole_lines input ++ rest_of input ∷ []) t new)
+      (append_assoc text whole.reply (10 ∷ []) ∙ ap (λ (t : List ℕ). text ++ t) (sym whole.sends.sent))
+      (one_more_answer lawful (whole_lines input) (rest_of input) first old new text whole.reply h.answers
+      (held_replied old (rest_of input) whole.reply (held_line before.line) new h.held whole.replied))
+
+  -- ---- nothing, and one after the other
+
+  pub continues_nothing : (old : S) (before : Intake) → Continues lawful old before [] [] old before
+  continues_nothing old before = record {
+    on = λ first input text h. subst (λ (i : List ℕ). IsUnderWay lawful first i (text ++ []) old before) (sym (append-nil input))
+        (subst (λ (t : List ℕ). IsUnderWay lawful first input t old before) (sym (append-nil text)) h);
+  }
+
+  pub continues_then : (old mid new : S) (before between after : Intake) (xs ys more others : List ℕ) → Continues lawful old before xs more mid between
+      → Continues lawful mid between ys others new after → Continues lawful old before (xs ++ ys) (more ++ others) new after
+  continues_then old mid new before between after xs ys more others one two = record {
+    on = λ first input text h. subst (λ (i : List ℕ). IsUnderWay lawful first i (text ++ (more ++ others)) new after) (append_assoc input xs ys)
+        (subst (λ (t : List ℕ). IsUnderWay lawful first (input ++ xs ++ ys) t new after) (append_assoc text more others)
+        (two.on first (input ++ xs) (text ++ more) (one.on first input text h)));
+  }
+
+  pub breaks_then : (old mid new : S) (before between : Intake) (xs ys more others : List ℕ) (fault : SessionFault) → Continues lawful old before xs more mid between
+      → Breaks lawful mid between ys others fault new → Breaks lawful old before (xs ++ ys) (more ++ others) fault new
+  breaks_then old mid new before between xs ys more others fault one two = record {
+    off = λ first input text h. subst (λ (i : List ℕ). EndsAmong lawful first (whole_lines i) fault (text ++ (more ++ others)) new) (append_assoc input xs ys)
+        (subst (λ (t : List ℕ). EndsAmong lawful first (whole_lines (input ++ xs ++ ys)) fault t new) (append_assoc text more others)
+        (two.off first (input ++ xs) (text ++ more) (one.on first input text h)));
+  }
+
+  -- a fault among the first of some bytes is one among them all
+  pub breaks_early : (old new : S) (before : Intake) (xs ys more : List ℕ) (fault : SessionFault) → Breaks lawful old before xs more fault new
+      → Breaks lawful old before (xs ++ ys) more fault new
+  breaks_early old new before xs ys more fault h = record {
+    off = λ first input text under. subst (λ (ls : List (List ℕ)). EndsAmong lawful first ls fault (text ++ more) new)
+        (sym (lines_from-append [] (input ++ xs) ys) ∙ ap whole_lines (append_assoc input xs ys))
+        (ends_among lawful (whole_lines (input ++ xs)) (lines_from (rest_of (input ++ xs)) ys) first new fault (text ++ more) (h.off first input text under));
+  }
+
+  -- ---- one byte
+
+  -- a byte of a line is held
+  pub byte_goes : (old : S) (before after : Intake) (byte : ℕ) → byte ≢ 10 → held_line after.line ≡ with_byte (held_line before.line) byte
+      → after.answered ≡ before.answered → after.written ≡ before.written → Continues lawful old before (byte ∷ []) [] old after
+  byte_goes old before after byte ne held answered written = record {
+    on = λ first input text h. record {
+      answers = subst (λ (ls : List (List ℕ)). IsAnswered lawful first ls (text ++ []) old) (sym (whole_lines-byte input byte ne))
+          (subst (λ (t : List ℕ). IsAnswered lawful first (whole_lines input) t old) (sym (append-nil text)) h.answers);
+      held = held ∙ ap (λ (it : Option (List ℕ)). with_byte it byte) h.held ∙ clip-grow (rest_of input) byte ∙ ap clip (sym (rest_of-byte input byte ne));
+      answered = answered ∙ h.answered ∙ ap (length {A = List ℕ}) (sym (whole_lines-byte input byte ne));
+      written = written ∙ h.written ∙ ap (length {A = ℕ}) (sym (append-nil text));
+    };
+  }
+
+  -- a line feed, whose line is answered
+  pub feed_goes : (old new : S) (before after : Intake) (more : List ℕ) → RepliesWhole lawful old before more new after → Continues lawful old before (10 ∷ []) more new after
+  feed_goes old new before after more whole = record {
+    on = λ first input text h. record {
+      answers = subst (λ (ls : List (List ℕ)). IsAnswered lawful first ls (text ++ more) new) (sym (whole_lines-feed input []))
+          (answered_with first old new input text more before after h whole);
+      held = whole.sends.fresh ∙ ap clip (sym (rest_of-feed input));
+      answered = whole.sends.answered ∙ ap (λ (n : ℕ). n + 1) h.answered ∙ sym (length_push (whole_lines input) (rest_of input)) ∙ ap (length {A = List ℕ}) (sym (whole_lines-feed input []));
+      written = whole.sends.written ∙ ap (λ (n : ℕ). n + length more) h.written ∙ sym (length-append text more);
+    };
+  }
+
+  -- ---- faults
+
+  -- where nothing went out and nothing changed, what was answered still is all
+  still : (first old new : S) (input text more : List ℕ) (before : Intake) → IsUnderWay lawful first input text old before → more ≡ [] → new ≡ old
+      → IsAnswered lawful first (whole_lines input) (text ++ more) new
+  still first old new input text more before h none same =
+      subst (λ (t : List ℕ). IsAnswered lawful first (whole_lines input) t new) (sym (append-nil text) ∙ ap (λ (t : List ℕ). text ++ t) (sym none))
+      (subst (λ (s : S). IsAnswered lawful first (whole_lines input) text s) (sym same) h.answers)
+
+  -- the line that is held has no reply, or one that didn't go out whole
+  among : (first old new : S) (input text more : List ℕ) (others : List (List ℕ)) (before : Intake) (fault : SessionFault)
+      → IsUnderWay lawful first input text old before → FailsNext lawful old before fault more new
+      → EndsAmong lawful first (whole_lines input ++ rest_of input ∷ others) fault (text ++ more) new
+  among first old new input text more others before (Write n) h part = (
+    part.sends.counted ∙ ap (λ (k : ℕ). k + length more) h.written ∙ sym (length-append text more),
+    stops_within lawful (whole_lines input) others (rest_of input) first old new text more part.reply h.answers
+        (held_replied old (rest_of input) part.reply (held_line before.line) new h.held part.replied) part.sends.unfinished part.sends.cut,
+  )
+  among first old new input text more others before Memory h (none, same) =
+      stops_before lawful (whole_lines input) (rest_of input ∷ others) first new (text ++ more) (still first old new input text more before h none same)
+  among first old new input text more others before Foreign h (none, same) = (
+    rest_of input,
+    length (whole_lines input),
+    get_here (whole_lines input) others (rest_of input),
+    take_before lawful (whole_lines input) (rest_of input ∷ others) first new (text ++ more) (still first old new input text more before h none same),
+  )
+  among first old new input text more others before Read h none = absurd none
+  among first old new input text more others before Turns h none = absurd none
+
+  -- a line feed, whose line isn't answered whole
+  pub feed_breaks : (old new : S) (before : Intake) (more : List ℕ) (fault : SessionFault)
+      → FailsNext lawful old before fault more new → Breaks lawful old before (10 ∷ []) more fault new
+  feed_breaks old new before more fault h = record {
+    off = λ first input text under. subst (λ (ls : List (List ℕ)). EndsAmong lawful first ls fault (text ++ more) new) (sym (whole_lines-feed input []))
+        (among first old new input text more [] before fault under h);
+  }
+
+  -- a byte for which there is no room
+  pub no_room_breaks : (old : S) (before : Intake) (bytes : List ℕ) → Breaks lawful old before bytes [] Memory old
+  no_room_breaks old before bytes = record {
+    off = λ first input text under. subst (λ (ls : List (List ℕ)). StopsBefore lawful first ls (text ++ []) old) (sym (lines_from-append [] input bytes))
+        (stops_before lawful (whole_lines input) (lines_from (rest_of input) bytes) first old (text ++ []) (still first old old input text [] before under refl refl));
+  }
+
+  -- a line feed, whose line is answered or not
+  pub takes_feed : {T : Type 0} (old new : S) (before after : Intake) (byte : ℕ) (result : Result T SessionFault) (more : List ℕ) → byte ≡ 10
+      → AnswersNext lawful old before result more new after → TakesBytes lawful old before (byte ∷ []) result more new after
+  takes_feed old new before after byte (Ok done) more is h =
+      subst (λ (b : ℕ). Continues lawful old before (b ∷ []) more new after) (sym is) (feed_goes old new before after more h)
+  takes_feed old new before after byte (Err fault) more is h =
+      subst (λ (b : ℕ). Breaks lawful old before (b ∷ []) more fault new) (sym is) (feed_breaks old new before more fault h)
+
+  -- ---- ends
+
+  -- a fault among the whole lines ends the session
+  pub ends_so : (first new : S) (left : Option (List ℕ)) (input text : List ℕ) (fault : SessionFault) → EndsAmong lawful first (whole_lines input) fault text new
+      → SessionEnds lawful first (Err fault) left input text new
+  ends_so first new left input text (Write n) (counted, within) = (counted, (whole_lines input, inl refl, within))
+  ends_so first new left input text Memory stops = stops
+  ends_so first new left input text Foreign (line, done, next, answered) = (whole_lines input, line, done, inl refl, next, answered)
+  ends_so first new left input text Read h = absurd h
+  ends_so first new left input text Turns h = absurd h
+
+  -- a fault among the lines with the last one, which isn't answered, ends the session
+  ends_last : (first old new : S) (left : Option (List ℕ)) (input text more : List ℕ) (before : Intake) (fault : SessionFault) → IsAtEnd left
+      → lines_of input ≡ whole_lines input ++ rest_of input ∷ [] → IsUnderWay lawful first input text old before
+      → FailsNext lawful old before fault more new → SessionEnds lawful first (Err fault) left input (text ++ more) new
+  ends_last first old new left input text more before (Write n) at_end all under h =
+      let (counted, within) = among first old new input text more [] before (Write n) under h in
+      (counted, (lines_of input, inr (at_end, refl), subst (λ (ls : List (List ℕ)). StopsWithin lawful first ls (text ++ more) new) (sym all) within))
+  ends_last first old new left input text more before Memory at_end all under (none, same) =
+      let answered = still first old new input text more before under none same in
+      (length (whole_lines input), omega arith, subst (λ (ls : List (List ℕ)). IsAnswered lawful first ls (text ++ more) new) (sym (take-length (whole_lines input))) answered)
+  ends_last first old new left input text more before Foreign at_end all under h =
+      let (line, done, next, answered) = among first old new input text more [] before Foreign under h in (
+        lines_of input,
+        line,
+        done,
+        inr (at_end, refl),
+        ap (λ (ls : List (List ℕ)). slice_get ls done) all ∙ next,
+        subst (λ (ls : List (List ℕ)). IsAnswered lawful first (take done ls) (text ++ more) new) (sym all) answered,
+      )
+  ends_last first old new left input text more before Read at_end all under h = absurd h
+  ends_last first old new left input text more before Turns at_end all under h = absurd h
+
+  -- where no line is held, all lines are answered
+  pub finishes_at_once : (old : S) (before : Intake) → held_line before.line ≡ Some [] → Finishes lawful old before (Ok before.answered) [] old
+  finishes_at_once old before nothing = record {
+    ends = λ first input text left under at_end.
+        let all = ap (λ (line : List ℕ). whole_lines input ++ last_line line) (clip-nothing (rest_of input) (sym under.held ∙ nothing)) ∙ append-nil (whole_lines input) in (
+          at_end,
+          under.answered ∙ ap (length {A = List ℕ}) (sym all),
+          subst (λ (ls : List (List ℕ)). IsAnswered lawful first ls (text ++ []) old) (sym all) (still first old old input text [] before under refl refl),
+        );
+  }
+
+  -- a line that is held is a last one
+  lines_with_last : (first old : S) (input text : List ℕ) (before : Intake) → IsUnderWay lawful first input text old before → (held_line before.line ≡ Some [] → ⊥)
+      → lines_of input ≡ whole_lines input ++ rest_of input ∷ []
+  lines_with_last first old input text before under some =
+      ap (λ (ls : List (List ℕ)). whole_lines input ++ ls) (last_line-some (rest_of input) (λ none. some (under.held ∙ ap clip none)))
+
+  -- the last line is answered
+  pub finishes_with_last : (old new : S) (before after : Intake) (more : List ℕ) → (held_line before.line ≡ Some [] → ⊥) → RepliesWhole lawful old before more new after
+      → Finishes lawful old before (Ok after.answered) more new
+  finishes_with_last old new before after more some whole = record {
+    ends = λ first input text left under at_end.
+        let all = lines_with_last first old input text before under some in (
+          at_end,
+          whole.sends.answered ∙ ap (λ (n : ℕ). n + 1) under.answered ∙ sym (length_push (whole_lines input) (rest_of input)) ∙ ap (length {A = List ℕ}) (sym all),
+          subst (λ (ls : List (List ℕ)). IsAnswered lawful first ls (text ++ more) new) (sym all) (answered_with first old new input text more before after under whole),
+        );
+  }
+
+  -- the last line isn't answered whole
+  pub finishes_in_part : (old new : S) (before : Intake) (more : List ℕ) (fault : SessionFault) → (held_line before.line ≡ Some [] → ⊥)
+      → FailsNext lawful old before fault more new → Finishes lawful old before (Err fault) more new
+  finishes_in_part old new before more fault some h = record {
+    ends = λ first input text left under at_end.
+        ends_last first old new left input text more before fault at_end (lines_with_last first old input text before under some) under h;
+  }

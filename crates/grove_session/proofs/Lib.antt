@@ -1,0 +1,6 @@
+pub mod Written
+pub mod Lines
+pub mod Answering
+pub mod Going
+pub mod Reading
+pub mod LineCuts

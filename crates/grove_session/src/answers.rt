@@ -1,0 +1,38 @@
+ghost use Rattle.std.specs.Prelude.{◌≡◌, ℕ, ◌≤◌, Bool, true, List, length, Err, IfOk, OnErr};
+ghost use Rattle.grove_session.specs.declared.answers.AnswerFault.TheVariants as fault;
+
+use thiserror::Error;
+
+/// The longest line that is looked into, without its line feed.
+pub const LINE_LIMIT: usize = 1_048_576;
+
+/// Why a line has no answer.
+#[derive(Clone, Copy, Debug, PartialEq, Eq, Error)]
+pub enum AnswerFault {
+    /// A growth was refused.
+    #[error("memory")]
+    Memory,
+    /// What was to be answered isn't what was put: of shared answers alone.
+    #[error("foreign")]
+    Foreign,
+}
+
+/// What answers the lines of a session, one after the other.
+pub trait Answers<R> {
+    /// Which replies there may be, and what they make of the state: old, line, reply, new.
+    ghost lawful: { Self → List ℕ → List ℕ → Self → Type 0 };
+
+    /// Are the answers shared with others, so that a line may be lost among theirs?
+    ghost is_shared: { Bool };
+
+    /// What an answer asks of the runtime, beyond the bounds of `R`: that threads may share it, or nothing.
+    ghost asks: { Type 0 };
+
+    /// The reply to a line, without a line feed.
+    fn answer(&mut self, rt: &R, line: &[u8]) -> Result<Vec<u8>, AnswerFault>
+        requires asks { asks }
+        requires short { length line.now ≤ LINE_LIMIT }
+        ensures ok { IfOk result (λ reply. lawful self.old line.now reply.items self.new) }
+        ensures err { OnErr result (self.new ≡ self.old) }
+        ensures foreign { result ≡ Err fault.Foreign → is_shared ≡ true };
+}

@@ -1,0 +1,65 @@
+ghost use Rattle.std.specs.Prelude.{◌≡◌, ℕ, ◌≤◌, ◌↔◌, [], Some, IsTrue, length, OnOk, OnErr};
+ghost use Rattle.grove_session.specs.declared.answers.TheConstants.{LINE_LIMIT};
+
+use crate::LINE_LIMIT;
+use std::alloc::{AllocError, Global};
+
+/// A line that is being read, as far as it goes. Of one that is too long no byte is kept.
+#[derive(Debug, Drop)]
+pub(crate) struct Line {
+    bytes: Vec<u8>,
+    is_long: bool,
+    ghost in_limit: { length bytes.items ≤ LINE_LIMIT },
+}
+
+impl Line {
+    ghost use Rattle.std.specs.Prelude.{Option};
+    ghost use Rattle.std.specs.Option.{option_map};
+    ghost use Rattle.grove_session.specs.Intakes.{held_line, with_byte};
+
+    pub(crate) fn new(alloc: Global) -> Line
+        ensures { held_line result ≡ Some [] }
+    {
+        Line {
+            bytes: Vec::new(alloc),
+            is_long: false,
+        }
+    }
+
+    /// The bytes so far, unless they are too many.
+    pub(crate) fn bytes(&self) -> Option<&[u8]>
+        ensures { option_map (λ bytes. bytes.now) result ≡ held_line self.now }
+    {
+        if self.is_long {
+            None
+        } else {
+            Some(&self.bytes)
+        }
+    }
+
+    pub(crate) fn is_empty(&self) -> bool
+        ensures { IsTrue result ↔ (held_line self.now ≡ Some []) }
+    {
+        !self.is_long && self.bytes.is_empty()
+    }
+
+    pub(crate) fn push(&mut self, byte: u8) -> Result<(), AllocError>
+        ensures ok { OnOk result (held_line self.new ≡ with_byte (held_line self.old) byte) }
+    {
+        if self.bytes.len() == LINE_LIMIT {
+            self.is_long = true;
+        }
+        if !self.is_long {
+            self.bytes.push(byte)?;
+        }
+        Ok(())
+    }
+
+    /// Begins the next line.
+    pub(crate) fn clear(&mut self)
+        ensures { held_line self.new ≡ Some [] }
+    {
+        self.bytes.clear();
+        self.is_long = false;
+    }
+}

@@ -1,0 +1,119 @@
+-- What makes a round lawful: of one line alone, or of batches together.
+use Rattle.std.proofs.Common.{◌≡◌, ◌≢◌, ◌⊎◌, ℕ, suc, ◌+◌, ◌-◌, ◌<◌, ◌≤◌, max, true, false, cond, leb, List, [], ◌∷◌, ◌++◌, length, get_or, take, drop, map, Option, Some, None, refl, sym, ◌∙◌, ap, ap₂, subst, arith, length-append}
+use Rattle.std.specs.Prelude.{option_map, option_and_then, Result, Ok, Err}
+use Rattle.std.specs.Borrow.{Bor}
+use Rattle.std.proofs.lemmas.List.{nil_from_length}
+use Rattle.serde_json.specs.Data.{Data}
+use Rattle.serde_json.specs.Written.{compact_text}
+use Rattle.grove_tree.specs.Trees.{Rows}
+use Rattle.grove_access.specs.declared.access.Access.{Access}
+use Rattle.grove_wire.specs.declared.fault.WireFault.{WireFault}
+use Rattle.grove_wire.specs.declared.fault.WireFault.TheVariants.{BadJson, Shape, NoPath, BadLength, Limit, Tree, Memory}
+use Rattle.grove_wire.specs.Outcomes.{Fails}
+use Rattle.grove_wire.specs.Requests.{Asked, Batch, request_of}
+use Rattle.grove_store.specs.Stocks.{Stock, IsStock}
+use Rattle.grove_store.specs.Alone.{RepliesAlone}
+use Rattle.grove_store.specs.Rounds.{lists_asked, lists_in, batches_in, joined, first_fits, fitting, round_length, RunsRound, FailsRound, AnswersLines, IsLawfulRound, IsLawfulAnswer}
+use Rattle.grove_store.specs.Parts.{IsRoundOf, AnswersRound}
+use Rattle.grove_store.proofs.Together.{counts_one, first_line}
+use Rattle.grove_store.proofs.Leaving.{answered_long}
+
+-- a first line that is no batch is a round by itself
+alone_lawful : (before after : Stock) (line : List ℕ) (others : List (List ℕ)) (asked : Result Asked WireFault) (reply : Data) (text : List ℕ) (replies : List (List ℕ)) → IsStock before
+    → request_of before.rows line ≡ asked → lists_asked asked ≡ None → RepliesAlone before asked reply after → text ≡ compact_text reply → replies ≡ text ∷ []
+    → (length replies ≡ round_length before.rows (line ∷ others)) × IsLawfulRound before (take (length replies) (line ∷ others)) replies after
+alone_lawful before after line others asked reply text replies store read none answers told one =
+    let no_lists : lists_in before.rows line ≡ None = ap lists_asked read ∙ none in
+    let long : length replies ≡ 1 = ap length one in
+    let fits : fitting before.rows 256 (line ∷ others) ≡ 0 = ap (λ (o : Option (List (List Access))). first_fits o 256 (λ left. fitting before.rows left others)) no_lists in
+    let no_batches : batches_in before.rows (line ∷ []) ≡ None = ap (λ (o : Option (List (List Access))). option_and_then (λ lists. option_map (λ batches. lists ∷ batches) (Some [])) o) no_lists in
+    let lawful : IsLawfulRound before (line ∷ []) replies after = record {
+      store = store;
+      answered = subst (λ (o : Option (List (List (List Access)))). AnswersLines before (line ∷ []) o replies after) (sym no_batches)
+          (line, text, refl, one, (reply, subst (λ (a : Result Asked WireFault). RepliesAlone before a reply after) (sym read) answers, told));
+    } in (
+      long ∙ ap (λ (n : ℕ). max 1 n) (sym fits),
+      subst (λ (n : ℕ). IsLawfulRound before (take n (line ∷ others)) replies after) (sym long) lawful,
+    )
+
+-- batches that are answered together
+round_lawful : (before after : Stock) (line : List ℕ) (others : List (List ℕ)) (first lists : List (List Access)) (counts : List ℕ) (replies : List (List ℕ)) → IsStock before
+    → lists_in before.rows line ≡ Some first → length first ≤ 256 → IsRoundOf before.rows first others counts lists → AnswersRound before lists counts replies after
+    → (length replies ≡ round_length before.rows (line ∷ others)) × IsLawfulRound before (take (length replies) (line ∷ others)) replies after
+round_lawful before after line others first lists counts replies store here few round answers =
+    let rest = fitting before.rows (256 - length first) others in
+    let batches = round.has.batches in
+    let answered : RunsRound before (first ∷ batches) replies after ⊎ FailsRound before (first ∷ batches) replies after = answers (first ∷ batches) (sym round.has.in_order) (sym round.has.counted) in
+    let number : length batches ≡ rest = round.has.number in
+    let long : length replies ≡ suc (length batches) = answered_long before (first ∷ batches) replies after answered in
+    let all : length replies ≡ suc rest = omega arith in
+    let fits : fitting before.rows 256 (line ∷ others) ≡ 1 + rest = counts_one (lists_in before.rows line) 256 first (λ left. fitting before.rows left others) (here, few) in
+    let read : batches_in before.rows (line ∷ take rest others) ≡ Some (first ∷ batches) =
+    ap₂ (λ (o : Option (List (List Access))) (more : Option (List (List (List Access)))). option_and_then (λ one. option_map (λ bs. one ∷ bs) more) o) here round.has.are_read in
+    let joins : length (joined (first ∷ batches)) ≤ 256 = let e : length lists ≡ length (joined (first ∷ batches)) = ap length round.has.in_order in let le : length lists ≤ 256 = round.has.few in omega arith in
+    let lawful : IsLawfulRound before (line ∷ take rest others) replies after = record {
+      store = store;
+      answered = subst (λ (o : Option (List (List (List Access)))). AnswersLines before (line ∷ take rest others) o replies after) (sym read) (omega arith, joins, answered);
+    } in (
+      let one : max 1 (fitting before.rows 256 (line ∷ others)) ≡ suc rest = ap (λ (n : ℕ). max 1 n) fits ∙ omega arith in all ∙ sym one,
+      subst (λ (n : ℕ). IsLawfulRound before (take n (line ∷ others)) replies after) (sym all) lawful,
+    )
+
+-- at most one line fits where there is one
+one_fits : (asked : Option (List (List Access))) → max 1 (first_fits asked 256 (λ left. 0)) ≡ 1
+one_fits None = refl
+one_fits (Some lists) = elim (leb (length lists) 256) as (λ b. max 1 (cond b 1 0) ≡ 1) [ true ↦ refl | false ↦ refl ]
+
+-- the last of the replies to one line is the reply
+pub one_answer : (before after : Stock) (line reply : List ℕ) (replies others : List (List ℕ)) → length replies ≡ round_length before.rows (line ∷ []) → replies ≡ others ++ reply ∷ []
+    → IsLawfulRound before (take (length replies) (line ∷ [])) replies after → IsLawfulAnswer before line reply after
+one_answer before after line reply replies others long parts lawful =
+    let one : length replies ≡ 1 = long ∙ one_fits (lists_in before.rows line) in
+    let none : others ≡ [] = nil_from_length others (omega (arith, ap length parts, length-append others (reply ∷ []))) in
+    let alone : replies ≡ reply ∷ [] = parts ∙ ap (λ (front : List (List ℕ)). front ++ reply ∷ []) none in
+    let whole : IsLawfulRound before (line ∷ []) replies after = subst (λ (n : ℕ). IsLawfulRound before (take n (line ∷ [])) replies after) one lawful in
+    subst (λ (all : List (List ℕ)). IsLawfulRound before (line ∷ []) all after) alone whole
+
+-- the same of lines as they are handed in
+pub first_alone : (before after : Stock) (rows : Rows) (lines : List (Bor (List ℕ))) (d : Bor (List ℕ)) (asked : Result Asked WireFault) (reply : Data) (text : List ℕ) (replies : List (List ℕ)) (n : ℕ) → IsStock before
+    → rows ≡ before.rows → 0 < length lines → request_of rows (get_or lines 0 d).now ≡ asked → lists_asked asked ≡ None → RepliesAlone before asked reply after → text ≡ compact_text reply → replies ≡ text ∷ []
+    → n ≡ length replies → IsLawfulRound before (take n (map (λ line. line.now) lines)) replies after
+first_alone before after rows lines d asked reply text replies n store same some read none answers told one long =
+    let here : request_of before.rows (get_or lines 0 d).now ≡ asked = ap (λ (rs : Rows). request_of rs (get_or lines 0 d).now) (sym same) ∙ read in
+    let lawful = alone_lawful before after (get_or lines 0 d).now (map (λ (line : Bor (List ℕ)). line.now) (drop 1 lines)) asked reply text replies store here none answers told one in
+    subst (λ (ls : List (List ℕ)). IsLawfulRound before (take n ls) replies after) (sym (first_line lines d some))
+    (subst (λ (m : ℕ). IsLawfulRound before (take m ((get_or lines 0 d).now ∷ map (λ line. line.now) (drop 1 lines))) replies after) (sym long) lawful.1)
+
+-- and where the store is as it was
+pub first_kept : (before now : Stock) (lines : List (Bor (List ℕ))) (d : Bor (List ℕ)) (asked : Result Asked WireFault) (reply : Data) (text : List ℕ) (replies : List (List ℕ)) (n : ℕ) → before ≡ now → IsStock before
+    → 0 < length lines → request_of before.rows (get_or lines 0 d).now ≡ asked → lists_asked asked ≡ None → RepliesAlone before asked reply before → text ≡ compact_text reply → replies ≡ text ∷ []
+    → n ≡ length replies → IsLawfulRound now (take n (map (λ line. line.now) lines)) replies now
+first_kept before now lines d asked reply text replies n same store some read none answers told one long =
+    subst (λ (s : Stock). IsLawfulRound s (take n (map (λ line. line.now) lines)) replies s) same
+    (first_alone before before before.rows lines d asked reply text replies n store refl some read none answers told one long)
+
+-- batches, as they are handed in
+pub first_round : (before after : Stock) (rows : Rows) (lines others : List (Bor (List ℕ))) (d : Bor (List ℕ)) (first lists : List (List Access)) (counts : List ℕ) (replies : List (List ℕ)) (n : ℕ) → IsStock before
+    → rows ≡ before.rows → 0 < length lines → others ≡ drop 1 lines → request_of rows (get_or lines 0 d).now ≡ Ok (Batch first) → length first ≤ 256
+    → IsRoundOf rows first (map (λ line. line.now) others) counts lists → AnswersRound before lists counts replies after → n ≡ length replies
+    → (n ≡ round_length before.rows (map (λ line. line.now) lines)) × IsLawfulRound before (take n (map (λ line. line.now) lines)) replies after
+first_round before after rows lines others d first lists counts replies n store same some rest read few round answers long =
+    let here : lists_in before.rows (get_or lines 0 d).now ≡ Some first = ap (λ (rs : Rows). lists_in rs (get_or lines 0 d).now) (sym same) ∙ ap lists_asked read in
+    let own : IsRoundOf before.rows first (map (λ line. line.now) (drop 1 lines)) counts lists =
+    subst (λ (rs : Rows). IsRoundOf rs first (map (λ line. line.now) (drop 1 lines)) counts lists) same
+    (subst (λ (ls : List (Bor (List ℕ))). IsRoundOf rows first (map (λ line. line.now) ls) counts lists) rest round) in
+    let lawful = round_lawful before after (get_or lines 0 d).now (map (λ (line : Bor (List ℕ)). line.now) (drop 1 lines)) first lists counts replies store here few own answers in (
+      long ∙ lawful.0 ∙ ap (λ (ls : List (List ℕ)). round_length before.rows ls) (sym (first_line lines d some)),
+      subst (λ (ls : List (List ℕ)). IsLawfulRound before (take n ls) replies after) (sym (first_line lines d some))
+          (subst (λ (m : ℕ). IsLawfulRound before (take m ((get_or lines 0 d).now ∷ map (λ line. line.now) (drop 1 lines))) replies after) (sym long) lawful.1),
+    )
+
+-- a fault that isn't want of memory is the fault of reading
+pub fails_so : (fault : WireFault) (read : Result Asked WireFault) → fault ≢ Memory → Fails fault read → read ≡ Err fault
+fails_so BadJson read found fails = fails
+fails_so (Shape place) read found fails = fails
+fails_so (NoPath place) read found fails = fails
+fails_so (BadLength place) read found fails = fails
+fails_so (Limit place) read found fails = fails
+fails_so (Tree fault) read found fails = fails
+fails_so Memory read found fails = absurd (found refl)

@@ -1,0 +1,27 @@
+use Rattle.std.proofs.Common.{◌≡◌, ℕ, List, ◌∙◌, ap, subst, length, map, replicate, arith, vec_len}
+use Rattle.grove_tree.specs.Trees.{Rows}
+use Rattle.grove_meter.specs.Waits.{reweighed}
+use Rattle.grove_store.specs.Stocks.{Stock}
+use Rattle.grove_store.specs.Parts.{AnswersReweigh}
+use Rattle.grove_store.proofs.Reweighing.{reweighed_is, reweigh_answers}
+use Rattle.grove_store.proofs.store.Store.reweigh.Goals as goal
+
+pub invariant_of-self : goal.invariant_of-self
+invariant_of-self g c =
+    let waits = c.self.inside.waits in
+    let waited : length waits.items ≡ length c.self.inside.tree = c.self.invariant.waited in
+    let long : vec_len waits ≡ length c.self.inside.tree = omega (arith, waits.ok.0) in
+    reweighed_is _ c.reweigh-changed.new.tree c.fill.new.self.items c.self.invariant
+    (c.reweigh-changed.ensures.rows ∙ ap (λ (ws : List ℕ). reweighed ws c.in_ok-tree.tree) c.deref.ensures.value ∙ ap (λ (rows : Rows). reweighed waits.items rows) c.in_ok-tree.ensures)
+    (c.fill.ensures.items (λ y e. e) ∙ ap (λ (n : ℕ). replicate n 0) long)
+
+pub returns-clause-reply : goal.returns-clause-reply
+returns-clause-reply g c =
+    let waits = c.self.inside.waits in
+    let waited : length waits.items ≡ length c.self.inside.tree = c.self.invariant.waited in
+    let long : vec_len waits ≡ length c.self.inside.tree = omega (arith, waits.ok.0) in
+    let before : Stock = record { rows = c.self.inside.tree; records = c.self.inside.records; waits = waits.items; workers = c.self.inside.workers; rounds = c.self.inside.rounds } in
+    subst (λ (stock : Stock). AnswersReweigh stock (map (λ reply. reply.items) c.in_ok-replies.replies.items) (record before { rows = c.reweigh-changed.new.tree; waits = c.fill.new.self.items })) c.self.view_is
+    (reweigh_answers before c.in_ok-tree.tree c.reweigh-changed.new.tree c.deref.result.now c.fill.new.self.items c.in_ok-changed_text.field-0.items c.reweigh-changed.result _
+    c.in_ok-tree.ensures c.deref.ensures.value c.reweigh-changed.ensures.rows c.reweigh-changed.ensures.count (c.fill.ensures.items (λ y e. e) ∙ ap (λ (n : ℕ). replicate n 0) long)
+    c.in_ok-changed_text.ensures c.in_ok-replies.ensures)

@@ -1,0 +1,4 @@
+pub mod Stocks
+pub mod Alone
+pub mod Rounds
+pub mod Parts

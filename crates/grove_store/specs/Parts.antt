@@ -1,0 +1,68 @@
+-- For the proofs alone, as no public contract reaches it: the parts that an answer is made of.
+use Rattle.std.specs.Prelude.{◌≡◌, ◌⊎◌, ℕ, ◌+◌, ◌-◌, ◌≤◌, ℤ, List, [], ◌∷◌, ◌++◌, length, map, take, drop, All, Option, Some}
+use Rattle.serde_json.specs.Data.{Data}
+use Rattle.serde_json.specs.Written.{compact_text}
+use Rattle.grove_tree.specs.Trees.{Rows}
+use Rattle.grove_access.specs.declared.access.Access.{Access}
+use Rattle.grove_access.specs.declared.reply.Reply.{Reply}
+use Rattle.grove_access.specs.Lists.{nodes_of, AreNodes}
+use Rattle.grove_core.specs.declared.job.Job.{Job}
+use Rattle.grove_core.specs.declared.event.Event.{Event}
+use Rattle.grove_core.specs.Runs.{IsRun, IsFinished, run_records}
+use Rattle.grove_core.specs.Orders.{placement_order}
+use Rattle.grove_run.specs.Runs.{places_of}
+use Rattle.grove_wire.specs.Replies.{round_data, changed_data}
+use Rattle.grove_meter.specs.Waits.{reweighed}
+use Rattle.grove_store.specs.Stocks.{Stock, changes, reweighed_stock}
+use Rattle.grove_store.specs.Rounds.{batches_in, joined, first_fits, fitting, replies_of, waits_after, RunsRound, FailsRound}
+
+-- the text of a reply of which something holds
+abbrev pub IsTextOf : (Data → Type 0) → List ℕ → Type 0
+IsTextOf Tells text = (reply : Data) × Tells reply × (text ≡ compact_text reply)
+
+-- what a round's lines are answered, by how many places and replies are each line's
+abbrev pub texts_of : ℕ → List ℕ → List ℕ → List (List Reply) → List (List ℕ)
+texts_of round [] places replies = []
+texts_of round (count ∷ counts) places replies =
+    compact_text (round_data round (take count places) (take count replies)) ∷ texts_of round counts (drop count places) (drop count replies)
+
+-- what is asked are these lists, and they have room
+abbrev pub FitsRoom : Option (List (List Access)) → ℕ → List (List Access) → Type 0
+FitsRoom asked room lists = (asked ≡ Some lists) × (length lists ≤ room)
+
+-- what is asked are no lists, or they have no room
+abbrev pub NoneFits : Option (List (List Access)) → ℕ → Type 0
+NoneFits asked room = (others : ℕ → ℕ) → first_fits asked room others ≡ 0
+
+-- the lists of a first batch and of the batches on so many of the next lines, and how many are each line's
+pub record HasBatches (rows : Rows) (first : List (List Access)) (lines : List (List ℕ)) (read : ℕ) (counts : List ℕ) (lists : List (List Access)) : Type 0 where
+  pub batches : List (List (List Access))
+  pub number : length batches ≡ read
+  pub are_read : batches_in rows (take read lines) ≡ Some batches
+  pub counted : counts ≡ length first ∷ map length batches
+  pub in_order : lists ≡ first ++ joined batches
+  pub few : length lists ≤ 256
+  pub fit : All (λ list. AreNodes rows (nodes_of list)) lists
+
+-- the same, where no more of the lines can be added
+pub record IsRoundOf (rows : Rows) (first : List (List Access)) (lines : List (List ℕ)) (counts : List ℕ) (lists : List (List Access)) : Type 0 where
+  pub has : HasBatches rows first lines (fitting rows (256 - length first) lines) counts lists
+
+-- what the jobs of a round leave
+pub record LeavesRound (before : Stock) (jobs : List Job) (counts : List ℕ) (replies : List (List ℕ)) (records : List ℤ) (waits : List ℕ) : Type 0 where
+  pub past : List Event
+  pub run : IsRun jobs past
+  pub finished : IsFinished jobs past
+  pub told : replies ≡ texts_of (before.rounds + 1) counts (places_of (placement_order before.rows jobs past) (length jobs)) (replies_of jobs before.records past)
+  pub recorded : records ≡ run_records jobs before.records past
+  pub waited : waits ≡ waits_after jobs past before.waits
+
+-- a round over lists, of which each line has so many
+abbrev pub AnswersRound : Stock → List (List Access) → List ℕ → List (List ℕ) → Stock → Type 0
+AnswersRound before lists counts replies after = (batches : List (List (List Access))) → joined batches ≡ lists → map length batches ≡ counts
+    → RunsRound before batches replies after ⊎ FailsRound before batches replies after
+
+-- the one reply to a reweighing
+abbrev pub AnswersReweigh : Stock → List (List ℕ) → Stock → Type 0
+AnswersReweigh before replies after =
+    (replies ≡ compact_text (changed_data (changes before.rows (reweighed before.waits before.rows))) ∷ []) × (after ≡ reweighed_stock before)

@@ -1,0 +1,43 @@
+-- A store, as its callers see it.
+use Rattle.std.specs.Prelude.{◌≡◌, ℕ, ◌^◌, ◌<◌, ◌≤◌, ◌==◌, not, ℤ, List, length, replicate, All}
+use Rattle.grove_base.specs.Numbers.{count_below}
+use Rattle.grove_tree.specs.Trees.{Rows, IsTree, weight_of}
+use Rattle.grove_tree.specs.Rules.{IsWithinLimits}
+use Rattle.grove_meter.specs.Waits.{reweighed}
+
+-- a tree, a record and the waits of each node, the number of workers, and how many rounds were run
+pub record Stock : Type 0 where
+  pub rows : Rows
+  pub records : List ℤ
+  pub waits : List ℕ
+  pub workers : ℕ
+  pub rounds : ℕ
+
+-- what holds of every store
+pub record IsStock (stock : Stock) : Type 0 where
+  pub tree : IsTree stock.rows
+  pub limits : IsWithinLimits stock.rows
+  pub recorded : length stock.records ≡ length stock.rows
+  pub waited : length stock.waits ≡ length stock.rows
+  pub few : All (λ waits. waits ≤ 1000) stock.waits
+  pub some_workers : 1 ≤ stock.workers
+  pub few_workers : stock.workers ≤ 16
+  pub counted : stock.rounds < 2 ^ 64
+
+-- a store that has answered nothing yet
+abbrev pub opened : Rows → List ℤ → ℕ → Stock
+opened rows records workers = record { rows = rows; records = records; waits = replicate (length rows) 0; workers = workers; rounds = 0 }
+
+-- how many nodes have another weight in the new rows than in the old ones
+abbrev pub changes : Rows → Rows → ℕ
+changes old new = count_below (length old) (λ node. not (weight_of new node == weight_of old node))
+
+-- the store whose weights have learned from its waits, which begin anew
+abbrev pub reweighed_stock : Stock → Stock
+reweighed_stock before = record {
+  rows = reweighed before.waits before.rows;
+  records = before.records;
+  waits = replicate (length before.rows) 0;
+  workers = before.workers;
+  rounds = before.rounds;
+}

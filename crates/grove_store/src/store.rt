@@ -1,0 +1,105 @@
+ghost use Rattle.std.specs.Prelude.{◌≡◌, ◌≤◌, ◌↔◌, length, IsTrue, IfOk, IfErr};
+ghost use Rattle.grove_store.specs.Stocks.{IsStock, opened};
+
+use crate::NoStore;
+use crate::same::{same_records, same_trees};
+use grove_access::Records;
+use grove_tree::{NoMemory, Tree};
+use std::alloc::Global;
+use std::marker::Model;
+
+mod answering;
+mod lines;
+mod reweighing;
+mod rounds;
+
+/// A tree with a record for each node, which answers lines.
+#[derive(Debug, Drop)]
+pub struct Store {
+    tree: Tree,
+    records: Records,
+    waits: Vec<u32>,
+    workers: u32,
+    rounds: u64,
+}
+
+impl Model for Store {
+    ghost use Rattle.grove_store.specs.Stocks.{Stock, IsStock};
+
+    ghost Value = { Stock };
+
+    ghost view = { λ store. record { rows = store.tree; records = store.records; waits = store.waits.items; workers = store.workers; rounds = store.rounds } };
+
+    ghost invariant = { λ store. IsStock (record { rows = store.tree; records = store.records; waits = store.waits.items; workers = store.workers; rounds = store.rounds }) };
+}
+
+impl Store {
+    /// A store of this tree and these records, which plans and runs by so many workers. Nobody has waited yet, and no round
+    /// was run.
+    pub fn open(alloc: Global, tree: Tree, records: Records, workers: u32) -> Result<Store, NoStore>
+        requires records { length records ≡ length tree }
+        requires workers { (1 ≤ workers) × (workers ≤ 16) }
+        ensures opened { IfOk result (λ store. store ≡ opened tree records workers) }
+        ensures tree { IfErr result (λ refused. refused.tree ≡ tree) }
+        ensures records { IfErr result (λ refused. refused.records ≡ records) }
+    {
+        match vec![in alloc; 0; tree.len() as usize] {
+            Ok(waits) => Ok(Store {
+                tree,
+                records,
+                waits,
+                workers,
+                rounds: 0,
+            }),
+            Err(_) => Err(NoStore { tree, records }),
+        }
+    }
+
+    /// The tree, with the weights that it has learned. What holds of every store is told here.
+    pub fn tree(&self) -> &Tree
+        ensures rows { result.now ≡ self.now.rows }
+        ensures store { IsStock self.now }
+    {
+        &self.tree
+    }
+
+    /// The records as the last round left them.
+    pub fn records(&self) -> &Records
+        ensures { result.now ≡ self.now.records }
+    {
+        &self.records
+    }
+
+    /// How many rounds were run.
+    pub fn rounds(&self) -> u64
+        ensures { result ≡ self.now.rounds }
+    {
+        self.rounds
+    }
+
+    /// Are both stores equal?
+    pub fn same(&self, other: &Store) -> bool
+        ensures { IsTrue result ↔ (self.now ≡ other.now) }
+    {
+        same_trees(&self.tree, &other.tree)
+            && same_records(&self.records, &other.records)
+            && self.waits.as_slice() == other.waits.as_slice()
+            && self.workers == other.workers
+            && self.rounds == other.rounds
+    }
+
+    pub fn copy(&self, alloc: Global) -> Result<Store, NoMemory>
+        ensures { IfOk result (λ copy. copy ≡ self.now) }
+    {
+        let tree = self.tree.copy(alloc)?;
+        let records = self.records.copy(alloc)?;
+        let waits = Vec::from_slice(alloc, &self.waits)?;
+        Ok(Store {
+            tree,
+            records,
+            waits,
+            workers: self.workers,
+            rounds: self.rounds,
+        })
+    }
+}

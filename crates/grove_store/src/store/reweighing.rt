@@ -1,0 +1,28 @@
+ghost use Rattle.std.specs.Prelude.{◌≡◌, map, IfOk, OnErr};
+ghost use Rattle.grove_store.specs.Parts.{AnswersReweigh};
+
+use crate::Store;
+use crate::texts::{alone, changed_text};
+use grove_meter::reweigh;
+use grove_tree::{NoMemory, OpenGate};
+use std::alloc::Global;
+use std::thread::Threads;
+
+impl Store {
+    /// Gives each node its new weight by its waits, and begins to count waits anew, once the reply is made.
+    pub(crate) fn reweigh<R: Threads + Sync>(
+        &mut self,
+        rt: &R,
+        alloc: Global,
+    ) -> Result<Vec<Vec<u8>>, NoMemory>
+        ensures reply { IfOk result (λ replies. AnswersReweigh self.old (map (λ reply. reply.items) replies.items) self.new) }
+        ensures err { OnErr result (self.new ≡ self.old) }
+    {
+        let mut tree = self.tree.copy(alloc)?;
+        let changed = reweigh(rt, &mut tree, &self.waits, self.workers, &OpenGate);
+        let replies = alone(alloc, changed_text(alloc, changed)?)?;
+        self.tree = tree;
+        self.waits.fill(0);
+        Ok(replies)
+    }
+}

@@ -1,0 +1,43 @@
+-- Rows without their weights: equal where parents and names are.
+use Rattle.std.proofs.Common.{◌≡◌, ℕ, zero, suc, ◌<◌, List, [], ◌∷◌, length, Option, refl, sym, ◌∙◌, ap, arith}
+use Rattle.std.specs.List.{slice_get}
+use Rattle.std.specs.Option.{option_map, option_and_then, unwrap_or}
+use Rattle.grove_tree.specs.Trees.{Rows, parent_of, name_of}
+use Rattle.grove_tree.specs.Weights.{unweighed}
+use Rattle.grove_tree.specs.WeighedOutlines.{AgreeAt}
+
+-- no row is lost
+pub length-unweighed : (rows : Rows) → length (unweighed rows) ≡ length rows
+length-unweighed [] = refl
+length-unweighed (row ∷ rows) = ap suc (length-unweighed rows)
+
+parent_of-unweighed : (rows : Rows) (node : ℕ) → option_and_then (λ pair. pair.0) (slice_get (unweighed rows) node) ≡ parent_of rows node
+parent_of-unweighed [] node = refl
+parent_of-unweighed (row ∷ rows) zero = refl
+parent_of-unweighed (row ∷ rows) (suc node) = parent_of-unweighed rows node
+
+name_of-unweighed : (rows : Rows) (node : ℕ) → unwrap_or (option_map (λ pair. pair.1) (slice_get (unweighed rows) node)) [] ≡ name_of rows node
+name_of-unweighed [] node = refl
+name_of-unweighed (row ∷ rows) zero = refl
+name_of-unweighed (row ∷ rows) (suc node) = name_of-unweighed rows node
+
+-- rows that are equal save for their weights
+pub unweighed_same : (rows others : Rows) → unweighed rows ≡ unweighed others
+    → (length rows ≡ length others) × ((node : ℕ) → AgreeAt rows others node)
+unweighed_same rows others same = (
+  sym (length-unweighed rows) ∙ ap length same ∙ length-unweighed others,
+  λ node. (
+    sym (parent_of-unweighed rows node) ∙ ap (λ (pairs : List (Option ℕ × List ℕ)). option_and_then (λ pair. pair.0) (slice_get pairs node)) same ∙ parent_of-unweighed others node,
+    sym (name_of-unweighed rows node) ∙ ap (λ (pairs : List (Option ℕ × List ℕ)). unwrap_or (option_map (λ pair. pair.1) (slice_get pairs node)) []) same ∙ name_of-unweighed others node,
+  ),
+)
+
+-- and rows with the same parents and names
+pub same_unweighed : (rows others : Rows) → length rows ≡ length others → ((node : ℕ) → node < length rows → AgreeAt rows others node) → unweighed rows ≡ unweighed others
+same_unweighed [] [] long alike = refl
+same_unweighed [] (other ∷ others) long alike = absurd (omega arith)
+same_unweighed (row ∷ rows) [] long alike = absurd (omega arith)
+same_unweighed (row ∷ rows) (other ∷ others) long alike =
+    let (parent, name) = alike 0 (omega arith) in
+    let rest = same_unweighed rows others (omega arith) (λ node lt. alike (suc node) (omega arith)) in
+    cc (parent, name, rest)

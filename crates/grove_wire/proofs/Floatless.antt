@@ -1,0 +1,72 @@
+-- What is written has no float in it, so its text is the compact one.
+use Rattle.std.proofs.Common.{◌≡◌, ℕ, ℤ, pos, negsuc, List, [], ◌∷◌, false, refl}
+use Rattle.std.specs.Prelude.{map}
+use Rattle.serde_json.specs.Data.{Data, array}
+use Rattle.serde_json.specs.View.{items_of}
+use Rattle.serde_json.specs.Written.{has_float}
+use Rattle.grove_tree.specs.Trees.{Rows}
+use Rattle.grove_access.specs.declared.reply.Reply.{Reply}
+use Rattle.grove_access.specs.declared.reply.Reply.TheVariants.{Value, Done, Range, Short}
+use Rattle.grove_plan.specs.declared.step.Step.{Step}
+use Rattle.grove_plan.specs.declared.step.Step.TheVariants.{Lock, Unlock, Access}
+use Rattle.grove_proof.specs.declared.flow.FlowRow.{FlowRow}
+use Rattle.grove_wire.specs.Writing.{number_data, reply_data, replies_data, numbers_data, count_data, step_data, plan_data, flow_row_data, flow_data}
+use Rattle.grove_wire.specs.Replies.{counts_data, error_data, planned_data, cost_data, lists_data, round_data, weights_data, changed_data}
+
+-- an array has none where no item has one
+pub array_has_no_float : {A : Type 0} (data_of : A → Data) → ((x : A) → has_float (data_of x) ≡ false) → (xs : List A) → has_float (array (items_of (map data_of xs))) ≡ false
+array_has_no_float data_of none [] = refl
+array_has_no_float data_of none (x ∷ xs) = rw (none x) (array_has_no_float data_of none xs)
+
+number_is_no_float : (n : ℤ) → has_float (number_data n) ≡ false
+number_is_no_float (pos n) = refl
+number_is_no_float (negsuc n) = refl
+
+reply_is_no_float : (reply : Reply) → has_float (reply_data reply) ≡ false
+reply_is_no_float (Value n) = number_is_no_float n
+reply_is_no_float Done = refl
+reply_is_no_float Range = refl
+reply_is_no_float Short = refl
+
+step_is_no_float : (tree : Rows) (step : Step) → has_float (step_data tree step) ≡ false
+step_is_no_float tree (Lock node) = refl
+step_is_no_float tree (Unlock node) = refl
+step_is_no_float tree (Access access) = refl
+
+pub numbers_have_no_float : (numbers : List ℤ) → has_float (numbers_data numbers) ≡ false
+numbers_have_no_float numbers = array_has_no_float number_data number_is_no_float numbers
+
+pub replies_have_no_float : (replies : List Reply) → has_float (replies_data replies) ≡ false
+replies_have_no_float replies = array_has_no_float reply_data reply_is_no_float replies
+
+pub plan_has_no_float : (tree : Rows) (plan : List Step) → has_float (plan_data tree plan) ≡ false
+plan_has_no_float tree plan = array_has_no_float (step_data tree) (step_is_no_float tree) plan
+
+pub flow_has_no_float : (tree : Rows) (flow : List FlowRow) → has_float (flow_data tree flow) ≡ false
+flow_has_no_float tree flow = array_has_no_float (flow_row_data tree) (λ row. refl) flow
+
+pub counts_have_no_float : (counts : List ℕ) → has_float (counts_data counts) ≡ false
+counts_have_no_float counts = array_has_no_float count_data (λ count. refl) counts
+
+pub lists_have_no_float : (replies : List (List Reply)) → has_float (lists_data replies) ≡ false
+lists_have_no_float replies = array_has_no_float replies_data replies_have_no_float replies
+
+-- replies to lines
+
+pub error_has_no_float : (name : List ℕ) → has_float (error_data name) ≡ false
+error_has_no_float name = refl
+
+pub planned_has_no_float : (tree : Rows) (cost : ℕ) (plan : List Step) (flow : List FlowRow) → has_float (planned_data tree cost plan flow) ≡ false
+planned_has_no_float tree cost plan flow = rw (flow_has_no_float tree flow, plan_has_no_float tree plan) refl
+
+pub cost_has_no_float : (cost : ℕ) → has_float (cost_data cost) ≡ false
+cost_has_no_float cost = refl
+
+pub round_has_no_float : (round : ℕ) (places : List ℕ) (replies : List (List Reply)) → has_float (round_data round places replies) ≡ false
+round_has_no_float round places replies = rw (counts_have_no_float places, lists_have_no_float replies) refl
+
+pub weights_have_no_float : (waits weights : List ℕ) → has_float (weights_data waits weights) ≡ false
+weights_have_no_float waits weights = rw (counts_have_no_float waits, counts_have_no_float weights) refl
+
+pub changed_has_no_float : (changed : ℕ) → has_float (changed_data changed) ≡ false
+changed_has_no_float changed = refl

@@ -1,0 +1,8 @@
+use Rattle.grove_wire.proofs.Requests.{requests_fit, reading_needs_no_room}
+use Rattle.grove_wire.proofs.request.request_laws.Goals as goal
+
+pub returns-clause-fits : goal.returns-clause-fits
+returns-clause-fits c = requests_fit
+
+pub returns-clause-room : goal.returns-clause-room
+returns-clause-room c = reading_needs_no_room

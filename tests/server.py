@@ -1,0 +1,137 @@
+"""Starts the program as a server on a port of its own, and talks to it as a client."""
+import itertools
+import os
+import socket
+import subprocess
+import tempfile
+import threading
+from pathlib import Path
+
+HOST = "127.0.0.1"
+# Below the ports that the system gives to clients; two runs at once begin at different ones.
+PORTS = range(20000, 32000)
+TURNS = itertools.count(os.getpid() * 97)
+# How long a server may take to start, and to answer. (One that serves a connection at a time lets a client wait for all
+# that came before it, so this is far more than any of them takes.)
+SECONDS = 30.0
+PIECE = 65536
+
+
+class BadServer(Exception):
+    """The program doesn't answer."""
+
+
+class NotListening(BadServer):
+    """The program doesn't listen, and has ended so."""
+
+    def __init__(self, status, out, err):
+        super().__init__(f"it doesn't listen: status {status}, output {out!r}, errors {err!r}")
+        self.ended = status, out, err
+
+
+def free_port():
+    """A port at which nothing listens."""
+    for turn in itertools.islice(TURNS, len(PORTS)):
+        port = PORTS[turn % len(PORTS)]
+        with socket.socket() as trial:
+            trial.setsockopt(socket.SOL_SOCKET, socket.SO_REUSEADDR, 1)
+            try:
+                trial.bind((HOST, port))
+                return port
+            except OSError:
+                continue
+    raise BadServer("no port is free")
+
+
+class Server:
+    """The program, serving, for as long as it is entered."""
+
+    def __init__(self, program, words, folder=None, **how):
+        self.port = int(words[words.index("--port") + 1])
+        streams = {"stdin": subprocess.DEVNULL, "stdout": subprocess.PIPE, "stderr": subprocess.PIPE}
+        self.started = subprocess.Popen([program, *words], cwd=folder, **streams, **how)
+
+    def __enter__(self):
+        watch = threading.Timer(SECONDS, self.started.kill)
+        watch.start()
+        line = self.started.stdout.readline()
+        is_listening = line == b"listening %s:%d\n" % (HOST.encode(), self.port)
+        rest, errors = (b"", b"") if is_listening else self.started.communicate()
+        watch.cancel()
+        if not is_listening:
+            raise NotListening(self.started.returncode, line + rest, errors)
+        return self
+
+    def __exit__(self, *_):
+        self.started.kill()
+        self.rest = self.started.communicate()
+
+    def is_running(self):
+        return self.started.poll() is None
+
+    def talk(self, *words, **how):
+        return talk(self.port, *words, **how)
+
+
+class Serving(Server):
+    """The program, serving a document that is given as bytes."""
+
+    def __init__(self, program, document, workers=1, **how):
+        self.room = tempfile.TemporaryDirectory(prefix="grove-serve-")
+        (Path(self.room.name) / "tree.json").write_bytes(document)
+        words = ["serve", "--tree", "tree.json", "--port", str(free_port()), "--workers", str(workers)]
+        super().__init__(program, words, self.room.name, **how)
+
+    def __exit__(self, *_):
+        super().__exit__()
+        self.room.cleanup()
+
+
+def connected(port):
+    connection = socket.create_connection((HOST, port), timeout=SECONDS)
+    connection.setsockopt(socket.IPPROTO_TCP, socket.TCP_NODELAY, 1)
+    return connection
+
+
+def talk(port, text, piece=PIECE, leaves=False):
+    """Sends the text, a piece at a time, and no more; gives all that comes back. One that leaves looks at nothing of it,
+    and closes at once."""
+    with connected(port) as connection:
+        if leaves:
+            send(connection, text, piece)
+            return b""
+        sender = threading.Thread(target=send_all, args=(connection, text, piece))
+        sender.start()
+        try:
+            return b"".join(iter(lambda: connection.recv(PIECE), b""))
+        except socket.timeout:
+            raise BadServer(f"no answer within {SECONDS:g} seconds") from None
+        finally:
+            sender.join()
+
+
+def talk_in_turn(port, lines):
+    """Sends each line once the reply to the one before has come, as long as the other side doesn't close."""
+    with connected(port) as connection, connection.makefile("rb") as replies:
+        came = []
+        for line in lines:
+            connection.sendall(line)
+            came.append(replies.readline())
+            if not came[-1]:
+                return b"".join(came)
+        connection.shutdown(socket.SHUT_WR)
+        return b"".join(came) + replies.read()
+
+
+def send(connection, text, piece):
+    for at in range(0, len(text), piece):
+        connection.sendall(text[at : at + piece])
+
+
+def send_all(connection, text, piece):
+    """Sends the text and closes this side. (A server that has gone is seen by whoever reads.)"""
+    try:
+        send(connection, text, piece)
+        connection.shutdown(socket.SHUT_WR)
+    except OSError:
+        pass

@@ -1,0 +1,127 @@
+"""Clients that send in pieces, close in mid-line or in mid-reply, or never read: all others get what is right for them.
+Servers whose own devices fail: `device`."""
+
+from __future__ import annotations
+
+import json
+import time
+from functools import partial
+from pathlib import Path
+from random import Random
+
+from case_file import read_case
+from server import HOST, Serving, connected, free_port, talk
+from store import Store
+
+from sweeps.documents import EXAMPLES
+from sweeps.program import DEVICE, Ran, Tally, Try, run
+from sweeps.talks import lines_of, look, note_replies
+
+TRIED = "lines and connections of clients that end in every way"
+TEN_LINES = read_case(Path(__file__).resolve().parents[1] / "cases/sessions/ten_lines.case")
+TREE = TEN_LINES.files["tree.json"]
+TEXT = TEN_LINES.connections[0].sends
+REPLIES = TEN_LINES.connections[0].replies
+ADD = b'{"batch":[[["add","/a",1]]]}\n'
+GET = b'{"batch":[[["get","/a"]]]}\n'
+WEIGHTS = b'{"weights":null}\n'
+# How long a client that never reads goes on sending, where nothing holds it up.
+SECONDS = 2.0
+
+
+def tries(program: str, _room: str) -> list[Try]:
+    return [
+        Try("ten lines in pieces", partial(in_pieces, program)),
+        Try("ten lines cut after each byte", partial(cut_after_each, program)),
+        Try("clients that leave after some bytes", partial(leave_after_some, program)),
+        Try("clients that leave after some bytes of a reply", partial(leave_in_a_reply, program)),
+        Try("clients that never read", partial(never_read, program)),
+        Try("a server whose devices fail", partial(failing_devices, program)),
+    ]
+
+
+def in_pieces(program: str, tally: Tally) -> None:
+    for piece in (1, 7, len(TEXT)):
+        with Serving(program, TREE) as server:
+            came = server.talk(TEXT, piece)
+        tally.note(f"pieces of {piece}", None if came == REPLIES else f"wanted {REPLIES!r}; came {came!r}")
+
+
+def cut_after_each(program: str, tally: Tally) -> None:
+    """Each client sends some first bytes of the ten lines, and no more; all of them ask one store."""
+    store = Store(json.loads(TREE))
+    with Serving(program, TREE) as server:
+        for size in range(len(TEXT) + 1):
+            note_replies(store, TEXT[:size], server.talk(TEXT[:size]), f"{size} bytes", tally)
+        note_replies(store, look(store), server.talk(look(store)), "at the end", tally)
+
+
+def leave_after_some(program: str, tally: Tally) -> None:
+    """Each client sends some first bytes of four lines that add 1, and closes at once. How many of them are done isn't
+    known, but it is never more than were whole."""
+    with Serving(program, TREE) as server:
+        least = most = record_of(server)
+        for size in range(4 * len(ADD) + 1):
+            sent = (4 * ADD)[:size]
+            talk(server.port, sent, leaves=True)
+            most += len(lines_of(sent)) if sent.endswith(b"]}") else sent.count(b"\n")
+            now = record_of(server)
+            is_well = least <= now <= most
+            tally.note(f"{size} bytes", None if is_well else f"the record is {now}, and not from {least} to {most}")
+            least = now
+
+
+def record_of(server: Serving) -> int:
+    return json.loads(server.talk(GET))["replies"][0][0]
+
+
+def leave_in_a_reply(program: str, tally: Tally) -> None:
+    """Each client reads some bytes of what it asked for, and closes with the rest unread."""
+    random = Random("in a reply")
+    store = Store(json.loads(TREE))
+    wanted = server_text(store, 200)
+    with Serving(program, TREE) as server:
+        for number in range(60):
+            with connected(server.port) as connection:
+                connection.sendall(200 * WEIGHTS)
+                size = random.randrange(1, len(wanted))
+                came = connection.makefile("rb").read(size)
+            tally.note(f"client {number}", None if came == wanted[:size] else f"{size} bytes came wrong: {came[-80:]!r}")
+        note_replies(store, look(store), server.talk(look(store)), "at the end", tally)
+
+
+def server_text(store: Store, count: int) -> bytes:
+    """The replies to so many lines that ask for the weights."""
+    return count * (json.dumps(store.weights(None), separators=(",", ":")).encode() + b"\n")
+
+
+def never_read(program: str, tally: Tally) -> None:
+    """Clients that send until nobody takes any more, for a time at most, and close; the next one is served."""
+    store = Store(json.loads(TREE))
+    with Serving(program, TREE) as server:
+        for number in range(3):
+            with connected(server.port) as connection:
+                flood(connection, SECONDS)
+            note_replies(store, look(store), server.talk(look(store)), f"after client {number}", tally)
+
+
+def flood(connection, seconds: float) -> None:
+    """Sends lines for so long, or until nobody takes any more, and reads nothing."""
+    connection.settimeout(0.2)
+    ends = time.monotonic() + seconds
+    try:
+        while time.monotonic() < ends:
+            connection.sendall(1000 * WEIGHTS)
+    except OSError:
+        pass
+
+
+def failing_devices(program: str, tally: Tally) -> None:
+    """A standard output that takes nothing, and so few files that no connection can be one more."""
+    words = ["serve", "--tree", str(EXAMPLES / "two-leaves.json"), "--port"]
+    with open("/dev/full", "wb") as full:
+        tally.compare("standard output, full", run(program, *words, str(free_port()), stdout=full), DEVICE)
+    port = free_port()
+    ran = run("sh", "-c", 'ulimit -n 4; exec "$@"', "sh", program, *words, str(port))
+    listened = b"listening %s:%d\n" % (HOST.encode(), port)
+    tally.compare("no file for a connection", ran, Ran(3, listened, b"device\n"))
