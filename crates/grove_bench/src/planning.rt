@@ -29,7 +29,10 @@ const LAYERS: [(&str, Layer); 8] = [
 /// plan. Prints nanoseconds, how many runs had a search, and the cost.
 pub fn time(rt: &HostRuntime) -> Result<()> {
     let listed = read_list(rt)?;
-    ensure!(listed.list.fits(&listed.tree), "the list is of another tree");
+    ensure!(
+        listed.list.fits(&listed.tree),
+        "the list is of another tree"
+    );
     time_layers(rt, &listed.tree, &listed.list)?;
     time_plan(rt, &listed.tree, &listed.list)?;
     time_checks(rt, &listed.tree, &listed.list)

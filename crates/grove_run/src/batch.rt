@@ -72,14 +72,7 @@ fn run_as<'a, B: Batch + Send + Sync, R: Threads + Wait + Sync, G: Gate + Sync>(
     let carries = carries_of(alloc, jobs)?;
     let register = Mutex::new(Register::<B>::new(Book::open(core), carries));
     let bells = Bells::new();
-    work_all(
-        rt,
-        jobs,
-        &register,
-        &bells,
-        workers.min(jobs.len()),
-        gate,
-    );
+    work_all(rt, jobs, &register, &bells, workers.min(jobs.len()), gate);
     let register = register.into_inner();
     if register.is_foreign() {
         return Err(RunFault::Foreign);
