@@ -8,3 +8,4 @@ pub mod Leaving
 pub mod Keeping
 pub mod Lawful
 pub mod RoundsKeep
+pub mod Longest

@@ -2,3 +2,4 @@ pub mod Stocks
 pub mod Alone
 pub mod Rounds
 pub mod Parts
+pub mod Longest
