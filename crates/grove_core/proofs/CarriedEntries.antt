@@ -23,7 +23,9 @@ use Rattle.grove_core.specs.declared.event.Event.TheVariants.{Take}
 use Rattle.grove_core.specs.Runs.{list_of, plan_of, steps_done, next_step, holds, deeds, run_records, run_replies}
 use Rattle.grove_tree.specs.Trees.{Rows}
 use Rattle.grove_core.specs.declared.progress.Progress.{Progress}
-use Rattle.grove_core.specs.Kept.{State, past_of, IsCore}
+use Rattle.grove_core.specs.declared.owner.Owner.{Owner}
+use Rattle.grove_core.specs.Owners.{holder_of}
+use Rattle.grove_core.specs.Kept.{State, past_of, Owns, IsCore}
 use Rattle.grove_core.specs.CarriedTests.{is_owner, KnowsAll, HasAll, Follows}
 use Rattle.grove_core.specs.Carried.{records_of, IsOf, after_steps, replies_in}
 use Rattle.grove_core.proofs.Precedence.{within_jobs}
@@ -284,15 +286,18 @@ pub each_of : {A : Type 0} (P : ℕ → A → Type 0) (xs : List A) (n : ℕ) �
     → (i : ℕ) (y : A) → slice_get xs i ≡ Some y → P i y
 each_of P xs n all before i y read = let lt : i < length xs = slice_get_within xs i y read in before i y (omega arith) read
 
-module _ (rows : Rows) (jobs : List Job) (opening : List ℤ) (past : List Event) (records : List ℤ) (progress : List Progress) (owners : List (Option ℕ)) (waits : List ℕ)
+module _ (rows : Rows) (jobs : List Job) (opening : List ℤ) (past : List Event) (records : List ℤ) (progress : List Progress) (owners : List Owner) (waits : List ℕ)
     (core : IsCore rows jobs opening past records progress owners waits) where
   -- the owner of a node tells whether a job holds it
-  pub owner_tells : (t node : ℕ) (owner : Option ℕ) → slice_get owners node ≡ Some owner → is_owner owner t ≡ holds jobs past t node
-  owner_tells t node None at = sym (core.owned node None at t)
-  owner_tells t node (Some u) at = let owns = core.owned node (Some u) at in elim (cases_eq u t) [
+  holder_tells : (t node : ℕ) (holder : Option ℕ) → Owns jobs past node holder → is_owner holder t ≡ holds jobs past t node
+  holder_tells t node None owns = sym (owns t)
+  holder_tells t node (Some u) owns = elim (cases_eq u t) [
     | inl e ↦ eq-eqb u t e ∙ sym (subst (λ (k : ℕ). holds jobs past k node ≡ true) e owns.0)
     | inr ne ↦ ne_eqb u t ne ∙ sym (owns.1 t (λ e. ne (sym e)))
   ]
+
+  pub owner_tells : (t node : ℕ) (owner : Owner) → slice_get owners node ≡ Some owner → is_owner (holder_of owner) t ≡ holds jobs past t node
+  owner_tells t node owner at = holder_tells t node (holder_of owner) (core.owned node owner at).0
 
   -- beyond the last node nothing is held
   pub owner_past : (t node : ℕ) → length owners ≤ node → false ≡ holds jobs past t node

@@ -1,5 +1,5 @@
 -- The loops that open a core, a job further.
-use Rattle.std.proofs.Common.{◌≡◌, ℕ, zero, suc, ◌+◌, ◌*◌, ◌^◌, ◌<◌, ◌≤◌, ℤ, List, [], ◌∷◌, ◌++◌, length, replicate, Option, Some, None, refl, sym, ◌∙◌, ap, subst, inl, inr, arith, add-one}
+use Rattle.std.proofs.Common.{◌≡◌, ℕ, zero, suc, ◌+◌, ◌*◌, ◌^◌, ◌<◌, ◌≤◌, ℤ, List, [], ◌∷◌, ◌++◌, length, replicate, Some, None, refl, sym, ◌∙◌, ap, subst, inl, inr, arith, add-one}
 use Rattle.std.specs.List.{slice_get}
 use Rattle.std.proofs.lemmas.Option.{none-some, same_Some, slice_get_within}
 use Rattle.std.proofs.lemmas.List.{length-replicate}
@@ -15,7 +15,9 @@ use Rattle.grove_core.specs.declared.progress.Progress.{Progress}
 use Rattle.grove_core.specs.declared.fault.OpenFault.{OpenFault}
 use Rattle.grove_core.specs.declared.fault.OpenFault.TheVariants.{BadPlan, Memory}
 use Rattle.grove_core.specs.Runs.{list_of, plan_of, holds, AllLegal, lock_steps}
-use Rattle.grove_core.specs.Kept.{time_in, Owns, IsCore}
+use Rattle.grove_core.specs.declared.owner.Owner.{Owner}
+use Rattle.grove_core.specs.declared.owner.Owner.TheVariants.{Nobody}
+use Rattle.grove_core.specs.Kept.{time_in, IsOwned, IsCore}
 use Rattle.grove_core.specs.Starts.{fault_of, IsFaultOf, HasStarted}
 use Rattle.grove_core.specs.Openings.{job_fault, IsFirstFault}
 use Rattle.grove_core.proofs.CountChanges.{count_zero}
@@ -62,10 +64,10 @@ started_more n jobs all more p size e so_far here t q at =
     ]
 
 -- the core before the first event
-pub opened : (rows : Rows) (jobs : List Job) (opening records : List ℤ) (progress : List Progress) (owners : List (Option ℕ)) (waits : List ℕ) (n : ℕ)
+pub opened : (rows : Rows) (jobs : List Job) (opening records : List ℤ) (progress : List Progress) (owners : List Owner) (waits : List ℕ) (n : ℕ)
     → IsTree rows → length jobs ≤ 256 → AllLegal rows jobs → ((t : ℕ) → t < length jobs → length (plan_of jobs t) < 2 ^ 32) → length opening ≡ length rows → n ≡ length rows
     → records ≡ opening → length progress ≡ length jobs → ((t : ℕ) (p : Progress) → slice_get progress t ≡ Some p → HasStarted (length (plan_of jobs t)) (length (list_of jobs t)) p)
-    → owners ≡ replicate n None → waits ≡ replicate n 0
+    → owners ≡ replicate n Nobody → waits ≡ replicate n 0
     → IsCore rows jobs opening [] records progress owners waits
 opened rows jobs opening records progress owners waits n tree few legal short size nodes same all started free none = record {
   tree = tree;
@@ -87,8 +89,8 @@ opened rows jobs opening records progress owners waits n tree few legal short si
     holding = h.holding ∙ sym (count_zero (length rows) (λ node. holds jobs [] t node) (λ node. refl));
     held = let e : p.held_nodes ≡ 0 = h.holding in omega arith;
   };
-  all_owners = ap length free ∙ length-replicate n None ∙ nodes;
-  owned = λ node owner at. subst (λ (o : Option ℕ). Owns jobs [] node o) (replicate_got n None node owner (ap (λ (os : List (Option ℕ)). slice_get os node) (sym free) ∙ at)) (λ t. refl);
+  all_owners = ap length free ∙ length-replicate n Nobody ∙ nodes;
+  owned = λ node owner at. subst (λ (o : Owner). IsOwned jobs [] node o) (replicate_got n Nobody node owner (ap (λ (os : List Owner). slice_get os node) (sym free) ∙ at)) (λ t. refl, tt);
   all_waits = ap length none ∙ length-replicate n 0 ∙ nodes;
   waited = λ node count at. sym (replicate_got n 0 node count (ap (λ (ws : List ℕ). slice_get ws node) (sym none) ∙ at));
 }

@@ -1,10 +1,10 @@
 -- What a core keeps, as its functions read it: what there is room for, and what may happen next.
-use Rattle.std.proofs.Common.{◌≡◌, ℕ, suc, ◌+◌, ◌^◌, ◌<◌, ◌≤◌, ℤ, true, List, [], ◌∷◌, ◌++◌, length, reverse, get_or, Option, Some, sym, ◌∙◌, ap, subst, arith, ltb}
+use Rattle.std.proofs.Common.{◌≡◌, ℕ, suc, ◌+◌, ◌^◌, ◌<◌, ◌≤◌, ℤ, true, List, [], ◌∷◌, ◌++◌, length, reverse, get_or, Option, Some, None, sym, ◌∙◌, ap, subst, arith, ltb}
 use Rattle.std.specs.List.{slice_get}
 use Rattle.std.specs.Vec.{vec_capacity}
 use Rattle.std.proofs.lemmas.List.{reverse-append}
 use Rattle.std.proofs.lemmas.Option.{slice_get_within}
-use Rattle.std.proofs.lemmas.Bool.{ltb-true}
+use Rattle.std.proofs.lemmas.Bool.{ltb-true, eqb-true}
 use Rattle.grove_tree.specs.Trees.{Rows}
 use Rattle.grove_access.specs.declared.access.Access.{Access as Visit}
 use Rattle.grove_plan.specs.declared.step.Step.{Step}
@@ -16,7 +16,10 @@ use Rattle.grove_core.specs.declared.event.Event.TheVariants.{Take}
 use Rattle.grove_core.specs.declared.progress.Progress.{Progress}
 use Rattle.grove_core.specs.Runs.{list_of, plan_of, steps_done, next_step, holds, is_marked, MayHappen, deeds, run_replies, waits_of, most_events}
 use Rattle.grove_core.specs.Orders.{lock_time}
-use Rattle.grove_core.specs.Kept.{time_in, HasProgress, Owns, IsCore}
+use Rattle.grove_core.specs.declared.owner.Owner.{Owner}
+use Rattle.grove_core.specs.Owners.{holder_of, last_of}
+use Rattle.grove_core.specs.Kept.{time_in, HasProgress, Owns, IsLastAt, IsCore}
+use Rattle.grove_core.specs.CarriedTests.{is_owner}
 use Rattle.grove_core.proofs.Precedence.{within_jobs}
 use Rattle.grove_core.proofs.ConflictOrder.{access_held}
 use Rattle.grove_core.proofs.RunBounds.{history_bound, Accessing, accessing, waits_most}
@@ -31,7 +34,7 @@ reverse_last xs x = reverse-append xs (x ∷ [])
 
 -- What the code may do
 
-module _ (rows : Rows) (jobs : List Job) (opening : List ℤ) (past : List Event) (records : List ℤ) (progress : List Progress) (owners : List (Option ℕ)) (waits : List ℕ)
+module _ (rows : Rows) (jobs : List Job) (opening : List ℤ) (past : List Event) (records : List ℤ) (progress : List Progress) (owners : List Owner) (waits : List ℕ)
     (core : IsCore rows jobs opening past records progress owners waits) where
   -- a job with a next step is there
   pub job_there : (t : ℕ) (s : Step) → next_step jobs past t ≡ Some s → t < length jobs
@@ -182,15 +185,22 @@ module _ (rows : Rows) (jobs : List Job) (opening : List ℤ) (past : List Event
   pub time_read : (t : ℕ) (p : Progress) → slice_get progress t ≡ Some p → (node : ℕ) → time_in p.locked.items node ≡ lock_time jobs past t node
   time_read t p at node = (core.come t p at).times node
 
-  -- who holds a node
-  pub owner_read : (node : ℕ) (owner : Option ℕ) → slice_get owners node ≡ Some owner → Owns jobs past node owner
-  owner_read node owner at = core.owned node owner at
-
   -- who holds a node that is to be locked, and how often it was waited for, by what is read at its number
-  pub owner_seen : (t node number : ℕ) → next_step jobs past t ≡ Some (Lock node) → number ≡ node → (owner o : Option ℕ) → owner ≡ get_or owners number owner → owner ≡ o → Owns jobs past node o
-  owner_seen t node number next same owner o read is =
-      core.owned node o (read_at owners node owner (owner_there node (locked_within rows jobs opening past records progress owners waits core t node next))
-      (subst (λ (n : ℕ). owner ≡ get_or owners n owner) same read) ∙ ap (λ x. Some x) is)
+  pub owner_seen : (t node number : ℕ) → next_step jobs past t ≡ Some (Lock node) → number ≡ node → (owner : Owner) → owner ≡ get_or owners number owner → (o : Option ℕ) → holder_of owner ≡ o → Owns jobs past node o
+  owner_seen t node number next same owner read o is =
+      subst (λ (x : Option ℕ). Owns jobs past node x) is (core.owned node owner (read_at owners node owner (owner_there node (locked_within rows jobs opening past records progress owners waits core t node next))
+      (subst (λ (n : ℕ). owner ≡ get_or owners n owner) same read))).0
+
+  -- which job locked a node last
+  last_tells : (t node : ℕ) (last : Option ℕ) → IsLastAt jobs past node last → is_owner last t ≡ true → IsLastAt jobs past node (Some t)
+  last_tells t node None h yes' = absurd (cc)
+  last_tells t node (Some w) h yes' = subst (λ (k : ℕ). IsLastAt jobs past node (Some k)) (eqb-true w t yes') h
+
+  -- by what is read at its number
+  pub last_seen : (t node number : ℕ) → node < length rows → number ≡ node → (owner : Owner) → owner ≡ get_or owners number owner → is_owner (last_of owner) t ≡ true → IsLastAt jobs past node (Some t)
+  last_seen t node number within same owner read yes' =
+      last_tells t node (last_of owner)
+      (core.owned node owner (read_at owners node owner (owner_there node within) (subst (λ (n : ℕ). owner ≡ get_or owners n owner) same read))).1 yes'
 
   -- how often a node that is to be locked was waited for
   pub wait_seen : (t node number : ℕ) → next_step jobs past t ≡ Some (Lock node) → number ≡ node → (count : ℕ) → count ≡ get_or waits number count → slice_get waits node ≡ Some count
@@ -206,7 +216,7 @@ module _ (rows : Rows) (jobs : List Job) (opening : List ℤ) (past : List Event
   may_access t number next = (Access number, next, λ n e. absurd (access_no_lock number n (ap (λ (s : Step). Some s) e)))
 
 -- what a core keeps, as the model has it, with one event more
-pub closed : (rows : Rows) (jobs : List Job) (opening : List ℤ) (items more : List Event) (event : Event) (room spare : ℕ) (records : List ℤ) (progress : List Progress) (owners : List (Option ℕ)) (waits : List ℕ)
+pub closed : (rows : Rows) (jobs : List Job) (opening : List ℤ) (items more : List Event) (event : Event) (room spare : ℕ) (records : List ℤ) (progress : List Progress) (owners : List Owner) (waits : List ℕ)
     → more ≡ items ++ event ∷ [] → spare ≡ room → most_events jobs ≤ room → IsCore rows jobs opening (event ∷ reverse items) records progress owners waits
     → IsCore rows jobs opening (reverse more) records progress owners waits × (most_events jobs ≤ spare)
 closed rows jobs opening items more event room spare records progress owners waits e f le core =

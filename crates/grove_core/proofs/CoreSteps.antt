@@ -4,7 +4,7 @@ use Rattle.std.specs.List.{slice_get}
 use Rattle.std.specs.Vec.{vec_capacity}
 use Rattle.std.proofs.lemmas.List.{length-set}
 use Rattle.std.proofs.lemmas.Option.{same_Some, slice_get_within}
-use Rattle.std.proofs.lemmas.Bool.{cases_eq, both_ways, eq-eqb, ne_eqb, cond-true, cond-false}
+use Rattle.std.proofs.lemmas.Bool.{cases_eq, both_ways, eq-eqb, ne_eqb, cond-true, cond-false, le-ltb}
 use Rattle.grove_base.specs.Numbers.{count_below}
 use Rattle.grove_tree.specs.Trees.{Rows}
 use Rattle.grove_access.specs.declared.access.Access.{Access as Visit}
@@ -20,11 +20,14 @@ use Rattle.grove_core.specs.declared.event.Event.TheVariants.{Take, Mark}
 use Rattle.grove_core.specs.declared.locking.Locked.{Locked}
 use Rattle.grove_core.specs.declared.progress.Progress.{Progress}
 use Rattle.grove_core.specs.Runs.{list_of, plan_of, steps_done, next_step, holds, is_marked, IsFree, IsHeldBy, MayHappen, deed_of, run_records, run_replies, waits_of}
-use Rattle.grove_core.specs.Orders.{lock_time}
-use Rattle.grove_core.specs.Kept.{time_in, HasProgress, Owns, IsCore}
+use Rattle.grove_core.specs.Orders.{lock_time, earlier}
+use Rattle.grove_core.specs.declared.owner.Owner.{Owner}
+use Rattle.grove_core.specs.declared.owner.Owner.TheVariants.{Nobody, Holder, Last}
+use Rattle.grove_core.specs.Owners.{holder_of, last_of}
+use Rattle.grove_core.specs.Kept.{time_in, HasProgress, Owns, IsLastAt, IsOwned, IsCore}
 use Rattle.grove_core.proofs.Precedence.{within_jobs}
 use Rattle.grove_core.proofs.CountChanges.{count_agree, count_added}
-use Rattle.grove_core.proofs.StepTimes.{steps_new, steps_other}
+use Rattle.grove_core.proofs.StepTimes.{time, steps_new, steps_other, time_within, lock_time_is}
 use Rattle.grove_core.proofs.LockTimes.{time_added, time_kept, none_before}
 use Rattle.grove_core.proofs.RunSteps.{lock_time_kept, lock_time_other, lock_time_new, locks_lock, idle_records, idle_replies, accessed_records, accessed_replies, other_replies}
 use Rattle.grove_base.proofs.Lists.{get_set_same, get_set_other}
@@ -84,6 +87,25 @@ owns_same : (jobs : List Job) (old new : List Event) (node : ℕ) (owner : Optio
 owns_same jobs old new node None same h = λ t. same t ∙ h t
 owns_same jobs old new node (Some t) same h = (same t ∙ h.0, λ u ne. same u ∙ h.1 u ne)
 
+-- who locked it last, where its locks are the same
+last_same : (jobs : List Job) (old new : List Event) (node : ℕ) (last : Option ℕ) → ((u : ℕ) → lock_time jobs new u node ≡ lock_time jobs old u node) → IsLastAt jobs old node last → IsLastAt jobs new node last
+last_same jobs old new node None same h = tt
+last_same jobs old new node (Some t) same h = λ u. ap (λ (o : Option ℕ). earlier o (lock_time jobs new u node)) (same t) ∙ ap (λ (o : Option ℕ). earlier (lock_time jobs old t node) o) (same u) ∙ h u
+
+-- and both
+owned_same : (jobs : List Job) (old new : List Event) (node : ℕ) (owner : Owner) → ((u : ℕ) → holds jobs new u node ≡ holds jobs old u node)
+    → ((u : ℕ) → lock_time jobs new u node ≡ lock_time jobs old u node) → IsOwned jobs old node owner → IsOwned jobs new node owner
+owned_same jobs old new node owner same times h = (owns_same jobs old new node (holder_of owner) same h.0, last_same jobs old new node (last_of owner) times h.1)
+
+-- a lock that is the last event has no later one
+none_later : (jobs : List Job) (past : List Event) (u node n : ℕ) → length past ≤ suc n → (o : Option ℕ) → lock_time jobs past u node ≡ o → earlier (Some n) o ≡ false
+none_later jobs past u node n le None e = refl
+none_later jobs past u node n le (Some s) e =
+    let lock : (i : ℕ) × (slice_get (plan_of jobs u) i ≡ Some (Lock node)) × (i < steps_done past u) × (time past u i ≡ s) = lock_time_is jobs past u node s e in
+    let lt : time past u lock.0 < length past = time_within past u lock.0 lock.2 in
+    let is : time past u lock.0 ≡ s = lock.3 in
+    le-ltb n s (omega arith)
+
 holds_other : (jobs : List Job) (past : List Event) (t u node : ℕ) → t ≢ u → holds jobs (Take t ∷ past) u node ≡ holds jobs past u node
 holds_other jobs past t u node ne = ap (held (plan_of jobs u) node) (steps_other past t u ne)
 
@@ -118,26 +140,27 @@ holding_unlocked rows jobs past t node n obeys next within =
     (λ v ne. sym (holds_same jobs past t v (ap (locks v) next) (ap (unlocks v) next ∙ ne_eqb node v ne) t))
 
 -- a written owner, and the others
-owned_after : (jobs : List Job) (past new : List Event) (owners : List (Option ℕ)) (v : ℕ) (owner : Option ℕ)
-    → ((node : ℕ) (o : Option ℕ) → slice_get owners node ≡ Some o → Owns jobs past node o)
-    → Owns jobs new v owner → ((node : ℕ) → v ≢ node → (u : ℕ) → holds jobs new u node ≡ holds jobs past u node)
-    → (node : ℕ) (o : Option ℕ) → slice_get (set owners v owner) node ≡ Some o → Owns jobs new node o
-owned_after jobs past new owners v owner all here same node o h = elim (cases_eq v node) [
+owned_after : (jobs : List Job) (past new : List Event) (owners : List Owner) (v : ℕ) (owner : Owner)
+    → ((node : ℕ) (o : Owner) → slice_get owners node ≡ Some o → IsOwned jobs past node o)
+    → IsOwned jobs new v owner → ((node : ℕ) → v ≢ node → (u : ℕ) → holds jobs new u node ≡ holds jobs past u node)
+    → ((node : ℕ) → v ≢ node → (u : ℕ) → lock_time jobs new u node ≡ lock_time jobs past u node)
+    → (node : ℕ) (o : Owner) → slice_get (set owners v owner) node ≡ Some o → IsOwned jobs new node o
+owned_after jobs past new owners v owner all here same times node o h = elim (cases_eq v node) [
   | inl e ↦
       let there : slice_get (set owners v owner) v ≡ Some o = subst (λ (k : ℕ). slice_get (set owners v owner) k ≡ Some o) (sym e) h in
       let lt : v < length (set owners v owner) = slice_get_within (set owners v owner) v o there in
       let is : owner ≡ o = same_Some owner o (sym (get_set_same owners v owner (let n : length (set owners v owner) ≡ length owners = length-set owners v owner in omega arith)) ∙ there) in
-      subst (λ (k : ℕ). Owns jobs new k o) e (subst (λ (x : Option ℕ). Owns jobs new v x) is here)
-  | inr ne ↦ owns_same jobs past new node o (same node ne) (all node o (sym (get_set_other owners v node owner (λ e. ne (sym e))) ∙ h))
+      subst (λ (k : ℕ). IsOwned jobs new k o) e (subst (λ (x : Owner). IsOwned jobs new v x) is here)
+  | inr ne ↦ owned_same jobs past new node o (same node ne) (times node ne) (all node o (sym (get_set_other owners v node owner (λ e. ne (sym e))) ∙ h))
 ]
 
 -- The core after a step
 
-module _ (rows : Rows) (jobs : List Job) (opening : List ℤ) (past : List Event) (records : List ℤ) (progress : List Progress) (owners : List (Option ℕ)) (waits : List ℕ)
+module _ (rows : Rows) (jobs : List Job) (opening : List ℤ) (past : List Event) (records : List ℤ) (progress : List Progress) (owners : List Owner) (waits : List ℕ)
     (core : IsCore rows jobs opening past records progress owners waits) where
   core_taken : (t : ℕ) → MayHappen jobs past (Take t) → (after : List ℤ) → after ≡ run_records jobs opening (Take t ∷ past) → (q : Progress)
-      → HasProgress rows jobs opening (Take t ∷ past) t q → (owns : List (Option ℕ)) → length owns ≡ length rows
-      → ((node : ℕ) (o : Option ℕ) → slice_get owns node ≡ Some o → Owns jobs (Take t ∷ past) node o)
+      → HasProgress rows jobs opening (Take t ∷ past) t q → (owns : List Owner) → length owns ≡ length rows
+      → ((node : ℕ) (o : Owner) → slice_get owns node ≡ Some o → IsOwned jobs (Take t ∷ past) node o)
       → IsCore rows jobs opening (Take t ∷ past) after (set progress t q) owns waits
   core_taken t may after recorded q come owns all_owners owned = record {
     tree = core.tree;
@@ -169,7 +192,7 @@ module _ (rows : Rows) (jobs : List Job) (opening : List ℤ) (past : List Event
       → q.steps_done ≡ p.steps_done + 1 → q.marked ≡ false → q.replies ≡ p.replies
       → q.locked.items ≡ p.locked.items ++ record { node = node; time = length past } ∷ [] → vec_capacity q.locked ≡ vec_capacity p.locked
       → q.held_nodes ≡ p.held_nodes + 1
-      → IsCore rows jobs opening (Take t ∷ past) records (set progress t q) (set owners node (Some t)) waits
+      → IsCore rows jobs opening (Take t ∷ past) records (set progress t q) (set owners node (Holder t)) waits
   core_locked t node next free p q at moved marked replies locked spare more =
       let h : HasProgress rows jobs opening past t p = core.come t p at in
       let within : node < length rows = locked_within t node next in
@@ -188,12 +211,17 @@ module _ (rows : Rows) (jobs : List Job) (opening : List ℤ) (past : List Event
         | inr ne ↦ time_kept p.locked.items new n ne ∙ h.times n ∙ sym (lock_time_kept jobs past t t n (locks_lock n node (next_step jobs past t) next ne))
       ])
       (more ∙ add-one p.held_nodes ∙ ap suc h.holding ∙ sym (holding_locked rows jobs past t node (length rows) obeys next within)) (omega arith))
-      (set owners node (Some t)) (length-set owners node (Some t) ∙ core.all_owners)
-      (owned_after jobs past (Take t ∷ past) owners node (Some t) core.owned (
-        ap (held (plan_of jobs t) node) (steps_new past t t refl) ∙ held_step_lock (plan_of jobs t) node (steps_done past t) next,
-        λ u ne. holds_other jobs past t u node (λ e. ne (sym e)) ∙ free u ne,
+      (set owners node (Holder t)) (length-set owners node (Holder t) ∙ core.all_owners)
+      (owned_after jobs past (Take t ∷ past) owners node (Holder t) core.owned (
+        (
+          ap (held (plan_of jobs t) node) (steps_new past t t refl) ∙ held_step_lock (plan_of jobs t) node (steps_done past t) next,
+          λ u ne. holds_other jobs past t u node (λ e. ne (sym e)) ∙ free u ne,
+        ),
+        λ u. ap (λ (o : Option ℕ). earlier o (lock_time jobs (Take t ∷ past) u node)) (lock_time_new jobs past t node next)
+            ∙ none_later jobs (Take t ∷ past) u node (length past) (omega arith) (lock_time jobs (Take t ∷ past) u node) refl,
       )
-      (λ n ne. holds_same jobs past t n (locks_lock n node (next_step jobs past t) next ne) (ap (unlocks n) next)))
+      (λ n ne. holds_same jobs past t n (locks_lock n node (next_step jobs past t) next ne) (ap (unlocks n) next))
+      (λ n ne u. lock_time_kept jobs past t u n (locks_lock n node (next_step jobs past t) next ne)))
 
   -- the owner of a held node
   owner_alone : (t node : ℕ) (owner : Option ℕ) → Owns jobs past node owner → holds jobs past t node ≡ true → (u : ℕ) → u ≢ t → holds jobs past u node ≡ false
@@ -203,10 +231,19 @@ module _ (rows : Rows) (jobs : List Job) (opening : List ℤ) (past : List Event
     | inr other ↦ absurd (both_ways (holds jobs past t node) (owns.1 t other) h)
   ]
 
+  -- which locked it last
+  owner_last : (t node : ℕ) (owner : Owner) → IsOwned jobs past node owner → holds jobs past t node ≡ true → IsLastAt jobs past node (Some t)
+  owner_last t node Nobody owned h = absurd (both_ways (holds jobs past t node) (owned.0 t) h)
+  owner_last t node (Holder w) owned h = elim (cases_eq t w) [
+    | inl e ↦ subst (λ (k : ℕ). IsLastAt jobs past node (Some k)) (sym e) owned.1
+    | inr other ↦ absurd (both_ways (holds jobs past t node) (owned.0.1 t other) h)
+  ]
+  owner_last t node (Last w) owned h = absurd (both_ways (holds jobs past t node) (owned.0 t) h)
+
   -- and so does one that takes an unlock
   pub core_unlocked : (t node : ℕ) → next_step jobs past t ≡ Some (Unlock node) → (p q : Progress) → slice_get progress t ≡ Some p
-      → q.steps_done ≡ p.steps_done + 1 → q.marked ≡ false → q.replies ≡ p.replies → q.locked ≡ p.locked → q.held_nodes + 1 ≡ p.held_nodes → (owner : Option ℕ) → slice_get owners node ≡ Some owner
-      → IsCore rows jobs opening (Take t ∷ past) records (set progress t q) (set owners node None) waits
+      → q.steps_done ≡ p.steps_done + 1 → q.marked ≡ false → q.replies ≡ p.replies → q.locked ≡ p.locked → q.held_nodes + 1 ≡ p.held_nodes → (owner : Owner) → slice_get owners node ≡ Some owner
+      → IsCore rows jobs opening (Take t ∷ past) records (set progress t q) (set owners node (Last t)) waits
   core_unlocked t node next p q at moved marked replies locked fewer owner owns =
       let h : HasProgress rows jobs opening past t p = core.come t p at in
       let lt : t < length jobs = within_jobs jobs t (steps_done past t) (Unlock node) next in
@@ -222,14 +259,17 @@ module _ (rows : Rows) (jobs : List Job) (opening : List ℤ) (past : List Event
       (ap (λ r. vec_capacity r) locked) (let e : length q.locked.items ≡ length p.locked.items = ap (λ r. length r.items) locked in omega arith)
       (λ n. ap (λ r. time_in r.items n) locked ∙ h.times n ∙ sym (lock_time_kept jobs past t t n (ap (locks n) next)))
       (omega arith) (omega arith))
-      (set owners node None) (length-set owners node None ∙ core.all_owners)
-      (owned_after jobs past (Take t ∷ past) owners node None core.owned
-      (λ u. elim (cases_eq t u) [
-        | inl e ↦ subst (λ (k : ℕ). holds jobs (Take t ∷ past) k node ≡ false) e
-            (ap (held (plan_of jobs t) node) (steps_new past t t refl) ∙ held_step_unlock (plan_of jobs t) node (steps_done past t) next)
-        | inr ne ↦ holds_other jobs past t u node ne ∙ owner_alone t node owner (core.owned node owner owns) holding u (λ e. ne (sym e))
-      ])
-      (λ n ne. holds_same jobs past t n (ap (locks n) next) (ap (unlocks n) next ∙ ne_eqb node n ne)))
+      (set owners node (Last t)) (length-set owners node (Last t) ∙ core.all_owners)
+      (owned_after jobs past (Take t ∷ past) owners node (Last t) core.owned (
+        λ u. elim (cases_eq t u) [
+          | inl e ↦ subst (λ (k : ℕ). holds jobs (Take t ∷ past) k node ≡ false) e
+              (ap (held (plan_of jobs t) node) (steps_new past t t refl) ∙ held_step_unlock (plan_of jobs t) node (steps_done past t) next)
+          | inr ne ↦ holds_other jobs past t u node ne ∙ owner_alone t node (holder_of owner) (core.owned node owner owns).0 holding u (λ e. ne (sym e))
+        ],
+        last_same jobs past (Take t ∷ past) node (Some t) (λ u. lock_time_kept jobs past t u node (ap (locks node) next)) (owner_last t node owner (core.owned node owner owns) holding),
+      )
+      (λ n ne. holds_same jobs past t n (ap (locks n) next) (ap (unlocks n) next ∙ ne_eqb node n ne))
+      (λ n ne u. lock_time_kept jobs past t u n (ap (locks n) next)))
 
   -- and one that takes an access
   pub core_accessed : (t number : ℕ) (visit : Visit) → next_step jobs past t ≡ Some (Access number) → slice_get (list_of jobs t) number ≡ Some visit → (p q : Progress) → slice_get progress t ≡ Some p
@@ -249,7 +289,7 @@ module _ (rows : Rows) (jobs : List Job) (opening : List ℤ) (past : List Event
       (kept ∙ h.holding ∙ sym (count_agree (length rows) (λ v. holds jobs (Take t ∷ past) t v) (λ v. holds jobs past t v)
       (λ v less. holds_same jobs past t v (ap (locks v) next) (ap (unlocks v) next) t))) (omega arith))
       owners core.all_owners
-      (λ n o e. owns_same jobs past (Take t ∷ past) n o (holds_same jobs past t n (ap (locks n) next) (ap (unlocks n) next)) (core.owned n o e))
+      (λ n o e. owned_same jobs past (Take t ∷ past) n o (holds_same jobs past t n (ap (locks n) next) (ap (unlocks n) next)) (λ u. lock_time_kept jobs past t u n (ap (locks n) next)) (core.owned n o e))
 
   -- after a mark
   marked_other : (t u : ℕ) (p : Progress) → t ≢ u → HasProgress rows jobs opening past u p → HasProgress rows jobs opening (Mark t ∷ past) u p
@@ -310,7 +350,7 @@ module _ (rows : Rows) (jobs : List Job) (opening : List ℤ) (past : List Event
               held = subst (λ (k : ℕ). k ≤ steps_done past t) (sym kept) h.held;
             });
         all_owners = core.all_owners;
-        owned = λ n o e. owns_same jobs past (Mark t ∷ past) n o (λ u. refl) (core.owned n o e);
+        owned = λ n o e. owned_same jobs past (Mark t ∷ past) n o (λ u. refl) (λ u. refl) (core.owned n o e);
         all_waits = length-set waits node (count + 1) ∙ core.all_waits;
         waited = waited_more t node count next counted;
       }

@@ -1,5 +1,5 @@
 -- What a core keeps: the state that its history leads to.
-use Rattle.std.specs.Prelude.{◌≡◌, ◌≢◌, ℕ, ◌^◌, ◌<◌, ◌≤◌, ◌==◌, ℤ, true, false, List, [], ◌∷◌, length, reverse, slice_get, Option, Some, None, vec_capacity, if◌then◌else◌}
+use Rattle.std.specs.Prelude.{◌≡◌, ◌≢◌, ℕ, ◌^◌, ◌<◌, ◌≤◌, ◌==◌, ℤ, true, false, ⊤, List, [], ◌∷◌, length, reverse, slice_get, Option, Some, None, vec_capacity, if◌then◌else◌}
 use Rattle.grove_base.specs.Numbers.{count_below}
 use Rattle.grove_tree.specs.Trees.{Rows, IsTree}
 use Rattle.grove_core.specs.declared.job.Job.{Job}
@@ -7,7 +7,9 @@ use Rattle.grove_core.specs.declared.event.Event.{Event}
 use Rattle.grove_core.specs.declared.locking.Locked.{Locked}
 use Rattle.grove_core.specs.declared.progress.Progress.{Progress}
 use Rattle.grove_core.specs.Runs.{list_of, plan_of, steps_done, holds, is_marked, AllLegal, IsRun, run_records, run_replies, waits_of}
-use Rattle.grove_core.specs.Orders.{lock_time}
+use Rattle.grove_core.specs.Orders.{lock_time, earlier}
+use Rattle.grove_core.specs.declared.owner.Owner.{Owner}
+use Rattle.grove_core.specs.Owners.{holder_of, last_of}
 
 -- a core, as its callers see it: what it was opened with, and the events since then
 pub record State : Type 0 where
@@ -42,8 +44,17 @@ abbrev pub Owns : List Job → List Event → ℕ → Option ℕ → Type 0
 Owns jobs past node None = (t : ℕ) → holds jobs past t node ≡ false
 Owns jobs past node (Some t) = (holds jobs past t node ≡ true) × ((u : ℕ) → u ≢ t → holds jobs past u node ≡ false)
 
+-- no job locked a node after this one
+abbrev pub IsLastAt : List Job → List Event → ℕ → Option ℕ → Type 0
+IsLastAt jobs past node None = ⊤
+IsLastAt jobs past node (Some t) = (u : ℕ) → earlier (lock_time jobs past t node) (lock_time jobs past u node) ≡ false
+
+-- what is known of a node by its owner
+abbrev pub IsOwned : List Job → List Event → ℕ → Owner → Type 0
+IsOwned jobs past node owner = Owns jobs past node (holder_of owner) × IsLastAt jobs past node (last_of owner)
+
 pub record IsCore (rows : Rows) (jobs : List Job) (opening : List ℤ) (past : List Event) (records : List ℤ) (progress : List Progress)
-    (owners : List (Option ℕ)) (waits : List ℕ) : Type 0 where
+    (owners : List Owner) (waits : List ℕ) : Type 0 where
   pub tree : IsTree rows
   pub few : length jobs ≤ 256
   pub legal : AllLegal rows jobs
@@ -54,6 +65,6 @@ pub record IsCore (rows : Rows) (jobs : List Job) (opening : List ℤ) (past : L
   pub all_jobs : length progress ≡ length jobs
   pub come : (t : ℕ) (p : Progress) → slice_get progress t ≡ Some p → HasProgress rows jobs opening past t p
   pub all_owners : length owners ≡ length rows
-  pub owned : (node : ℕ) (owner : Option ℕ) → slice_get owners node ≡ Some owner → Owns jobs past node owner
+  pub owned : (node : ℕ) (owner : Owner) → slice_get owners node ≡ Some owner → IsOwned jobs past node owner
   pub all_waits : length waits ≡ length rows
   pub waited : (node count : ℕ) → slice_get waits node ≡ Some count → count ≡ waits_of jobs past node

@@ -2,6 +2,7 @@ pub mod Serial
 pub mod Runs
 pub mod Orders
 pub mod Laws
+pub mod Owners
 pub mod Kept
 pub mod Openings
 pub mod Carried

@@ -19,4 +19,5 @@ mod locking;
 mod machine;
 mod opening;
 mod ordering;
+mod owner;
 mod progress;

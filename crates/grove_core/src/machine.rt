@@ -1,15 +1,16 @@
-ghost use Rattle.std.specs.Prelude.{◌≡◌, ◌≤◌, ◌<◌, ◌∷◌, [], ◌++◌, length, reverse, IfOk, OnOk, OnErr, IfErr, MatchOption, Some, slice_get, false, IsTrue, IfSome, ◌↔◌};
+ghost use Rattle.std.specs.Prelude.{◌≡◌, ℕ, ◌≤◌, ◌<◌, ◌∷◌, [], ◌++◌, length, reverse, IfOk, OnOk, OnErr, IfErr, MatchOption, Some, slice_get, true, false, IsTrue, IfSome, ◌↔◌};
 ghost use Rattle.grove_access.specs.Effects.{record_at};
 ghost use Rattle.grove_core.specs.Runs.{plan_of, next_step, AllLegal, IsRun, IsFinished, MayHappen, IsRefused, IsFree, IsHeldBy, is_marked, run_records, run_replies, waits_of, most_events};
 ghost use Rattle.grove_tree.specs.Trees.{IsTree};
-ghost use Rattle.grove_core.specs.Orders.{first_lock, lock_time, locks_first_at};
+ghost use Rattle.grove_core.specs.Orders.{first_lock, lock_time, locks_first_at, earlier};
 ghost use Rattle.grove_core.specs.Laws.{CanGoOn};
 ghost use Rattle.grove_core.specs.Openings.{AllFit, IsFirstFault};
 ghost use Rattle.grove_core.specs.Kept.{past_of};
 
-use crate::following::step_at;
+use crate::following::{is_owner, step_at};
 use crate::locking::{first_lock, time_in};
 use crate::opening::{judge_all, room, start_all};
+use crate::owner::Owner;
 use crate::progress::Progress;
 use crate::{Event, Job, OpenFault, StepFault};
 use grove_access::{Records, Reply};
@@ -29,7 +30,7 @@ pub struct Core<'a> {
     history: Vec<Event>,
     records: Records,
     progress: Vec<Progress>,
-    owners: Vec<Option<u32>>,
+    owners: Vec<Owner>,
     waits: Vec<u32>,
 }
 
@@ -67,7 +68,7 @@ impl<'a> Core<'a> {
         let history = Vec::with_capacity(alloc, room(jobs))?;
         let records = records.copy(alloc)?;
         let progress = start_all(alloc, jobs)?;
-        let owners = vec![in alloc; None; nodes]?;
+        let owners = vec![in alloc; Owner::Nobody; nodes]?;
         let waits = vec![in alloc; 0; nodes]?;
         Ok(Core {
             tree,
@@ -250,6 +251,14 @@ impl<'a> Core<'a> {
         }
     }
 
+    /// Is it known that no job locked the node after this one?
+    pub(crate) fn locked_last(&self, txn: u32, node: Node) -> bool
+        requires { node < length self.now.tree }
+        ensures { result ≡ true → (u : ℕ) → earlier (lock_time self.now.jobs (past_of self.now) txn node) (lock_time self.now.jobs (past_of self.now) u node) ≡ false }
+    {
+        is_owner(self.owners[node.number() as usize].last(), txn)
+    }
+
     /// How many events came before a job's lock of a node.
     pub(crate) fn lock_time(&self, txn: u32, node: Node) -> Option<usize>
         ensures { result ≡ lock_time self.now.jobs (past_of self.now) txn node }
@@ -280,7 +289,7 @@ impl<'a> Core<'a> {
         requires { next_step self.now.jobs (past_of self.now) txn ≡ Some (Step.Lock node) }
         ensures { MatchOption result (IsFree self.now.jobs (past_of self.now) txn node) (λ holder. IsHeldBy self.now.jobs (past_of self.now) txn node holder) }
     {
-        match self.owners[node.number() as usize] {
+        match self.owners[node.number() as usize].holder() {
             Some(holder) if holder != txn => Some(holder),
             _ => None,
         }
@@ -302,7 +311,7 @@ impl<'a> Core<'a> {
         let time = self.history.len();
         let progress = &mut self.progress[txn as usize];
         progress.lock(node, time);
-        self.owners[node.number() as usize] = Some(txn);
+        self.owners[node.number() as usize] = Owner::Holder(txn);
         self.history.push_reserved(Event::Take(txn));
     }
 
@@ -312,7 +321,7 @@ impl<'a> Core<'a> {
     {
         let progress = &mut self.progress[txn as usize];
         progress.unlock();
-        self.owners[node.number() as usize] = None;
+        self.owners[node.number() as usize] = Owner::Last(txn);
         self.history.push_reserved(Event::Take(txn));
     }
 

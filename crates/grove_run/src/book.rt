@@ -1,4 +1,4 @@
-ghost use Rattle.std.specs.Prelude.{◌≡◌, ◌<◌, ◌≤◌, ◌+◌, [], length, true, false, Some, None, IfSome, IfNone};
+ghost use Rattle.std.specs.Prelude.{◌≡◌, ◌<◌, ◌≤◌, ◌+◌, [], length, true, false, Some, None, IfSome, IfNone, IsTrue, ◌↔◌};
 ghost use Rattle.grove_access.specs.Carries.{carry_settled};
 ghost use Rattle.grove_plan.specs.declared.step.Step.{Step as PlanStep};
 ghost use Rattle.grove_core.specs.Runs.{next_step, AllLegal, MayHappen};
@@ -53,6 +53,13 @@ impl<'a> Book<'a> {
         let txn = self.claimed;
         self.claimed += 1;
         Some(txn)
+    }
+
+    /// Is there a job that isn't claimed?
+    pub(crate) fn has_unclaimed(&self) -> bool
+        ensures { IsTrue result ↔ (self.now.claimed < length self.now.core.jobs) }
+    {
+        (self.claimed as usize) < self.core.jobs().len()
     }
 
     /// The core of the book.

@@ -71,6 +71,11 @@ impl<'a, B: Batch> Register<'a, B> {
         }
     }
 
+    /// Is there a job that isn't claimed?
+    pub fn has_unclaimed(&self) -> bool {
+        self.book.has_unclaimed()
+    }
+
     /// Does the step of a carry.
     pub fn carry_step(&mut self, carry: &mut Carry) -> CarryStep {
         self.book.carry_step(carry)

@@ -1,3 +1,5 @@
+ghost use Rattle.std.specs.Thread.{IsSend, IsSync};
+
 use crate::CarryStep;
 use crate::bells::Bells;
 use crate::register::{Batch, Register};
@@ -6,29 +8,31 @@ use grove_core::Job;
 use grove_plan::Step;
 use grove_tree::{Gate, Node};
 use std::sync::{Mutex, Wait};
-use std::thread;
-use std::thread::Threads;
+use std::thread::{Threads, join};
 
-/// Does the jobs by so many threads, this one among them. Where a thread can't be started the others do the jobs.
-pub fn work_all<'a, 'e, B: Batch + Send + Sync, R: Threads + Wait + Sync, G: Gate + Sync>(
-    rt: &'e R,
+/// Does the jobs by so many threads, this one among them. Each thread starts the next one before it works, as long as a
+/// job is left to claim: so no thread is started that has nothing to do, and none waits for another to be started. Where
+/// a thread can't be started the others do the jobs.
+#[cycle(chain)]
+pub fn work_all<'a, B: Batch + Send + Sync, R: Threads + Wait + Sync, G: Gate + Sync>(
+    rt: &R,
     jobs: &'a [Job],
-    register: &'e Mutex<Register<'a, B>>,
-    bells: &'e Bells,
+    register: &Mutex<Register<'a, B>>,
+    bells: &Bells,
     workers: usize,
-    gate: &'e G,
+    gate: &G,
 ) {
-    thread::scope(thread::scope_env(), rt, move |scope| {
-        for _ in 1..workers {
-            if scope
-                .spawn(move || work(rt, jobs, register, bells, gate))
-                .is_err()
-            {
-                break;
-            }
-        }
-        work(rt, jobs, register, bells, gate);
-    });
+    if workers < 2 || !register.lock(rt).has_unclaimed() {
+        return work(rt, jobs, register, bells, gate);
+    }
+    let others = workers - 1;
+    join(
+        rt,
+        ||
+            requires { IsSend B.row × IsSync B.row × IsSync R.row × IsSync G.row }
+        { work_all(rt, jobs, register, bells, others, gate) },
+        || work(rt, jobs, register, bells, gate),
+    );
 }
 
 // Claims jobs and does them, until there are none.

@@ -98,7 +98,7 @@ impl<'a> Core<'a> {
         ensures { result ≡ holds self.now.jobs (past_of self.now) txn node }
     {
         match self.owners.get(node.number() as usize) {
-            Some(owner) => is_owner(*owner, txn),
+            Some(owner) => is_owner(owner.holder(), txn),
             None => false,
         }
     }

@@ -1,4 +1,4 @@
-use Rattle.std.proofs.Common.{◌≡◌, ◌<◌, length, reverse, Some, None, ◌∙◌, arith}
+use Rattle.std.proofs.Common.{◌≡◌, ◌<◌, length, reverse, Some, None, sym, ◌∙◌, arith}
 use Rattle.std.specs.Vec.{vec_len}
 use Rattle.grove_core.specs.Kept.{Owns}
 use Rattle.grove_core.proofs.CoreSteps.{locked_within}
@@ -16,17 +16,17 @@ index-requires c =
 pub returns-in-Some : goal.returns-in-Some
 returns-in-Some c =
     let next = rw (← c.self.view_is) at c.requires in
-    let owns : Owns c.self.inside.jobs.now (reverse c.self.inside.history.items) c.args.node (Some c.in-Some.holder) = owner_seen _ _ _ _ _ _ _ _ c.self.invariant.0 c.args.txn c.args.node c.number.result next c.number.ensures.is_it c.index.result.now (Some c.in-Some.holder) c.index.ensures c.in-Some.is in
+    let owns : Owns c.self.inside.jobs.now (reverse c.self.inside.history.items) c.args.node (Some c.in-Some.holder) = owner_seen _ _ _ _ _ _ _ _ c.self.invariant.0 c.args.txn c.args.node c.number.result next c.number.ensures.is_it c.index.result.now c.index.ensures (Some c.in-Some.holder) (sym c.holder.ensures ∙ c.in-Some.is) in
     rw (← c.self.view_is) (c.if-holder-txn.true, owns.0)
 
 pub returns-in_default : goal.returns-in_default
 returns-in_default c =
     let next = rw (← c.self.view_is) at c.requires in
-    let owns : Owns c.self.inside.jobs.now (reverse c.self.inside.history.items) c.args.node (Some c.in-Some.holder) = owner_seen _ _ _ _ _ _ _ _ c.self.invariant.0 c.args.txn c.args.node c.number.result next c.number.ensures.is_it c.index.result.now (Some c.in-Some.holder) c.index.ensures c.in-Some.is in
+    let owns : Owns c.self.inside.jobs.now (reverse c.self.inside.history.items) c.args.node (Some c.in-Some.holder) = owner_seen _ _ _ _ _ _ _ _ c.self.invariant.0 c.args.txn c.args.node c.number.result next c.number.ensures.is_it c.index.result.now c.index.ensures (Some c.in-Some.holder) (sym c.holder.ensures ∙ c.in-Some.is) in
     rw (← c.self.view_is) (λ u ne. owns.1 u (λ e. ne (e ∙ c.if-holder-txn.false)))
 
 pub returns-in_default-2 : goal.returns-in_default-2
 returns-in_default-2 c =
     let next = rw (← c.self.view_is) at c.requires in
-    let owns : Owns c.self.inside.jobs.now (reverse c.self.inside.history.items) c.args.node None = owner_seen _ _ _ _ _ _ _ _ c.self.invariant.0 c.args.txn c.args.node c.number.result next c.number.ensures.is_it c.index.result.now None c.index.ensures c.in_default.is in
+    let owns : Owns c.self.inside.jobs.now (reverse c.self.inside.history.items) c.args.node None = owner_seen _ _ _ _ _ _ _ _ c.self.invariant.0 c.args.txn c.args.node c.number.result next c.number.ensures.is_it c.index.result.now c.index.ensures None (sym c.holder.ensures ∙ c.in_default.is) in
     rw (← c.self.view_is) (λ u ne. owns u)

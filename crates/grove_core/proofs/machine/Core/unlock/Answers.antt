@@ -1,10 +1,11 @@
-use Rattle.std.proofs.Common.{◌≡◌, ℕ, ◌<◌, length, reverse, Option, Some, arith}
+use Rattle.std.proofs.Common.{◌≡◌, ◌<◌, length, reverse, Some, arith}
 use Rattle.std.specs.List.{slice_get}
 use Rattle.std.specs.Vec.{vec_len, vec_capacity}
 use Rattle.std.proofs.lemmas.List.{length-reverse}
 use Rattle.grove_plan.specs.declared.step.Step.TheVariants.{Unlock}
 use Rattle.grove_core.specs.declared.event.Event.TheVariants.{Take}
 use Rattle.grove_base.proofs.Lists.{item_there}
+use Rattle.grove_core.specs.declared.owner.Owner.{Owner}
 use Rattle.grove_core.proofs.CoreReads.{closed, progress_there, steps_small, unlocked_within, event_room, owner_there, may_unlock, progress_at, unlocks_some}
 use Rattle.grove_core.proofs.CoreSteps.{core_unlocked}
 use Rattle.grove_core.proofs.machine.Core.unlock.Goals as goal
@@ -47,7 +48,7 @@ pub invariant_of-self : goal.invariant_of-self
 invariant_of-self c =
     let next = rw (← c.self.view_is) at c.requires in
     let at : slice_get c.self.inside.progress.items c.args.txn ≡ Some c.index_mut-progress.result.now = progress_at _ _ _ _ _ _ _ _ c.self.invariant.0 c.args.txn (Unlock c.args.node) next c.index_mut-progress.result.now c.index_mut-progress.ensures.value in
-    let owner : (o : Option ℕ) × (slice_get c.self.inside.owners.items c.args.node ≡ Some o) = item_there c.self.inside.owners.items c.args.node
+    let owner : (o : Owner) × (slice_get c.self.inside.owners.items c.args.node ≡ Some o) = item_there c.self.inside.owners.items c.args.node
     (owner_there _ _ _ _ _ _ _ _ c.self.invariant.0 c.args.node (unlocked_within _ _ _ _ _ _ _ _ c.self.invariant.0 c.args.txn c.args.node next)) in
     rw c.number.ensures.is_it
     (closed _ _ _ c.self.inside.history.items c.push_reserved.new.self.items (Take c.args.txn) (vec_capacity c.self.inside.history) (vec_capacity c.push_reserved.new.self) _ _ _ _
