@@ -13,7 +13,7 @@ use Rattle.grove_access.specs.Forced.{IsCommon, IsForcedByTree, covers, is_commo
 use Rattle.grove_base.proofs.Lists.{get_append_left, get_last}
 
 -- a number that passes is listed
-passing_get : (n : ℕ) (test : ℕ → Bool) (x : ℕ) → x < n → test x ≡ true → (i : ℕ) × (slice_get (passing_below n test) i ≡ Some x)
+pub passing_get : (n : ℕ) (test : ℕ → Bool) (x : ℕ) → x < n → test x ≡ true → (i : ℕ) × (slice_get (passing_below n test) i ≡ Some x)
 passing_get zero test x lt h = absurd (omega arith)
 passing_get (suc n) test x lt h = elim (cases_eq x n) [
   | inl e ↦ (

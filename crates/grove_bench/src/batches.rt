@@ -1,6 +1,7 @@
 ghost use Rattle.std.specs.Prelude.{◌≤◌, ◌<◌};
 
-use crate::running;
+use crate::branches::BRANCHES;
+use crate::running::{self, DEPTH};
 use anyhow::{Result, bail};
 use grove_access::{Access, AccessList, Op, Records};
 use grove_build::plan_batch;
@@ -39,7 +40,10 @@ fn time_plans<R: Runtime + Threads + Sync>(rt: &R, alloc: Global) -> Result<()> 
     let distinct = lists(alloc, &tree, 251)?;
     time_lists(rt, alloc, "plan-distinct", &tree, &distinct)?;
     let equal = lists(alloc, &tree, 0)?;
-    time_lists(rt, alloc, "plan-equal", &tree, &equal)
+    time_lists(rt, alloc, "plan-equal", &tree, &equal)?;
+    let chains = running::tree(alloc)?;
+    let long = long_lists(alloc, &chains)?;
+    time_lists(rt, alloc, "plan-long", &chains, &long)
 }
 
 fn time_lists<R: Runtime + Threads + Sync>(
@@ -176,6 +180,20 @@ fn lists(alloc: Global, tree: &Tree, apart: u32) -> Result<Vec<AccessList>>
         let mut accesses = Vec::new(alloc);
         for access in 0..ACCESSES {
             accesses.push(add_one(1 + (number * apart + access * 67) % 4095))?;
+        }
+        lists.push(AccessList::new(alloc, tree, &accesses)?)?;
+    }
+    Ok(lists)
+}
+
+/// Lists that add 1 to a node near the end of each chain, in turn, no two lists alike.
+fn long_lists(alloc: Global, tree: &Tree) -> Result<Vec<AccessList>> {
+    let mut lists = Vec::new(alloc);
+    for number in 0..BATCH {
+        let mut accesses = Vec::new(alloc);
+        for access in 0..ACCESSES {
+            let chain = (number + access) % BRANCHES;
+            accesses.push(add_one((chain + 1) * DEPTH - number / BRANCHES))?;
         }
         lists.push(AccessList::new(alloc, tree, &accesses)?)?;
     }

@@ -11,7 +11,8 @@ use std::alloc::Global;
 
 const JOBS: u32 = 256;
 
-const DEPTH: u32 = 32;
+/// How many nodes each chain of its tree has.
+pub const DEPTH: u32 = 32;
 /// At least as many as a plan here has.
 const STEPS: usize = 8_256;
 

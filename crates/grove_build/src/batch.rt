@@ -1,4 +1,4 @@
-ghost use Rattle.std.specs.Prelude.{◌≡◌, ◌+◌, ◌<◌, ◌≤◌, ◌/◌, ◌^◌, length, IfOk, All};
+ghost use Rattle.std.specs.Prelude.{◌≡◌, ◌+◌, ◌<◌, ◌≤◌, ◌/◌, ◌^◌, length, IfOk, IsOk, All};
 ghost use Rattle.std.specs.List.{AllZip};
 ghost use Rattle.std.specs.Thread.{IsSync};
 ghost use Rattle.grove_access.specs.Lists.{nodes_of, AreNodes};
@@ -27,8 +27,12 @@ pub fn plan_batch<R: Threads + Sync, G: Gate + Sync>(
     requires few { length lists.now ≤ 256 }
     requires workers { (1 ≤ workers) × (workers ≤ 16) }
     requires fit { All (λ list. AreNodes tree.now (nodes_of list)) lists.now }
-    ensures { IfOk result (λ all. AllZip (IsPlanned tree.now) lists.now all.items) }
+    ensures planned { IfOk result (λ all. AllZip (IsPlanned tree.now) lists.now all.items) }
+    ensures empty { length lists.now ≡ 0 → IsOk result }
 {
+    if lists.is_empty() {
+        return Ok(Vec::new(alloc));
+    }
     let distinct = distinct_of(alloc, lists)?;
     let plans = plan_parts(rt, alloc, tree, gate, workers, 0, &distinct.lists)?;
     let mut all = Vec::new(alloc);

@@ -1,10 +1,10 @@
-ghost use Rattle.std.specs.Prelude.{◌≡◌, ◌+◌, ◌*◌, ◌<◌, ◌≤◌, ◌++◌, ◌∷◌, [], length, IfOk, OnOk, IfSome};
-ghost use Rattle.grove_build.specs.Networks.{arc, parent_arcs, first_arcs, last_arcs, row_arcs, arcs_from, arc_if, row_names, names_from, needs_from, start_of, weights_of, AreRowsOf, HaveOwnParents};
+ghost use Rattle.std.specs.Prelude.{◌≡◌, ◌+◌, ◌*◌, ◌<◌, ◌≤◌, ◌++◌, ◌∷◌, [], length, map, IfOk, OnOk, IfSome};
+ghost use Rattle.grove_build.specs.Networks.{arc, parent_arcs, first_arcs, last_arcs, row_arcs, arcs_from, arc_if, row_names, names_from, needs_from, start_of, HaveOwnParents};
 
 use crate::variables::{base_of, lock_of, release_of};
 use grove_flow::{Arc, Network};
 use grove_span::SpanRow;
-use grove_tree::{NoMemory, Node, Tree};
+use grove_tree::{NoMemory, Node};
 use std::alloc::Global;
 
 /// The network of some rows, and its arcs by name.
@@ -142,14 +142,13 @@ fn push_arc(arcs: &mut Vec<Arc>, from: u32, to: u32, least: i64) -> Result<usize
     Ok(number)
 }
 
-/// The weight of each row's node.
-pub fn weights_of(alloc: Global, tree: &Tree, rows: &[SpanRow]) -> Result<Vec<u32>, NoMemory>
-    requires { AreRowsOf tree.now rows.now }
-    ensures { IfOk result (λ weights. weights.items ≡ weights_of tree.now rows.now) }
+/// The weight of each row.
+pub fn weights_of(alloc: Global, rows: &[SpanRow]) -> Result<Vec<u32>, NoMemory>
+    ensures { IfOk result (λ weights. weights.items ≡ map (λ row. row.weight) rows.now) }
 {
     let mut weights = Vec::with_capacity(alloc, rows.len())?;
     for row in rows {
-        weights.push(tree.weight(row.node))?;
+        weights.push(row.weight)?;
     }
     Ok(weights)
 }

@@ -58,7 +58,7 @@ pub fn plan_watched<W: Watch>(
     let _accesses = list.len();
     let rows = span(alloc, tree, list)?;
     watch.done(Layer::Span);
-    let weights = weights_of(alloc, tree, &rows)?;
+    let weights = weights_of(alloc, &rows)?;
     let slots = slots_of(alloc, list)?;
     let solved = solve_rows(alloc, tree, list, &rows, &weights, &slots, watch)?;
     settle(alloc, tree, list, &rows, &weights, &slots, &solved, watch)

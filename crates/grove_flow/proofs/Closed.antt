@@ -1,7 +1,7 @@
 -- What a set of variables that no arc leads out of gives and takes, and so where a variable that still has to give can be: between its
 -- place and those of the variables that still have to take, each band of places has a variable.
-use Rattle.std.proofs.Common.{◌≡◌, ℕ, zero, suc, ◌+◌, ◌*◌, ◌<◌, ◌≤◌, ◌==◌, Bool, true, false, cond, List, [], ◌∷◌, length, slice_index, ℤ, refl, sym, ◌∙◌, ap, subst, inl, inr, arith, eq-eqb, ne_eqb, ◌⊎◌, pos, negsuc, ◌+ℤ◌, ◌≤ℤ◌, eq-zero-or-pos}
-use Rattle.std.proofs.lemmas.Bool.{cases_Bool, cond-true, cond-false, both_ways, cases_eq}
+use Rattle.std.proofs.Common.{◌≡◌, ℕ, zero, suc, ◌+◌, ◌*◌, ◌<◌, ◌≤◌, ◌==◌, Bool, true, false, cond, List, [], ◌∷◌, length, slice_index, ℤ, refl, sym, inl, inr, arith, eq-eqb, ne_eqb, ◌⊎◌, pos, ◌≤ℤ◌, eq-zero-or-pos}
+use Rattle.std.proofs.lemmas.Bool.{cases_Bool, cond-true, both_ways, cases_eq}
 use Rattle.grove_base.specs.Numbers.{sum_below, count_below}
 use Rattle.grove_base.proofs.Counting.{sum_add, sum_same, sum_zero, sum_term, count_hit, count_miss, count_le, count_mono}
 use Rattle.grove_flow.specs.declared.network.Arc.{Arc}
@@ -10,7 +10,7 @@ use Rattle.grove_flow.specs.Flows.{sent, amount_in, amount_out, takes}
 use Rattle.grove_flow.specs.States.{double, gives, ArePaired, IsFrame, AreBalanced, AreUnmoved}
 use Rattle.std.proofs.lemmas.Int.{by_lt_z}
 use lib.Signed.{lt_z}
-use borrow.Author.Differences.{ints, lt-true, true_is_lt, lt_out, le_out, up, down, sum_is_lem, same_out}
+use borrow.Author.Differences.{ints, lt-true, true_is_lt, up, down}
 
 -- one term alone
 pub sum_one : (n k : ℕ) (f : ℕ → ℕ) → k < n → ((j : ℕ) → j < n → (j ≡ k → ⊥) → f j ≡ 0) → sum_below n f ≡ f k
@@ -21,18 +21,6 @@ sum_one (suc n) k f lt h = elim (cases_eq k n) [
   | inr ne ↦ let rest : sum_below n f ≡ f k = sum_one n k f (omega arith) (λ j less other. h j (omega arith) other) in
       let here : f n ≡ 0 = h n (omega arith) (λ same. ne (sym same)) in omega arith
 ]
-
--- a test that passes more counts more
-count_more : (n : ℕ) (s t : ℕ → Bool) → ((k : ℕ) → k < n → s k ≡ true → t k ≡ true) → count_below n s ≤ count_below n t
-count_more zero s t h = omega arith
-count_more (suc n) s t h =
-    let le : count_below n s ≤ count_below n t = count_more n s t (λ k lt. h k (omega arith)) in
-    elim (cases_Bool (s n)) [
-      | inl y ↦ let e : count_below (suc n) s ≡ suc (count_below n s) = count_hit n s y in
-          let f : count_below (suc n) t ≡ suc (count_below n t) = count_hit n t (h n (omega arith) y) in omega arith
-      | inr y ↦ let e : count_below (suc n) s ≡ count_below n s = count_miss n s y in
-          let f : count_below n t ≤ count_below (suc n) t = count_mono n (suc n) t (omega arith) in omega arith
-    ]
 
 pub double-is : (n : ℕ) → double n ≡ 2 * n
 double-is zero = refl
@@ -89,11 +77,9 @@ pub closed_sent : {s : ℕ → Bool} (arcs : List Arc) (amounts : List ℕ) → 
     → sent (λ arc. s arc.from) arcs amounts ≡ sent (λ arc. s arc.to) arcs amounts
 closed_sent [] amounts h = refl
 closed_sent (arc ∷ arcs) [] h = refl
-closed_sent {s} (arc ∷ arcs) (amount ∷ amounts) h = omega (
-  arith,
-  cond_ends (s arc.from) (s arc.to) amount (h.leaves 0 (omega arith)) (h.enters 0 (omega arith)),
-  closed_sent {s = s} arcs amounts (record { leaves = λ i lt. h.leaves (suc i) (omega arith); enters = λ i lt. h.enters (suc i) (omega arith) }),
-)
+closed_sent {s} (arc ∷ arcs) (amount ∷ amounts) h =
+    let rest = closed_sent {s = s} arcs amounts (record { leaves = λ i lt. h.leaves (suc i) (omega arith); enters = λ i lt. h.enters (suc i) (omega arith) }) in
+    omega (arith, cond_ends (s arc.from) (s arc.to) amount (h.leaves 0 (omega arith)) (h.enters 0 (omega arith)), rest)
 
 -- a balance at each variable, added up over the chosen ones
 sum_balance : (n : ℕ) (s : ℕ → Bool) (a b c d e f : ℕ → ℕ) → ((v : ℕ) → v < n → a v + b v + c v ≡ d v + e v + f v)
@@ -148,16 +134,9 @@ none_to_give {needs} {arcs} excess unmet {s} frame balanced closed met v lt pick
     let base : chosen s (gives needs) (double frame.rows) ≡ 0 = rw frame.paired.base_gives (cond_none (s (double frame.rows))) in
     let all_le : sum_chosen (length needs) s (gives needs) ≤ sum_chosen (length needs) s (takes needs) =
     rw frame.size (omega (arith, pairs_le s frame.paired own frame.rows (omega arith))) in
-    omega (
-      arith,
-      closed_balance needs excess unmet (rw (← frame.size) at frame.arcs_of) balanced closed,
-      sum_zero (length needs) (chosen s (slice_index unmet)) (λ k less. none_at s unmet k (met k less)),
-      cond-true (s v) (slice_index excess v) 0 picked,
-      sum_term (length needs) v (chosen s (slice_index excess)) lt,
-    )
-  where
-    none_at : (s : ℕ → Bool) (unmet : List ℕ) (k : ℕ) → (s k ≡ true → slice_index unmet k ≡ 0) → cond (s k) (slice_index unmet k) 0 ≡ 0
-    none_at s unmet k h = elim (cases_Bool (s k)) [ inl e ↦ rw e (h e) | inr e ↦ rw e refl ]
+    let total = closed_balance needs excess unmet (rw (← frame.size) at frame.arcs_of) balanced closed in
+    let none = sum_zero (length needs) (chosen s (slice_index unmet)) (λ k less. elim (cases_Bool (s k)) [ inl e ↦ rw e (met k less e) | inr e ↦ rw e refl ]) in
+    omega (arith, total, none, cond-true (s v) (slice_index excess v) 0 picked, sum_term (length needs) v (chosen s (slice_index excess)) lt)
 
 -- where nothing is left to give, nothing is unmet
 pub none_unmet : {needs : List ℤ} {arcs : List Arc} (amounts excess unmet : List ℕ) → IsFrame needs arcs → AreBalanced arcs needs amounts excess unmet
@@ -177,18 +156,24 @@ count_some n k test lt h = omega (arith, count_mono (suc k) n test lt, count_hit
 
 -- of two sets, one in the other, the smaller has fewer numbers or is the same
 fewer : (n : ℕ) (s t : ℕ → Bool) → ((k : ℕ) → k < n → s k ≡ true → t k ≡ true)
-    → ((k : ℕ) → k < n → t k ≡ true → s k ≡ true) ⊎ (suc (count_below n s) ≤ count_below n t)
-fewer zero s t h = inl (λ k lt e. absurd (omega arith))
+    → (((k : ℕ) → k < n → t k ≡ true → s k ≡ true) × (count_below n s ≤ count_below n t)) ⊎ (suc (count_below n s) ≤ count_below n t)
+fewer zero s t h = inl (λ k lt e. absurd (omega arith), omega arith)
 fewer (suc n) s t h = elim (fewer n s t (λ k lt. h k (omega arith))) [
   | inr less ↦ elim (cases_Bool (s n)) [
     | inl yes_s ↦ inr (omega (arith, count_hit n s yes_s, count_hit n t (h n (omega arith) yes_s)))
     | inr no_s ↦ inr (omega (arith, count_miss n s no_s, count_mono n (suc n) t (omega arith)))
   ]
-  | inl same ↦ elim (cases_Bool (s n)) [
-    | inl yes_s ↦ inl (λ k lt e. elim (cases_eq k n) [ inl at_n ↦ rw at_n yes_s | inr other ↦ same k (omega arith) e ])
+  | inl (same, le) ↦ elim (cases_Bool (s n)) [
+    | inl yes_s ↦ inl (
+      λ k lt e. elim (cases_eq k n) [ inl at_n ↦ rw at_n yes_s | inr other ↦ same k (omega arith) e ],
+      omega (arith, count_hit n s yes_s, count_hit n t (h n (omega arith) yes_s)),
+    )
     | inr no_s ↦ elim (cases_Bool (t n)) [
-      | inl yes_t ↦ inr (omega (arith, count_hit n t yes_t, count_miss n s no_s, count_more n s t (λ k lt. h k (omega arith))))
-      | inr no_t ↦ inl (λ k lt e. elim (cases_eq k n) [ inl at_n ↦ absurd (both_ways (t n) no_t (rw at_n at e)) | inr other ↦ same k (omega arith) e ])
+      | inl yes_t ↦ inr (omega (arith, count_hit n t yes_t, count_miss n s no_s))
+      | inr no_t ↦ inl (
+        λ k lt e. elim (cases_eq k n) [ inl at_n ↦ absurd (both_ways (t n) no_t (rw at_n at e)) | inr other ↦ same k (omega arith) e ],
+        omega (arith, count_miss n s no_s, count_miss n t no_t),
+      )
     ]
   ]
 ]
@@ -200,7 +185,7 @@ neighbours n zero above h = inr (omega arith)
 neighbours n (suc b) above h = elim (neighbours n b above h) [
   | inl (c, lt, same) ↦ inl (c, omega arith, same)
   | inr le ↦ elim (fewer n (above (suc b)) (above b) (λ v less. h b v)) [
-    | inl same ↦ inl (b, omega arith, same)
+    | inl (same, few) ↦ inl (b, omega arith, same)
     | inr less ↦ inr (omega arith)
   ]
 ]
@@ -222,20 +207,10 @@ above_less places band v e = above_in places band v (omega (arith, above_out pla
 band_closed : (arcs : List Arc) (amounts : List ℕ) (places : List ℤ) (n c : ℕ) → AreArcsOf arcs n → AreLawful arcs amounts places
     → ((v : ℕ) → v < n → is_above places c v ≡ true → is_above places (suc c) v ≡ true) → IsClosed arcs amounts (is_above places c)
 band_closed arcs amounts places n c arcs_of lawful same = record {
-  leaves = λ i lt is. let arc = arcs_of i lt in
-      above_in places c (arc_at arcs i).to (omega (
-        arith,
-        ints,
-        (lawful i lt).met,
-        above_out places (suc c) (arc_at arcs i).from (same (arc_at arcs i).from arc.from is),
-      ));
-  enters = λ i lt some is. let arc = arcs_of i lt in
-      above_in places c (arc_at arcs i).from (omega (
-        arith,
-        ints,
-        (lawful i lt).tight some,
-        above_out places (suc c) (arc_at arcs i).to (same (arc_at arcs i).to arc.to is),
-      ));
+  leaves = λ i lt is. let high = above_out places (suc c) (arc_at arcs i).from (same (arc_at arcs i).from (arcs_of i lt).from is) in
+      above_in places c (arc_at arcs i).to (omega (arith, ints, arcs_of i lt, (lawful i lt).met, high));
+  enters = λ i lt some is. let high = above_out places (suc c) (arc_at arcs i).to (same (arc_at arcs i).to (arcs_of i lt).to is) in
+      above_in places c (arc_at arcs i).from (omega (arith, ints, arcs_of i lt, (lawful i lt).tight some, high));
 }
 
 -- what is above a band has nothing to take

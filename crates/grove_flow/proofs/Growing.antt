@@ -1,6 +1,6 @@
 -- A search step by step, each of which is a step of a search that raises at once: keys of the arcs that lead on, over the places as they
 -- stand, are slacks over the places as they would be raised.
-use Rattle.std.proofs.Common.{◌≡◌, ℕ, zero, suc, ◌+◌, ◌<◌, ◌≤◌, List, [], ◌∷◌, length, slice_index, slice_set, ℤ, pos, negsuc, ◌+ℤ◌, ◌-ℤ◌, ◌≤ℤ◌, refl, sym, ◌∙◌, subst, inl, inr, arith, eq-zero-or-pos, get_or-set_same, get_or-set_other, ◌≢◌, ◌⊎◌, slice_index_or, ap, length-set}
+use Rattle.std.proofs.Common.{◌≡◌, ℕ, zero, suc, ◌+◌, ◌<◌, ◌≤◌, List, [], ◌∷◌, length, slice_index, slice_set, ℤ, pos, negsuc, ◌+ℤ◌, ◌-ℤ◌, ◌≤ℤ◌, refl, sym, ◌∙◌, subst, inl, inr, arith, eq-zero-or-pos, get_or-set_same, get_or-set_other, ◌≢◌, ◌⊎◌, slice_index_or, length-set}
 use Rattle.std.proofs.lemmas.Bool.{cases_eq}
 use Rattle.std.proofs.lemmas.Grind.{common_steps}
 use borrow.Author.Differences.{ints, up}
@@ -12,7 +12,6 @@ use Rattle.std.proofs.lemmas.List.{ext_get_or, get_or_read, length-replicate}
 use Rattle.grove_flow.specs.declared.network.Network.{Network}
 use Rattle.grove_flow.specs.declared.state.State.{State}
 use Rattle.grove_flow.specs.declared.tree.Tree.{Tree}
-use Rattle.grove_flow.specs.States.{AreNear}
 use Rattle.grove_flow.specs.Searches.{IsGrowing}
 use Rattle.grove_flow.proofs.Reaching.{least_positive, never_stuck, apart, grown, no_ranks, start_grown, zeros}
 

@@ -1,5 +1,5 @@
 -- The queue: what a heap holds, seen through a function of its items, and the arcs that are put in at a variable one after another.
-use Rattle.std.proofs.Common.{◌≡◌, ℕ, ◌≤◌, ◌⊎◌, suc, zero, List, [], ◌∷◌, map, refl, inl, inr, sym, false, arith, ◌≢◌, ◌+◌, ◌<◌, length, slice_index, slice_index_or, Option, Some, None, MatchOption, true, ◌∙◌, ap, subst, eq-eqb}
+use Rattle.std.proofs.Common.{◌≡◌, ℕ, ◌≤◌, ◌⊎◌, suc, zero, List, [], ◌∷◌, map, refl, inl, inr, sym, false, arith, ◌≢◌, ◌+◌, ◌<◌, length, slice_index, slice_index_or, Option, Some, None, MatchOption, ap, eq-eqb}
 use Rattle.std.specs.List.{AllByRecursion, Contains}
 use Rattle.std.specs.List.Sorted.{IsPermutation}
 use Rattle.std.specs.Ordering.{is_lt, nat_cmp, ordering_then}

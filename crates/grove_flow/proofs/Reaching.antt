@@ -1,11 +1,11 @@
 -- What is reached: its places are raised by the least slack of an arc that leads on, and then one variable more is reached.
-use Rattle.std.proofs.Common.{◌≡◌, ◌≢◌, ℕ, ◌+◌, ◌*◌, ◌<◌, ◌≤◌, Bool, ltb, List, length, slice_index, ℤ, pos, negsuc, ◌+ℤ◌, ◌-ℤ◌, ◌≤ℤ◌, eq-zero-or-pos, refl, sym, ◌∙◌, subst, inl, inr, ⊎_elim, arith, SFits, w64, lt-ltb, ltb-true, zero, suc, ◌⊎◌, min, replicate, slice_set, ap, add-one, length-set, get_or-set_same, get_or-set_other}
+use Rattle.std.proofs.Common.{◌≡◌, ◌≢◌, ℕ, ◌+◌, ◌*◌, ◌<◌, ◌≤◌, Bool, ltb, List, length, slice_index, ℤ, pos, ◌+ℤ◌, ◌-ℤ◌, ◌≤ℤ◌, eq-zero-or-pos, refl, sym, ◌∙◌, subst, inl, inr, ⊎_elim, arith, SFits, w64, lt-ltb, ltb-true, zero, suc, ◌⊎◌, replicate, slice_set, ap, add-one, length-set, get_or-set_same, get_or-set_other}
 use Rattle.std.specs.List.{sum_by}
 use Rattle.std.proofs.lemmas.Bool.{cases_eq, cases_lt}
 use borrow.Author.Differences.{ints}
 use Rattle.grove_flow.specs.declared.network.Arc.{Arc}
 use Rattle.grove_flow.specs.Networks.{arc_at, place, IsMet, IsModest, IsLawful, AreLawful}
-use Rattle.grove_flow.specs.States.{IsFrame, AreUnmoved, AreNear, IsState}
+use Rattle.grove_flow.specs.States.{AreUnmoved, AreNear, IsState}
 use Rattle.grove_flow.specs.Reaches.{IsStep, AreNoSteps, IsLeastStep, IsReached, IsRaised, IsTight, AreWays, IsGrown, unranked, IsAhead, IsBehind, IsLinkedOn, IsLinkedBack}
 use Rattle.grove_flow.proofs.Closed.{IsClosed, none_to_give, excess_low}
 use Rattle.std.proofs.lemmas.List.{get_or-replicate, get_or_past, length-replicate}
@@ -38,11 +38,10 @@ never_stuck {arcs} {amounts} {excess} {unmet} {ranks} {rooms} {source} {last} gr
 -- no slack is negative, so neither is the least
 pub least_positive : {arcs : List Arc} {amounts : List ℕ} {places : List ℤ} {ranks : List ℕ} {chosen : ℕ} {by : ℤ}
     → AreLawful arcs amounts places → IsLeastStep (length arcs) arcs amounts places ranks chosen by → pos 0 ≤ℤ by
-least_positive {arcs} {amounts} {places} {ranks} {chosen} {by} lawful least = slack_positive least.step
-  where
-    slack_positive : IsStep (arc_at arcs chosen) (slice_index amounts chosen) places ranks by → pos 0 ≤ℤ by
-    slack_positive (inl h) = omega (arith, ints, h.slack_is, (lawful chosen least.within).met)
-    slack_positive (inr h) = omega (arith, ints, h.none)
+least_positive {chosen = chosen} lawful least = elim least.step [
+  | inl h ↦ omega (arith, ints, h.slack_is, (lawful chosen least.within).met)
+  | inr h ↦ omega (arith, ints, h.none)
+]
 
 -- the slack of an arc fits, and the numbers that it is worked out from
 pub slack_fits : (arc : Arc) (places : List ℤ) → IsModest arc.least → AreNear places → IsMet arc places
@@ -58,14 +57,8 @@ raised_arc {arc} {ranks} {by} {old} {new} raised lawful positive least = elim (e
     | inl no_to ↦ omega (arith, ints, raised.still arc.from no_from, raised.still arc.to no_to)
     | inr to ↦ record {
       met = omega (arith, ints, raised.still arc.from no_from, raised.moved arc.to to);
-      tight = λ some. omega (
-        arith,
-        ints,
-        raised.still arc.from no_from,
-        raised.moved arc.to to,
-        lawful.tight some,
-        least (pos 0) (inr (record { leaves = to; arrives = no_from; some = some; none = refl })),
-      );
+      tight = λ some. let back = least (pos 0) (inr (record { leaves = to; arrives = no_from; some = some; none = refl })) in
+          omega (arith, ints, raised.still arc.from no_from, raised.moved arc.to to, lawful.tight some, back);
     }
   ]
   | inr from ↦ elim (eq-zero-or-pos (slice_index ranks arc.to)) [
@@ -113,15 +106,8 @@ raised_state {needs} {arcs} {amounts} {excess} {unmet} {ranks} {vias} {rooms} {s
       unmoved = unmoved;
       near = λ v. elim (eq-zero-or-pos (slice_index ranks v)) [
         | inl no_rank ↦ omega (arith, ints, grown.state.near v, raised.still v no_rank)
-        | inr rank ↦ omega (
-          arith,
-          ints,
-          grown.state.near v,
-          raised.moved v rank,
-          raised_low source raised grown.reached.source_rank grown.low v rank,
-          grown.reached.ranks_le v,
-          grown.state.frame.few,
-        )
+        | inr rank ↦ let low = raised_low source raised grown.reached.source_rank grown.low v rank in
+            omega (arith, ints, grown.state.near v, raised.moved v rank, low, grown.reached.ranks_le v, grown.state.frame.few)
       ];
       amounts_size = grown.state.amounts_size;
       places_size = raised.size ∙ grown.state.places_size;

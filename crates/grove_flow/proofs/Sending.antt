@@ -1,14 +1,14 @@
 -- What is sent: along a way, one arc at a time from its end back to the source; what is still to be sent then; and what enters and leaves
 -- each variable, added up one arc after another.
-use Rattle.std.proofs.Common.{◌≡◌, ◌≢◌, ℕ, zero, suc, ◌+◌, ◌-◌, ◌<◌, ◌≤◌, ◌⊎◌, ◌==◌, Bool, true, false, cond, List, [], ◌∷◌, length, slice_index, slice_set, refl, sym, ◌∙◌, ap, subst, inl, inr, arith, length-set, get_or-set_same, get_or-set_other, set-set, ◌^◌, ℤ, ◌+ℤ◌, eq-eqb, ne_eqb, ◌*◌, take, add-one, below_more}
-use Rattle.std.proofs.lemmas.Bool.{cases_eq, cond-true, cond-false}
+use Rattle.std.proofs.Common.{◌≡◌, ◌≢◌, ℕ, zero, suc, ◌+◌, ◌-◌, ◌<◌, ◌≤◌, ◌⊎◌, ◌==◌, Bool, cond, List, [], ◌∷◌, length, slice_index, slice_set, refl, sym, ◌∙◌, ap, subst, inl, inr, arith, length-set, get_or-set_same, get_or-set_other, ◌^◌, ℤ, eq-eqb, ne_eqb, ◌*◌, take, add-one, below_more}
+use Rattle.std.proofs.lemmas.Bool.{cases_eq}
 use Rattle.std.proofs.lemmas.Grind.{common_steps}
 use Rattle.grove_flow.specs.declared.network.Arc.{Arc}
-use Rattle.grove_flow.specs.Networks.{arc_at, place, IsLawful, AreLawful}
-use Rattle.grove_flow.specs.Flows.{sent, amount_in, amount_out, takes}
-use Rattle.grove_flow.specs.States.{at, IsMoved, gives, IsState}
+use Rattle.grove_flow.specs.Networks.{arc_at, IsLawful}
+use Rattle.grove_flow.specs.Flows.{sent}
+use Rattle.grove_flow.specs.States.{at, IsMoved, IsState}
 use Rattle.grove_flow.proofs.Closed.{cond_more, sum_one}
-use Rattle.grove_flow.specs.Reaches.{IsLinkedOn, IsLinkedBack, AreWays, AreAlong, IsSentOn, IsSentBack, IsTight, IsGrown}
+use Rattle.grove_flow.specs.Reaches.{IsLinkedOn, IsLinkedBack, AreWays, AreAlong, IsSentOn, IsSentBack, IsGrown}
 use Rattle.grove_base.specs.Numbers.{sum_below}
 use Rattle.grove_base.proofs.Counting.{sum_add, sum_same, sum_term}
 use Rattle.std.proofs.lemmas.List.{length-replicate}
@@ -27,22 +27,14 @@ sent_set test (arc ∷ arcs) (amount ∷ amounts) (suc i) x lt size = omega (ari
 -- more on an arc moves from its begin to its end, and less the other way
 module _ (arcs : List Arc) (amounts : List ℕ) (i x by : ℕ) (lt : i < length arcs) (size : length amounts ≡ length arcs) where
   moved_on : x ≡ slice_index amounts i + by → IsMoved arcs amounts (slice_set amounts i x) (arc_at arcs i).from (arc_at arcs i).to by
-  moved_on is u = omega (
-    arith,
-    sent_set (λ arc. arc.to == u) arcs amounts i x lt size,
-    sent_set (λ arc. arc.from == u) arcs amounts i x lt size,
-    cond_more ((arc_at arcs i).to == u) x (slice_index amounts i) by is,
-    cond_more ((arc_at arcs i).from == u) x (slice_index amounts i) by is,
-  )
+  moved_on is u =
+      let more : (end : ℕ) → cond (end == u) x 0 ≡ cond (end == u) (slice_index amounts i) 0 + cond (end == u) by 0 = λ end. cond_more (end == u) _ _ _ is in
+      omega (arith, sent_set (λ arc. arc.to == u) arcs amounts i x lt size, sent_set (λ arc. arc.from == u) arcs amounts i x lt size, more (arc_at arcs i).to, more (arc_at arcs i).from)
 
   moved_back : slice_index amounts i ≡ x + by → IsMoved arcs amounts (slice_set amounts i x) (arc_at arcs i).to (arc_at arcs i).from by
-  moved_back is u = omega (
-    arith,
-    sent_set (λ arc. arc.to == u) arcs amounts i x lt size,
-    sent_set (λ arc. arc.from == u) arcs amounts i x lt size,
-    cond_more ((arc_at arcs i).to == u) (slice_index amounts i) x by is,
-    cond_more ((arc_at arcs i).from == u) (slice_index amounts i) x by is,
-  )
+  moved_back is u =
+      let less : (end : ℕ) → cond (end == u) (slice_index amounts i) 0 ≡ cond (end == u) x 0 + cond (end == u) by 0 = λ end. cond_more (end == u) _ _ _ is in
+      omega (arith, sent_set (λ arc. arc.to == u) arcs amounts i x lt size, sent_set (λ arc. arc.from == u) arcs amounts i x lt size, less (arc_at arcs i).to, less (arc_at arcs i).from)
 
 -- the walk from a variable back to the source has come to v: what is sent leads from v
 pub record IsMoving (arcs : List Arc) (ranks vias rooms old new : List ℕ) (source target by v : ℕ) : Type 0 where
@@ -138,11 +130,8 @@ sum_less n xs v by v_lt lt le =
     let new : List ℕ = slice_set xs v (slice_index xs v - by) in
     let one : sum_below n (at v by) ≡ at v by v = sum_one n v (at v by) v_lt (λ j less other. rw (ne_eqb v j (λ e. other (sym e))) refl) in
     let here : at v by v ≡ by = rw (eq-eqb v v refl) refl in
-    omega (
-      arith,
-      sum_add n (slice_index new) (at v by),
-      sum_same n (λ u. slice_index new u + at v by u) (slice_index xs) (λ u less. set_less xs v by u lt le),
-    )
+    let all = sum_same n (λ u. slice_index new u + at v by u) (slice_index xs) (λ u less. set_less xs v by u lt le) in
+    omega (arith, sum_add n (slice_index new) (at v by), all)
 
 -- what may be sent fits
 pub sent_fits : {needs : List ℤ} {arcs : List Arc} {amounts : List ℕ} {places : List ℤ} {excess unmet : List ℕ} (target i : ℕ) → IsState needs arcs amounts places excess unmet
@@ -194,12 +183,8 @@ total_more : (end : Arc → ℕ) (arcs : List Arc) (amounts sums : List ℕ) (i 
     → slice_index (slice_set sums (end (arc_at arcs i)) (slice_index sums (end (arc_at arcs i)) + slice_index amounts i)) v ≡ sent (λ arc. end arc == v) arcs (take (i + 1) amounts)
 total_more end arcs amounts sums i v lt size end_lt h =
     let u : ℕ = end (arc_at arcs i) in
-    rw (add-one i) (omega (
-      arith,
-      sent_take (λ arc. end arc == v) arcs amounts i lt size,
-      set_at sums u (slice_index sums u + slice_index amounts i) v end_lt,
-      cond_more (u == v) (slice_index sums u + slice_index amounts i) (slice_index sums u) (slice_index amounts i) refl,
-    ))
+    let more = cond_more (u == v) (slice_index sums u + slice_index amounts i) (slice_index sums u) (slice_index amounts i) refl in
+    rw (add-one i) (omega (arith, sent_take (λ arc. end arc == v) arcs amounts i lt size, set_at sums u (slice_index sums u + slice_index amounts i) v end_lt, more))
 
 small_more : (sums : List ℕ) (u amount n v : ℕ) → u < length sums → ((w : ℕ) → slice_index sums w ≤ n) → slice_index (slice_set sums u (slice_index sums u + amount)) v ≤ n + amount
 small_more sums u amount n v lt h = grind (arith, common_steps)

@@ -1,5 +1,5 @@
 -- The state that the search begins with, and the solution that it ends with.
-use Rattle.std.proofs.Common.{◌≡◌, ℕ, zero, suc, ◌+◌, ◌-◌, ◌*◌, ◌<◌, ◌≤◌, ◌==◌, Bool, true, false, cond, List, [], ◌∷◌, length, slice_index, slice_set, ℤ, pos, negsuc, ◌+ℤ◌, ◌-ℤ◌, ◌≤ℤ◌, refl, sym, ◌∙◌, ap, subst, inl, inr, arith}
+use Rattle.std.proofs.Common.{◌≡◌, ℕ, zero, suc, ◌+◌, ◌-◌, ◌*◌, ◌<◌, ◌≤◌, ◌==◌, Bool, List, [], ◌∷◌, length, slice_index, slice_set, ℤ, pos, negsuc, ◌+ℤ◌, ◌-ℤ◌, ◌≤ℤ◌, refl, sym, ◌∙◌, ap, inl, inr, arith}
 use Rattle.std.proofs.lemmas.Bool.{cases_lt}
 use Rattle.std.proofs.lemmas.List.{get_or_past, length-replicate}
 use Rattle.std.proofs.lemmas.Grind.{common_steps}
@@ -7,8 +7,8 @@ use borrow.Author.Differences.{ints, up, down}
 use Rattle.grove_base.specs.Numbers.{sum_below}
 use Rattle.grove_base.proofs.Counting.{sum_same}
 use Rattle.grove_flow.specs.declared.network.Arc.{Arc}
-use Rattle.grove_flow.specs.Networks.{arc_at, place, AreArcsOf, IsLawful, HasOwnArcs, IsNetwork, IsStart}
-use Rattle.grove_flow.specs.Flows.{sent, amount_in, amount_out, takes, IsSolution}
+use Rattle.grove_flow.specs.Networks.{arc_at, place, HasOwnArcs, IsNetwork, IsStart}
+use Rattle.grove_flow.specs.Flows.{sent, takes, IsSolution}
 use Rattle.grove_flow.specs.States.{double, gives, ArePaired, IsFrame, AreNamed, AreRebased, IsState}
 use Rattle.grove_flow.proofs.Closed.{cond_none, double-is, none_unmet}
 use Rattle.grove_flow.proofs.Reaching.{zeros, no_ranks}
@@ -73,13 +73,8 @@ pub start_state : {needs : List ℤ} {arcs : List Arc} {places : List ℤ} (exce
 start_state {needs} {arcs} {places} excess unmet network named start excess_size unmet_size excess_is unmet_is = record {
   frame = network_frame network named;
   lawful = λ i lt. record { met = start.met i lt; tight = λ some. absurd (omega (arith, no_ranks (length arcs) i)) };
-  balanced = λ v lt. omega (
-    arith,
-    unmet_is v,
-    excess_is v,
-    sent_none (λ arc. arc.to == v) arcs (length arcs),
-    sent_none (λ arc. arc.from == v) arcs (length arcs),
-  );
+  balanced = λ v lt. let into = sent_none (λ arc. arc.to == v) arcs (length arcs) in
+      omega (arith, unmet_is v, excess_is v, into, sent_none (λ arc. arc.from == v) arcs (length arcs));
   unmoved = λ v some. (start_modest start v).1;
   near = λ v. omega (arith, ints, start_modest start v);
   amounts_size = length-replicate (length arcs) 0;

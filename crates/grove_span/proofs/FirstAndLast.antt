@@ -1,14 +1,14 @@
 -- Noting the first and the last access of each node.
 use Rattle.std.proofs.Common.{◌≡◌, ℕ, suc, ◌-◌, Bool, true, false, cond, List, slice_get, Option, Some, None, refl, sym, ◌∙◌, ap, subst, inl, inr, unwrap_or, arith}
-use Rattle.std.proofs.Math.ListN.{set, replicate}
-use Rattle.std.proofs.lemmas.Option.{same_Some, slice_get_within}
-use Rattle.std.proofs.lemmas.Bool.{cases_eq, cases_Bool, eqb-true, eq-eqb}
+use Rattle.std.proofs.lemmas.Option.{none-some}
+use Rattle.std.proofs.lemmas.Bool.{cases_Bool, eqb-true, eq-eqb}
 use Rattle.grove_base.specs.Numbers.{any_below, least_below}
 use Rattle.grove_tree.specs.Trees.{is_at}
 use Rattle.grove_access.specs.Forced.{names_at}
 use Rattle.grove_span.specs.declared.visit.Visits.{Visits}
-use Rattle.grove_span.specs.Ways.{first_below, last_below_of, TellsOf, TellVisits}
-use Rattle.grove_base.proofs.Lists.{get_set_same, get_set_other, replicate_got}
+use Rattle.grove_span.specs.Ways.{first_below, last_below_of, TellsOf, IsUnnamed}
+use Rattle.grove_base.proofs.Counting.{any_none}
+use Rattle.grove_tree.proofs.Tests.{is_at_true}
 
 -- one more number that passes: it is the first unless there is one already, and it is the last
 choose : (b : Bool) (least : ℕ) (n : ℕ) → Some (unwrap_or (cond b (Some least) None) n) ≡ Some (cond b least n)
@@ -43,26 +43,26 @@ names_not nodes n target node at other = elim (cases_Bool (names_at nodes node n
 names_is : (nodes : List ℕ) (n node : ℕ) → slice_get nodes n ≡ Some node → names_at nodes node n ≡ true
 names_is nodes n node at = subst (λ (o : Option ℕ). is_at node o ≡ true) (sym at) (eq-eqb node node refl)
 
--- the table after one more access
-pub tell_next : (nodes : List ℕ) (n target : ℕ) (table : List Visits) (old new : Visits) → slice_get nodes n ≡ Some target
-    → slice_get table target ≡ Some old → new.first ≡ Some (unwrap_or old.first n) → new.last ≡ Some n
-    → TellVisits nodes n table → TellVisits nodes (suc n) (set table target new)
-tell_next nodes n target table old new at was first last so_far node visits is = elim (cases_eq node target) [
-  | inl e ↦ rw e (let same : new ≡ visits = same_Some new visits (sym (get_set_same table target new (slice_get_within table target old was)) ∙ subst (λ (k : ℕ). slice_get (set table target new) k ≡ Some visits) e is) in
-      let told : TellsOf nodes n target old = so_far target old was in
-      subst (λ (v : Visits). TellsOf nodes (suc n) target v) same (record {
-        first = first ∙ ap (λ (o : Option ℕ). Some (unwrap_or o n)) told.first ∙ sym (first_hit nodes n target (names_is nodes n target at));
-        last = last ∙ sym (last_hit nodes n target (names_is nodes n target at));
-      }))
-  | inr ne ↦ let told : TellsOf nodes n node visits = so_far node visits (sym (get_set_other table target node new ne) ∙ is) in
-      record {
-        first = told.first ∙ sym (first_miss nodes n node (names_not nodes n target node at ne));
-        last = told.last ∙ sym (last_miss nodes n node (names_not nodes n target node at ne));
-      }
-]
+-- one more access of the node
+pub tells_hit : (nodes : List ℕ) (n node : ℕ) (old new : Visits) → slice_get nodes n ≡ Some node → new.first ≡ Some (unwrap_or old.first n) → new.last ≡ Some n
+    → TellsOf nodes n node old → TellsOf nodes (suc n) node new
+tells_hit nodes n node old new at first last told = record {
+  first = first ∙ ap (λ (o : Option ℕ). Some (unwrap_or o n)) told.first ∙ sym (first_hit nodes n node (names_is nodes n node at));
+  last = last ∙ sym (last_hit nodes n node (names_is nodes n node at));
+}
 
--- a table with no accesses tells of none
-pub tell_none : (nodes : List ℕ) (n : ℕ) (table : List Visits) (none : Visits) → none.first ≡ None → none.last ≡ None → table ≡ replicate n none → TellVisits nodes 0 table
-tell_none nodes n table none first last is node visits h =
-    let same : none ≡ visits = replicate_got n none node visits (sym (ap (λ (xs : List Visits). slice_get xs node) is) ∙ h) in
-    subst (λ (v : Visits). TellsOf nodes 0 node v) same (record { first = first; last = last })
+-- one more access of another
+pub tells_miss : (nodes : List ℕ) (n target node : ℕ) (visits : Visits) → slice_get nodes n ≡ Some target → (node ≡ target → ⊥) → TellsOf nodes n node visits → TellsOf nodes (suc n) node visits
+tells_miss nodes n target node visits at other told = record {
+  first = told.first ∙ sym (first_miss nodes n node (names_not nodes n target node at other));
+  last = told.last ∙ sym (last_miss nodes n node (names_not nodes n target node at other));
+}
+
+-- a node that no access names has none
+pub tells_none : (nodes : List ℕ) (n node : ℕ) (visits : Visits) → visits.first ≡ None → visits.last ≡ None → IsUnnamed nodes node → TellsOf nodes n node visits
+tells_none nodes n node visits first last unnamed =
+    let none : any_below n (names_at nodes node) ≡ false = any_none n (names_at nodes node) (λ k lt. elim (cases_Bool (names_at nodes node k)) [
+      | inl h ↦ absurd (unnamed k (is_at_true node (slice_get nodes k) h))
+      | inr h ↦ h
+    ]) in
+    record { first = first ∙ rw none refl; last = last ∙ rw none refl }

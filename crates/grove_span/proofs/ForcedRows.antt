@@ -1,28 +1,20 @@
 -- The rows of the forced nodes, listed in order.
-use Rattle.std.proofs.Common.{◌≡◌, ◌≢◌, ℕ, zero, suc, ◌<◌, ◌≤◌, Bool, true, false, cond, List, [], ◌∷◌, ◌++◌, length, slice_get, Option, Some, None, refl, sym, ◌∙◌, ap, subst, inl, inr, length-append, append-nil, option_map, unwrap_or, arith}
+use Rattle.std.proofs.Common.{◌≡◌, ◌≢◌, ℕ, zero, suc, ◌<◌, ◌≤◌, Bool, true, false, cond, List, [], ◌∷◌, ◌++◌, length, slice_get, Option, Some, None, refl, sym, ◌∙◌, ap, subst, inl, inr, length-append, append-nil, option_map, unwrap_or, arith, get_or}
 use Rattle.std.specs.Prelude.{map}
 use Rattle.std.specs.Option.{option_and_then}
 use Rattle.std.proofs.lemmas.List.{map-append}
-use Rattle.std.proofs.Math.ListN.{set, length-set}
-use Rattle.std.proofs.lemmas.Option.{none-some, same_Some}
+use Rattle.std.proofs.lemmas.Option.{none-some, same_Some, slice_get-get_or}
 use Rattle.std.proofs.lemmas.Bool.{cases_eq, eq-eqb, ne_eqb, cond-true, cond-false}
 use Rattle.std.proofs.Math.Dec.{eqb}
 use Rattle.grove_base.specs.Numbers.{alone, passing_below}
-use Rattle.grove_tree.specs.Trees.{Rows, IsTree, parent_of}
-use Rattle.grove_base.proofs.Lists.{get_append_cases, map_length}
-use Rattle.grove_base.proofs.Counting.{passing_got}
+use Rattle.grove_tree.specs.Trees.{Rows, IsTree, parent_of, weight_of}
+use Rattle.grove_base.proofs.Lists.{get_append_cases}
+use Rattle.grove_base.proofs.Counting.{passing_rises}
 use Rattle.grove_tree.proofs.Above.{parent_lt}
 use Rattle.grove_access.specs.Forced.{is_forced, forced_nodes}
 use Rattle.grove_span.specs.declared.row.SpanRow.{SpanRow}
-use Rattle.grove_span.specs.SpanRows.{node_of_row, find_place, parent_place, HaveParents, HaveAccesses, IsAccessedSo}
-use Rattle.grove_base.proofs.Lists.{get_set_same, get_set_other}
-
--- a number put at the end is found there, where it wasn't before
-pub find_last : (v : ℕ) (xs : List ℕ) → ((i : ℕ) → slice_get xs i ≡ Some v → ⊥) → find_place v (xs ++ v ∷ []) ≡ Some (length xs)
-find_last v [] h = cond-true (eqb v v) (Some 0) None (eq-eqb v v refl)
-find_last v (x ∷ xs) h =
-    cond-false (eqb x v) (Some 0) (option_map suc (find_place v (xs ++ v ∷ []))) (ne_eqb x v (λ e. h 0 (ap (λ (k : ℕ). Some k) e)))
-    ∙ ap (λ (o : Option ℕ). option_map suc o) (find_last v xs (λ i. h (suc i)))
+use Rattle.grove_span.specs.SpanRows.{node_of_row, find_place, parent_place, HaveParents, HaveWeights, HaveAccesses, IsAccessedSo}
+use Rattle.grove_span.specs.Ways.{IsListedTo, IsRising}
 
 -- another number at the end changes nothing
 pub find_before : (v w : ℕ) (xs : List ℕ) → w ≢ v → find_place v (xs ++ w ∷ []) ≡ find_place v xs
@@ -42,20 +34,6 @@ find_later test v low (suc high) lt le = elim (cases_eq low (suc high)) [
   | inr ne ↦ find_one_more (test high) v high (passing_below high test) (omega arith) ∙ find_later test v low high lt (omega arith)
 ]
 
--- no number is listed below itself
-pub not_yet : (test : ℕ → Bool) (n i : ℕ) → slice_get (passing_below n test) i ≡ Some n → ⊥
-not_yet test n i h = let lt : n < n = (passing_got n test i n h).0 in omega arith
-
--- the rows of the forced nodes below n, and the places of all nodes among them
-pub record IsListedTo (rows : Rows) (nodes lengths : List ℕ) (n count : ℕ) (places : List (Option ℕ)) (items : List SpanRow) : Type 0 where
-  pub size : length places ≡ length rows
-  pub counted : count ≡ length items
-  pub few : count ≤ n
-  pub listed : map node_of_row items ≡ passing_below n (is_forced rows nodes)
-  pub found : (v : ℕ) → v < length rows → slice_get places v ≡ Some (find_place v (passing_below n (is_forced rows nodes)))
-  pub parents : HaveParents rows nodes items
-  pub accesses : HaveAccesses nodes lengths items
-
 -- the place of a node's parent among the nodes below it is that among all
 parent_later : (rows : Rows) (nodes : List ℕ) (n : ℕ) (o : Option ℕ) → IsTree rows → n < length rows → parent_of rows n ≡ o
     → option_and_then (λ p. find_place p (passing_below n (is_forced rows nodes))) o ≡ option_and_then (λ p. find_place p (forced_nodes rows nodes)) o
@@ -73,59 +51,65 @@ each_more P items last before here i row h = elim (get_append_cases items (last 
 ]
 
 -- one more node that is forced
-pub list_hit : (rows : Rows) (nodes lengths : List ℕ) (n count : ℕ) (places : List (Option ℕ)) (items : List SpanRow) (row : SpanRow) → IsTree rows → n < length rows
-    → is_forced rows nodes n ≡ true → row.node ≡ n
-    → row.parent ≡ option_and_then (λ p. find_place p (passing_below n (is_forced rows nodes))) (parent_of rows n) → IsAccessedSo nodes lengths row
-    → IsListedTo rows nodes lengths n count places items → IsListedTo rows nodes lengths (suc n) (suc count) (set places n (Some count)) (items ++ row ∷ [])
-list_hit rows nodes lengths n count places items row tree lt hit is parent visited so_far =
-    let size : length places ≡ length rows = so_far.size in
-    let counted : count ≡ length items = so_far.counted in
-    let few : count ≤ n = so_far.few in
+pub list_hit : (rows : Rows) (nodes lengths : List ℕ) (n : ℕ) (numbers : List ℕ) (items : List SpanRow) (row : SpanRow) → IsTree rows → n < length rows
+    → is_forced rows nodes n ≡ true → row.node ≡ n → row.weight ≡ weight_of rows n
+    → row.parent ≡ option_and_then (λ p. find_place p numbers) (parent_of rows n) → IsAccessedSo nodes lengths row
+    → IsListedTo rows nodes lengths n numbers items → IsListedTo rows nodes lengths (suc n) (numbers ++ n ∷ []) (items ++ row ∷ [])
+list_hit rows nodes lengths n numbers items row tree lt hit is heavy parent visited so_far =
     let grown : passing_below (suc n) (is_forced rows nodes) ≡ passing_below n (is_forced rows nodes) ++ n ∷ [] =
     ap (λ (b : Bool). passing_below n (is_forced rows nodes) ++ alone b n) hit in
-    let number : length (passing_below n (is_forced rows nodes)) ≡ count = sym (ap length so_far.listed) ∙ map_length node_of_row items ∙ sym counted in
     record {
-      size = length-set places n (Some count) ∙ size;
-      counted = omega (arith, length-append items (row ∷ []));
-      few = omega arith;
-      listed = map-append node_of_row items (row ∷ []) ∙ ap (λ (xs : List ℕ). xs ++ row.node ∷ []) so_far.listed
-          ∙ ap (λ (v : ℕ). passing_below n (is_forced rows nodes) ++ v ∷ []) is ∙ sym grown;
-      found = λ v within. elim (cases_eq v n) [
-        | inl e ↦ rw e (get_set_same places n (Some count) (omega arith)
-            ∙ ap (λ (o : Option ℕ). Some o) (ap (λ (k : ℕ). Some k) (sym number) ∙ sym (find_last n (passing_below n (is_forced rows nodes)) (not_yet (is_forced rows nodes) n)) ∙ ap (find_place n) (sym grown)))
-        | inr ne ↦ get_set_other places n v (Some count) ne ∙ so_far.found v within
-            ∙ ap (λ (o : Option ℕ). Some o) (sym (find_before v n (passing_below n (is_forced rows nodes)) (λ e. ne (sym e))) ∙ ap (find_place v) (sym grown))
-      ];
+      counted = ap (λ (xs : List ℕ). xs ++ n ∷ []) so_far.counted ∙ sym grown;
+      listed = map-append node_of_row items (row ∷ []) ∙ ap (λ (xs : List ℕ). xs ++ row.node ∷ []) so_far.listed ∙ ap (λ (v : ℕ). numbers ++ v ∷ []) is;
       parents = each_more (λ r. r.parent ≡ parent_place rows (forced_nodes rows nodes) r.node) items row so_far.parents
-          (parent ∙ parent_later rows nodes n (parent_of rows n) tree lt refl ∙ ap (λ (v : ℕ). parent_place rows (forced_nodes rows nodes) v) (sym is));
+          (parent ∙ ap (λ (xs : List ℕ). option_and_then (λ p. find_place p xs) (parent_of rows n)) so_far.counted
+          ∙ parent_later rows nodes n (parent_of rows n) tree lt refl ∙ ap (λ (v : ℕ). parent_place rows (forced_nodes rows nodes) v) (sym is));
+      weights = each_more (λ r. r.weight ≡ weight_of rows r.node) items row so_far.weights (heavy ∙ ap (weight_of rows) (sym is));
       accesses = each_more (IsAccessedSo nodes lengths) items row so_far.accesses visited;
     }
 
 -- one more node that is not forced
-pub list_miss : (rows : Rows) (nodes lengths : List ℕ) (n count : ℕ) (places : List (Option ℕ)) (items : List SpanRow) → is_forced rows nodes n ≡ false
-    → IsListedTo rows nodes lengths n count places items → IsListedTo rows nodes lengths (suc n) count places items
-list_miss rows nodes lengths n count places items miss so_far =
+pub list_miss : (rows : Rows) (nodes lengths : List ℕ) (n : ℕ) (numbers : List ℕ) (items : List SpanRow) → is_forced rows nodes n ≡ false
+    → IsListedTo rows nodes lengths n numbers items → IsListedTo rows nodes lengths (suc n) numbers items
+list_miss rows nodes lengths n numbers items miss so_far =
     let same : passing_below (suc n) (is_forced rows nodes) ≡ passing_below n (is_forced rows nodes) =
     ap (λ (b : Bool). passing_below n (is_forced rows nodes) ++ alone b n) miss ∙ append-nil (passing_below n (is_forced rows nodes)) in
-    let few : count ≤ n = so_far.few in
-    record {
-      size = so_far.size;
-      counted = so_far.counted;
-      few = omega arith;
-      listed = so_far.listed ∙ sym same;
-      found = λ v within. so_far.found v within ∙ ap (λ (xs : List ℕ). Some (find_place v xs)) (sym same);
-      parents = so_far.parents;
-      accesses = so_far.accesses;
-    }
+    record { counted = so_far.counted ∙ sym same; listed = so_far.listed; parents = so_far.parents; weights = so_far.weights; accesses = so_far.accesses }
 
--- the parent's place that the table gives is its place among the nodes so far
-pub placed : (rows : Rows) (nodes lengths : List ℕ) (n count : ℕ) (places : List (Option ℕ)) (items : List SpanRow) → IsTree rows → n < length rows
-    → IsListedTo rows nodes lengths n count places items → (o : Option ℕ) → parent_of rows n ≡ o
-    → option_and_then (λ p. unwrap_or (slice_get places p) None) o ≡ option_and_then (λ p. find_place p (passing_below n (is_forced rows nodes))) o
-placed rows nodes lengths n count places items tree lt so_far None is = refl
-placed rows nodes lengths n count places items tree lt so_far (Some p) is =
-    let less : p < n = parent_lt rows tree n p is in
-    ap (λ (o : Option (Option ℕ)). unwrap_or o None) (so_far.found p (omega arith))
+-- Places among rising numbers
+
+-- numbers after the first
+rest_rises : (x : ℕ) (xs : List ℕ) → IsRising (x ∷ xs) → IsRising xs
+rest_rises x xs rising i j low high lt a b = rising (suc i) (suc j) low high (omega arith) a b
+
+-- a number that stands at a place is found there
+pub find_at : (xs : List ℕ) (place v : ℕ) → IsRising xs → slice_get xs place ≡ Some v → find_place v xs ≡ Some place
+find_at [] place v rising at = absurd (none-some v at)
+find_at (x ∷ xs) zero v rising at = cond-true (eqb x v) (Some 0) (option_map suc (find_place v xs)) (eq-eqb x v (same_Some x v at))
+find_at (x ∷ xs) (suc place) v rising at =
+    let less : x < v = rising 0 (suc place) x v (omega arith) refl at in
+    cond-false (eqb x v) (Some 0) (option_map suc (find_place v xs)) (ne_eqb x v (λ e. omega arith))
+    ∙ ap (λ (o : Option ℕ). option_map suc o) (find_at xs place v (rest_rises x xs rising) at)
+
+-- a number that stands nowhere isn't found
+pub find_nowhere : (xs : List ℕ) (v : ℕ) → ((place : ℕ) → slice_get xs place ≡ Some v → ⊥) → find_place v xs ≡ None
+find_nowhere [] v none = refl
+find_nowhere (x ∷ xs) v none =
+    cond-false (eqb x v) (Some 0) (option_map suc (find_place v xs)) (ne_eqb x v (λ e. none 0 (ap (λ (k : ℕ). Some k) e)))
+    ∙ ap (λ (o : Option ℕ). option_map suc o) (find_nowhere xs v (λ place. none (suc place)))
+
+-- rising numbers as they are read
+pub reads_rise : (xs : List ℕ) → IsRising xs → (i j : ℕ) → i ≤ j → j < length xs → get_or xs i 0 ≤ get_or xs j 0
+reads_rise xs rising i j le lt = elim (cases_eq i j) [
+  | inl e ↦ rw e (omega arith)
+  | inr ne ↦
+      let less : get_or xs i 0 < get_or xs j 0 = rising i j (get_or xs i 0) (get_or xs j 0) (omega arith) (slice_get-get_or xs i 0 (omega arith)) (slice_get-get_or xs j 0 lt) in
+      omega arith
+]
+
+-- listed numbers rise
+pub numbers_rise : (rows : Rows) (nodes : List ℕ) (n : ℕ) (numbers : List ℕ) → numbers ≡ passing_below n (is_forced rows nodes) → IsRising numbers
+numbers_rise rows nodes n numbers is = rw is (passing_rises n (is_forced rows nodes))
 
 none_pass : (rows : Rows) (n : ℕ) → passing_below n (is_forced rows []) ≡ []
 none_pass rows zero = refl

@@ -1,5 +1,6 @@
 pub mod LowestCommon
-pub mod ForcedMarks
+pub mod Ascending
+pub mod ForcedWays
 pub mod FirstAndLast
 pub mod ForcedRows
 pub mod Accesses

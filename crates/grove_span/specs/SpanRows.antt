@@ -1,6 +1,6 @@
 -- What the rows of a list's nodes tell of each node.
 use Rattle.std.specs.Prelude.{◌≡◌, ℕ, suc, ◌-◌, ◌==◌, List, [], ◌∷◌, slice_get, Option, Some, None, option_map, option_and_then, if◌then◌else◌}
-use Rattle.grove_tree.specs.Trees.{Rows, parent_of}
+use Rattle.grove_tree.specs.Trees.{Rows, parent_of, weight_of}
 use Rattle.grove_access.specs.Slots.{slots_before}
 use Rattle.grove_access.specs.Forced.{forced_nodes, is_accessed, first_access, last_end}
 use Rattle.grove_span.specs.declared.row.SpanRow.{SpanRow}
@@ -34,6 +34,10 @@ until_of nodes lengths node = if is_accessed nodes node then Some (slots_before 
 -- each row has the place of its node's parent among the forced nodes
 abbrev pub HaveParents : Rows → List ℕ → List SpanRow → Type 0
 HaveParents tree nodes rows = (i : ℕ) (row : SpanRow) → slice_get rows i ≡ Some row → row.parent ≡ parent_place tree (forced_nodes tree nodes) row.node
+
+-- each row has the weight of its node
+abbrev pub HaveWeights : Rows → List SpanRow → Type 0
+HaveWeights tree rows = (i : ℕ) (row : SpanRow) → slice_get rows i ≡ Some row → row.weight ≡ weight_of tree row.node
 
 -- the first and last access of a row's node, and their slots
 pub record IsAccessedSo (nodes lengths : List ℕ) (row : SpanRow) : Type 0 where

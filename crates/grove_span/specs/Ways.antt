@@ -1,8 +1,10 @@
 -- For the proofs alone: what the tables say while a span is found.
-use Rattle.std.specs.Prelude.{◌≡◌, ℕ, ◌-◌, ◌⊎◌, Bool, true, List, slice_get, Option, Some, None, if◌then◌else◌}
-use Rattle.grove_base.specs.Numbers.{any_below, least_below, last_below}
+use Rattle.std.specs.Prelude.{◌≡◌, ◌≢◌, ℕ, ◌-◌, ◌<◌, ◌≤◌, ◌↔◌, List, length, map, slice_get, Option, Some, None, if◌then◌else◌}
+use Rattle.grove_base.specs.Numbers.{any_below, passing_below, least_below, last_below}
 use Rattle.grove_tree.specs.Trees.{Rows, IsAbove}
-use Rattle.grove_access.specs.Forced.{names_at, IsCommon}
+use Rattle.grove_access.specs.Forced.{names_at, IsCommon, IsForcedByTree, is_forced}
+use Rattle.grove_span.specs.SpanRows.{node_of_row, find_place, HaveParents, HaveWeights, HaveAccesses}
+use Rattle.grove_span.specs.declared.row.SpanRow.{SpanRow}
 use Rattle.grove_span.specs.declared.visit.Visits.{Visits}
 
 -- the lowest node above all accessed ones
@@ -10,19 +12,34 @@ pub record IsLowest (rows : Rows) (nodes : List ℕ) (top : ℕ) : Type 0 where
   pub common : IsCommon rows nodes top
   pub lowest : (node : ℕ) → IsCommon rows nodes node → IsAbove rows node top
 
-abbrev pub IsMarked : List Bool → ℕ → Type 0
-IsMarked marks node = slice_get marks node ≡ Some true
+-- the accessed nodes, ascending
+pub record AreAscending (nodes targets : List ℕ) : Type 0 where
+  pub named : (i target : ℕ) → slice_get targets i ≡ Some target → (access : ℕ) × (slice_get nodes access ≡ Some target)
+  pub all : (access target : ℕ) → slice_get nodes access ≡ Some target → (i : ℕ) × (slice_get targets i ≡ Some target)
+  pub rising : (i j first second : ℕ) → i ≤ j → slice_get targets i ≡ Some first → slice_get targets j ≡ Some second → first ≤ second
 
--- a node stands on the way from a node up to a top
-pub record IsOnWay (rows : Rows) (top low node : ℕ) : Type 0 where
-  pub above : IsAbove rows node low
-  pub below : IsAbove rows top node
+-- from a number up to a target, just the nodes above the target are forced
+abbrev pub AreForcedTo : Rows → List ℕ → ℕ → ℕ → Type 0
+AreForcedTo rows nodes next target = (node : ℕ) → next ≤ node → node ≤ target → IsForcedByTree rows nodes node ↔ IsAbove rows node target
 
--- besides the old marks, just the nodes on the way are marked
-pub record MarksWay (rows : Rows) (top low : ℕ) (old new : List Bool) : Type 0 where
-  pub kept : (node : ℕ) → IsMarked old node → IsMarked new node
-  pub way : (node : ℕ) → IsOnWay rows top low node → IsMarked new node
-  pub only : (node : ℕ) → IsMarked new node → IsMarked old node ⊎ IsOnWay rows top low node
+-- no accessed node stands between a number and a target
+abbrev pub IsFirstFrom : List ℕ → ℕ → ℕ → Type 0
+IsFirstFrom nodes next target = (access node : ℕ) → slice_get nodes access ≡ Some node → next ≤ node → target ≤ node
+
+-- no access names the node
+abbrev pub IsUnnamed : List ℕ → ℕ → Type 0
+IsUnnamed nodes node = (access : ℕ) → slice_get nodes access ≢ Some node
+
+abbrev pub IsRising : List ℕ → Type 0
+IsRising numbers = (i j low high : ℕ) → i < j → slice_get numbers i ≡ Some low → slice_get numbers j ≡ Some high → low < high
+
+-- the rows of the forced nodes below n, and their numbers
+pub record IsListedTo (rows : Rows) (nodes lengths : List ℕ) (n : ℕ) (numbers : List ℕ) (items : List SpanRow) : Type 0 where
+  pub counted : numbers ≡ passing_below n (is_forced rows nodes)
+  pub listed : map node_of_row items ≡ numbers
+  pub parents : HaveParents rows nodes items
+  pub weights : HaveWeights rows items
+  pub accesses : HaveAccesses nodes lengths items
 
 -- the accesses of a node among the first n of a list
 abbrev pub first_below : List ℕ → ℕ → ℕ → Option ℕ
@@ -34,6 +51,3 @@ last_below_of nodes n node = if any_below n (names_at nodes node) then Some (las
 pub record TellsOf (nodes : List ℕ) (n node : ℕ) (visits : Visits) : Type 0 where
   pub first : visits.first ≡ first_below nodes n node
   pub last : visits.last ≡ last_below_of nodes n node
-
-abbrev pub TellVisits : List ℕ → ℕ → List Visits → Type 0
-TellVisits nodes n table = (node : ℕ) (visits : Visits) → slice_get table node ≡ Some visits → TellsOf nodes n node visits

@@ -5,9 +5,8 @@ pub use row::SpanRow;
 pub use spanning::span;
 
 mod lowest;
-mod marks;
 mod row;
 mod rows;
 mod spanning;
+mod targets;
 mod visit;
-mod visits;

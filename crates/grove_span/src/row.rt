@@ -6,6 +6,7 @@ pub struct SpanRow {
     pub node: Node,
     /// The place of the parent among the rows; the topmost node has none there.
     pub parent: Option<u32>,
+    pub weight: u32,
     /// The number of the first access of the node itself, where there is one.
     pub first: Option<u32>,
     /// The number of the last access of the node itself, where there is one.

@@ -1,42 +1,112 @@
-ghost use Rattle.std.specs.Prelude.{◌≡◌, ℕ, ◌<◌, ◌↔◌, length, IfOk, map, slice_get, Some, None, option_and_then, unwrap_or};
-ghost use Rattle.grove_tree.specs.Trees.{IsTree, parent_of};
+ghost use Rattle.std.specs.Prelude.{◌≡◌, ℕ, suc, ◌<◌, ◌≤◌, ◌++◌, ◌∷◌, [], length, IfOk, OnOk, map, option_and_then};
 ghost use Rattle.grove_access.specs.Lists.{nodes_of, lengths_of, AreNodes};
-ghost use Rattle.grove_access.specs.Forced.{IsForcedByTree, forced_nodes};
-ghost use Rattle.grove_span.specs.SpanRows.{node_of_row, HaveParents, HaveAccesses, IsAccessedSo};
-ghost use Rattle.grove_span.specs.Ways.{IsMarked, TellsOf, TellVisits};
+ghost use Rattle.grove_access.specs.Forced.{forced_nodes};
+ghost use Rattle.grove_span.specs.SpanRows.{node_of_row, find_place, HaveParents, HaveWeights, HaveAccesses, IsAccessedSo};
+ghost use Rattle.grove_span.specs.Ways.{IsLowest, AreAscending, AreForcedTo, IsFirstFrom, IsListedTo, IsRising, TellsOf};
 
 use crate::SpanRow;
-use crate::visit::Visits;
+use crate::visit::{Visits, visits_at};
 use grove_access::AccessList;
-use grove_tree::{NoMemory, Node, Tree};
+use grove_tree::{NoMemory, Node, Tree, WayNode};
 use std::alloc::Global;
 
-/// The place of the node's parent, by the table of places.
-fn parent_place(tree: &Tree, node: Node, places: &[Option<u32>]) -> Option<u32>
-    requires tree { IsTree tree.now }
-    requires node { node < length tree.now }
-    requires table { length places.now ≡ length tree.now }
-    ensures { result ≡ option_and_then (λ parent. unwrap_or (slice_get places.now parent) None) (parent_of tree.now node) }
+/// The rows of the forced nodes with numbers below the next, ascending, and these numbers.
+#[derive(Drop)]
+struct Listed {
+    rows: Vec<SpanRow>,
+    numbers: Vec<u32>,
+    next: u32,
+}
+
+impl Listed {
+    /// Lists the nodes on the way down to the target that aren't listed yet. Only the target has accesses among them.
+    fn push_way(
+        &mut self,
+        alloc: Global,
+        tree: &Tree,
+        list: &AccessList,
+        target: Node,
+    ) -> Result<(), NoMemory>
+        requires fits { AreNodes tree.now (nodes_of list.now) }
+        requires target { target < length tree.now }
+        requires ahead { self.old.next ≤ target }
+        requires first { IsFirstFrom (nodes_of list.now) self.old.next target }
+        requires forced { AreForcedTo tree.now (nodes_of list.now) self.old.next target }
+        requires listed { IsListedTo tree.now (nodes_of list.now) (lengths_of list.now) self.old.next self.old.numbers.items self.old.rows.items }
+        ensures next { OnOk result (self.new.next ≡ suc target) }
+        ensures listed { OnOk result (IsListedTo tree.now (nodes_of list.now) (lengths_of list.now) self.new.next self.new.numbers.items self.new.rows.items) }
+    {
+        // The limits that hold of every tree are told with its length.
+        let _nodes = tree.len();
+        let way = tree.way_to(alloc, target)?;
+        for step in &way {
+            if step.node.number() >= self.next {
+                let parent = parent_place(step.parent, &self.numbers);
+                let visits = visits_at(list, step.node, step.node == target);
+                self.push(row_of(list, step, parent, visits))?;
+            }
+        }
+        Ok(())
+    }
+
+    /// Lists one more row.
+    fn push(&mut self, row: SpanRow) -> Result<(), NoMemory>
+        requires { row.node < 4096 }
+        ensures rows { OnOk result (self.new.rows.items ≡ self.old.rows.items ++ row ∷ []) }
+        ensures numbers { OnOk result (self.new.numbers.items ≡ self.old.numbers.items ++ row.node ∷ []) }
+        ensures next { OnOk result (self.new.next ≡ suc row.node) }
+    {
+        let number = row.node.number();
+        self.numbers.push(number)?;
+        self.next = number + 1;
+        self.rows.push(row)?;
+        Ok(())
+    }
+}
+
+/// The place of the parent among ascending numbers.
+fn parent_place(parent: Option<Node>, numbers: &[u32]) -> Option<u32>
+    requires few { length numbers.now ≤ 4096 }
+    requires rising { IsRising numbers.now }
+    ensures { result ≡ option_and_then (λ parent. find_place parent numbers.now) parent }
 {
-    match tree.parent(node) {
-        Some(parent) => places[parent.number() as usize],
+    match parent {
+        Some(parent) => place_of(parent.number(), numbers),
         None => None,
     }
 }
 
+/// The place of the number among ascending ones. Mostly it is the last.
+fn place_of(number: u32, numbers: &[u32]) -> Option<u32>
+    requires few { length numbers.now ≤ 4096 }
+    requires rising { IsRising numbers.now }
+    ensures { result ≡ find_place number numbers.now }
+{
+    let count = numbers.len();
+    if count > 0 && numbers[count - 1] == number {
+        return Some(count as u32 - 1);
+    }
+    match numbers.binary_search(&number) {
+        Ok(place) => Some(place as u32),
+        Err(_) => None,
+    }
+}
+
 /// The row of a node with these visits.
-fn row_of(list: &AccessList, node: Node, parent: Option<u32>, visits: Visits) -> SpanRow
-    requires { TellsOf (nodes_of list.now) (length (nodes_of list.now)) node visits }
-    ensures node { result.node ≡ node }
+fn row_of(list: &AccessList, step: &WayNode, parent: Option<u32>, visits: Visits) -> SpanRow
+    requires { TellsOf (nodes_of list.now) (length (nodes_of list.now)) step.now.node visits }
+    ensures node { result.node ≡ step.now.node }
     ensures parent { result.parent ≡ parent }
+    ensures weight { result.weight ≡ step.now.weight }
     ensures accesses { IsAccessedSo (nodes_of list.now) (lengths_of list.now) result }
 {
     // The limits that hold of every list are told with its length.
     let _accesses = list.len();
     let Visits { first, last } = visits;
     SpanRow {
-        node,
+        node: step.node,
         parent,
+        weight: step.weight,
         first,
         last,
         from: match first {
@@ -50,35 +120,34 @@ fn row_of(list: &AccessList, node: Node, parent: Option<u32>, visits: Visits) ->
     }
 }
 
-/// The rows of the marked nodes.
-pub fn marked_rows(
+/// The rows of the forced nodes: those on the ways down from the top to the targets.
+pub fn forced_rows(
     alloc: Global,
     tree: &Tree,
     list: &AccessList,
-    marks: &[bool],
-    table: &[Visits],
+    top: Node,
+    targets: &[u32],
 ) -> Result<Vec<SpanRow>, NoMemory>
     requires fits { AreNodes tree.now (nodes_of list.now) }
-    requires marks { length marks.now ≡ length tree.now }
-    requires table { length table.now ≡ length tree.now }
-    requires marked { (node : ℕ) → IsMarked marks.now node ↔ IsForcedByTree tree.now (nodes_of list.now) node }
-    requires visits { TellVisits (nodes_of list.now) (length (nodes_of list.now)) table.now }
+    requires top { IsLowest tree.now (nodes_of list.now) top }
+    requires within { top < length tree.now }
+    requires targets { AreAscending (nodes_of list.now) targets.now }
     ensures nodes { IfOk result (λ rows. map node_of_row rows.items ≡ forced_nodes tree.now (nodes_of list.now)) }
     ensures parents { IfOk result (λ rows. HaveParents tree.now (nodes_of list.now) rows.items) }
+    ensures weights { IfOk result (λ rows. HaveWeights tree.now rows.items) }
     ensures accesses { IfOk result (λ rows. HaveAccesses (nodes_of list.now) (lengths_of list.now) rows.items) }
 {
-    let mut places: Vec<Option<u32>> = vec![in alloc; None; marks.len()]?;
-    let mut rows = Vec::new(alloc);
-    let mut place = 0u32;
-    for number in 0..tree.len() {
-        if !marks[number as usize] {
-            continue;
+    // That the rows are a tree's is told with their number.
+    let _nodes = tree.len();
+    let mut listed = Listed {
+        rows: Vec::new(alloc),
+        numbers: Vec::new(alloc),
+        next: top.number(),
+    };
+    for target in targets {
+        if *target >= listed.next {
+            listed.push_way(alloc, tree, list, Node::new(*target))?;
         }
-        let node = Node::new(number);
-        let parent = parent_place(tree, node, &places);
-        rows.push(row_of(list, node, parent, table[number as usize]))?;
-        places[number as usize] = Some(place);
-        place += 1;
     }
-    Ok(rows)
+    Ok(listed.rows)
 }

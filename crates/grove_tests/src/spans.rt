@@ -4,10 +4,11 @@ use grove_span::{SpanRow, span};
 use grove_tree::Node;
 
 /// A row whose node is passed through alone.
-fn row(node: u32, parent: Option<u32>) -> SpanRow {
+fn row(node: u32, parent: Option<u32>, weight: u32) -> SpanRow {
     SpanRow {
         node: Node::new(node),
         parent,
+        weight,
         first: None,
         last: None,
         from: None,
@@ -15,15 +16,14 @@ fn row(node: u32, parent: Option<u32>) -> SpanRow {
     }
 }
 
-/// A row whose node is accessed once, over these slots.
-fn visited(node: u32, parent: Option<u32>, visit: u32, from: u32, until: u32) -> SpanRow {
+/// The row of a node that is accessed once, over these slots.
+fn visited(row: SpanRow, visit: u32, from: u32, until: u32) -> SpanRow {
     SpanRow {
-        node: Node::new(node),
-        parent,
         first: Some(visit),
         last: Some(visit),
         from: Some(from),
         until: Some(until),
+        ..row
     }
 }
 
@@ -49,10 +49,10 @@ fn two_leaves_at_different_depths_span_their_ways_up(rt: HostRuntime) {
     let list = AccessList::new(alloc, &tree, &reads).expect(&rt, "a list");
     let found = span(alloc, &tree, &list).expect(&rt, "room for rows");
     let wanted = [
-        row(0, None),
-        visited(1, Some(0), 0, 0, 1),
-        row(2, Some(0)),
-        visited(3, Some(2), 1, 1, 11),
+        row(0, None, 9),
+        visited(row(1, Some(0), 1), 0, 0, 1),
+        row(2, Some(0), 1),
+        visited(row(3, Some(2), 3), 1, 1, 11),
     ];
     assert!(rt; found.as_slice() == wanted.as_slice());
 }

@@ -16,3 +16,4 @@ pub mod UniquePaths
 pub mod WeightsByRule
 pub mod SameTree
 pub mod SameNames
+pub mod WaysDown

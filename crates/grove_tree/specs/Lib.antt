@@ -7,3 +7,4 @@ pub mod Weights
 pub mod WeighedOutlines
 pub mod OutlinesInTrees
 pub mod PathRests
+pub mod Ways

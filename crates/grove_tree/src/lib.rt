@@ -9,6 +9,7 @@ pub use outline::Outline;
 pub use row::Row;
 pub use rules::DEEPEST;
 pub use tree::Tree;
+pub use way::WayNode;
 pub use weighing::Rule;
 
 mod copying;
@@ -21,4 +22,5 @@ mod outline;
 mod row;
 mod rules;
 mod tree;
+mod way;
 mod weighing;

@@ -1,9 +1,10 @@
 ghost use Rattle.std.specs.Prelude.{◌≡◌, ℕ, List, Some, MatchOption};
-ghost use Rattle.grove_tree.specs.Trees.{parent_of, name_of};
+ghost use Rattle.grove_tree.specs.Trees.{parent_of, name_of, weight_of};
 ghost use Rattle.grove_tree.specs.PathRests.{GoesOn};
 ghost use Rattle.grove_tree.specs.OutlinesInTrees.{Covers, IsChild};
 
 use crate::finding::after_name;
+use crate::{Node, WayNode};
 use std::marker::Model;
 
 /// A node with all that is below it.
@@ -36,6 +37,19 @@ impl Model for Outline {
 }
 
 impl Outline {
+    /// The outline's own node, below this parent.
+    pub(crate) fn on_way(&self, parent: Option<Node>) -> WayNode
+        ensures node { result.node ≡ self.now.0 }
+        ensures parent { result.parent ≡ parent }
+        ensures weight { result.weight ≡ weight_of self.now.1 0 }
+    {
+        WayNode {
+            node: Node::new(self.number),
+            parent,
+            weight: self.weight,
+        }
+    }
+
     /// The child that the node is in or at; none where the node is the outline's own.
     pub(crate) fn towards(&self, node: u32) -> Option<&Outline>
         requires { Covers self.now node }

@@ -10,6 +10,7 @@ use std::alloc::Global;
 use std::marker::Model;
 
 mod copies;
+mod ways;
 mod weights;
 
 /// A tree of at most 4,096 nodes, no deeper than 32, numbered in preorder.

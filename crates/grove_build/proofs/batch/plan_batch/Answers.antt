@@ -27,8 +27,8 @@ loop-place-preserved g c =
     plans c.loop-place.place-index (omega arith) in
     rw (c.in_ok-push.ensures.items, c.in_ok-planned.ensures) (next.1 c.index.result.now read c.loop-place.all.items c.loop-place.invariant)
 
-pub returns : goal.returns
-returns g c =
+pub returns-clause-planned : goal.returns-clause-planned
+returns-clause-planned g c =
     let long = AllZip-long _ _ _ c.in_ok-distinct.ensures.each in
     let e = ap length c.deref-place-items.ensures.value in
     rw (← take_all c.loop-place.place-index c.args.lists.now (omega arith)) c.loop-place.invariant

@@ -1,4 +1,4 @@
-use Rattle.std.proofs.Common.{◌≡◌, ◌≤◌, Fits, w64, slice_index, length, refl, arith}
+use Rattle.std.proofs.Common.{Fits, w64, slice_index, length, refl, arith}
 use Rattle.grove_flow.specs.Networks.{IsArcOf, arc_at}
 use Rattle.grove_flow.proofs.Sending.{summed_start, summed_more}
 use Rattle.grove_flow.proofs.checking.are_lawful.Goals as goal

@@ -1,5 +1,3 @@
-use Rattle.std.proofs.Common.{◌-ℤ◌}
-use Rattle.grove_flow.specs.Networks.{place}
 use Rattle.grove_flow.proofs.Lowering.{from_kept, from_held, to_either, to_heights, lowered_heights}
 use Rattle.grove_flow.proofs.settling.lower.Goals as goal
 

@@ -1,4 +1,4 @@
-use Rattle.std.proofs.Common.{◌≡◌, ◌<◌, ◌-◌, ◌-ℤ◌, ◌≤ℤ◌, pos, negsuc, length, SFits, w64, arith, to_z-of_z}
+use Rattle.std.proofs.Common.{◌≡◌, ◌<◌, ◌-◌, ◌-ℤ◌, length, SFits, w64, arith, to_z-of_z}
 use borrow.Author.Differences.{ints}
 use Rattle.grove_flow.specs.Networks.{place}
 use Rattle.grove_flow.proofs.Starting.{AreMovedBelow, moved_more}

@@ -1,5 +1,5 @@
-use Rattle.std.proofs.Common.{◌+◌, length, slice_index, subst, sym, ◌∙◌}
-use Rattle.grove_flow.specs.Networks.{arc_at, IsArcOf}
+use Rattle.std.proofs.Common.{slice_index}
+use Rattle.grove_flow.specs.Networks.{arc_at}
 use Rattle.grove_flow.proofs.Growing.{arc_read, early, growing_more, never_empty, key_new}
 use Rattle.grove_flow.proofs.search.Search.grow.Goals as goal
 

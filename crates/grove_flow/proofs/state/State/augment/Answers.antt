@@ -1,7 +1,4 @@
-use Rattle.std.proofs.Common.{◌≡◌, ℕ, ◌+◌, ◌≤◌, length, slice_index, drop, subst, sym, ap, ◌∙◌, arith, take_at}
-use Rattle.grove_flow.specs.Searches.{IsSearched}
-use Rattle.grove_flow.specs.States.{IsMoved}
-use Rattle.grove_flow.specs.Trees.{AreRaisedTo}
+use Rattle.std.proofs.Common.{◌≡◌, ℕ, ◌≤◌, length, slice_index, drop, ap, ◌∙◌, arith, take_at}
 use Rattle.grove_flow.proofs.Growing.{farthest, grown_at, read_at}
 use Rattle.grove_flow.proofs.Sending.{sent_fits, sent_state}
 use Rattle.grove_flow.proofs.state.State.augment.Goals as goal

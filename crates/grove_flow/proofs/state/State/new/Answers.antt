@@ -1,4 +1,4 @@
-use Rattle.std.proofs.Common.{◌≡◌, length, replicate, drop, subst, ◌∙◌, rules, take_at}
+use Rattle.std.proofs.Common.{◌≡◌, length, replicate, drop, ◌∙◌, rules, take_at}
 use Rattle.grove_flow.proofs.Starting.{start_state}
 use Rattle.grove_flow.proofs.state.State.new.Goals as goal
 

@@ -1,4 +1,4 @@
-use Rattle.std.proofs.Common.{◌≡◌, ◌-◌, ◌<◌, ◌≤◌, slice_index, length, pos, negsuc, ◌+ℤ◌, ◌≤ℤ◌, to_z, of_z, w64, ◌∙◌, subst, arith}
+use Rattle.std.proofs.Common.{◌≡◌, ◌-◌, ◌<◌, slice_index, pos, ◌+ℤ◌, to_z, of_z, w64, ◌∙◌, subst, arith}
 use Rattle.std.proofs.lemmas.List.{set-get_or}
 use borrow.Author.Differences.{ints}
 use Rattle.grove_flow.specs.Networks.{place}
