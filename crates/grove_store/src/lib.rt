@@ -2,6 +2,7 @@
 #![tactic(auto)]
 
 pub use refused::NoStore;
+pub use running::{replies_of, settled_jobs};
 pub use store::Store;
 
 mod refused;
