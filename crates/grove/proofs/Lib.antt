@@ -1,11 +1,3 @@
-pub mod Asking
-pub mod Documents
-pub mod Words
 pub mod Orders
-pub mod Faults
-pub mod Saying
 pub mod Printing
-pub mod Records
-pub mod Fitting
-pub mod Batches
-pub mod Ports
+pub mod Saying

@@ -13,11 +13,12 @@ use Rattle.grove.specs.declared.answer.Answer.{Answer}
 use Rattle.grove.specs.declared.answer.Answer.TheVariants.{Done, Refused, Usage, Listen}
 use Rattle.grove.specs.declared.answer.Stop.{Stop}
 use Rattle.grove.specs.declared.answer.Stop.TheVariants.{Device, Memory}
-use Rattle.grove.specs.declared.order.Command.{Command}
+use Rattle.grove_words.specs.declared.order.Command.{Command}
+use Rattle.grove_words.specs.CommandLines.{AskToServe, NameDevice}
+use Rattle.grove_answer.specs.Outcomes.{Outcome, ThenSays}
 use Rattle.grove.specs.Answers.{status_of, printed, AnswersBy, IsListen, NamesPort}
-use Rattle.grove.specs.CommandLines.{AskToServe, NameDevice}
 use Rattle.grove.specs.Endings.{Blames, SaysListening, SaysWhy}
-use Rattle.grove.specs.Outcomes.{Outcome, ThenSays, MaySay, IsOutcome, Prints}
+use Rattle.grove.specs.Outcomes.{MaySay, IsOutcome, Prints}
 
 over_limit : (bytes : List ℕ) → 4194304 < length bytes → document_of bytes ≡ Err (Limit (whole_of Whole))
 unfolding document_of

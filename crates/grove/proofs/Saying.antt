@@ -1,41 +1,24 @@
 -- What a command says of what is read, once the reading's fault or the calls' own is told.
 use Rattle.std.proofs.Common.{◌≡◌, ◌≢◌, ℕ, ℤ, ap, List, Result, Ok, Err, IfOk, IsOkAnd, IsSomeAnd, String, refl, string_bytes, subst, sym}
 use Rattle.std.proofs.lemmas.Result.{IfOk-weaker}
-use Rattle.grove_tree.specs.Trees.{Rows}
-use Rattle.grove_access.specs.Lists.{nodes_of, lengths_of}
-use Rattle.grove_plan.specs.declared.step.Step.{Step}
-use Rattle.grove_proof.specs.declared.flow.FlowRow.{FlowRow}
-use Rattle.grove_proof.specs.Faults.{IsFault}
-use Rattle.grove_proof.specs.declared.fault.ProofFault.{ProofFault}
-use Rattle.grove_proof.specs.declared.fault.ProofFault.TheVariants as proof
 use Rattle.serde_json.specs.Data.{Data}
+use Rattle.grove_tree.specs.Trees.{Rows}
 use Rattle.grove_wire.specs.declared.fault.WireFault.{WireFault}
 use Rattle.grove_wire.specs.declared.fault.WireFault.TheVariants as wire
 use Rattle.grove_wire.specs.Outcomes.{Fails}
 use Rattle.grove_wire.specs.Reading.{document_of}
-use Rattle.grove_wire.specs.Texts.{proof_text, wire_text}
+use Rattle.grove_wire.specs.Texts.{wire_text}
+use Rattle.grove_words.specs.declared.order.Command.{Command}
+use Rattle.grove_answer.specs.declared.refusal.Refusal.{Refusal}
+use Rattle.grove_answer.specs.declared.refusal.Refusal.TheVariants.{Fault, Memory}
+use Rattle.grove_answer.specs.Outcomes.{Outcome, ThenSays}
+use Rattle.grove_answer.specs.Says.{outcome_of, refusal_outcome, IsTold, Says}
 use Rattle.grove.specs.declared.answer.Answer.{Answer}
 use Rattle.grove.specs.declared.answer.Answer.TheVariants.{Done, Refused, Usage, Listen}
 use Rattle.grove.specs.declared.answer.Stop.{Stop}
-use Rattle.grove.specs.declared.reading.Task.{Task}
-use Rattle.grove.specs.declared.refusal.Refusal.{Refusal}
-use Rattle.grove.specs.declared.refusal.Refusal.TheVariants.{Fault, Memory}
-use Rattle.grove.specs.Answers.{outcome_of, refusal_outcome, AnswersBy, IsAnswerTo, IsListen, IsTold, NamesPort, Says}
-use Rattle.grove.specs.declared.order.Command.{Command}
+use Rattle.grove.specs.Answers.{AnswersBy, IsAnswerTo, IsListen, NamesPort}
 use Rattle.grove.specs.Endings.{listening_line}
-use Rattle.grove.specs.Outcomes.{Outcome, IsChecked, IsOutcome, IsServed, MaySay, ThenSays}
-
--- a refusal tells the first fault of a plan with a flow
-pub says_proof : (Z : Type 0) (task : Task) (plan : List Step) (flow : List FlowRow) (fault : ProofFault) (refusal : Refusal)
-    → IsTold (proof_text task.tree fault) refusal → (fault ≡ proof.Memory → refusal ≡ Memory)
-    → (fault ≢ proof.Memory → IsFault task.tree (nodes_of task.list) (lengths_of task.list) plan flow fault)
-    → Says {Z = Z} (IsChecked (task, plan, flow)) (Err refusal)
-says_proof Z task plan flow fault (Fault text) told memory first =
-    let other : fault ≢ proof.Memory = λ is. not_both text (memory is) in (fault, other, first other, told)
-  where
-    not_both : (text : String _) → Fault text ≡ Memory → ⊥
-    not_both text is = cc
-says_proof Z task plan flow fault Memory told memory first = tt
+use Rattle.grove.specs.Outcomes.{IsOutcome, IsServed, MaySay}
 
 -- the answer that the calls' result makes is that of what it says
 pub answer_says : {Z : Type 0} (MaySay : Outcome → Type 0) (result : Result (String Z) Refusal) (answer : Result Answer Stop)

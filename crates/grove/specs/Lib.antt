@@ -1,4 +1,3 @@
 pub mod Answers
-pub mod CommandLines
 pub mod Endings
 pub mod Outcomes

@@ -1,28 +1,22 @@
 ghost use Rattle.std.specs.Prelude.{◌≡◌, ◌≢◌, ◌≤◌, ◌⊎◌, length, map, true, false, [], None, Some, IfOk, IfErr, IfSome, OnOk, string_bytes, ⊤};
-ghost use Rattle.clap.specs.Values.{kind_of};
 ghost use Rattle.serde_json.specs.View.{view};
 ghost use Rattle.grove_wire.specs.Forms.{HasShortArrays};
 ghost use Rattle.std.specs.Io.KnownBytes.{Consumes, IsAtEnd, Keeps};
 ghost use Rattle.grove.specs.Answers.{status_of, AnswersBy, HasText, IsListen, IsRefusalLine, NamesPort};
-ghost use Rattle.grove.specs.CommandLines.{AreWrong, AskFor, AskToServe, AskToShow, NameDevice};
+ghost use Rattle.grove_words.specs.CommandLines.{AreWrong, AskFor, AskToServe, AskToShow, NameDevice};
+ghost use Rattle.grove_words.specs.NoOrders.{HasText as IsToldText, TellsShown, TellsWrong};
 ghost use Rattle.grove.specs.Endings.{Blames, SaysListening, SaysRefusal, SaysSomething, SaysWhy};
 ghost use Rattle.grove.specs.Outcomes.{IsOutcome, MaySay, Prints};
 
 use crate::answer::{Answer, Stop, end};
-use crate::checking::check_document;
-use crate::command_line::{command_line, order_of};
-use crate::judging::judge_document;
-use crate::order::{Command, Order};
-use crate::planning::plan_document;
-use crate::refusal::{Refusal, answer_of};
-use crate::running::run_document;
+use crate::refusal::answer_of;
 use crate::serving::serve_document;
-use clap::Error;
-use clap::error::ErrorKind;
+use grove_answer::{Refusal, check_document, judge_document, plan_document, run_document};
 use grove_session::{ReaderSource, Sink, Source, read_whole};
 use grove_wire::{MOST_BYTES, read_document};
+use grove_words::{Command, NoOrder, Order, not_text, order_of};
 use serde_json::Value;
-use std::alloc::{AllocError, Global};
+use std::alloc::Global;
 use std::fs;
 use std::net::{Net, TcpListener, TcpStream};
 use std::rt::Files;
@@ -75,9 +69,7 @@ pub fn refused_words(alloc: Global) -> Result<Answer, Stop>
     ensures usage { IfOk result (λ answer. status_of answer ≡ 2) }
     ensures stopped { IfErr result (λ stop. stop ≡ Stop.Memory) }
 {
-    let message = "a word of the command line is not UTF-8";
-    let error = command_line(alloc)?.error(ErrorKind::InvalidValue, message)?;
-    words_answer(alloc, &error)
+    words_answer(not_text(alloc))
 }
 
 fn answer<
@@ -107,7 +99,7 @@ fn answer<
 {
     match order_of(rt.alloc(), words) {
         Ok(order) => order_answer(rt, order, input),
-        Err(error) => words_answer(rt.alloc(), &error),
+        Err(why) => words_answer(why),
     }
 }
 
@@ -185,32 +177,20 @@ fn document_bytes<R: Files + AllocGlobal, I: Source>(
     }
 }
 
-/// What clap says to words that are no order: the help that they ask for, or what is wrong with them.
-fn words_answer(alloc: Global, error: &Error) -> Result<Answer, Stop>
+/// The answer to words that are no order.
+fn words_answer(why: NoOrder) -> Result<Answer, Stop>
+    requires { IsToldText why }
     ensures refused { IfOk result IsRefusalLine }
-    ensures memory { kind_of error.now ≡ ErrorKind.OutOfMemory → result ≡ Err Stop.Memory }
+    ensures memory { why ≡ NoOrder.Memory → result ≡ Err Stop.Memory }
     ensures stopped { IfErr result (λ stop. stop ≡ Stop.Memory) }
-    ensures usage { kind_of error.now ≢ ErrorKind.DisplayHelp → kind_of error.now ≢ ErrorKind.DisplayVersion
-        → IfOk result (λ answer. status_of answer ≡ 2) }
-    ensures shown { (kind_of error.now ≡ ErrorKind.DisplayHelp) ⊎ (kind_of error.now ≡ ErrorKind.DisplayVersion)
-        → IfOk result (λ answer. status_of answer ≡ 0) }
+    ensures usage { TellsWrong why → IfOk result (λ answer. status_of answer ≡ 2) }
+    ensures shown { TellsShown why → IfOk result (λ answer. status_of answer ≡ 0) }
     ensures text { IfOk result HasText }
     ensures unlistened { IfOk result (λ answer. ¬ IsListen answer) }
 {
-    if error.kind() == ErrorKind::OutOfMemory {
-        return Err(Stop::Memory);
+    match why {
+        NoOrder::Shown(lines) => Ok(Answer::Done(lines)),
+        NoOrder::Wrong(lines) => Ok(Answer::Usage(lines)),
+        NoOrder::Memory => Err(Stop::Memory),
     }
-    let text = whole_lines(alloc, &format!(in alloc; "{error}")?)?;
-    Ok(if error.use_stderr() {
-        Answer::Usage(text)
-    } else {
-        Answer::Done(text)
-    })
-}
-
-/// The text with just one line end behind it.
-fn whole_lines(alloc: Global, text: &str) -> Result<String, AllocError>
-    ensures { IfOk result (λ lines. string_bytes lines ≢ []) }
-{
-    format!(in alloc; "{}\n", text.trim_end())
 }

@@ -9,18 +9,10 @@ use std::io::ErrorKind;
 use std::process::ExitCode;
 
 mod answer;
-mod checking;
 mod command;
-mod command_line;
 mod connections;
-mod judging;
-mod order;
-mod planning;
-mod reading;
 mod refusal;
-mod running;
 mod serving;
-mod texts;
 
 fn main(rt: HostRuntime) -> ExitCode {
     let mut input = ReaderSource::new(rt.stdin());

@@ -3,12 +3,15 @@ ghost use Rattle.serde_json.specs.View.{view};
 ghost use Rattle.grove_store.specs.Stocks.{opened};
 ghost use Rattle.grove_wire.specs.Forms.{HasShortArrays};
 ghost use Rattle.grove_wire.specs.Reading.{tree_in};
-ghost use Rattle.grove.specs.Answers.{refusal_outcome, status_of, AnswersBy, IsListen, IsRefusalLine, NamesPort};
+ghost use Rattle.grove_answer.specs.Outcomes.{ThenSays};
+ghost use Rattle.grove_answer.specs.Says.{refusal_outcome};
+ghost use Rattle.grove.specs.Answers.{status_of, AnswersBy, IsListen, IsRefusalLine, NamesPort};
 ghost use Rattle.grove.specs.Endings.{Blames};
-ghost use Rattle.grove.specs.Outcomes.{IsServed, ThenSays};
+ghost use Rattle.grove.specs.Outcomes.{IsServed};
 
 use crate::answer::{Answer, Stop};
-use crate::refusal::{Refusal, answer_of, or_refuse};
+use crate::refusal::answer_of;
+use grove_answer::{Refusal, or_refuse};
 use grove_store::{NoStore, Store};
 use grove_wire::read_tree;
 use serde_json::Value;

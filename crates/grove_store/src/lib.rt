@@ -3,6 +3,7 @@
 
 pub use laws::round_laws;
 pub use refused::NoStore;
+pub use running::{replies_of, settled_jobs};
 pub use store::Store;
 
 mod laws;

@@ -84,7 +84,7 @@ pub fn outcome_of(
 }
 
 /// The replies of each job.
-fn replies_of<'a>(alloc: Global, core: &'a Core) -> Result<Vec<&'a [Reply]>, NoMemory>
+pub fn replies_of<'a>(alloc: Global, core: &'a Core) -> Result<Vec<&'a [Reply]>, NoMemory>
     ensures { IfOk result (λ replies. map (λ list. list.now) replies.items ≡ replies_of core.now.jobs core.now.opening (past_of core.now)) }
 {
     let mut replies = Vec::new(alloc);

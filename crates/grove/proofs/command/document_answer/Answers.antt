@@ -1,5 +1,5 @@
 use Rattle.serde_json.specs.View.{view}
-use Rattle.grove.specs.declared.order.Command.TheVariants.{Judge, Check, Plan, Run}
+use Rattle.grove_words.specs.declared.order.Command.TheVariants.{Judge, Check, Plan, Run}
 use Rattle.grove.specs.Outcomes.{MaySay}
 use Rattle.grove.proofs.Saying.{answer_says, names_no_port}
 use Rattle.grove.proofs.command.document_answer.Goals as goal

@@ -1,0 +1,5 @@
+pub mod Batches
+pub mod Faults
+pub mod Fitting
+pub mod Records
+pub mod Saying

@@ -1,0 +1,133 @@
+-- What each command says of a document: its lines, or the text of the first fault.
+use Rattle.std.specs.Prelude.{◌≡◌, ◌≢◌, ◌⊎◌, ℕ, ℤ, codes, decimal, List, ◌++◌, length, map, Option, Some, None, Result, Ok, Err}
+use Rattle.serde_json.specs.Data.{Data}
+use Rattle.serde_json.specs.Written.{compact_text}
+use Rattle.grove_base.specs.Numbers.{numbers_below}
+use Rattle.grove_tree.specs.Trees.{Rows}
+use Rattle.grove_access.specs.declared.access.Access.{Access}
+use Rattle.grove_access.specs.declared.reply.Reply.{Reply}
+use Rattle.grove_access.specs.Lists.{nodes_of, lengths_of}
+use Rattle.grove_access.specs.Effects.{records_after, replies_to}
+use Rattle.grove_plan.specs.declared.step.Step.{Step}
+use Rattle.grove_plan.specs.declared.fault.PlanFault.{PlanFault}
+use Rattle.grove_plan.specs.Plans.{IsLeast, cost}
+use Rattle.grove_plan.specs.Faults.{plan_fault_of}
+use Rattle.grove_proof.specs.declared.flow.FlowRow.{FlowRow}
+use Rattle.grove_proof.specs.declared.fault.ProofFault.{ProofFault}
+use Rattle.grove_proof.specs.declared.fault.ProofFault.TheVariants as proof
+use Rattle.grove_proof.specs.Flows.{IsCertificate}
+use Rattle.grove_proof.specs.Faults.{IsFault}
+use Rattle.grove_build.specs.Settled.{IsSettled}
+use Rattle.grove_core.specs.declared.job.Job.{Job}
+use Rattle.grove_core.specs.declared.event.Event.{Event}
+use Rattle.grove_core.specs.Runs.{IsRun, IsFinished, run_records, waits_of}
+use Rattle.grove_core.specs.Orders.{placement_order}
+use Rattle.grove_core.specs.Laws.{IsEachOnce, IsSerialBy}
+use Rattle.grove_wire.specs.declared.fault.WireFault.{WireFault}
+use Rattle.grove_wire.specs.Outcomes.{◌>>=◌}
+use Rattle.grove_wire.specs.Reading.{tree_in, list_in, lists_in, plan_in, flow_in}
+use Rattle.grove_wire.specs.Writing.{replies_data, numbers_data, plan_data, flow_data}
+use Rattle.grove_wire.specs.Replies.{counts_data, lists_data}
+use Rattle.grove_wire.specs.Texts.{wire_text, plan_text, proof_text}
+use Rattle.grove_store.specs.Rounds.{AreSettledJobs, replies_of}
+use Rattle.grove_answer.specs.declared.reading.Task.{Task}
+
+-- lines, or the text of why there are none
+abbrev pub Outcome : Type 0
+Outcome = Result (List ℕ) (List ℕ)
+
+-- what may be said of what is read, or else its fault's text
+abbrev pub ThenSays : {A : Type 0} → Result A WireFault → (A → Outcome → Type 0) → Outcome → Type 0
+ThenSays (Ok x) MaySay outcome = MaySay x outcome
+ThenSays (Err fault) MaySay outcome = outcome ≡ Err (wire_text fault)
+
+-- ---- what is read of a document: a tree with records and a list; then a plan; then a flow; or a tree with records and lists
+
+unfoldable pub task_in : Data → Result Task WireFault
+task_in document = do
+  stored ← tree_in document
+  list ← list_in stored.0 document
+  Ok (record { tree = stored.0; records = stored.1; list = list })
+
+unfoldable pub trial_in : Data → Result (Task × List Step) WireFault
+trial_in document = do
+  task ← task_in document
+  plan ← plan_in task.tree document
+  Ok (task, plan)
+
+unfoldable pub claim_in : Data → Result (Task × List Step × List FlowRow) WireFault
+claim_in document = do
+  trial ← trial_in document
+  flow ← flow_in trial.0.tree document
+  Ok (trial.0, trial.1, flow)
+
+unfoldable pub batch_in : Data → Result (Rows × List ℤ × List (List Access)) WireFault
+batch_in document = do
+  stored ← tree_in document
+  lists ← lists_in stored.0 document
+  Ok (stored.0, stored.1, lists)
+
+-- ---- judge: a legal plan's cost, and what its list does when it is done alone
+
+abbrev pub judge_lines : ℕ → List Reply → List ℤ → List ℕ
+judge_lines cost replies records =
+    codes "cost " ++ decimal cost
+    ++ codes "\nreplies " ++ compact_text (replies_data replies)
+    ++ codes "\nrecords " ++ compact_text (numbers_data records)
+    ++ codes "\n"
+
+abbrev pub unless_faulty : Rows → Option PlanFault → List ℕ → Outcome
+unless_faulty tree None lines = Ok lines
+unless_faulty tree (Some fault) lines = Err (plan_text tree fault)
+
+abbrev pub IsJudged : Task × List Step → Outcome → Type 0
+IsJudged (task, plan) outcome =
+    outcome ≡ unless_faulty task.tree (plan_fault_of task.tree (nodes_of task.list) plan)
+    (judge_lines (cost task.tree (lengths_of task.list) plan) (replies_to task.list task.records) (records_after task.list task.records))
+
+-- ---- check: the cost of a plan with a flow that proves it least, and of any other the first fault
+
+abbrev pub IsChecked : Task × List Step × List FlowRow → Outcome → Type 0
+IsChecked (task, plan, flow) (Ok lines) =
+    IsLeast task.tree (nodes_of task.list) (lengths_of task.list) plan
+    × IsCertificate task.tree (nodes_of task.list) (lengths_of task.list) flow (cost task.tree (lengths_of task.list) plan)
+    × (lines ≡ codes "cost " ++ decimal (cost task.tree (lengths_of task.list) plan) ++ codes "\n")
+IsChecked (task, plan, flow) (Err text) = (fault : ProofFault)
+    × (fault ≢ proof.Memory) × IsFault task.tree (nodes_of task.list) (lengths_of task.list) plan flow fault × (text ≡ proof_text task.tree fault)
+
+-- ---- plan: the settled plan, with its cost and a flow that proves it least
+
+abbrev pub plan_lines : Rows → List Access → List Step → List FlowRow → List ℕ
+plan_lines tree list plan flow =
+    codes "cost " ++ decimal (cost tree (lengths_of list) plan)
+    ++ codes "\nplan " ++ compact_text (plan_data tree plan)
+    ++ codes "\nflow " ++ compact_text (flow_data tree flow)
+    ++ codes "\n"
+
+abbrev pub IsPlanned : Task → Outcome → Type 0
+IsPlanned task outcome = (plan : List Step) × (flow : List FlowRow)
+    × IsSettled task.tree (nodes_of task.list) (lengths_of task.list) plan
+    × IsCertificate task.tree (nodes_of task.list) (lengths_of task.list) flow (cost task.tree (lengths_of task.list) plan)
+    × (outcome ≡ Ok (plan_lines task.tree task.list plan flow))
+
+-- ---- run: the lists, each by its settled plan, brought to the end of some run, and the order in which doing them whole is the same
+
+abbrev pub batch_lines : List ℕ → List (List Reply) → List ℤ → List ℕ → List ℕ
+batch_lines order replies records waits =
+    codes "order " ++ compact_text (counts_data order)
+    ++ codes "\nreplies " ++ compact_text (lists_data replies)
+    ++ codes "\nrecords " ++ compact_text (numbers_data records)
+    ++ codes "\nwaits " ++ compact_text (counts_data waits)
+    ++ codes "\n"
+
+abbrev pub run_lines : Rows → List Job → List ℤ → List Event → List ℕ
+run_lines tree jobs records past =
+    batch_lines (placement_order tree jobs past) (replies_of jobs records past)
+    (run_records jobs records past) (map (waits_of jobs past) (numbers_below (length tree)))
+
+abbrev pub IsRunBatch : Rows × List ℤ × List (List Access) → Outcome → Type 0
+IsRunBatch (tree, records, lists) (Ok lines) = (jobs : List Job) × (past : List Event)
+    × AreSettledJobs tree lists jobs × IsRun jobs past × IsFinished jobs past
+    × IsEachOnce (placement_order tree jobs past) (length jobs) × IsSerialBy (placement_order tree jobs past) jobs records past
+    × (lines ≡ run_lines tree jobs records past)
+IsRunBatch (tree, records, lists) (Err text) = (text ≡ codes "foreign") ⊎ (text ≡ codes "unfinished")

@@ -1,0 +1,56 @@
+ghost use Rattle.std.specs.Prelude.{◌≡◌, IfOk, string_bytes};
+ghost use Rattle.serde_json.specs.View.{view};
+ghost use Rattle.grove_wire.specs.Forms.{HasShortArrays};
+ghost use Rattle.grove_answer.specs.Says.{IsFitting, Says};
+ghost use Rattle.grove_answer.specs.Outcomes.{ThenSays, trial_in, judge_lines, IsJudged};
+
+use crate::reading::{Task, read_trial};
+use crate::refusal::{Refusal, or_refuse};
+use crate::texts::{numbers_of, numbers_text, replies_text};
+use grove_access::{Reply, run_alone};
+use grove_base::NoMemory;
+use grove_plan::{Plan, judge};
+use serde_json::Value;
+use std::alloc::Global;
+
+/// The lines that judge a document: the cost of its plan, and the replies and records of its list done alone.
+pub fn judge_document(alloc: Global, document: &Value) -> Result<String, Refusal>
+    requires { HasShortArrays (view document.now) }
+    ensures { Says (ThenSays (trial_in (view document.now)) IsJudged) result }
+{
+    let (task, plan) = or_refuse(alloc, read_trial(alloc, document))?;
+    judge_trial(alloc, task, &plan)
+}
+
+#[tactic(auto, using(crate::proofs::Faults::fault_fits, crate::proofs::Records::records_keep_number))]
+fn judge_trial(alloc: Global, task: Task, plan: &Plan) -> Result<String, Refusal>
+    requires { IsFitting task }
+    ensures { Says (IsJudged (task, plan.now)) result }
+{
+    let Task {
+        tree,
+        mut records,
+        list,
+    } = task;
+    match judge(alloc, &tree, &list, plan) {
+        Ok(cost) => {
+            let replies = run_alone(alloc, &mut records, &list)?;
+            let numbers = numbers_of(alloc, &tree, &records)?;
+            Ok(judge_lines(alloc, cost, &replies, &numbers)?)
+        }
+        Err(fault) => Err(Refusal::of_plan(alloc, &tree, &fault)),
+    }
+}
+
+fn judge_lines(
+    alloc: Global,
+    cost: u64,
+    replies: &[Reply],
+    numbers: &[i64],
+) -> Result<String, NoMemory>
+    ensures { IfOk result (λ lines. string_bytes lines ≡ judge_lines cost replies.now numbers.now) }
+{
+    let replies = replies_text(alloc, replies)?;
+    let records = numbers_text(alloc, numbers)?;
+    Ok(format!(in alloc; "cost {cost}\nreplies {replies}\nrecords {records}\n")?)
+}

@@ -1,0 +1,16 @@
+//! What a command says of a document: just what the definitions say, or the refusal.
+#![tactic(auto)]
+
+pub use checking::check_document;
+pub use judging::judge_document;
+pub use planning::plan_document;
+pub use refusal::{Refusal, or_refuse};
+pub use running::run_document;
+
+mod checking;
+mod judging;
+mod planning;
+mod reading;
+mod refusal;
+mod running;
+mod texts;

@@ -1,0 +1,48 @@
+ghost use Rattle.std.specs.Prelude.{◌≡◌, IfOk, string_bytes};
+ghost use Rattle.serde_json.specs.View.{view};
+ghost use Rattle.grove_build.specs.Batches.{IsPlanned as IsPlannedList};
+ghost use Rattle.grove_wire.specs.Forms.{HasShortArrays};
+ghost use Rattle.grove_answer.specs.Says.{IsFitting, Says};
+ghost use Rattle.grove_answer.specs.Outcomes.{ThenSays, task_in, plan_lines, IsPlanned};
+
+use crate::reading::{Task, read_task};
+use crate::refusal::{Refusal, or_refuse};
+use crate::texts::{flow_text, plan_text};
+use grove_access::AccessList;
+use grove_base::NoMemory;
+use grove_build::{Planned, plan};
+use grove_tree::Tree;
+use serde_json::Value;
+use std::alloc::Global;
+
+/// The lines that plan a document's list: the cost, the settled plan, and the flow that proves it.
+pub fn plan_document(alloc: Global, document: &Value) -> Result<String, Refusal>
+    requires { HasShortArrays (view document.now) }
+    ensures { Says (ThenSays (task_in (view document.now)) IsPlanned) result }
+{
+    let task = or_refuse(alloc, read_task(alloc, document))?;
+    plan_task(alloc, &task)
+}
+
+fn plan_task(alloc: Global, task: &Task) -> Result<String, Refusal>
+    requires { IsFitting task.now }
+    ensures { Says (IsPlanned task.now) result }
+{
+    let planned = plan(alloc, &task.tree, &task.list)?;
+    Ok(plan_lines(alloc, &task.tree, &task.list, &planned)?)
+}
+
+fn plan_lines(
+    alloc: Global,
+    tree: &Tree,
+    list: &AccessList,
+    planned: &Planned,
+) -> Result<String, NoMemory>
+    requires { IsPlannedList tree.now list.now planned.now }
+    ensures { IfOk result (λ lines. string_bytes lines ≡ plan_lines tree.now list.now planned.now.plan planned.now.flow) }
+{
+    let steps = plan_text(alloc, tree, &planned.plan)?;
+    let flow = flow_text(alloc, tree, &planned.flow)?;
+    let cost = planned.cost;
+    Ok(format!(in alloc; "cost {cost}\nplan {steps}\nflow {flow}\n")?)
+}

@@ -1,0 +1,89 @@
+ghost use Rattle.std.specs.Prelude.{◌≡◌, ◌≤◌, length, IfOk, All};
+ghost use Rattle.serde_json.specs.View.{view};
+ghost use Rattle.grove_access.specs.Lists.{nodes_of, AreNodes};
+ghost use Rattle.grove_wire.specs.Forms.{HasShortArrays};
+ghost use Rattle.grove_wire.specs.Outcomes.{Gives};
+ghost use Rattle.grove_answer.specs.Says.{IsFitting};
+ghost use Rattle.grove_answer.specs.Outcomes.{task_in, trial_in, claim_in, batch_in};
+
+use grove_access::{AccessList, Records};
+use grove_plan::Plan;
+use grove_proof::Flow;
+use grove_tree::Tree;
+use grove_wire::{WireFault, read_flow, read_list, read_lists, read_plan, read_tree};
+use serde_json::Value;
+use std::alloc::Global;
+
+/// A tree with its records, and a list of accesses over it.
+#[derive(Drop)]
+pub struct Task {
+    pub tree: Tree,
+    pub records: Records,
+    pub list: AccessList,
+}
+
+/// The document's tree and list.
+#[tactic(auto, unfolding(crate::specs::Outcomes::task_in))]
+pub fn read_task(alloc: Global, document: &Value) -> Result<Task, WireFault>
+    requires { HasShortArrays (view document.now) }
+    ensures read { Gives (λ task. task) result (task_in (view document.now)) }
+    ensures fits { IfOk result IsFitting }
+{
+    let (tree, records) = read_tree(alloc, document)?;
+    let list = read_list(alloc, &tree, document)?;
+    Ok(Task {
+        tree,
+        records,
+        list,
+    })
+}
+
+/// A tree with its records, and lists of accesses over it.
+#[derive(Drop)]
+pub struct Batch {
+    pub tree: Tree,
+    pub records: Records,
+    pub lists: Vec<AccessList>,
+}
+
+/// The document's tree and list, and a plan for them.
+#[tactic(auto, unfolding(crate::specs::Outcomes::trial_in))]
+pub fn read_trial(alloc: Global, document: &Value) -> Result<(Task, Plan), WireFault>
+    requires { HasShortArrays (view document.now) }
+    ensures read { Gives (λ trial. (trial.0, trial.1)) result (trial_in (view document.now)) }
+    ensures fits { IfOk result (λ trial. IsFitting trial.0) }
+{
+    let task = read_task(alloc, document)?;
+    let plan = read_plan(alloc, &task.tree, document)?;
+    Ok((task, plan))
+}
+
+/// The document's tree, list and plan, and a flow that is to prove the plan least.
+#[tactic(auto, unfolding(crate::specs::Outcomes::claim_in))]
+pub fn read_claim(alloc: Global, document: &Value) -> Result<(Task, Plan, Flow), WireFault>
+    requires { HasShortArrays (view document.now) }
+    ensures read { Gives (λ claim. (claim.0, claim.1, claim.2)) result (claim_in (view document.now)) }
+    ensures fits { IfOk result (λ claim. IsFitting claim.0) }
+{
+    let (task, plan) = read_trial(alloc, document)?;
+    let flow = read_flow(alloc, &task.tree, document)?;
+    Ok((task, plan, flow))
+}
+
+/// The document's tree and lists.
+#[tactic(auto, unfolding(crate::specs::Outcomes::batch_in))]
+pub fn read_batch(alloc: Global, document: &Value) -> Result<Batch, WireFault>
+    requires { HasShortArrays (view document.now) }
+    ensures read { Gives (λ batch. (batch.tree, batch.records, batch.lists.items)) result (batch_in (view document.now)) }
+    ensures records { IfOk result (λ batch. length batch.records ≡ length batch.tree) }
+    ensures fits { IfOk result (λ batch. All (λ list. AreNodes batch.tree (nodes_of list)) batch.lists.items) }
+    ensures few { IfOk result (λ batch. length batch.lists.items ≤ 256) }
+{
+    let (tree, records) = read_tree(alloc, document)?;
+    let lists = read_lists(alloc, &tree, document)?;
+    Ok(Batch {
+        tree,
+        records,
+        lists,
+    })
+}

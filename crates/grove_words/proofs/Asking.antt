@@ -1,0 +1,217 @@
+-- Clap takes the words that are an order, and no others.
+use Rattle.std.proofs.Common.{◌≡◌, ◌≢◌, ◌∙◌, ap, refl, sym, subst, Bool, true, false, List, [], ◌∷◌, Option, Some, None, inl, inr, codes, length, fold}
+use Rattle.std.specs.Str.{bytes_eq}
+use Rattle.clap.specs.Words.{is_simple, is_simple_and_free, subcommand_of, Row, Rule, Shape, Text, fault_of, built}
+use Rattle.std.proofs.lemmas.Slice.Eq.{bytes_eq-Decides}
+use Rattle.clap.proofs.WalkLemmas.{walk_stopped}
+use Rattle.clap.specs.Simple.{entered, names_of}
+use Rattle.clap.specs.Walk.{subcommand_met, Names, walk, rows_after, Walk, idle, nothing_held, walked, walk_from, word_met, value}
+use Rattle.clap.specs.Faults.{word_fault, step_fault, entered_fault, level_fault, turn_fault, walk_fault}
+use Rattle.clap.specs.Kinds.{Kinds}
+use Rattle.clap.proofs.OnLiterals.{clap_on_literals}
+use Rattle.grove_words.specs.CommandLines.{command_named, grove_command, hyphens, is_option, AreCommand, AreDocument, AreFor, AskFor, word_of, text_of}
+use Rattle.grove_words.proofs.Words.{IsFaulty, or_faulty, or_later, not_none, top_rules, leaf_rules, batch_rules, port_rules, top_long, top_short, IsOption, option_refused, HasNoFlag, no_flag, no_bundle, differs, Kind, hyphens_kind, option_kind, plain_kind, kind_of}
+use Rattle.grove_words.proofs.Documents.{document_in, leaf, batch_leaf, port_leaf, leaf_fault, Reads, leaf_reads}
+use Rattle.grove_words.specs.declared.order.Command.{Command}
+use Rattle.grove_words.specs.declared.order.Command.TheVariants.{Judge, Check, Plan, Run, Serve}
+use Rattle.grove_words.specs.declared.order.Order.{Order}
+
+-- clap's statements hold of this command line
+
+pub is_simple_line : is_simple grove_command ≡ true
+unfolding clap_on_literals
+is_simple_line = refl
+
+pub is_free_line : is_simple_and_free grove_command ≡ true
+unfolding clap_on_literals
+is_free_line = refl
+
+-- ---- the command
+
+abbrev pub names : Names
+names = names_of (built grove_command)
+
+abbrev pub top : Shape
+top = (built grove_command).top
+
+-- the walk stands at a command
+abbrev pub at_command : Text → Walk
+at_command command = record { held = nothing_held; waiting = idle; position = 1; is_trailing = false; stopped = Some (command, []) }
+
+-- what the code makes of what clap found
+pub record IsFound (rows : Option (Text × List Row)) (found : Order) : Type 0 where
+  pub bare : rows ≡ None → (found.command ≡ Judge) × (found.document ≡ None)
+  pub command : (word : Text) (below : List Row) → rows ≡ Some (word, below) → found.command ≡ command_named word
+  pub document : (word : Text) (below : List Row) → rows ≡ Some (word, below) → text_of found.document ≡ document_in below
+
+-- what clap reads the words after a command by
+abbrev pub shape_of : Command → Shape
+shape_of Run = batch_leaf (word_of Run)
+shape_of Serve = port_leaf (word_of Serve)
+shape_of command = leaf (word_of command)
+
+abbrev pub rules_of : Command → List Rule
+rules_of Run = batch_rules
+rules_of Serve = port_rules
+rules_of command = leaf_rules
+
+abbrev pub below_fault : Command → List Text → Kinds
+below_fault command rest = level_fault (shape_of command) [] nothing_held rest false []
+
+-- what clap makes of a command's word, and then the code
+pub record IsOneOf (command : Command) : Type 0 where
+  pub met : walked top_rules names (walk_from nothing_held) (word_of command) ≡ at_command (word_of command)
+  pub turns : turn_fault top names (walk_from nothing_held) (word_of command) ≡ []
+  pub enters : (rest : List Text) → entered (built grove_command) (Some (word_of command, rest)) ≡ Some (word_of command, rows_after (rules_of command) [] rest)
+  pub fails : (rest : List Text) → entered_fault (built grove_command) (Some (word_of command, rest)) ≡ below_fault command rest
+  pub named : command_named (word_of command) ≡ command
+
+pub is_one_of : (command : Command) → IsOneOf command
+unfolding clap_on_literals
+is_one_of Judge = record { met = refl; turns = refl; enters = λ rest. refl; fails = λ rest. refl; named = refl }
+is_one_of Check = record { met = refl; turns = refl; enters = λ rest. refl; fails = λ rest. refl; named = refl }
+is_one_of Plan = record { met = refl; turns = refl; enters = λ rest. refl; fails = λ rest. refl; named = refl }
+is_one_of Run = record { met = refl; turns = refl; enters = λ rest. refl; fails = λ rest. refl; named = refl }
+is_one_of Serve = record { met = refl; turns = refl; enters = λ rest. refl; fails = λ rest. refl; named = refl }
+
+module _ (command : Command) (rest : List Text) where
+  stop_is : (walk top_rules names nothing_held (word_of command ∷ rest)).stopped ≡ Some (word_of command, rest)
+  stop_is =
+      ap (λ (w : Walk). (fold (walked top_rules names) w rest).stopped) (is_one_of command).met
+      ∙ ap (λ (w : Walk). w.stopped) (sym (walk_stopped top_rules names (walk_from nothing_held) (word_of command) [] rest))
+
+  pub rows_are : subcommand_of grove_command (word_of command ∷ rest) ≡ Some (word_of command, rows_after (rules_of command) [] rest)
+  rows_are = ap (entered (built grove_command)) stop_is ∙ (is_one_of command).enters rest
+
+  fault_below : IsFaulty (below_fault command rest) → IsFaulty (fault_of grove_command (word_of command ∷ rest))
+  fault_below faulty =
+      let stop = (walk top_rules names nothing_held (word_of command ∷ rest)).stopped in
+      let below : IsFaulty (entered_fault (built grove_command) stop) = rw stop_is (rw ((is_one_of command).fails rest) faulty) in
+      or_later (walk_fault (built grove_command).top names (walk_from nothing_held) (word_of command ∷ rest)) _ (or_faulty (entered_fault (built grove_command) stop) _ below)
+
+  none_below : fault_of grove_command (word_of command ∷ rest) ≡ [] → below_fault command rest ≡ []
+  none_below taken = by_kinds (below_fault command rest) refl
+    where
+      by_kinds : (kinds : Kinds) → below_fault command rest ≡ kinds → below_fault command rest ≡ []
+      by_kinds [] none = none
+      by_kinds (k ∷ ks) some = absurd (not_none (fault_of grove_command (word_of command ∷ rest)) (fault_below (subst IsFaulty (sym some) tt)) taken)
+
+-- what a word is at the top: a command's, `help`, or neither
+data Which (word : Text) : Type 0 where
+  a_command : (command : Command) → word ≡ word_of command → Which word
+  a_help : word ≡ codes "help" → Which word
+  neither : subcommand_met names idle word ≡ None → Which word
+
+by_word : (name word : Text) → (word ≡ name → Which word) → (bytes_eq name word ≡ false → Which word) → Which word
+by_word name word same other = by_bool (bytes_eq name word) refl
+  where
+    by_bool : (b : Bool) → bytes_eq name word ≡ b → Which word
+    by_bool true is = same (sym ((bytes_eq-Decides name word).0 is))
+    by_bool false is = other is
+
+which : (word : Text) → Which word
+which word =
+    by_word (codes "judge") word (a_command Judge) (λ judge.
+    by_word (codes "check") word (a_command Check) (λ check.
+    by_word (codes "plan") word (a_command Plan) (λ plan.
+    by_word (codes "run") word (a_command Run) (λ run.
+    by_word (codes "serve") word (a_command Serve) (λ serve.
+    by_word (codes "help") word a_help (λ help.
+    neither (rw (judge, check, plan, run, serve, help) refl)))))))
+
+-- a word that is no command
+
+top_met_plain : (word : Text) → subcommand_met names idle word ≡ None → word ≢ hyphens → HasNoFlag word
+    → word_met top_rules names false idle 1 word nothing_held ≡ (nothing_held, value)
+top_met_plain word none other (not_long, inl not_short) = rw (none, differs word other, not_long, not_short) refl
+top_met_plain word none other (not_long, inr (flags, is, empty)) =
+    rw (none, differs word other, not_long, is, no_bundle top_rules (length flags) flags nothing_held empty) refl
+
+top_turn : (word : Text) (rest : List Text) → IsFaulty (turn_fault top names (walk_from nothing_held) word) → IsFaulty (fault_of grove_command (word ∷ rest))
+unfolding walk_fault
+top_turn word rest faulty =
+    or_faulty _ _ (or_faulty (turn_fault top names (walk_from nothing_held) word) (walk_fault top names (walked top_rules names (walk_from nothing_held) word) rest) faulty)
+
+top_option : (word : Text) (rest : List Text) → subcommand_met names idle word ≡ None → word ≢ hyphens → IsOption word → IsFaulty (fault_of grove_command (word ∷ rest))
+top_option word rest none other is =
+    top_turn word rest (rw (none, differs word other) (or_faulty _ _ (option_refused top top_long top_short word nothing_held refl is)))
+
+top_plain : (word : Text) (rest : List Text) → subcommand_met names idle word ≡ None → word ≢ hyphens → is_option word ≡ false → IsFaulty (fault_of grove_command (word ∷ rest))
+top_plain word rest none other flagless =
+    let met = word_met top_rules names false idle 1 word nothing_held in
+    top_turn word rest (or_later (word_fault top names false idle word nothing_held) (step_fault top 1 met.0 met.1) (rw (top_met_plain word none other (no_flag word flagless)) tt))
+
+help_then : (rest : List Text) → IsFaulty (fault_of grove_command (codes "help" ∷ rest))
+unfolding clap_on_literals
+help_then rest = tt
+
+hyphens_more : (word : Text) (rest : List Text) → IsFaulty (fault_of grove_command (hyphens ∷ word ∷ rest))
+unfolding clap_on_literals
+hyphens_more word rest = tt
+
+pub no_command_found : subcommand_of grove_command [] ≡ None
+unfolding clap_on_literals
+no_command_found = refl
+
+pub hyphens_found : subcommand_of grove_command (hyphens ∷ []) ≡ None
+unfolding clap_on_literals
+hyphens_found = refl
+
+-- ---- the whole line
+
+-- it is an order that the words ask for
+abbrev IsReadLine : List Text → Type 0
+IsReadLine words = (found : Order) → IsFound (subcommand_of grove_command words) found → AskFor words found
+
+bare_reads : (words : List Text) → AreDocument words None → subcommand_of grove_command words ≡ None → IsReadLine words
+bare_reads words are none found is = inr (are, (is.bare none).0, (is.bare none).1)
+
+-- a command with nothing after it but a document
+document_reads : (command : Command) (rest : List Text) → shape_of command ≡ leaf (word_of command) → rules_of command ≡ leaf_rules
+    → fault_of grove_command (word_of command ∷ rest) ≡ [] → (found : Order) → IsFound (subcommand_of grove_command (word_of command ∷ rest)) found
+    → AreCommand (word_of command) (word_of command ∷ rest) (text_of found.document)
+document_reads command rest shape rules taken found is =
+    let none : leaf_fault (word_of command) rest ≡ [] = ap (λ s. level_fault s [] nothing_held rest false []) (sym shape) ∙ none_below command rest taken in
+    let read : Reads rest = leaf_reads (word_of command) rest none in
+    let name : text_of found.document ≡ read.0 =
+    is.document (word_of command) (rows_after (rules_of command) [] rest) (rows_are command rest) ∙ ap (λ r. document_in (rows_after r [] rest)) rules ∙ read.2 in
+    (rest, refl, subst (AreDocument rest) (sym name) read.1)
+
+-- the words after a command that are taken name the command's document
+names_document : (command : Command) (rest : List Text) → fault_of grove_command (word_of command ∷ rest) ≡ []
+    → (found : Order) → IsFound (subcommand_of grove_command (word_of command ∷ rest)) found → AreFor command (word_of command ∷ rest) (text_of found.document)
+names_document Judge rest taken found is = document_reads Judge rest refl refl taken found is
+names_document Check rest taken found is = document_reads Check rest refl refl taken found is
+names_document Plan rest taken found is = document_reads Plan rest refl refl taken found is
+names_document Run rest taken found is =
+    (taken, rows_after batch_rules [] rest, rows_are Run rest, sym (is.document (word_of Run) (rows_after batch_rules [] rest) (rows_are Run rest)))
+names_document Serve rest taken found is =
+    (taken, rows_after port_rules [] rest, rows_are Serve rest, sym (is.document (word_of Serve) (rows_after port_rules [] rest) (rows_are Serve rest)))
+
+command_reads : (command : Command) (rest : List Text) → fault_of grove_command (word_of command ∷ rest) ≡ [] → IsReadLine (word_of command ∷ rest)
+command_reads command rest taken found is =
+    let same : found.command ≡ command = is.command (word_of command) (rows_after (rules_of command) [] rest) (rows_are command rest) ∙ (is_one_of command).named in
+    inl (subst (λ c. AreFor c (word_of command ∷ rest) (text_of found.document)) (sym same) (names_document command rest taken found is))
+
+pub line_reads : (words : List Text) → fault_of grove_command words ≡ [] → IsReadLine words
+line_reads [] taken = bare_reads [] (inl refl) no_command_found
+line_reads (word ∷ rest) taken = by_which (which word)
+  where
+    refused : IsFaulty (fault_of grove_command (word ∷ rest)) → IsReadLine (word ∷ rest)
+    refused faulty = absurd (not_none (fault_of grove_command (word ∷ rest)) faulty taken)
+
+    by_hyphens : (others : List Text) → rest ≡ others → word ≡ hyphens → IsReadLine (word ∷ rest)
+    by_hyphens [] none is = subst IsReadLine (ap (λ xs. word ∷ xs) (sym none)) (subst (λ w. IsReadLine (w ∷ [])) (sym is) (bare_reads (hyphens ∷ []) (inr refl) hyphens_found))
+    by_hyphens (next ∷ more) some is =
+        refused (subst (λ xs. IsFaulty (fault_of grove_command (word ∷ xs))) (sym some) (subst (λ w. IsFaulty (fault_of grove_command (w ∷ next ∷ more))) (sym is) (hyphens_more next more)))
+
+    by_kind : subcommand_met names idle word ≡ None → Kind word → IsReadLine (word ∷ rest)
+    by_kind none (hyphens_kind is) = by_hyphens rest refl is
+    by_kind none (option_kind other is) = refused (top_option word rest none other is)
+    by_kind none (plain_kind other is) = refused (top_plain word rest none other is)
+
+    by_which : Which word → IsReadLine (word ∷ rest)
+    by_which (a_command command is) =
+        subst (λ w. IsReadLine (w ∷ rest)) (sym is) (command_reads command rest (subst (λ w. fault_of grove_command (w ∷ rest) ≡ []) is taken))
+    by_which (a_help is) = refused (subst (λ w. IsFaulty (fault_of grove_command (w ∷ rest))) (sym is) (help_then rest))
+    by_which (neither none) = by_kind none (kind_of word)

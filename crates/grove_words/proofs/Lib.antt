@@ -1,0 +1,5 @@
+pub mod Asking
+pub mod Documents
+pub mod Words
+pub mod Orders
+pub mod Ports

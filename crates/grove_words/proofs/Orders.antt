@@ -1,0 +1,248 @@
+-- Words that are an order are taken by clap, and are no second order.
+use Rattle.std.proofs.Common.{◌≡◌, ◌≢◌, ◌∙◌, ℕ, ap, refl, sym, subst, false, List, [], ◌∷◌, length, Option, Some, None, inl, inr, codes, ◌⊎◌, Result, fold}
+use Rattle.std.specs.Prelude.{is_some}
+use Rattle.clap.specs.Words.{Row, Text, fault_of, first_of, subcommand_of, built}
+use Rattle.clap.specs.Walk.{Walk, idle, nothing_held, walk, walked, walk_from, word_met, settled, finished, rows_after}
+use Rattle.clap.specs.Faults.{word_fault, step_fault, turn_fault, walk_fault, settle_fault, defaults_fault, check_fault, entered_fault, level_fault}
+use Rattle.clap.specs.Simple.{entered}
+use Rattle.clap.specs.Kinds.{or_else, Kinds}
+use Rattle.clap.specs.Words.{HasKind, kind_of}
+use Rattle.clap.specs.declared.error.Error.{Error}
+use Rattle.clap.specs.declared.error.kind.ErrorKind.{ErrorKind}
+use Rattle.clap.specs.declared.error.kind.ErrorKind.TheVariants.{OutOfMemory, DisplayHelp, DisplayVersion}
+use Rattle.clap.proofs.OnLiterals.{clap_on_literals}
+use Rattle.clap.proofs.WalkLemmas.{walk_stopped}
+use Rattle.clap.proofs.FaultLemmas.{fault_ends, stopped_fault}
+use Rattle.grove_words.specs.declared.order.Command.{Command}
+use Rattle.grove_words.specs.declared.order.Command.TheVariants.{Judge, Check, Plan, Run, Serve}
+use Rattle.grove_words.specs.declared.order.Order.{Order}
+use Rattle.grove_words.specs.CommandLines.{command_named, grove_command, hyphens, IsPlain, AreCommand, AreDocument, AreFor, AreTakenFor, AskFor, AskToShow, word_of, text_of}
+use Rattle.grove_words.proofs.Words.{top_rules, leaf_rules, HasNoFlag, no_flag, differs, met_plain}
+use Rattle.grove_words.proofs.Documents.{leaf, leaf_fault, named, walked_plain, hyphens_after}
+use Rattle.grove_words.proofs.Asking.{names, top, at_command, is_one_of, shape_of, rules_of, below_fault, rows_are, no_command_found, hyphens_found}
+
+or_nil : (a b : Kinds) → a ≡ [] → b ≡ [] → or_else a b ≡ []
+or_nil a b none nothing = ap (λ (k : Kinds). or_else k b) none ∙ nothing
+
+-- ---- a command takes the words that give its document
+
+nothing_taken : (name : Text) → leaf_fault name [] ≡ []
+unfolding clap_on_literals
+nothing_taken name = refl
+
+hyphens_taken : (name : Text) → leaf_fault name (hyphens ∷ []) ≡ []
+unfolding clap_on_literals
+hyphens_taken name = refl
+
+after_taken : (name word : Text) → leaf_fault name (hyphens ∷ word ∷ []) ≡ []
+unfolding clap_on_literals
+after_taken name word = refl
+
+plain_word : (name word : Text) → word ≢ hyphens → HasNoFlag word → word_fault (leaf name) [] false idle word nothing_held ≡ []
+plain_word name word other (not_long, inl not_short) = rw (differs word other, not_long, not_short) refl
+plain_word name word other (not_long, inr (flags, is, none)) =
+    rw (differs word other, not_long, is, ← fault_ends leaf_rules false (length flags) flags 0 nothing_held (sym none)) refl
+
+plain_turn : (name word : Text) → word ≢ hyphens → HasNoFlag word → turn_fault (leaf name) [] (walk_from nothing_held) word ≡ []
+plain_turn name word other flagless =
+    let met = word_met leaf_rules [] false idle 1 word nothing_held in
+    let step : step_fault (leaf name) 1 met.0 met.1 ≡ [] = rw (met_plain leaf_rules 1 word None other flagless) refl in
+    or_nil (word_fault (leaf name) [] false idle word nothing_held) (step_fault (leaf name) 1 met.0 met.1) (plain_word name word other flagless) step
+
+plain_taken : (name word : Text) → IsPlain word → leaf_fault name (word ∷ []) ≡ []
+unfolding walk_fault defaults_fault
+plain_taken name word (flagless, other) =
+    rw (plain_turn name word other (no_flag word flagless), walked_plain word other (no_flag word flagless)) refl
+
+before_taken : (name word : Text) → IsPlain word → leaf_fault name (word ∷ hyphens ∷ []) ≡ []
+unfolding walk_fault defaults_fault
+before_taken name word (flagless, other) =
+    rw (plain_turn name word other (no_flag word flagless), walked_plain word other (no_flag word flagless), hyphens_after word) refl
+
+leaf_taken : (name : Text) (rest : List Text) (document : Option Text) → AreDocument rest document → leaf_fault name rest ≡ []
+leaf_taken name rest None (inl is) = ap (leaf_fault name) is ∙ nothing_taken name
+leaf_taken name rest None (inr is) = ap (leaf_fault name) is ∙ hyphens_taken name
+leaf_taken name rest (Some word) (inl (is, plain)) = ap (leaf_fault name) is ∙ plain_taken name word plain
+leaf_taken name rest (Some word) (inr (inl is)) = ap (leaf_fault name) is ∙ after_taken name word
+leaf_taken name rest (Some word) (inr (inr (is, plain))) = ap (leaf_fault name) is ∙ before_taken name word plain
+
+-- ---- and so does the program
+
+module _ (command : Command) (rest : List Text) where
+  walk_is : walk top_rules names nothing_held (word_of command ∷ rest) ≡ record (at_command (word_of command)) { stopped = Some (word_of command, rest) }
+  walk_is = ap (λ (w : Walk). fold (walked top_rules names) w rest) (is_one_of command).met ∙ sym (walk_stopped top_rules names (walk_from nothing_held) (word_of command) [] rest)
+
+  walk_none : walk_fault top names (walk_from nothing_held) (word_of command ∷ rest) ≡ []
+  unfolding walk_fault
+  walk_none =
+      or_nil (turn_fault top names (walk_from nothing_held) (word_of command)) (walk_fault top names (walked top_rules names (walk_from nothing_held) (word_of command)) rest) (is_one_of command).turns
+      (ap (λ (w : Walk). walk_fault top names w rest) (is_one_of command).met ∙ stopped_fault top names (walk_from nothing_held) (word_of command, []) rest)
+
+  abbrev after_walk : Walk → Kinds
+  after_walk w =
+      or_else (entered_fault (built grove_command) w.stopped) (or_else (settle_fault top_rules false w.held)
+      (or_else (defaults_fault (settled top_rules w.held).rows top_rules) (check_fault top (finished top_rules w.held) (is_some (entered (built grove_command) w.stopped)))))
+
+  after_none : below_fault command rest ≡ [] → after_walk (record (at_command (word_of command)) { stopped = Some (word_of command, rest) }) ≡ []
+  unfolding defaults_fault
+  after_none taken = rw ((is_one_of command).fails rest, (is_one_of command).enters rest, taken) refl
+
+  command_taken : below_fault command rest ≡ [] → fault_of grove_command (word_of command ∷ rest) ≡ []
+  command_taken taken =
+      or_nil (walk_fault top names (walk_from nothing_held) (word_of command ∷ rest)) (after_walk (walk top_rules names nothing_held (word_of command ∷ rest))) walk_none
+      (ap after_walk walk_is ∙ after_none taken)
+
+no_words_taken : fault_of grove_command [] ≡ []
+unfolding clap_on_literals
+no_words_taken = refl
+
+two_hyphens_taken : fault_of grove_command (hyphens ∷ []) ≡ []
+unfolding clap_on_literals
+two_hyphens_taken = refl
+
+-- words of a command that has no options are taken
+document_taken : (command : Command) (words : List Text) (document : Option Text) → shape_of command ≡ leaf (word_of command) → AreCommand (word_of command) words document
+    → fault_of grove_command words ≡ []
+document_taken command words document shape (rest, is, are) =
+    ap (fault_of grove_command) is
+    ∙ command_taken command rest (ap (λ s. level_fault s [] nothing_held rest false []) shape ∙ leaf_taken (word_of command) rest document are)
+
+-- and so for each command
+taken_for : (command : Command) (words : List Text) (document : Option Text) → AreFor command words document → fault_of grove_command words ≡ []
+taken_for Judge words document are = document_taken Judge words document refl are
+taken_for Check words document are = document_taken Check words document refl are
+taken_for Plan words document are = document_taken Plan words document refl are
+taken_for Run words document are = are.0
+taken_for Serve words document are = are.0
+
+-- the words have this command's rows
+abbrev HasRows : Command → List Text → Type 0
+HasRows command words = (rows : List Row) × (subcommand_of grove_command words ≡ Some (word_of command, rows))
+
+-- clap finds a command without options in its words
+rows_of_document : (command : Command) (words : List Text) (document : Option Text) → AreCommand (word_of command) words document → HasRows command words
+rows_of_document command words document (rest, is, are) = (rows_after (rules_of command) [] rest, ap (subcommand_of grove_command) is ∙ rows_are command rest)
+
+-- and so each command
+found_for : (command : Command) (words : List Text) (document : Option Text) → AreFor command words document → HasRows command words
+found_for Judge words document are = rows_of_document Judge words document are
+found_for Check words document are = rows_of_document Check words document are
+found_for Plan words document are = rows_of_document Plan words document are
+found_for Run words document are = (are.1, are.2)
+found_for Serve words document are = (are.1, are.2)
+
+-- in a document's words alone it finds none
+nothing_found : (words : List Text) → AreDocument words None → subcommand_of grove_command words ≡ None
+nothing_found words (inl none) = ap (subcommand_of grove_command) none ∙ no_command_found
+nothing_found words (inr two) = ap (subcommand_of grove_command) two ∙ hyphens_found
+
+pub order_taken : (words : List Text) (order : Order) → AskFor words order → fault_of grove_command words ≡ []
+order_taken words order (inl are) = taken_for order.command words (text_of order.document) are
+order_taken words order (inr (inl is, judge, nameless)) = ap (fault_of grove_command) is ∙ no_words_taken
+order_taken words order (inr (inr is, judge, nameless)) = ap (fault_of grove_command) is ∙ two_hyphens_taken
+
+-- ---- words are one order only
+
+-- what clap finds in words is one command with its rows, or none
+
+none_found : (found : Option (Text × List Row)) (word : Text) (rows : List Row) → found ≡ None → found ≡ Some (word, rows) → ⊥
+none_found found word rows none some = cc
+
+one_word : (found : Option (Text × List Row)) (v w : Text) (rows others : List Row) → found ≡ Some (v, rows) → found ≡ Some (w, others) → v ≡ w
+one_word found v w rows others at be =
+    let both : Some (v, rows) ≡ Some (w, others) = sym at ∙ be in
+    let pair : (v, rows) ≡ (w, others) = cc in
+    ap (λ (p : Text × List Row). p.0) pair
+
+one_rows : (found : Option (Text × List Row)) (v w : Text) (rows others : List Row) → found ≡ Some (v, rows) → found ≡ Some (w, others) → rows ≡ others
+one_rows found v w rows others at be =
+    let both : Some (v, rows) ≡ Some (w, others) = sym at ∙ be in
+    let pair : (v, rows) ≡ (w, others) = cc in
+    ap (λ (p : Text × List Row). p.1) pair
+
+-- a document has a name or none
+none_named : (found : Option Text) (name : Text) → found ≡ None → found ≡ Some name → ⊥
+none_named found name none some = cc
+
+-- words for a command aren't a document's alone
+not_bare : (words : List Text) (order : Order) → AreFor order.command words (text_of order.document) → AreDocument words None → ⊥
+not_bare words order are none =
+    let rows : HasRows order.command words = found_for order.command words (text_of order.document) are in
+    none_found (subcommand_of grove_command words) (word_of order.command) rows.0 (nothing_found words none) rows.1
+
+none_or_some : (words : List Text) (name : Text) → AreDocument words None → AreDocument words (Some name) → ⊥
+none_or_some words name (inl none) (inl (is, plain)) = cc
+none_or_some words name (inl none) (inr (inl is)) = cc
+none_or_some words name (inl none) (inr (inr (is, plain))) = cc
+none_or_some words name (inr two) (inl (is, plain)) = let same : name ≡ hyphens = cc in plain.1 same
+none_or_some words name (inr two) (inr (inl is)) = cc
+none_or_some words name (inr two) (inr (inr (is, plain))) = cc
+
+-- words for one command name one document, or none
+
+-- words begin with one word only
+same_rest : (words : List Text) (word : Text) (rest others : List Text) → words ≡ word ∷ rest → words ≡ word ∷ others → others ≡ rest
+same_rest words word rest others is at = cc
+
+one_document : (command : Command) (words : List Text) (name : Text) → AreCommand (word_of command) words None → AreCommand (word_of command) words (Some name) → ⊥
+one_document command words name (rest, is, are) (others, at, be) =
+    none_or_some rest name are (subst (λ w. AreDocument w (Some name)) (same_rest words (word_of command) rest others is at) be)
+
+one_taken : (command : Text) (words : List Text) (name : Text) → AreTakenFor command words None → AreTakenFor command words (Some name) → ⊥
+one_taken command words name (taken, rows, at, none) (again, others, be, some) =
+    let same : rows ≡ others = one_rows (subcommand_of grove_command words) command command rows others at be in
+    none_named (first_of (codes "DOC") rows) name none (ap (first_of (codes "DOC")) same ∙ some)
+
+one_name : (command : Command) (words : List Text) (name : Text) → AreFor command words None → AreFor command words (Some name) → ⊥
+one_name Judge words name none some = one_document Judge words name none some
+one_name Check words name none some = one_document Check words name none some
+one_name Plan words name none some = one_document Plan words name none some
+one_name Run words name none some = one_taken (word_of Run) words name none some
+one_name Serve words name none some = one_taken (word_of Serve) words name none some
+
+-- two orders that the same words ask for have one command
+pub same_command : (words : List Text) (a b : Order) → AskFor words a → AskFor words b → a.command ≡ b.command
+same_command words a b (inl are) (inl be) =
+    let one : HasRows a.command words = found_for a.command words (text_of a.document) are in
+    let other : HasRows b.command words = found_for b.command words (text_of b.document) be in
+    let same : word_of a.command ≡ word_of b.command = one_word (subcommand_of grove_command words) (word_of a.command) (word_of b.command) one.0 other.0 one.1 other.1 in
+    sym (is_one_of a.command).named ∙ ap command_named same ∙ (is_one_of b.command).named
+same_command words a b (inl are) (inr (none, judge, nameless)) = absurd (not_bare words a are none)
+same_command words a b (inr (none, judge, nameless)) (inl be) = absurd (not_bare words b be none)
+same_command words a b (inr (none, judge, nameless)) (inr (nothing, other, plain)) = judge ∙ sym other
+
+-- words that name no document for one order name none for another
+pub same_name : (words : List Text) (a b : Order) → AskFor words a → AskFor words b → b.document ≡ None → a.document ≡ None
+same_name words a b (inr (are, judge, nameless)) asks none = nameless
+same_name words a b (inl are) (inr (nothing, judge, nameless)) none = absurd (not_bare words a are nothing)
+same_name words a b (inl are) (inl be) none = by_name a.document refl
+  where
+    by_name : (name : Option _) → a.document ≡ name → a.document ≡ None
+    by_name None here = here
+    by_name (Some text) here =
+        let some : AreFor a.command words (Some text.now) = subst (λ n. AreFor a.command words (text_of n)) here are in
+        let other : AreFor b.command words (Some text.now) = subst (λ c. AreFor c words (Some text.now)) (same_command words a b (inl are) (inl be)) some in
+        absurd (one_name b.command words text.now (subst (λ n. AreFor b.command words (text_of n)) none be) other)
+
+-- words that are an order are refused for memory alone, and don't ask for help or the version
+
+only_memory : (kinds : Kinds) (error : Error) → kinds ≡ [] → HasKind kinds error → kind_of error ≡ OutOfMemory
+only_memory [] error none (inl memory) = memory
+only_memory [] error none (inr among) = absurd among
+only_memory (k ∷ ks) error none has = absurd (cc)
+
+pub certain : (words : List Text) (order : Order) (error : Error) → AskFor words order → HasKind (fault_of grove_command words) error → kind_of error ≡ OutOfMemory
+certain words order error asks has = only_memory (fault_of grove_command words) error (order_taken words order asks) has
+
+not_both : (kinds : Kinds) (k : ErrorKind) → kinds ≡ [] → kinds ≡ k ∷ [] → ⊥
+not_both kinds k none one = cc
+
+pub not_shown : (words : List Text) (order : Order) → AskFor words order → AskToShow words → ⊥
+not_shown words order asks (inl help) = not_both (fault_of grove_command words) DisplayHelp (order_taken words order asks) help
+not_shown words order asks (inr version) = not_both (fault_of grove_command words) DisplayVersion (order_taken words order asks) version
+
+-- ---- serving
+
+-- where words ask to serve, the order that was found does
+pub serves_found : (words : List Text) (order found : Order) → AskFor words order → AskFor words found → order.command ≡ Serve → found.command ≡ Serve
+serves_found words order found asks finds serves = same_command words found order finds asks ∙ serves

@@ -1,0 +1,21 @@
+use Rattle.std.proofs.Common.{◌≡◌, ◌∙◌, ap, sym, codes, Some, option_map}
+use Rattle.clap.specs.Words.{found_of, first_of, one_of, subcommand_rows_of}
+use Rattle.clap.specs.Walk.{rows_of}
+use Rattle.clap.proofs.WalkLemmas.{first_value-rows, one_text-rows}
+use Rattle.std.specs.contracts.prelude.U16FromStr.TheImpl.{ghosts}
+use Rattle.grove_words.proofs.Ports.{port_read, port_among}
+use Rattle.grove_words.proofs.command_line.order_in.Goals as goal
+
+pub returns-in-Some-clause-document : goal.returns-in-Some-clause-document
+returns-in-Some-clause-document c word rows at =
+    let both : Some (rows_of (found_of c.in-Some.given.now)) ≡ Some rows = c.in-Some.ensures.rows ∙ ap (option_map (λ found. found.1)) at in
+    let same : rows_of (found_of c.in-Some.given.now) ≡ rows = cc in
+    c.get_str.ensures ∙ first_value-rows (found_of c.in-Some.given.now) (codes "DOC") ∙ ap (first_of (codes "DOC")) same
+
+pub returns-in-Some-clause-port : goal.returns-in-Some-clause-port
+returns-in-Some-clause-port c =
+    port_among (subcommand_rows_of c.args.matches.now) (rows_of (found_of c.in-Some.given.now)) c.get_one.result c.in-Some.ensures.rows
+    (port_read ghosts.from_str_gives (one_of (codes "port") (rows_of (found_of c.in-Some.given.now))) c.get_one.result
+    (λ none. c.get_one.ensures.none (one_text-rows (found_of c.in-Some.given.now) (codes "port") ∙ none))
+    (λ text is. c.get_one.ensures.value text (one_text-rows (found_of c.in-Some.given.now) (codes "port") ∙ is))
+    (λ text number reads. sym reads.0.1))

@@ -1,0 +1,151 @@
+-- The words of a command line: which order they are, and how clap is to read them.
+use Rattle.std.specs.Prelude.{◌≡◌, ◌≢◌, ℕ, pos, codes, Bool, true, false, ◌||◌, List, [], ◌∷◌, Option, None, Some, is_some, option_map, option_and_then, slice_get, IsSomeAnd, ◌⊎◌, if◌then◌else◌}
+use Rattle.std.specs.Borrow.{Bor}
+use Rattle.std.specs.Str.{bytes_eq, chars}
+use Rattle.std.specs.Str.Parse.{digits_value, without_leading_plus}
+use Rattle.clap.specs.Lexer.{long_of, short_of}
+use Rattle.clap.specs.Words.{App, IsAmong, Row, Rule, fault_of, first_of, new_app, new_rule, one_of, subcommand_of, with_rule, with_subcommand}
+use Rattle.clap.specs.declared.builder.value_parser.ValueParser.TheVariants.{Signed}
+use Rattle.clap.specs.declared.error.kind.ErrorKind.TheVariants.{DisplayHelp, DisplayVersion}
+use Rattle.grove_words.specs.declared.order.Command.{Command}
+use Rattle.grove_words.specs.declared.order.Command.TheVariants.{Judge, Check, Plan, Run, Serve}
+use Rattle.grove_words.specs.declared.order.Order.{Order}
+
+-- ---- commands and documents
+
+-- the word of a command
+abbrev pub word_of : Command → List ℕ
+word_of Judge = codes "judge"
+word_of Check = codes "check"
+word_of Plan = codes "plan"
+word_of Run = codes "run"
+word_of Serve = codes "serve"
+
+-- the command that a word names, where one has it
+abbrev pub command_named : List ℕ → Command
+command_named word =
+    if bytes_eq word (codes "check") then Check
+    else if bytes_eq word (codes "plan") then Plan
+    else if bytes_eq word (codes "run") then Run
+    else if bytes_eq word (codes "serve") then Serve
+    else Judge
+
+-- the name of a document, as text
+abbrev pub text_of : Option (Bor (List ℕ)) → Option (List ℕ)
+text_of name = option_map (λ text. text.now) name
+
+-- after two hyphens no word is an option
+abbrev pub hyphens : List ℕ
+hyphens = codes "--"
+
+-- a word is an option where two hyphens and more begin it, or one and a character
+abbrev pub is_option : List ℕ → Bool
+is_option word = is_some (long_of word) || is_some (option_and_then (λ flags. slice_get (chars flags) 0) (short_of word))
+
+-- any other word is plain, but for two hyphens
+abbrev pub IsPlain : List ℕ → Type 0
+IsPlain word = (is_option word ≡ false) × (word ≢ hyphens)
+
+-- the words name a document, or none
+abbrev pub AreDocument : List (List ℕ) → Option (List ℕ) → Type 0
+AreDocument words None = (words ≡ []) ⊎ (words ≡ hyphens ∷ [])
+AreDocument words (Some name) =
+    ((words ≡ name ∷ []) × IsPlain name) ⊎ ((words ≡ hyphens ∷ name ∷ []) ⊎ ((words ≡ name ∷ hyphens ∷ []) × IsPlain name))
+
+-- ---- the command line that clap reads
+
+-- a command that reads one document, with the document's name
+abbrev pub document_command : List ℕ → App
+document_command name = with_rule (new_app name) (new_rule (codes "DOC"))
+
+-- the program's words begin with the command
+abbrev pub no_command : App
+no_command = record { top = record ((new_app (codes "grove")).top) { no_binary_name = true; has_version = true }; subs = (new_app (codes "grove")).subs }
+
+-- the program with the commands so far and one more
+abbrev pub with_command : App → List ℕ → App
+with_command app name = with_subcommand app (document_command name).top
+
+-- a number of workers from 1 to 16, by default 4
+abbrev pub workers_rule : Rule
+workers_rule = record (new_rule (codes "workers")) {
+  long = Some (codes "workers");
+  value_names = 1;
+  parser = Some (Signed (pos 1) (pos 16));
+  defaults = codes "4" ∷ [];
+}
+
+-- a command that reads one document and may be told how many workers there are
+abbrev pub batch_command : List ℕ → App
+batch_command name = with_rule (document_command name) workers_rule
+
+-- the document that is served, which has to be given
+abbrev pub tree_rule : Rule
+tree_rule = record (new_rule (codes "DOC")) {
+  long = Some (codes "tree");
+  required = true;
+}
+
+-- the number of a port, which has to be given
+abbrev pub port_rule : Rule
+port_rule = record (new_rule (codes "port")) {
+  long = Some (codes "port");
+  value_names = 1;
+  parser = Some (Signed (pos 1) (pos 65535));
+  required = true;
+}
+
+-- a command that serves a document's tree at a port
+abbrev pub port_command : List ℕ → App
+port_command name = with_rule (with_rule (with_rule (new_app name) tree_rule) port_rule) workers_rule
+
+abbrev pub grove_command : App
+grove_command =
+    with_subcommand (with_subcommand (with_command (with_command (with_command no_command (codes "judge")) (codes "check")) (codes "plan"))
+    (batch_command (codes "run")).top) (port_command (codes "serve")).top
+
+-- ---- the words that are an order
+
+-- the words are a command and then its document
+abbrev pub AreCommand : List ℕ → List (List ℕ) → Option (List ℕ) → Type 0
+AreCommand command words document = (rest : List (List ℕ)) × (words ≡ command ∷ rest) × AreDocument rest document
+
+-- clap takes the words for a command, options and all, and this is the document among them
+abbrev pub AreTakenFor : List ℕ → List (List ℕ) → Option (List ℕ) → Type 0
+AreTakenFor command words document = (fault_of grove_command words ≡ [])
+    × (rows : List Row) × (subcommand_of grove_command words ≡ Some (command, rows)) × (first_of (codes "DOC") rows ≡ document)
+
+-- the words are a command and the document that it is for, if that has a name
+abbrev pub AreFor : Command → List (List ℕ) → Option (List ℕ) → Type 0
+AreFor Judge words document = AreCommand (word_of Judge) words document
+AreFor Check words document = AreCommand (word_of Check) words document
+AreFor Plan words document = AreCommand (word_of Plan) words document
+AreFor Run words document = AreTakenFor (word_of Run) words document
+AreFor Serve words document = AreTakenFor (word_of Serve) words document
+
+-- the words ask for an order; with no command, standard input is to be judged
+abbrev pub AskFor : List (List ℕ) → Order → Type 0
+AskFor words order = AreFor order.command words (text_of order.document)
+    ⊎ (AreDocument words None × (order.command ≡ Judge) × (order.document ≡ None))
+
+-- they ask for an order with a device of its own: a document with a name, or a port
+abbrev pub NameDevice : List (List ℕ) → Type 0
+NameDevice words = (order : Order) × AskFor words order × ((order.document ≢ None) ⊎ (order.command ≡ Serve))
+
+-- this is the number that clap finds for a port, among a command's rows
+abbrev pub IsPortIn : Option (List ℕ × List Row) → ℕ → Type 0
+IsPortIn found port = IsSomeAnd (option_and_then (λ rows. one_of (codes "port") rows.1) found) (λ text. digits_value 10 (without_leading_plus text) ≡ port)
+
+-- the words ask to serve at this port
+abbrev pub AskToServe : List (List ℕ) → ℕ → Type 0
+AskToServe words port = (order : Order) × AskFor words order × (order.command ≡ Serve) × IsPortIn (subcommand_of grove_command words) port
+
+-- the words ask for help or the version
+abbrev pub AskToShow : List (List ℕ) → Type 0
+AskToShow words = (fault_of grove_command words ≡ DisplayHelp ∷ []) ⊎ (fault_of grove_command words ≡ DisplayVersion ∷ [])
+
+-- the words ask for no order, and not for help or the version
+pub record AreWrong (words : List (List ℕ)) : Type 0 where
+  pub no_order : (order : Order) → ¬ AskFor words order
+  pub no_help : ¬ IsAmong DisplayHelp (fault_of grove_command words)
+  pub no_version : ¬ IsAmong DisplayVersion (fault_of grove_command words)

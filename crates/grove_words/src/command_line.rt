@@ -1,0 +1,200 @@
+ghost use Rattle.std.specs.Prelude.{◌≡◌, ◌≤◌, ℕ, List, false, codes, map, Some, None, IfOk, IfErr, IfSome, IsErrAnd, string_bytes};
+ghost use Rattle.clap.specs.declared.builder.command.Command.{out-Command};
+ghost use Rattle.clap.specs.Words.{HasKind, Row, app_of, fault_of, first_of, rule_of, new_rule, subcommand_of, subcommand_rows_of};
+ghost use Rattle.grove_words.specs.CommandLines.{batch_command, command_named, document_command, grove_command, no_command, port_command, port_rule, tree_rule, workers_rule, AreWrong, AskFor, AskToServe, AskToShow, IsPortIn, text_of};
+ghost use Rattle.grove_words.specs.NoOrders.{HasText, TellsShown, TellsWrong};
+
+use crate::no_order::{NoOrder, no_order};
+use crate::order::{Command, Order};
+use clap::{Arg, ArgMatches, Error, value_parser};
+use std::alloc::{AllocError, Global};
+
+/// The program's version.
+const VERSION: &str = "0.1.0";
+
+/// The number of workers where the words don't say it, and the greatest.
+const FEW_WORKERS: u32 = 4;
+
+const MOST_WORKERS: u32 = 16;
+
+/// The order that the words after the program's name are, or what they are told. No words ask to judge standard input.
+pub fn order_of<'a>(alloc: Global, words: &'a [String]) -> Result<Order<'a>, NoOrder>
+    ensures asked { IfOk result (AskFor (map string_bytes words.now)) }
+    ensures workers { IfOk result (λ order. (1 ≤ order.workers) × (order.workers ≤ 16)) }
+    ensures port { IfOk result (λ order. order.command ≡ Command.Serve → IfSome order.port (AskToServe (map string_bytes words.now))) }
+    ensures taken { (order : Order) → AskFor (map string_bytes words.now) order → IfErr result (λ why. why ≡ NoOrder.Memory) }
+    ensures wrong { AreWrong (map string_bytes words.now) → IsErrAnd result TellsWrong }
+    ensures shown { AskToShow (map string_bytes words.now) → IsErrAnd result TellsShown }
+    ensures text { IfErr result HasText }
+{
+    match order_among(alloc, words) {
+        Ok(order) => Ok(order),
+        Err(error) => Err(no_order(alloc, &error)),
+    }
+}
+
+/// The order that clap finds in the words, or what it says to them.
+fn order_among<'a>(alloc: Global, words: &'a [String]) -> Result<Order<'a>, Error>
+    ensures asked { IfOk result (AskFor (map string_bytes words.now)) }
+    ensures workers { IfOk result (λ order. (1 ≤ order.workers) × (order.workers ≤ 16)) }
+    ensures port { IfOk result (λ order. IfSome order.port (IsPortIn (subcommand_of grove_command (map string_bytes words.now)))) }
+    ensures refused { IfErr result (HasKind (fault_of grove_command (map string_bytes words.now))) }
+{
+    let matches = command_line(alloc)?.try_get_matches_from(words)?;
+    Ok(order_in(&matches))
+}
+
+fn order_in<'a>(matches: &ArgMatches<'a>) -> Order<'a>
+    ensures bare { subcommand_rows_of matches.now ≡ None → (result.command ≡ Command.Judge) × (result.document ≡ None) }
+    ensures command { (word : List ℕ) (rows : List Row) → subcommand_rows_of matches.now ≡ Some (word, rows)
+        → result.command ≡ command_named word }
+    ensures document { (word : List ℕ) (rows : List Row) → subcommand_rows_of matches.now ≡ Some (word, rows)
+        → text_of result.document ≡ first_of (codes "DOC") rows }
+    ensures workers { (1 ≤ result.workers) × (result.workers ≤ 16) }
+    ensures port { IfSome result.port (IsPortIn (subcommand_rows_of matches.now)) }
+{
+    match matches.subcommand() {
+        Some((word, given)) => Order {
+            command: command_named(word),
+            document: given.get_str("DOC"),
+            workers: workers_in(given),
+            port: given.get_one::<u16>("port"),
+        },
+        None => Order {
+            command: Command::Judge,
+            document: None,
+            workers: FEW_WORKERS,
+            port: None,
+        },
+    }
+}
+
+/// The number of workers, for a command that has one. Clap lets none but those from 1 to 16 through.
+fn workers_in(given: &ArgMatches<'_>) -> u32
+    ensures { (1 ≤ result) × (result ≤ 16) }
+{
+    let workers = given.get_one::<u32>("workers").unwrap_or(FEW_WORKERS);
+    workers.max(1).min(MOST_WORKERS)
+}
+
+/// The command that a word names. Clap lets no other words through.
+fn command_named(word: &str) -> Command
+    ensures { result ≡ command_named word.now }
+{
+    match word {
+        "check" => Command::Check,
+        "plan" => Command::Plan,
+        "run" => Command::Run,
+        "serve" => Command::Serve,
+        _judge => Command::Judge,
+    }
+}
+
+/// The one definition of the command line.
+pub fn command_line<'a>(alloc: Global) -> Result<clap::Command<'a>, AllocError>
+    ensures { IfOk result (λ command. app_of command ≡ grove_command) }
+{
+    let judge = on_document(alloc, "judge")?.about(
+        "Judge a plan: its cost, and the replies and records of its list",
+    );
+    let check = on_document(alloc, "check")?.about(
+        "Check a plan by its flow: its cost, below which no legal plan for the list is",
+    );
+    let plan = on_document(alloc, "plan")?.about(
+        "Plan a list: the cheapest plan, and the flow that proves it",
+    );
+    let run = on_batch(alloc, "run")?.about(
+        "Run a batch of lists at once: their serial order, the replies, the records and the waits",
+    );
+    let serve = on_port(alloc, "serve")?.about(
+        "Serve sessions with the records of a tree over TCP, at 127.0.0.1",
+    );
+    program(alloc)?
+        .subcommand(judge)?
+        .subcommand(check)?
+        .subcommand(plan)?
+        .subcommand(run)?
+        .subcommand(serve)
+}
+
+/// The program before it has its commands.
+fn program<'a>(alloc: Global) -> Result<clap::Command<'a>, AllocError>
+    ensures app { IfOk result (λ command. app_of command ≡ no_command) }
+    ensures local { IfOk result (λ command. (out-Command command).has_globals ≡ false) }
+{
+    let named = clap::Command::new(alloc, "grove").bin_name("grove")?;
+    Ok(
+        named.version(VERSION).no_binary_name(true).about(
+            "Records at the nodes of a tree, and lock plans over it. With no command: judge",
+        ),
+    )
+}
+
+/// A command that reads one document.
+fn on_document<'a>(alloc: Global, name: &'static str) -> Result<clap::Command<'a>, AllocError>
+    ensures app { IfOk result (λ command. app_of command ≡ document_command name.now) }
+    ensures local { IfOk result (λ command. (out-Command command).has_globals ≡ false) }
+{
+    clap::Command::new(alloc, name).arg(document(alloc))
+}
+
+/// A command that reads one document and may be told how many workers there are.
+fn on_batch<'a>(alloc: Global, name: &'static str) -> Result<clap::Command<'a>, AllocError>
+    ensures app { IfOk result (λ command. app_of command ≡ batch_command name.now) }
+    ensures local { IfOk result (λ command. (out-Command command).has_globals ≡ false) }
+{
+    on_document(alloc, name)?.arg(workers(alloc))
+}
+
+/// A command that serves a document's tree at a port, and may be told how many workers there are.
+fn on_port<'a>(alloc: Global, name: &'static str) -> Result<clap::Command<'a>, AllocError>
+    ensures app { IfOk result (λ command. app_of command ≡ port_command name.now) }
+    ensures local { IfOk result (λ command. (out-Command command).has_globals ≡ false) }
+{
+    let command = clap::Command::new(alloc, name);
+    command
+        .arg(tree(alloc))?
+        .arg(port(alloc))?
+        .arg(workers(alloc))
+}
+
+fn document<'a>(alloc: Global) -> Arg<'a>
+    ensures rule { rule_of result ≡ new_rule (codes "DOC") }
+    ensures local { result.global ≡ false }
+{
+    Arg::new(alloc, "DOC").help("The document's file; without it, the document is standard input")
+}
+
+fn workers<'a>(alloc: Global) -> Arg<'a>
+    ensures rule { rule_of result ≡ workers_rule }
+    ensures local { result.global ≡ false }
+{
+    Arg::new(alloc, "workers")
+        .long("workers")
+        .value_name("N")
+        .value_parser(value_parser!(u32).range(1..=16))
+        .default_value("4")
+        .help("How many workers run the lists at once")
+}
+
+fn tree<'a>(alloc: Global) -> Arg<'a>
+    ensures rule { rule_of result ≡ tree_rule }
+    ensures local { result.global ≡ false }
+{
+    Arg::new(alloc, "DOC")
+        .long("tree")
+        .required(true)
+        .help("The file of the document with the tree and its records")
+}
+
+fn port<'a>(alloc: Global) -> Arg<'a>
+    ensures rule { rule_of result ≡ port_rule }
+    ensures local { result.global ≡ false }
+{
+    Arg::new(alloc, "port")
+        .long("port")
+        .value_name("P")
+        .required(true)
+        .value_parser(value_parser!(u16).range(1..=65535))
+        .help("The port to listen on")
+}

@@ -1,0 +1,10 @@
+//! The words of a command line: the order that they are, or what they are told.
+#![tactic(auto)]
+
+pub use command_line::order_of;
+pub use no_order::{NoOrder, not_text};
+pub use order::{Command, Order};
+
+mod command_line;
+mod no_order;
+mod order;

@@ -1,0 +1,72 @@
+ghost use Rattle.std.specs.Prelude.{◌≡◌, ◌≢◌, ◌⊎◌, [], IfOk, string_bytes};
+ghost use Rattle.clap.specs.Values.{kind_of};
+ghost use Rattle.grove_words.specs.NoOrders.{HasText, TellsShown, TellsWrong};
+
+use crate::command_line::command_line;
+use clap::Error;
+use clap::error::ErrorKind;
+use std::alloc::{AllocError, Global};
+
+/// Why words are no order.
+#[derive(Debug, Drop)]
+pub enum NoOrder {
+    /// They ask for help or the version: lines that say it.
+    Shown(String),
+    /// They are wrong: lines that say what is wrong with them.
+    Wrong(String),
+    /// A growth was refused.
+    Memory,
+}
+
+/// What words that aren't text are told.
+pub fn not_text(alloc: Global) -> NoOrder
+    ensures wrong { TellsWrong result }
+    ensures text { HasText result }
+{
+    match not_text_error(alloc) {
+        Ok(error) => no_order(alloc, &error),
+        Err(AllocError) => NoOrder::Memory,
+    }
+}
+
+fn not_text_error(alloc: Global) -> Result<Error, AllocError>
+    ensures { IfOk result (λ error. kind_of error ≡ ErrorKind.InvalidValue) }
+{
+    let message = "a word of the command line is not UTF-8";
+    command_line(alloc)?.error(ErrorKind::InvalidValue, message)
+}
+
+/// What clap says to words that are no order: the help that they ask for, or what is wrong with them.
+pub fn no_order(alloc: Global, error: &Error) -> NoOrder
+    ensures memory { kind_of error.now ≡ ErrorKind.OutOfMemory → result ≡ NoOrder.Memory }
+    ensures wrong { kind_of error.now ≢ ErrorKind.DisplayHelp → kind_of error.now ≢ ErrorKind.DisplayVersion → TellsWrong result }
+    ensures shown { (kind_of error.now ≡ ErrorKind.DisplayHelp) ⊎ (kind_of error.now ≡ ErrorKind.DisplayVersion) → TellsShown result }
+    ensures text { HasText result }
+{
+    if error.kind() == ErrorKind::OutOfMemory {
+        return NoOrder::Memory;
+    }
+    match lines_of(alloc, error) {
+        Ok(lines) => {
+            if error.use_stderr() {
+                NoOrder::Wrong(lines)
+            } else {
+                NoOrder::Shown(lines)
+            }
+        }
+        Err(AllocError) => NoOrder::Memory,
+    }
+}
+
+fn lines_of(alloc: Global, error: &Error) -> Result<String, AllocError>
+    ensures { IfOk result (λ lines. string_bytes lines ≢ []) }
+{
+    whole_lines(alloc, &format!(in alloc; "{error}")?)
+}
+
+/// The text with just one line end behind it.
+fn whole_lines(alloc: Global, text: &str) -> Result<String, AllocError>
+    ensures { IfOk result (λ lines. string_bytes lines ≢ []) }
+{
+    format!(in alloc; "{}\n", text.trim_end())
+}
