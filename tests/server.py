@@ -11,8 +11,8 @@ HOST = "127.0.0.1"
 # Below the ports that the system gives to clients; two runs at once begin at different ones.
 PORTS = range(20000, 32000)
 TURNS = itertools.count(os.getpid() * 97)
-# How long a server may take to start, and to answer. (One that serves a connection at a time lets a client wait for all
-# that came before it, so this is far more than any of them takes.)
+# How long a server may take to start, and to answer. (It serves a few clients at once, and lets the others wait for those,
+# so this is far more than any of them takes.)
 SECONDS = 30.0
 PIECE = 65536
 

@@ -9,3 +9,4 @@ pub mod Records
 pub mod Fitting
 pub mod Batches
 pub mod Ports
+pub mod Sharing

@@ -19,6 +19,7 @@ mod planning;
 mod reading;
 mod refusal;
 mod running;
+mod seats;
 mod serving;
 mod texts;
 
