@@ -112,15 +112,20 @@ def talk(port, text, piece=PIECE, leaves=False):
 
 def talk_in_turn(port, lines):
     """Sends each line once the reply to the one before has come, as long as the other side doesn't close."""
+    came = []
     with connected(port) as connection, connection.makefile("rb") as replies:
-        came = []
-        for line in lines:
-            connection.sendall(line)
-            came.append(replies.readline())
-            if not came[-1]:
-                return b"".join(came)
-        connection.shutdown(socket.SHUT_WR)
-        return b"".join(came) + replies.read()
+        try:
+            for line in lines:
+                connection.sendall(line)
+                came.append(replies.readline())
+                if not came[-1]:
+                    return b"".join(came)
+            connection.shutdown(socket.SHUT_WR)
+            came.append(replies.read())
+        except ConnectionError:
+            # It closed with a line unread, as where no thread could be started.
+            pass
+    return b"".join(came)
 
 
 def send(connection, text, piece):

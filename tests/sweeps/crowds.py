@@ -66,7 +66,7 @@ def crowd(program: str, workers: int, tally: Tally) -> None:
 def share_rounds(program: str, tally: Tally) -> None:
     """Sixteen clients with a batch on each line. While a round runs, others wait, and they are in one round then."""
     asked = [[request_of(number % GOOD, 0)] * LINES for number in range(SEATS)]
-    with Serving(program, document(), 1) as server, ThreadPoolExecutor(SEATS) as pool:
+    with Serving(program, document(), 4) as server, ThreadPoolExecutor(SEATS) as pool:
         came = list(pool.map(good, [server.port] * SEATS, asked, range(SEATS)))
     batches = [pair for number in range(SEATS) for pair in note_client(number, asked[number], came[number], tally)]
     tally.blame("all batches", fault_of_history(json.loads(document()), batches))
