@@ -1,7 +1,7 @@
 """Sixteen clients at once, half of which break off, flood or never read: the others get their replies, and nothing is lost.
+Sixteen good ones share rounds, a client is served while another stays, and a 17th one once one of sixteen leaves.
 
-All their batches have to be one serial history. That is so whether connections are served at once or one after the
-other, and whether they share rounds.
+All their batches have to be one serial history, whichever rounds they share.
 """
 
 from __future__ import annotations
@@ -11,18 +11,23 @@ import socket
 import struct
 import time
 from concurrent.futures import ThreadPoolExecutor
+from contextlib import ExitStack
 from functools import partial
 from typing import Iterator
 
 from history import fault_of_history
 from server import Serving, connected, talk, talk_in_turn
-from store import compact
+from store import Store, compact
 
-from sweeps.connections import WEIGHTS, flood
+from sweeps.connections import ADD, TREE, WEIGHTS, flood
 from sweeps.program import Tally, Try
+from sweeps.talks import note_replies
 
 TRIED = "lines of clients among others that are broken"
 GOOD = 8
+# How many connections are served at once, and how long it is seen that a further one isn't.
+SEATS = 16
+UNSEATED = 0.5
 # How many lines each good client sends; every fourth is a plan or broken.
 LINES = 48
 # How long a broken client stays.
@@ -30,7 +35,12 @@ SECONDS = 0.3
 
 
 def tries(program: str, _room: str) -> list[Try]:
-    return [Try(f"{workers} workers", partial(crowd, program, workers)) for workers in (1, 4, 16)]
+    crowds = [Try(f"{workers} workers", partial(crowd, program, workers)) for workers in (1, 4, 16)]
+    return crowds + [
+        Try("sixteen that share rounds", partial(share_rounds, program)),
+        Try("two at once", partial(stay, program)),
+        Try("seventeen at once", partial(wait_for_a_seat, program)),
+    ]
 
 
 def document() -> bytes:
@@ -51,6 +61,55 @@ def crowd(program: str, workers: int, tally: Tally) -> None:
         came.append(good(server.port, asked[-1], 0))
     batches = [pair for number in range(GOOD + 1) for pair in note_client(number, asked[number], came[number], tally)]
     tally.blame("all batches", fault_of_history(json.loads(document()), batches))
+
+
+def share_rounds(program: str, tally: Tally) -> None:
+    """Sixteen clients with a batch on each line. While a round runs, others wait, and they are in one round then."""
+    asked = [[request_of(number % GOOD, 0)] * LINES for number in range(SEATS)]
+    with Serving(program, document(), 4) as server, ThreadPoolExecutor(SEATS) as pool:
+        came = list(pool.map(good, [server.port] * SEATS, asked, range(SEATS)))
+    batches = [pair for number in range(SEATS) for pair in note_client(number, asked[number], came[number], tally)]
+    tally.blame("all batches", fault_of_history(json.loads(document()), batches))
+    rounds = max(reply["round"] for _, reply in batches)
+    tally.note("rounds", None if rounds < len(batches) else f"{rounds} rounds of {len(batches)} batches")
+
+
+def stay(program: str, tally: Tally) -> None:
+    """A client stays, and asks between the lines of others that come and go."""
+    store = Store(json.loads(TREE))
+    with Serving(program, TREE) as server, connected(server.port) as first, first.makefile("rb") as replies:
+        for turn in range(3):
+            first.sendall(ADD)
+            note_replies(store, ADD, replies.readline(), f"the one that stays, line {turn}", tally)
+            note_replies(store, ADD, server.talk(ADD), f"another, {turn}", tally)
+
+
+def wait_for_a_seat(program: str, tally: Tally) -> None:
+    """Sixteen clients stay. What a 17th one asks has no reply until one of them has left."""
+    store = Store(json.loads(TREE))
+    with Serving(program, TREE) as server, ExitStack() as room:
+        seated = [room.enter_context(connected(server.port)) for _ in range(SEATS)]
+        for number, client in enumerate(seated):
+            client.sendall(WEIGHTS)
+            note_replies(store, WEIGHTS, client.makefile("rb").readline(), f"client {number}", tally)
+        late = room.enter_context(connected(server.port))
+        late.sendall(WEIGHTS)
+        tally.note("the 17th while all stay", None if is_silent(late) else "it has a reply")
+        seated[SEATS // 2].close()
+        note_replies(store, WEIGHTS, late.makefile("rb").readline(), "the 17th once one has left", tally)
+
+
+def is_silent(connection: socket.socket) -> bool:
+    """Does nothing come for a time?"""
+    patience = connection.gettimeout()
+    connection.settimeout(UNSEATED)
+    try:
+        connection.recv(1, socket.MSG_PEEK)
+        return False
+    except socket.timeout:
+        return True
+    finally:
+        connection.settimeout(patience)
 
 
 # ---- good clients

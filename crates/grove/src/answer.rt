@@ -12,7 +12,7 @@ use std::sync::Wait;
 use std::thread::Threads;
 
 /// What a command prints, made whole before any of it is printed.
-#[derive(Debug, Drop)]
+#[derive(Drop)]
 pub enum Answer {
     /// The command is done: lines for standard output, status 0.
     Done(String),

@@ -1,44 +1,56 @@
 ghost use Rattle.std.specs.Prelude.{◌≡◌, ◌<◌, ◌^◌, false};
 
+use crate::seats::Seats;
 use crate::serving::Service;
-use grove_session::{ReaderSource, Sink, Source, WriterSink, session};
-use grove_store::Store;
+use grove_desk::{Desk, desk_session};
+use grove_session::{ReaderSource, Sink, Source, WriterSink};
 use std::alloc::AllocGlobal;
 use std::net::TcpStream;
 use std::sync::Wait;
+use std::thread;
 use std::thread::Threads;
 
-/// Serves one connection after the other, until one can't be accepted.
+/// Serves connections, as many at once as there are seats, until one can't be accepted and the others have ended. A
+/// connection that no thread can be started for is closed.
 pub fn serve<R: Threads + Wait + Sync + AllocGlobal>(rt: &R, service: Service) {
-    let Service {
-        mut store,
-        listener,
-    } = service;
-    for stream in listener.incoming() {
-        let Ok(stream) = stream else {
-            return;
-        };
-        serve_connection(rt, &mut store, &stream);
-    }
+    let Service { desk, listener } = service;
+    let all_seats = Seats::new();
+    let (desk, seats) = (&desk, &all_seats);
+    thread::scope(thread::scope_env(), rt, |scope| {
+        for _ in rt.forever() {
+            seats.take(rt);
+            let Ok((stream, _)) = listener.accept() else {
+                break;
+            };
+            if scope
+                .spawn(move || serve_connection(rt, desk, seats, &stream))
+                .is_err()
+            {
+                seats.leave(rt);
+            }
+        }
+    });
 }
 
-/// A session over the connection.
+/// A session over the connection, which leaves its seat then.
 fn serve_connection<R: Threads + Wait + Sync + AllocGlobal>(
     rt: &R,
-    store: &mut Store,
+    desk: &Desk,
+    seats: &Seats,
     stream: &TcpStream,
 ) {
     // A reply and its line feed are written apart; neither is to wait until the other has arrived.
     let _at_once = stream.set_nodelay(true);
     let mut source = ReaderSource::new(stream);
     let mut sink = WriterSink::new(stream);
-    answer_lines(rt, store, &mut source, &mut sink);
+    answer_lines(rt, desk, &mut source, &mut sink);
+    seats.leave(rt);
 }
 
-/// A session with the store. A fault ends it alone, and nobody is left there to be told of it.
+/// A session at the desk. A fault ends it alone, and nobody is left there to be told of it.
 fn answer_lines<R: Threads + Wait + Sync + AllocGlobal, I: Source, O: Sink>(
     rt: &R,
-    store: &mut Store,
+    desk: &Desk,
     source: &mut I,
     sink: &mut O,
 )
@@ -46,5 +58,5 @@ fn answer_lines<R: Threads + Wait + Sync + AllocGlobal, I: Source, O: Sink>(
     requires sound_sink { O.has_failed sink.old ≡ false }
     requires reads { I.read_count source.old < 2 ^ 63 }
 {
-    let _ended = session(rt, store, source, sink);
+    let _ended = desk_session(rt, desk, source, sink);
 }

@@ -12,6 +12,7 @@ mod answer;
 mod command;
 mod connections;
 mod refusal;
+mod seats;
 mod serving;
 
 fn main(rt: HostRuntime) -> ExitCode {

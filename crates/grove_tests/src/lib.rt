@@ -6,6 +6,8 @@ mod batches;
 #[cfg(test)]
 mod carries;
 #[cfg(test)]
+mod desks;
+#[cfg(test)]
 mod devices;
 #[cfg(test)]
 mod fixtures;

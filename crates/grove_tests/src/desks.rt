@@ -1,0 +1,104 @@
+use crate::fixtures::two_leaves;
+use grove_access::Records;
+use grove_desk::{Closed, Desk, Receipt};
+use grove_store::Store;
+use grove_tree::OpenGate;
+use std::alloc::Global;
+use std::process::Abort;
+use std::sync::Wait;
+use std::thread;
+use std::thread::Threads;
+
+const ADD: &[u8] = b"{\"batch\":[[[\"add\",\"/a\",1]]]}";
+
+const GET: &[u8] = b"{\"batch\":[[[\"get\",\"/a\"]]]}";
+
+/// The replies to two such batches where nobody else waits.
+const FIRST_REPLY: &[u8] = b"{\"places\":[0],\"replies\":[[11]],\"round\":1}";
+
+const SECOND_REPLY: &[u8] = b"{\"places\":[0],\"replies\":[[12]],\"round\":2}";
+
+/// A desk over a root and two leaves with records 0, 10 and 20.
+fn open_desk(rt: &impl Abort, alloc: Global, kept: bool) -> Desk {
+    let tree = two_leaves(rt, alloc);
+    let records = Records::new(alloc, &[0, 10, 20]).expect(rt, "room for records");
+    assert!(rt; records.fits(&tree));
+    let store = Store::open(alloc, tree, records, 1).ok();
+    let desk = Desk::open(alloc, store.expect(rt, "a store"), kept).ok();
+    desk.expect(rt, "a desk")
+}
+
+/// The receipt of a batch that adds 1 to `/a`.
+fn add<R: Abort + Threads + Wait + Sync>(
+    rt: &R,
+    alloc: Global,
+    desk: &Desk,
+    seen: Option<&Receipt>,
+) -> Receipt {
+    desk.answer(rt, alloc, seen, ADD, &OpenGate)
+        .expect(rt, "a receipt")
+}
+
+/// Adds 1 to `/a` fifty times, each time with the last receipt in hand.
+fn add_fifty<R: Abort + Threads + Wait + Sync>(rt: &R, alloc: Global, desk: &Desk) {
+    let mut seen = None;
+    for _ in 0..50 {
+        seen = Some(add(rt, alloc, desk, seen.as_ref()));
+    }
+}
+
+#[test]
+fn eight_callers_of_fifty_batches_leave_a_record_400_higher(rt: HostRuntime) {
+    let alloc = rt.alloc();
+    let desk = open_desk(&rt, alloc, false);
+    let (handle, shared) = (&rt, &desk);
+    thread::scope(thread::scope_env(), handle, |scope| {
+        for _ in 0..8 {
+            if scope
+                .spawn(move || add_fifty(handle, alloc, shared))
+                .is_err()
+            {
+                add_fifty(handle, alloc, shared);
+            }
+        }
+    });
+    let looked = desk
+        .answer(&rt, alloc, None, GET, &OpenGate)
+        .expect(&rt, "a receipt");
+    assert!(rt;
+        looked
+            .reply
+            .starts_with(b"{\"places\":[0],\"replies\":[[410]],\"round\":")
+    );
+    assert!(rt; looked.rounds <= 401);
+    assert_eq!(rt; desk.waiting(&rt), 0);
+}
+
+#[test]
+fn lines_of_one_caller_are_rounds_of_their_own_and_the_journal_has_them(rt: HostRuntime) {
+    let alloc = rt.alloc();
+    let desk = open_desk(&rt, alloc, true);
+    let first = add(&rt, alloc, &desk, None);
+    let second = add(&rt, alloc, &desk, Some(&first));
+    assert!(rt; first.reply.as_slice() == FIRST_REPLY);
+    assert!(rt; second.reply.as_slice() == SECOND_REPLY);
+    assert!(rt; first.number == 0 && second.number == 1);
+    let Closed { store, journal } = desk
+        .close(alloc, &[first, second])
+        .ok()
+        .expect(&rt, "a desk that closes");
+    assert!(rt; journal.len() == 2);
+    assert!(rt; journal.iter().all(|kept| kept.receipts.len() == 1));
+    assert!(rt; store.rounds() == 2);
+}
+
+#[test]
+fn a_desk_does_not_close_on_receipts_in_another_order(rt: HostRuntime) {
+    let alloc = rt.alloc();
+    let desk = open_desk(&rt, alloc, true);
+    let first = add(&rt, alloc, &desk, None);
+    let second = add(&rt, alloc, &desk, Some(&first));
+    let refused = desk.close(alloc, &[second, first]).err();
+    let store = refused.flatten().expect(&rt, "the store comes back");
+    assert!(rt; store.rounds() == 2);
+}
