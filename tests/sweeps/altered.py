@@ -1,5 +1,5 @@
-"""Altered certificates: each amount of a flow that `check` accepts changed, each row dropped, doubled and swapped: refused,
-by the first rule of docs/CERTIFICATE.md that it breaks, as tests/certificate.py works it out.
+"""Altered certificates: each amount of a flow that `check` accepts changed, one of it moved to another amount of its row, each
+row dropped, doubled and swapped: refused, by the first rule of docs/CERTIFICATE.md that it breaks, as tests/certificate.py works it out.
 
 All are asked as lines of a session, whose replies have the fault's name, and some by the command `check`, which tells its
 place too.
@@ -9,6 +9,7 @@ from __future__ import annotations
 
 import json
 from functools import partial
+from itertools import permutations
 from random import Random
 from typing import Iterator
 
@@ -23,6 +24,8 @@ from sweeps.program import Ran, Tally, Try, run
 TRIED = "altered flows of accepted plans"
 SEEDED = 200
 AMOUNTS = ["above", "held", "first", "last", "own"]
+# What is moved from one of these to another leaves the lock of the row's own node balanced, so other rules are asked.
+ALIKE = ["held", "first", "own"]
 # Of each document so many are asked by the command.
 BY_COMMAND = 12
 
@@ -63,12 +66,16 @@ def line_of(document: dict, flow: list) -> bytes:
 
 
 def altered(flow: list) -> Iterator[tuple[str, list]]:
-    """Flows that differ from this one in one amount or in one row, each with what it was altered in."""
+    """Flows that differ from this one in one or two amounts or in one row, each with what it was altered in."""
     for number, row in enumerate(flow):
         before, after = flow[:number], flow[number + 1 :]
         for amount in AMOUNTS:
             for value in {row[amount] - 1, row[amount] + 1, 0, MOST} - {row[amount], -1}:
                 yield f"row {number}, {amount} {value}", [*before, {**row, amount: value}, *after]
+        for giver, taker in permutations(ALIKE, 2):
+            moved = {**row, giver: row[giver] - 1, taker: row[taker] + 1}
+            if row[giver]:
+                yield f"row {number}, one {giver} as {taker}", [*before, moved, *after]
         yield f"row {number} dropped", before + after
         yield f"row {number} doubled", [*before, row, row, *after]
         if after:

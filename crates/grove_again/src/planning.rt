@@ -1,0 +1,195 @@
+ghost use Rattle.std.specs.Prelude.{◌≤◌, length, All, IfOk};
+ghost use Rattle.grove_access.specs.Lists.{nodes_of, AreNodes};
+
+use crate::telling::{say_memory, tell_plan};
+use crate::values::{
+    A, B, ROOT, access, get, leaves_below, list_of, lock, plan_of, rows_of, unlock,
+};
+use anyhow::{Result, ensure};
+use grove_access::{Access, AccessList, ListFault};
+use grove_build::{Planned, plan, plan_batch};
+use grove_plan::{Plan, Step};
+use grove_proof::{Flow, FlowRow, ProofFault, check};
+use grove_tree::{NoMemory, Node, OpenGate, Row, Tree, TreeFault};
+use std::alloc::{AllocGlobal, Global};
+use std::thread::Threads;
+
+/// A tree of four nodes, a list of two accesses over it, and its plan.
+pub fn plan_one<R: AllocGlobal + Print>(rt: &R) -> Result<()> {
+    let rows = [
+        (None, "", 9),
+        (Some(0), "y", 1),
+        (Some(0), "p", 1),
+        (Some(2), "x", 3),
+    ];
+    let tree = build(rt, &rows_of(rt.alloc(), &rows)?)?;
+    println!(rt; "tree {}", tree.len())?;
+    let list = listed(rt, &tree, &[get(1), get(3)])?;
+    println!(rt; "list {}", list.len())?;
+    let planned = planned(rt, &tree, &list)?;
+    tell_plan(rt, &planned)?;
+    Ok(())
+}
+
+fn build<R: AllocGlobal + Print>(rt: &R, rows: &[Row]) -> Result<Tree> {
+    match Tree::build(rt.alloc(), rows) {
+        Err(TreeFault::Memory) => {
+            say_memory(rt)?;
+            Ok(Tree::build(rt.alloc(), rows)?)
+        }
+        first => Ok(first?),
+    }
+}
+
+fn listed<R: AllocGlobal + Print>(rt: &R, tree: &Tree, accesses: &[Access]) -> Result<AccessList>
+    ensures { IfOk result (λ list. AreNodes tree.now (nodes_of list)) }
+{
+    match AccessList::new(rt.alloc(), tree, accesses) {
+        Err(ListFault::Memory) => {
+            say_memory(rt)?;
+            Ok(AccessList::new(rt.alloc(), tree, accesses)?)
+        }
+        first => Ok(first?),
+    }
+}
+
+fn planned<R: AllocGlobal + Print>(rt: &R, tree: &Tree, list: &AccessList) -> Result<Planned>
+    requires { AreNodes tree.now (nodes_of list.now) }
+{
+    match plan(rt.alloc(), tree, list) {
+        Err(NoMemory) => {
+            say_memory(rt)?;
+            Ok(plan(rt.alloc(), tree, list)?)
+        }
+        Ok(planned) => Ok(planned),
+    }
+}
+
+/// A plan for reading both leaves, with its certificate.
+pub fn check_one<R: AllocGlobal + Print>(rt: &R) -> Result<()> {
+    let tree = leaves_below(rt.alloc(), 5)?;
+    let list = list_of(rt.alloc(), &tree, &[get(A), get(B)])?;
+    let plan = plan_of(
+        rt.alloc(),
+        &[
+            lock(ROOT),
+            lock(A),
+            lock(B),
+            unlock(ROOT),
+            Step::Access(0),
+            unlock(A),
+            Step::Access(1),
+            unlock(B),
+        ],
+    )?;
+    let flow = flow_of(
+        rt.alloc(),
+        &[
+            row(ROOT, 0, 0, 0, 0, 4),
+            row(A, 1, 0, 2, 1, 0),
+            row(B, 0, 1, 0, 1, 0),
+        ],
+    )?;
+    let cost = checked(rt, &tree, &list, &plan, &flow)?;
+    println!(rt; "cost {cost}")?;
+    Ok(())
+}
+
+fn checked<R: AllocGlobal + Print>(
+    rt: &R,
+    tree: &Tree,
+    list: &AccessList,
+    plan: &Plan,
+    flow: &Flow,
+) -> Result<u64>
+    requires { AreNodes tree.now (nodes_of list.now) }
+{
+    match check(rt.alloc(), tree, list, plan, flow) {
+        Err(ProofFault::Memory) => {
+            say_memory(rt)?;
+            Ok(check(rt.alloc(), tree, list, plan, flow)?)
+        }
+        first => Ok(first?),
+    }
+}
+
+fn flow_of(alloc: Global, rows: &[FlowRow]) -> Result<Flow> {
+    ensure!(rows.len() < 100, "the flow has too many rows");
+    Ok(Flow::new(Vec::from_slice(alloc, rows)?))
+}
+
+fn row(node: u32, above: u64, held: u64, first: u64, last: u64, own: u64) -> FlowRow {
+    FlowRow {
+        node: Node::new(node),
+        above,
+        held,
+        first,
+        last,
+        own,
+    }
+}
+
+/// Five lists over two leaves, planned together by 1, 2, 3 and 16 workers.
+pub fn plan_many<R: AllocGlobal + Print + Threads + Sync>(rt: &R) -> Result<()> {
+    let tree = leaves_below(rt.alloc(), 5)?;
+    let lists = five_lists(rt.alloc(), &tree)?;
+    for workers in [1, 2, 3, 16] {
+        tell_plans(rt, &tree, &lists, workers)?;
+    }
+    Ok(())
+}
+
+fn five_lists(alloc: Global, tree: &Tree) -> Result<Vec<AccessList>> {
+    let all_nodes: [&[u32]; 5] = [&[], &[A], &[A, B], &[A, B, A], &[ROOT, A]];
+    let mut lists = Vec::new(alloc);
+    for nodes in all_nodes {
+        lists.push(gets(alloc, tree, nodes)?)?;
+    }
+    Ok(lists)
+}
+
+/// A list that reads these nodes.
+fn gets(alloc: Global, tree: &Tree, nodes: &[u32]) -> Result<AccessList> {
+    let mut accesses = Vec::new(alloc);
+    for node in nodes {
+        accesses.push(get(*node))?;
+    }
+    list_of(alloc, tree, &accesses)
+}
+
+fn tell_plans<R: AllocGlobal + Print + Threads + Sync>(
+    rt: &R,
+    tree: &Tree,
+    lists: &[AccessList],
+    workers: u32,
+) -> Result<()>
+    requires { (1 ≤ workers) × (workers ≤ 16) }
+{
+    ensure!(
+        lists.len() <= 256 && lists.iter().all(|list| list.fits(tree)),
+        "the lists don't fit"
+    );
+    for planned in &planned_together(rt, tree, lists, workers)? {
+        tell_plan(rt, planned)?;
+    }
+    Ok(())
+}
+
+fn planned_together<R: AllocGlobal + Print + Threads + Sync>(
+    rt: &R,
+    tree: &Tree,
+    lists: &[AccessList],
+    workers: u32,
+) -> Result<Vec<Planned>>
+    requires few { length lists.now ≤ 256 }
+    requires workers { (1 ≤ workers) × (workers ≤ 16) }
+    requires fit { All (λ list. AreNodes tree.now (nodes_of list)) lists.now }
+{
+    match plan_batch(rt, rt.alloc(), tree, lists, workers, &OpenGate) {
+        Err(NoMemory) => {
+            say_memory(rt)?;
+            Ok(plan_batch(rt, rt.alloc(), tree, lists, workers, &OpenGate)?)
+        }
+        Ok(plans) => Ok(plans),
+    }
+}

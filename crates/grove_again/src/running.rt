@@ -1,0 +1,92 @@
+use crate::telling::{say_memory, tell_run};
+use crate::values::{A, access, get, job_of, leaves_below, lock, unlock};
+use anyhow::{Result, ensure};
+use grove_access::{Op, Records};
+use grove_core::{Core, Event, Job, OpenFault, all_fit, serial_order};
+use grove_plan::Step;
+use grove_run::{Finished, RunFault, run_batch};
+use grove_tree::{NoMemory, OpenGate, Tree};
+use std::alloc::AllocGlobal;
+use std::sync::Wait;
+use std::thread::Threads;
+
+/// A core in which the second job reads what the first has yet to set: its run and its serial order.
+pub fn run_core<R: AllocGlobal + Print>(rt: &R) -> Result<()> {
+    let tree = leaves_below(rt.alloc(), 1)?;
+    let records = Records::new(rt.alloc(), &[0, 7, 0])?;
+    let steps = [lock(A), Step::Access(0), unlock(A)];
+    let jobs = [
+        job_of(rt.alloc(), &tree, &[access(A, Op::Set(1))], &steps)?,
+        job_of(rt.alloc(), &tree, &[get(A)], &steps)?,
+    ];
+    let mut core = open(rt, &tree, &records, &jobs)?;
+    println!(rt; "jobs {}", core.jobs().len())?;
+    for txn in [1, 1, 1, 0, 0, 0] {
+        core.step(Event::Take(txn))?;
+    }
+    let order = order_of(rt, &core)?;
+    tell_run(rt, &core, &order)
+}
+
+fn open<'a, R: AllocGlobal + Print>(
+    rt: &R,
+    tree: &'a Tree,
+    records: &Records,
+    jobs: &'a [Job],
+) -> Result<Core<'a>> {
+    ensure!(
+        records.fits(tree) && all_fit(tree, jobs) && jobs.len() <= 256,
+        "the jobs don't fit"
+    );
+    match Core::open(rt.alloc(), tree, records, jobs) {
+        Err(OpenFault::Memory) => {
+            say_memory(rt)?;
+            Ok(Core::open(rt.alloc(), tree, records, jobs)?)
+        }
+        first => Ok(first?),
+    }
+}
+
+fn order_of<R: AllocGlobal + Print>(rt: &R, core: &Core) -> Result<Vec<u32>> {
+    ensure!(core.is_finished(), "some job is left");
+    match serial_order(rt.alloc(), core) {
+        Err(NoMemory) => {
+            say_memory(rt)?;
+            Ok(serial_order(rt.alloc(), core)?)
+        }
+        Ok(order) => Ok(order),
+    }
+}
+
+/// Two jobs that add to the same record and read it, by one worker.
+pub fn run_jobs<R: AllocGlobal + Print + Threads + Wait + Sync>(rt: &R) -> Result<()> {
+    let tree = leaves_below(rt.alloc(), 1)?;
+    let records = Records::new(rt.alloc(), &[0, 10, 0])?;
+    let accesses = [access(A, Op::Add(1)), get(A)];
+    let steps = [lock(A), Step::Access(0), Step::Access(1), unlock(A)];
+    let jobs = [
+        job_of(rt.alloc(), &tree, &accesses, &steps)?,
+        job_of(rt.alloc(), &tree, &accesses, &steps)?,
+    ];
+    let finished = run(rt, &tree, &records, &jobs)?;
+    tell_run(rt, finished.core(), finished.order())
+}
+
+fn run<'a, R: AllocGlobal + Print + Threads + Wait + Sync>(
+    rt: &R,
+    tree: &'a Tree,
+    records: &Records,
+    jobs: &'a [Job],
+) -> Result<Finished<'a>> {
+    ensure!(
+        records.fits(tree) && all_fit(tree, jobs) && jobs.len() <= 256,
+        "the jobs don't fit"
+    );
+    match run_batch(rt, rt.alloc(), tree, records, jobs, 1, &OpenGate) {
+        Err(RunFault::Memory) => {
+            say_memory(rt)?;
+            Ok(run_batch(rt, rt.alloc(), tree, records, jobs, 1, &OpenGate)?)
+        }
+        first => Ok(first?),
+    }
+}

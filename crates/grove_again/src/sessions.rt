@@ -1,0 +1,65 @@
+use crate::telling::say_memory;
+use crate::values::{LINES, store_below};
+use anyhow::{Result, bail};
+use grove_desk::{Desk, desk_session};
+use grove_session::{BytesSource, SessionFault, WriterSink, session};
+use grove_store::Store;
+use std::alloc::AllocGlobal;
+use std::io;
+use std::sync::Wait;
+use std::thread::Threads;
+
+/// Ten lines in a session, whose replies go to standard output; where it ends for want of memory, once more with a fresh
+/// store.
+pub fn talk_to_store<R: AllocGlobal + Print + Threads + Wait + Sync>(rt: &R) -> Result<()> {
+    let mut store = store_below(rt.alloc(), 5)?;
+    let lines = match talk(rt, &mut store) {
+        Err(SessionFault::Memory) => {
+            say_memory(rt)?;
+            let mut fresh = store_below(rt.alloc(), 5)?;
+            talk(rt, &mut fresh)?
+        }
+        first => first?,
+    };
+    println!(rt; "lines {lines}")?;
+    Ok(())
+}
+
+fn talk<R: AllocGlobal + Print + Threads + Wait + Sync>(
+    rt: &R,
+    store: &mut Store,
+) -> Result<u64, SessionFault> {
+    let mut source = BytesSource::new(LINES.as_bytes());
+    let mut sink = WriterSink::new(io::writer(rt));
+    session(rt, store, &mut source, &mut sink)
+}
+
+/// The same at a desk.
+pub fn talk_to_desk<R: AllocGlobal + Print + Threads + Wait + Sync>(rt: &R) -> Result<()> {
+    let desk = desk_of(rt)?;
+    let lines = match talk_at(rt, &desk) {
+        Err(SessionFault::Memory) => {
+            say_memory(rt)?;
+            talk_at(rt, &desk_of(rt)?)?
+        }
+        first => first?,
+    };
+    println!(rt; "lines {lines}")?;
+    Ok(())
+}
+
+fn desk_of<R: AllocGlobal + Print + Threads + Wait + Sync>(rt: &R) -> Result<Desk> {
+    match Desk::open(rt.alloc(), store_below(rt.alloc(), 5)?, false) {
+        Ok(desk) => Ok(desk),
+        Err(_) => bail!("memory"),
+    }
+}
+
+fn talk_at<R: AllocGlobal + Print + Threads + Wait + Sync>(
+    rt: &R,
+    desk: &Desk,
+) -> Result<u64, SessionFault> {
+    let mut source = BytesSource::new(LINES.as_bytes());
+    let mut sink = WriterSink::new(io::writer(rt));
+    desk_session(rt, desk, &mut source, &mut sink)
+}
