@@ -16,6 +16,8 @@ mod flows;
 #[cfg(test)]
 mod lists;
 #[cfg(test)]
+mod loopback;
+#[cfg(test)]
 mod meeting;
 #[cfg(test)]
 mod roll;

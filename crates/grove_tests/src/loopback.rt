@@ -1,0 +1,77 @@
+use crate::fixtures::leaves_below;
+use grove_access::Records;
+use grove_session::{ReaderSource, SessionFault, WriterSink, session};
+use grove_store::Store;
+use std::alloc::AllocGlobal;
+use std::io::{self, Write};
+use std::net::{Ipv4Addr, Net, Shutdown, SocketAddr, TcpListener, TcpStream};
+use std::process::Abort;
+use std::sync::Wait;
+use std::thread::{Threads, join};
+
+/// Lines of each kind, some of which show what others did, and two that are refused.
+const LINES: &str = r#"{"plan":[["get","/a"]]}
+{"batch":[[["add","/a",1],["get","/a"]]]}
+{"batch":[]}
+{"weights":null}
+{"reweigh":null}
+{"weights":null}
+{"check":{"list":[["get","/a"]],"plan":[["lock","/a"],["access",0],["unlock","/a"]],"flow":[{"node":"/a","above":0,"held":0,"first":1,"last":1,"own":0}]}}
+{"get":"/a"}
+{"plan":[["get","/c"]]}
+{"batch":[[["set","/b",5]],[["get","/b"]]]}
+"#;
+
+const REPLIES: &str =
+    r#"{"cost":1,"flow":[{"above":0,"first":1,"held":0,"last":1,"node":"/a","own":0}],"plan":[["lock","/a"],["access",0],["unlock","/a"]]}
+{"places":[0],"replies":[[11,11]],"round":1}
+{"places":[],"replies":[],"round":2}
+{"waits":[0,0,0],"weights":[5,1,1]}
+{"changed":1}
+{"waits":[0,0,0],"weights":[3,1,1]}
+{"cost":1}
+{"error":"shape"}
+{"error":"no-path"}
+{"places":[0,1],"replies":[["ok"],[5]],"round":3}
+"#;
+
+/// A store of one worker, over two leaves, with the records 0, 10 and 20.
+fn open_store<R: AllocGlobal + Abort>(rt: &R) -> Store {
+    let tree = leaves_below(rt, rt.alloc(), 5);
+    let records = Records::new(rt.alloc(), &[0, 10, 20]).expect(rt, "room for records");
+    assert!(rt; records.fits(&tree));
+    Store::open(rt.alloc(), tree, records, 1).expect(rt, "a store")
+}
+
+/// Answers the next connection's lines.
+fn serve<R: AllocGlobal + Abort + Threads + Wait + Sync>(
+    rt: &R,
+    listener: &TcpListener,
+) -> Result<u64, SessionFault> {
+    let (stream, _address) = listener.accept().expect(rt, "a connection");
+    let mut store = open_store(rt);
+    let mut source = ReaderSource::new(&stream);
+    let mut sink = WriterSink::new(&stream);
+    session(rt, &mut store, &mut source, &mut sink)
+}
+
+/// Sends the lines and no more, and gives all that comes back.
+fn ask<R: AllocGlobal + Abort + Net<Stream = TcpStream>>(rt: &R, address: SocketAddr) -> String {
+    let mut stream = TcpStream::connect(rt, address).expect(rt, "a connection");
+    stream
+        .write_all(LINES.as_bytes())
+        .expect(rt, "the lines to be sent");
+    stream
+        .shutdown(Shutdown::Write)
+        .expect(rt, "the end to be sent");
+    io::read_to_string(rt.alloc(), &stream).expect(rt, "the replies")
+}
+
+#[test]
+fn a_session_over_tcp_answers_each_line(rt: HostRuntime) {
+    let listener = TcpListener::bind(&rt, (Ipv4Addr::LOCALHOST, 0)).expect(&rt, "a free port");
+    let address = listener.local_addr().expect(&rt, "its address");
+    let (answered, replies) = join(&rt, || serve(&rt, &listener), || ask(&rt, address));
+    assert_eq!(rt; answered, Ok(10));
+    assert!(rt; replies.as_str() == REPLIES);
+}
