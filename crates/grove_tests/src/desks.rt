@@ -47,21 +47,22 @@ fn add_fifty<R: Abort + Threads + Wait + Sync>(rt: &R, alloc: Global, desk: &Des
     }
 }
 
+/// Adds 1 to `/a` fifty times in each of eight threads.
+fn eight_add_fifty<R: Abort + Threads + Wait + Sync>(rt: &R, alloc: Global, desk: &Desk) {
+    thread::scope(thread::scope_env(), rt, |scope| {
+        for _ in 0..8 {
+            if scope.spawn(move || add_fifty(rt, alloc, desk)).is_err() {
+                add_fifty(rt, alloc, desk);
+            }
+        }
+    });
+}
+
 #[test]
 fn eight_callers_of_fifty_batches_leave_a_record_400_higher(rt: HostRuntime) {
     let alloc = rt.alloc();
     let desk = open_desk(&rt, alloc, false);
-    let (handle, shared) = (&rt, &desk);
-    thread::scope(thread::scope_env(), handle, |scope| {
-        for _ in 0..8 {
-            if scope
-                .spawn(move || add_fifty(handle, alloc, shared))
-                .is_err()
-            {
-                add_fifty(handle, alloc, shared);
-            }
-        }
-    });
+    eight_add_fifty(&rt, alloc, &desk);
     let looked = desk
         .answer(&rt, alloc, None, GET, &OpenGate)
         .expect(&rt, "a receipt");
