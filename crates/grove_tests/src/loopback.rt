@@ -1,9 +1,10 @@
 use crate::fixtures::leaves_below;
 use grove_access::Records;
+use grove_desk::{Desk, desk_session};
 use grove_session::{ReaderSource, SessionFault, WriterSink, session};
 use grove_store::Store;
 use std::alloc::AllocGlobal;
-use std::io::{self, Write};
+use std::io::{self, BufRead, BufReader, Write};
 use std::net::{Ipv4Addr, Net, Shutdown, SocketAddr, TcpListener, TcpStream};
 use std::process::Abort;
 use std::sync::Wait;
@@ -74,4 +75,72 @@ fn a_session_over_tcp_answers_each_line(rt: HostRuntime) {
     let (answered, replies) = join(&rt, || serve(&rt, &listener), || ask(&rt, address));
     assert_eq!(rt; answered, Ok(10));
     assert!(rt; replies.as_str() == REPLIES);
+}
+
+const ADD: &str = "{\"batch\":[[[\"add\",\"/a\",1]]]}\n";
+
+/// A desk over such a store.
+fn open_desk<R: AllocGlobal + Abort>(rt: &R) -> Desk {
+    match Desk::open(rt.alloc(), open_store(rt), false) {
+        Ok(desk) => desk,
+        Err(_) => panic!(rt; "no room for a desk"),
+    }
+}
+
+/// Answers the next connection's lines at the desk.
+fn serve_at<R: AllocGlobal + Abort + Threads + Wait + Sync>(
+    rt: &R,
+    desk: &Desk,
+    listener: &TcpListener,
+) -> Result<u64, SessionFault> {
+    let (stream, _address) = listener.accept().expect(rt, "a connection");
+    let mut source = ReaderSource::new(&stream);
+    let mut sink = WriterSink::new(&stream);
+    desk_session(rt, desk, &mut source, &mut sink)
+}
+
+/// The reply to a line that adds 1 to `/a`, where the connection stays.
+fn add_one<R: AllocGlobal + Abort>(rt: &R, stream: &TcpStream) -> String {
+    let mut sending = stream;
+    sending
+        .write_all(ADD.as_bytes())
+        .expect(rt, "the line to be sent");
+    let mut reply = String::new(rt.alloc());
+    BufReader::new(rt.alloc(), stream)
+        .expect(rt, "room to read")
+        .read_line(&mut reply)
+        .expect(rt, "the reply");
+    reply
+}
+
+/// Two clients in turn, of which both stay to the end: the replies to the first, the second, and the first once more.
+fn ask_in_turn<R: AllocGlobal + Abort + Net<Stream = TcpStream>>(
+    rt: &R,
+    address: SocketAddr,
+) -> [String; 3] {
+    let first = TcpStream::connect(rt, address).expect(rt, "a connection");
+    let before = add_one(rt, &first);
+    let second = TcpStream::connect(rt, address).expect(rt, "a second one");
+    [before, add_one(rt, &second), add_one(rt, &first)]
+}
+
+#[test]
+fn a_second_client_is_answered_while_the_first_stays(rt: HostRuntime) {
+    let listener = TcpListener::bind(&rt, (Ipv4Addr::LOCALHOST, 0)).expect(&rt, "a free port");
+    let address = listener.local_addr().expect(&rt, "its address");
+    let desk = open_desk(&rt);
+    let serve_one = || serve_at(&rt, &desk, &listener);
+    let serve_two = || join(&rt, || serve_at(&rt, &desk, &listener), serve_one);
+    let (answered, replies) = join(&rt, serve_two, || ask_in_turn(&rt, address));
+    assert!(rt; answered == (Ok(2), Ok(1)) || answered == (Ok(1), Ok(2)));
+    for (round, sum, reply) in [
+        (1, 11, &replies[0]),
+        (2, 12, &replies[1]),
+        (3, 13, &replies[2]),
+    ] {
+        let wanted = format!(in rt.alloc();
+            "{{\"places\":[0],\"replies\":[[{sum}]],\"round\":{round}}}\n"
+        );
+        assert!(rt; wanted.expect(&rt, "room").as_str() == reply.as_str());
+    }
 }
