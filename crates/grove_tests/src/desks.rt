@@ -18,12 +18,17 @@ const FIRST_REPLY: &[u8] = b"{\"places\":[0],\"replies\":[[11]],\"round\":1}";
 
 const SECOND_REPLY: &[u8] = b"{\"places\":[0],\"replies\":[[12]],\"round\":2}";
 
-/// A desk over a root and two leaves with records 0, 10 and 20.
-fn open_desk(rt: &impl Abort, alloc: Global, kept: bool) -> Desk {
+/// A desk over a root and two leaves with records 0, 10 and 20, with a journal.
+pub fn kept_desk(rt: &impl Abort, alloc: Global, workers: u32) -> Desk {
+    open_desk(rt, alloc, workers, true)
+}
+
+fn open_desk(rt: &impl Abort, alloc: Global, workers: u32, kept: bool) -> Desk {
     let tree = two_leaves(rt, alloc);
     let records = Records::new(alloc, &[0, 10, 20]).expect(rt, "room for records");
     assert!(rt; records.fits(&tree));
-    let store = Store::open(alloc, tree, records, 1).ok();
+    assert!(rt; 1 <= workers && workers <= 16);
+    let store = Store::open(alloc, tree, records, workers).ok();
     let desk = Desk::open(alloc, store.expect(rt, "a store"), kept).ok();
     desk.expect(rt, "a desk")
 }
@@ -61,7 +66,7 @@ fn eight_add_fifty<R: Abort + Threads + Wait + Sync>(rt: &R, alloc: Global, desk
 #[test]
 fn eight_callers_of_fifty_batches_leave_a_record_400_higher(rt: HostRuntime) {
     let alloc = rt.alloc();
-    let desk = open_desk(&rt, alloc, false);
+    let desk = open_desk(&rt, alloc, 1, false);
     eight_add_fifty(&rt, alloc, &desk);
     let looked = desk
         .answer(&rt, alloc, None, GET, &OpenGate)
@@ -78,7 +83,7 @@ fn eight_callers_of_fifty_batches_leave_a_record_400_higher(rt: HostRuntime) {
 #[test]
 fn lines_of_one_caller_are_rounds_of_their_own_and_the_journal_has_them(rt: HostRuntime) {
     let alloc = rt.alloc();
-    let desk = open_desk(&rt, alloc, true);
+    let desk = kept_desk(&rt, alloc, 1);
     let first = add(&rt, alloc, &desk, None);
     let second = add(&rt, alloc, &desk, Some(&first));
     assert!(rt; first.reply.as_slice() == FIRST_REPLY);
@@ -96,7 +101,7 @@ fn lines_of_one_caller_are_rounds_of_their_own_and_the_journal_has_them(rt: Host
 #[test]
 fn a_desk_does_not_close_on_receipts_in_another_order(rt: HostRuntime) {
     let alloc = rt.alloc();
-    let desk = open_desk(&rt, alloc, true);
+    let desk = kept_desk(&rt, alloc, 1);
     let first = add(&rt, alloc, &desk, None);
     let second = add(&rt, alloc, &desk, Some(&first));
     let refused = desk.close(alloc, &[second, first]).err();

@@ -22,6 +22,8 @@ mod meeting;
 #[cfg(test)]
 mod roll;
 #[cfg(test)]
+mod rounds;
+#[cfg(test)]
 mod runs;
 #[cfg(test)]
 mod scripts;

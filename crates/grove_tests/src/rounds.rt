@@ -1,0 +1,147 @@
+use crate::desks::kept_desk;
+use crate::fixtures::{A, B};
+use grove_desk::{Closed, Desk, Receipt};
+use grove_tree::{Gate, Node, OpenGate};
+use std::alloc::Global;
+use std::process::Abort;
+use std::sync::Wait;
+use std::sync::atomic::{AtomicBool, Ordering};
+use std::thread::{Threads, join, yield_now};
+
+const MOST_LOOKS: u32 = 20_000_000;
+
+const GET: &[u8] = b"{\"batch\":[[[\"get\",\"/a\"]]]}";
+
+const ADD: &[u8] = b"{\"batch\":[[[\"add\",\"/b\",1]]]}";
+
+const FIRST_ROUND: &[u8] = b"{\"places\":[0],\"replies\":[[10]],\"round\":1}";
+
+/// The replies of two lines that share a round, by the place that each got.
+const SHARED_ROUND: [&[u8]; 2] = [
+    b"{\"places\":[0],\"replies\":[[21]],\"round\":2}",
+    b"{\"places\":[1],\"replies\":[[22]],\"round\":2}",
+];
+
+/// Looks until the flag is up, or often enough.
+fn waits_for(flag: &AtomicBool) -> bool {
+    for _ in 0..MOST_LOOKS {
+        if flag.load(Ordering::SeqCst) {
+            return true;
+        }
+        yield_now();
+    }
+    false
+}
+
+/// A gate that holds a round at its first step until it is let go.
+#[derive(Drop)]
+struct Hold {
+    is_held: AtomicBool,
+    may_go: AtomicBool,
+    gave_up: AtomicBool,
+    is_over: AtomicBool,
+}
+
+impl Hold {
+    fn new() -> Self {
+        Hold {
+            is_held: AtomicBool::new(false),
+            may_go: AtomicBool::new(false),
+            gave_up: AtomicBool::new(false),
+            is_over: AtomicBool::new(false),
+        }
+    }
+}
+
+impl Gate for Hold {
+    fn at(&self, txn: u32, step: u32) {
+        if (txn, step) == (0, 0) {
+            self.is_held.store(true, Ordering::SeqCst);
+            if !waits_for(&self.may_go) {
+                self.gave_up.store(true, Ordering::SeqCst);
+            }
+        }
+    }
+}
+
+/// Lets the round go once two lines wait for the next one, and looks on until it is over.
+fn let_go<R: Wait>(rt: &R, desk: &Desk, hold: &Hold) {
+    for _ in 0..MOST_LOOKS {
+        if desk.waiting(rt) == 2 {
+            hold.may_go.store(true, Ordering::SeqCst);
+        }
+        if hold.is_over.load(Ordering::SeqCst) {
+            return;
+        }
+        yield_now();
+    }
+}
+
+/// Asks for a round that is held.
+fn get_held<R: Abort + Threads + Wait + Sync>(
+    rt: &R,
+    alloc: Global,
+    desk: &Desk,
+    hold: &Hold,
+) -> Receipt {
+    let answered = desk.answer(rt, alloc, None, GET, hold);
+    hold.is_over.store(true, Ordering::SeqCst);
+    answered.expect(rt, "a receipt")
+}
+
+/// Asks once the round is held.
+fn add_beside<R: Abort + Threads + Wait + Sync>(
+    rt: &R,
+    alloc: Global,
+    desk: &Desk,
+    hold: &Hold,
+) -> Receipt {
+    assert!(rt; waits_for(&hold.is_held));
+    desk.answer(rt, alloc, None, ADD, &OpenGate)
+        .expect(rt, "a receipt")
+}
+
+/// Are these the replies to two lines that shared the second round, either of which came first?
+fn are_shared(one: &Receipt, other: &Receipt) -> bool {
+    let replies = [one.reply.as_slice(), other.reply.as_slice()];
+    replies == SHARED_ROUND || replies == [SHARED_ROUND[1], SHARED_ROUND[0]]
+}
+
+/// The receipts, the last two by their numbers.
+fn by_number(first: Receipt, one: Receipt, other: Receipt) -> [Receipt; 3] {
+    if one.number < other.number {
+        [first, one, other]
+    } else {
+        [first, other, one]
+    }
+}
+
+#[test]
+fn lines_that_wait_for_a_round_share_the_next(rt: HostRuntime) {
+    let alloc = rt.alloc();
+    let desk = kept_desk(&rt, alloc, 2);
+    let hold = Hold::new();
+    let add = || add_beside(&rt, alloc, &desk, &hold);
+    let two_adds = || join(&rt, || add_beside(&rt, alloc, &desk, &hold), add);
+    let get = || get_held(&rt, alloc, &desk, &hold);
+    let watched = || join(&rt, || let_go(&rt, &desk, &hold), get);
+    let ((one, other), ((), first)) = join(&rt, two_adds, watched);
+    assert!(rt; !hold.gave_up.load(Ordering::SeqCst));
+    assert!(rt; first.reply.as_slice() == FIRST_ROUND);
+    assert!(rt; are_shared(&one, &other));
+    let Closed { store, journal } = desk
+        .close(alloc, &by_number(first, one, other))
+        .ok()
+        .expect(&rt, "a desk that closes");
+    assert!(rt; journal.len() == 2);
+    assert!(rt;
+        journal
+            .iter()
+            .zip([1, 2])
+            .all(|(kept, lines)| kept.receipts.len() == lines)
+    );
+    let records = store.records();
+    assert_eq!(rt; records.len(), 3);
+    assert_eq!(rt; records.get(Node::new(A)), 10);
+    assert_eq!(rt; records.get(Node::new(B)), 22);
+}
