@@ -1,5 +1,6 @@
 """Sixteen clients at once, half of which break off, flood or never read: the others get their replies, and nothing is lost.
-Sixteen good ones share rounds, a client is served while another stays, and a 17th one once one of sixteen leaves.
+Sixteen good ones share rounds, eight add up, a client is served while another stays, and a 17th one once one of sixteen
+leaves.
 
 All their batches have to be one serial history, whichever rounds they share.
 """
@@ -19,12 +20,15 @@ from history import fault_of_history
 from server import Serving, connected, talk, talk_in_turn
 from store import Store, compact
 
-from sweeps.connections import ADD, TREE, WEIGHTS, flood
+from sweeps.connections import ADD, GET, TREE, WEIGHTS, flood
 from sweeps.program import Tally, Try
 from sweeps.talks import note_replies
 
 TRIED = "lines of clients among others that are broken"
 GOOD = 8
+# How many clients add up, and how many batches of each.
+ADDING = 8
+BATCHES = 50
 # How many connections are served at once, and how long it is seen that a further one isn't.
 SEATS = 16
 UNSEATED = 0.5
@@ -38,6 +42,7 @@ def tries(program: str, _room: str) -> list[Try]:
     crowds = [Try(f"{workers} workers", partial(crowd, program, workers)) for workers in (1, 4, 16)]
     return crowds + [
         Try("sixteen that share rounds", partial(share_rounds, program)),
+        Try("eight of fifty batches", partial(add_up, program)),
         Try("two at once", partial(stay, program)),
         Try("seventeen at once", partial(wait_for_a_seat, program)),
     ]
@@ -72,6 +77,22 @@ def share_rounds(program: str, tally: Tally) -> None:
     tally.blame("all batches", fault_of_history(json.loads(document()), batches))
     rounds = max(reply["round"] for _, reply in batches)
     tally.note("rounds", None if rounds < len(batches) else f"{rounds} rounds of {len(batches)} batches")
+
+
+def add_up(program: str, tally: Tally) -> None:
+    """Eight clients with fifty batches each, all of which add one to the same record."""
+    with Serving(program, TREE, 4) as server, ThreadPoolExecutor(ADDING) as pool:
+        [before] = looked(server.talk(GET))
+        came = list(pool.map(talk_in_turn, [server.port] * ADDING, [[ADD] * BATCHES] * ADDING))
+        [after] = looked(server.talk(GET))
+    sums = sorted(sum_of for replies in came for sum_of in looked(replies))
+    tally.note("the sums", None if sums == list(range(before + 1, before + ADDING * BATCHES + 1)) else f"they are {sums}")
+    tally.note("the record", None if after == before + ADDING * BATCHES else f"it was {before} and is {after}")
+
+
+def looked(replies: bytes) -> list[int]:
+    """What each batch of one access was replied."""
+    return [json.loads(reply)["replies"][0][0] for reply in replies.splitlines()]
 
 
 def stay(program: str, tally: Tally) -> None:
