@@ -1,0 +1,33 @@
+/* Preloaded before a server, lets one of its calls on connections fail: the one whose number, from 1, stands in
+   FAILED_READ or FAILED_WRITE. Says so by one byte on the descriptor whose number stands in FAILED_TELL. All other calls
+   are the system's; of a read at most as many bytes come as READ_AT_MOST says, and of a write as WRITE_AT_MOST says. */
+#include <errno.h>
+#include <stdlib.h>
+#include <sys/syscall.h>
+#include <sys/types.h>
+#include <unistd.h>
+
+static long reads, writes;
+
+static int fails(const char *name, long *calls) {
+    const char *number = getenv(name), *tell = getenv("FAILED_TELL");
+    if (!number || __sync_add_and_fetch(calls, 1) != atol(number)) return 0;
+    if (tell && syscall(SYS_write, atoi(tell), "x", 1) != 1) abort();
+    errno = EIO;
+    return 1;
+}
+
+static size_t at_most(const char *name, size_t size) {
+    const char *most = getenv(name);
+    return most && size > (size_t)atol(most) ? (size_t)atol(most) : size;
+}
+
+ssize_t recv(int socket, void *to, size_t size, int flags) {
+    if (fails("FAILED_READ", &reads)) return -1;
+    return syscall(SYS_recvfrom, socket, to, at_most("READ_AT_MOST", size), flags, NULL, NULL);
+}
+
+ssize_t send(int socket, const void *from, size_t size, int flags) {
+    if (fails("FAILED_WRITE", &writes)) return -1;
+    return syscall(SYS_sendto, socket, from, at_most("WRITE_AT_MOST", size), flags, NULL, 0);
+}

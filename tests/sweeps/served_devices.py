@@ -1,0 +1,94 @@
+"""A server that reads and writes a connection byte by byte, and each read and write that fails in turn, alone: the session
+ends there, and just what was due before went out. The next session is whole, over the store that it left."""
+
+from __future__ import annotations
+
+import json
+import os
+import subprocess
+from contextlib import contextmanager
+from functools import partial
+from pathlib import Path
+from typing import Iterator
+
+from server import Serving, talk_in_turn
+from store import Store
+
+from sweeps.connections import REPLIES, TEXT, TREE
+from sweeps.growths import is_told
+from sweeps.program import Tally, Try
+from sweeps.talks import note_replies
+
+TRIED = "reads and writes of a server that failed, each alone"
+LINES = TEXT.splitlines(keepends=True)
+RIGHT = REPLIES.splitlines(keepends=True)
+# No server here takes more reads, or more writes, for ten lines.
+MOST_CALLS = 20_000
+# Each part has every call of so many.
+PARTS = 4
+
+
+def tries(program: str, room: str) -> list[Try]:
+    library = library_in(room)
+    return [
+        Try(f"each {PARTS}th {kind} from {first} on", partial(fail_each, program, library, kind, first))
+        for kind in ("read", "write")
+        for first in range(1, PARTS + 1)
+    ]
+
+
+def library_in(room: str) -> str:
+    """Compiles what lets a call fail, to be preloaded."""
+    library = f"{room}/fail_device.so"
+    source = Path(__file__).with_name("fail_device.c")
+    subprocess.run(["cc", "-O1", "-shared", "-fPIC", "-o", library, source], check=True, stdin=subprocess.DEVNULL)
+    return library
+
+
+def fail_each(program: str, library: str, kind: str, first: int, tally: Tally) -> None:
+    for number in range(first, MOST_CALLS, PARTS):
+        where = f"{kind} {number} failed"
+        with failing(library, kind, number) as (how, ends), Serving(program, TREE, **how) as server:
+            came = talk_in_turn(server.port, LINES)
+            if not is_told(ends):
+                tally.blame(where, None if came == REPLIES else f"nothing failed; came {came!r}")
+                return
+            wanted, done = due(kind, number)
+            tally.note(where, None if came == wanted else f"wanted {wanted!r}; came {came!r}")
+            ask_next(server, done, f"{where}, after it", tally)
+    tally.blame(f"{kind} {number} failed", "there are still more of them")
+
+
+def ask_next(server: Serving, done: int, where: str, tally: Tally) -> None:
+    """The next session has each reply, over the store that so many of the ten lines left."""
+    store = Store(json.loads(TREE))
+    lines = Tally()
+    try:
+        note_replies(store, b"".join(LINES[:done]), b"".join(RIGHT[:done]), where, lines)
+        note_replies(store, TEXT, server.talk(TEXT), where, lines)
+    finally:
+        for fault in lines.faults:
+            tally.blame(where, fault)
+
+
+def due(kind: str, number: int) -> tuple[bytes, int]:
+    """What goes out before the read or write of this number, each of one byte, fails; and how many lines are done then."""
+    if kind == "write":
+        out = REPLIES[: number - 1]
+        return out, out.count(b"\n") + 1
+    done = TEXT[: number - 1].count(b"\n")
+    return b"".join(RIGHT[:done]), done
+
+
+@contextmanager
+def failing(library: str, kind: str, number: int) -> Iterator[tuple[dict, int]]:
+    """How to start a server of which one call fails, and the pipe on which that is told."""
+    ends, tell = os.pipe()
+    pieces = {"LD_PRELOAD": library, "READ_AT_MOST": "1", "WRITE_AT_MOST": "1"}
+    surroundings = {**os.environ, **pieces, f"FAILED_{kind.upper()}": str(number), "FAILED_TELL": str(tell)}
+    try:
+        os.set_blocking(ends, False)
+        yield {"env": surroundings, "pass_fds": (tell,)}, ends
+    finally:
+        os.close(ends)
+        os.close(tell)
