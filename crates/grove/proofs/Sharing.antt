@@ -6,15 +6,10 @@ use denote.Struct.Declared.{shape}
 use denote.Struct.Tuple.{TupleAt, type_at}
 use denote.Param.Send.{IsSend, IsSync, AllSend, sendable, recorded_send, struct_send}
 use Rattle.std.proofs.Crossing.{crosses}
-use Rattle.grove_tree.proofs.outline.Outline.TheLaws.TheKnot.{send-Outline, sync-Outline}
 use Rattle.std.specs.contracts.net.TcpStream as TcpStream
-use Rattle.grove_desk.specs.contracts.desk.Desk as Desk
 use Rattle.grove.specs.contracts.seats.Seats as Seats
 
--- threads may share a desk and seats
-pub Desk-sync : IsSync Desk.the_row
-Desk-sync = search (sendable, crosses, send-Outline, sync-Outline) depth 60 fits 4000
-
+-- threads may share seats
 pub Seats-sync : IsSync Seats.the_row
 Seats-sync = search (sendable, crosses) depth 40
 

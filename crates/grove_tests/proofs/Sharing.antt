@@ -1,17 +1,10 @@
--- What the threads of callers share, and what they take with them.
+-- What the threads of callers take with them.
 use mathlib.Core.List.{[], ◌∷◌}
 use mir.Syntax.{Sym}
 use denote.RattleType.{RattleType}
 use denote.Struct.Declared.{shape}
 use denote.Struct.Tuple.{TupleAt, type_at}
-use denote.Param.Send.{IsSend, IsSync, AllSend, sendable, recorded_send, struct_send}
-use Rattle.std.proofs.Crossing.{crosses}
-use Rattle.grove_tree.proofs.outline.Outline.TheLaws.TheKnot.{send-Outline, sync-Outline}
-use Rattle.grove_desk.specs.contracts.desk.Desk as Desk
-
--- threads may share a desk
-pub Desk-sync : IsSync Desk.the_row
-Desk-sync = search (sendable, crosses, send-Outline, sync-Outline) depth 60 fits 4000
+use denote.Param.Send.{IsSend, AllSend, recorded_send, struct_send}
 
 -- a closure may go to another thread where the three values may that it takes with it
 pub three_send : (ν : Sym) (A B C : RattleType) → IsSend A → IsSend B → IsSend C → IsSend (TupleAt ν (A ∷ B ∷ C ∷ []))

@@ -1,7 +1,8 @@
 use denote.Exit.{yes}
 use denote.Param.{param}
 use denote.Param.Send.{IsSync, param_sync, param_send, arg_send, shr_send}
-use Rattle.grove.proofs.Sharing.{Desk-sync, Seats-sync, stream-send, four_send}
+use Rattle.grove_desk.proofs.Sharing.{Desk-sync}
+use Rattle.grove.proofs.Sharing.{Seats-sync, stream-send, four_send}
 use Rattle.grove.proofs.connections.fn.serve.scope.Goals as goal
 
 pub spawn-requires-send-F : goal.spawn-requires-send-F

@@ -2,7 +2,8 @@ use denote.Exit.{yes}
 use denote.Param.{param}
 use denote.Param.Send.{IsSync, param_sync, param_send, arg_send, shr_send}
 use Rattle.std.proofs.Crossing as heap
-use Rattle.grove_tests.proofs.Sharing.{Desk-sync, three_send}
+use Rattle.grove_desk.proofs.Sharing.{Desk-sync}
+use Rattle.grove_tests.proofs.Sharing.{three_send}
 use Rattle.grove_tests.proofs.desks.fn.eight_add_fifty.scope.Goals as goal
 
 pub spawn-requires-send-F : goal.spawn-requires-send-F
