@@ -1,5 +1,5 @@
 -- A job's accesses that are done ahead of the core, and the core that has taken them.
-use Rattle.std.proofs.Common.{◌≡◌, ℕ, zero, suc, ◌+◌, ◌<◌, ◌≤◌, ℤ, Bool, true, false, eqb, List, [], ◌∷◌, ◌++◌, length, reverse, ◌^◌, take, replicate, get_or, Option, Some, None, is_some, refl, sym, ◌∙◌, ap, subst, inl, inr, arith, add-one, append_assoc}
+use Rattle.std.proofs.Common.{◌≡◌, ℕ, zero, suc, ◌+◌, ◌<◌, ◌≤◌, ℤ, Bool, true, false, eqb, List, [], ◌∷◌, ◌++◌, length, reverse, ◌^◌, take, replicate, get_or, Option, Some, None, is_some, refl, sym, ◌∙◌, ap, subst, inl, inr, arith, append_assoc}
 use Rattle.std.specs.List.{slice_get}
 use Rattle.std.proofs.lemmas.List.{append-nil}
 use Rattle.std.proofs.Math.Seq.{take-length}
@@ -116,17 +116,6 @@ past_taken history (suc n) t =
     ∙ past_taken (history ++ Take t ∷ []) n t
     ∙ ap (taken n t) (reverse_last history (Take t))
     ∙ taken_shift n t (reverse history)
-
-replicate_more : {A : Type 0} (n : ℕ) (x : A) → replicate n x ++ x ∷ [] ≡ replicate (suc n) x
-replicate_more zero x = refl
-replicate_more (suc n) x = ap (λ xs. x ∷ xs) (replicate_more n x)
-
--- one step more
-pub steps_more : (old now new : State) (t n : ℕ) → now ≡ after_steps old t n → new ≡ record now { history = now.history ++ Take t ∷ [] } → new ≡ after_steps old t (n + 1)
-steps_more old now new t n so_far more =
-    more ∙ ap (λ (s : State). record s { history = s.history ++ Take t ∷ [] }) so_far
-    ∙ ap (λ (es : List Event). record old { history = es })
-    (append_assoc old.history (replicate n (Take t)) (Take t ∷ []) ∙ ap (λ (es : List Event). old.history ++ es) (replicate_more n (Take t) ∙ ap (λ (k : ℕ). replicate k (Take t)) (sym (add-one n))))
 
 -- The entries up to one of them are done: the job is as many steps further, and its records are as the entries left them.
 record HasDone (core : State) (carry : Carried) (n : ℕ) (past : List Event) : Type 0 where

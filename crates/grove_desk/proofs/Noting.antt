@@ -2,7 +2,7 @@
 use Rattle.std.proofs.Common.{◌≡◌, ℕ, ◌+◌, ◌<◌, ◌≤◌, List, [], ◌∷◌, ◌++◌, length, map, take, get_or, Option, refl, sym, ap, subst, ◌∙◌, inl, inr, arith}
 use Rattle.std.proofs.lemmas.Bool.{cases_lt}
 use Rattle.std.proofs.lemmas.List.{length-map, get_or-map, length_push, length-take-le, take_more, map_push, get_or_append_left, get_or_push}
-use Rattle.std.proofs.lemmas.List.Elements.{All-nil, All-push}
+use Rattle.std.proofs.lemmas.List.Elements.{All-push}
 use Rattle.grove_desk.specs.Receipts.{Entry, number_at, AreNumbered}
 use Rattle.grove_desk.specs.Ledgers.{IsNoted}
 
@@ -15,15 +15,6 @@ numbered_more first receipts receipt are is place other lt = elim (cases_lt plac
       let here : length receipts ≡ place = omega arith in
       ap (λ (e : Entry). e.number) (get_or_push receipts receipt other place here) ∙ is ∙ ap (number_at first) here
 ]
-
--- no receipts are those of no replies
-pub noted_none : (first : Option ℕ) (lines : List (List ℕ)) (rounds : ℕ) → IsNoted first lines [] rounds []
-noted_none first lines rounds = record {
-  asked = refl;
-  replied = refl;
-  counted = All-nil (λ (e : Entry). e.rounds ≡ rounds);
-  numbered = λ place other lt. absurd (omega arith);
-}
 
 -- the receipt of the next line is one more
 pub noted_more : {L R : Type 0} (line_of : L → List ℕ) (reply_of : R → List ℕ) (first : Option ℕ) (lines : List L) (replies : List R) (rounds : ℕ) (receipts after : List Entry) (i place number : ℕ) (line reply : List ℕ) (asked : L) (item : R)

@@ -83,7 +83,3 @@ history_of opening last receipts account is (begins, rise, stand) = record {
   once = rise;
   whole = all_of receipts (receipts_in account.calls) stand rise;
 }
-
--- and the other way round
-pub settled_by : (opening last : Stock) (receipts : List Entry) (account : Account) → IsAccount account last → IsHistory opening receipts account.calls last → (account.first ≡ opening) × Ascend receipts × All (StandsIn account.calls) receipts
-settled_by opening last receipts account is history = (sym is.begins ∙ history.begins, history.once, history.stand)

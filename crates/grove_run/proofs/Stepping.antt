@@ -5,13 +5,13 @@ use Rattle.std.proofs.lemmas.Bool.{both_ways, cond-true, cond-false}
 use Rattle.grove_tree.specs.Trees.{Rows}
 use Rattle.grove_plan.specs.declared.step.Step.{Step}
 use Rattle.grove_plan.specs.declared.step.Step.TheVariants.{Lock, Unlock, Access}
-use Rattle.grove_plan.proofs.Held.{held_not, unlock_no_lock}
+use Rattle.grove_plan.proofs.Held.{held_not}
 use Rattle.grove_core.specs.declared.job.Job.{Job}
 use Rattle.grove_core.specs.declared.event.Event.{Event}
 use Rattle.grove_core.specs.declared.event.Event.TheVariants.{Take, Mark}
 use Rattle.grove_core.specs.declared.fault.StepFault.{StepFault}
 use Rattle.grove_core.specs.declared.fault.StepFault.TheVariants.{NoTxn, Ended, Blocked, NotBlocked, Marked}
-use Rattle.grove_core.specs.Runs.{plan_of, steps_done, next_step, holds, is_marked, AllLegal, MayHappen, IsBlocked, IsRefused}
+use Rattle.grove_core.specs.Runs.{plan_of, steps_done, next_step, holds, is_marked, AllLegal, MayHappen, IsRefused}
 use Rattle.grove_core.specs.Kept.{State, past_of}
 use Rattle.grove_core.specs.Carried.{IsOf}
 use Rattle.grove_access.specs.Carries.{Carried, known_at, carry_settled}
@@ -26,33 +26,12 @@ free_before rows jobs past t v legal next = held_not (plan_of jobs t) v (steps_d
     let before : lock.at < steps_done past t = lock.before in
     absurd (omega arith))
 
-pub held_before : (rows : Rows) (jobs : List Job) (past : List Event) (t v : ℕ) → AllLegal rows jobs → next_step jobs past t ≡ Some (Unlock v) → holds jobs past t v ≡ true
-held_before rows jobs past t v legal next = (legal t (within_jobs jobs t (steps_done past t) (Unlock v) next)).obeys.unlocks_held (steps_done past t) v next
-
 -- the node of a lock is one of the tree
 pub lock_within : (rows : Rows) (jobs : List Job) (past : List Event) (t v : ℕ) → AllLegal rows jobs → next_step jobs past t ≡ Some (Lock v) → v < length rows
 lock_within rows jobs past t v legal next = (legal t (within_jobs jobs t (steps_done past t) (Lock v) next)).obeys.locks_nodes (steps_done past t) v next
 
-no_mark : (t u : ℕ) → Take t ≡ Mark u → ⊥
-no_mark t u e = absurd (cc)
-
 no_take : (t u : ℕ) → Mark t ≡ Take u → ⊥
 no_take t u e = absurd (cc)
-
--- a step that is refused is blocked
-pub refused_blocked : (jobs : List Job) (past : List Event) (t : ℕ) (step : Step) (fault : StepFault) → next_step jobs past t ≡ Some step → IsRefused jobs past (Take t) fault
-    → (holder : ℕ) × IsBlocked jobs past t holder
-refused_blocked jobs past t step NoTxn next refused = let lt : t < length jobs = within_jobs jobs t (steps_done past t) step next in let le : length jobs ≤ t = refused in absurd (omega arith)
-refused_blocked jobs past t step Ended next refused = absurd (none-some step (sym refused.1 ∙ next))
-refused_blocked jobs past t step (Blocked holder) next refused = (holder, refused.1)
-refused_blocked jobs past t step NotBlocked next refused = absurd (no_mark t t refused.0)
-refused_blocked jobs past t step Marked next refused = absurd (no_mark t t refused.0)
-
--- and no unlock is
-pub unlock_done : (jobs : List Job) (past : List Event) (t v : ℕ) (fault : StepFault) → next_step jobs past t ≡ Some (Unlock v) → IsRefused jobs past (Take t) fault → ⊥
-unlock_done jobs past t v fault next refused =
-    let blocked = refused_blocked jobs past t (Unlock v) fault next refused in
-    unlock_no_lock v blocked.1.0 (sym next ∙ blocked.1.1)
 
 -- a mark that is refused was there
 mark_refused : (core : State) (t : ℕ) (fault : StepFault) → IsBlockedAt core t → IsRefused core.jobs (past_of core) (Mark t) fault → is_marked (past_of core) t ≡ true

@@ -37,10 +37,6 @@ few_by_cases : (b : Bool) (line xs : List ℕ) (x : ℕ) → length (lines_from 
 few_by_cases true line xs x ended going = omega arith
 few_by_cases false line xs x ended going = going
 
-one_last : (line : List ℕ) → length (last_line line) ≤ 1
-one_last [] = omega arith
-one_last (byte ∷ line) = omega arith
-
 some_last : (line : List ℕ) (x : ℕ) → length (last_line (line ++ x ∷ [])) ≡ 1
 some_last [] x = refl
 some_last (byte ∷ line) x = refl

@@ -1,8 +1,7 @@
 -- What makes a round lawful: of one line alone, or of batches together.
-use Rattle.std.proofs.Common.{◌≡◌, ◌≢◌, ◌⊎◌, ℕ, suc, ◌+◌, ◌-◌, ◌<◌, ◌≤◌, max, true, false, cond, leb, List, [], ◌∷◌, ◌++◌, length, get_or, take, drop, map, Option, Some, None, refl, sym, ◌∙◌, ap, ap₂, subst, arith, length-append}
+use Rattle.std.proofs.Common.{◌≡◌, ◌≢◌, ◌⊎◌, ℕ, suc, ◌+◌, ◌-◌, ◌<◌, ◌≤◌, max, List, [], ◌∷◌, length, get_or, take, drop, map, Option, Some, None, refl, sym, ◌∙◌, ap, ap₂, subst, arith}
 use Rattle.std.specs.Prelude.{option_map, option_and_then, Result, Ok, Err}
 use Rattle.std.specs.Borrow.{Bor}
-use Rattle.std.proofs.lemmas.List.{nil_from_length}
 use Rattle.serde_json.specs.Data.{Data}
 use Rattle.serde_json.specs.Written.{compact_text}
 use Rattle.grove_tree.specs.Trees.{Rows}
@@ -13,7 +12,7 @@ use Rattle.grove_wire.specs.Outcomes.{Fails}
 use Rattle.grove_wire.specs.Requests.{Asked, Batch, request_of}
 use Rattle.grove_store.specs.Stocks.{Stock, IsStock}
 use Rattle.grove_store.specs.Alone.{RepliesAlone}
-use Rattle.grove_store.specs.Rounds.{lists_asked, lists_in, batches_in, joined, first_fits, fitting, round_length, RunsRound, FailsRound, AnswersLines, IsLawfulRound, IsLawfulAnswer}
+use Rattle.grove_store.specs.Rounds.{lists_asked, lists_in, batches_in, joined, first_fits, fitting, round_length, RunsRound, FailsRound, AnswersLines, IsLawfulRound}
 use Rattle.grove_store.specs.Parts.{IsRoundOf, AnswersRound}
 use Rattle.grove_store.proofs.Together.{counts_one, first_line}
 use Rattle.grove_store.proofs.Leaving.{answered_long}
@@ -58,21 +57,6 @@ round_lawful before after line others first lists counts replies store here few 
       let one : max 1 (fitting before.rows 256 (line ∷ others)) ≡ suc rest = ap (λ (n : ℕ). max 1 n) fits ∙ omega arith in all ∙ sym one,
       subst (λ (n : ℕ). IsLawfulRound before (take n (line ∷ others)) replies after) (sym all) lawful,
     )
-
--- at most one line fits where there is one
-one_fits : (asked : Option (List (List Access))) → max 1 (first_fits asked 256 (λ left. 0)) ≡ 1
-one_fits None = refl
-one_fits (Some lists) = elim (leb (length lists) 256) as (λ b. max 1 (cond b 1 0) ≡ 1) [ true ↦ refl | false ↦ refl ]
-
--- the last of the replies to one line is the reply
-pub one_answer : (before after : Stock) (line reply : List ℕ) (replies others : List (List ℕ)) → length replies ≡ round_length before.rows (line ∷ []) → replies ≡ others ++ reply ∷ []
-    → IsLawfulRound before (take (length replies) (line ∷ [])) replies after → IsLawfulAnswer before line reply after
-one_answer before after line reply replies others long parts lawful =
-    let one : length replies ≡ 1 = long ∙ one_fits (lists_in before.rows line) in
-    let none : others ≡ [] = nil_from_length others (omega (arith, ap length parts, length-append others (reply ∷ []))) in
-    let alone : replies ≡ reply ∷ [] = parts ∙ ap (λ (front : List (List ℕ)). front ++ reply ∷ []) none in
-    let whole : IsLawfulRound before (line ∷ []) replies after = subst (λ (n : ℕ). IsLawfulRound before (take n (line ∷ [])) replies after) one lawful in
-    subst (λ (all : List (List ℕ)). IsLawfulRound before (line ∷ []) all after) alone whole
 
 -- the same of lines as they are handed in
 pub first_alone : (before after : Stock) (rows : Rows) (lines : List (Bor (List ℕ))) (d : Bor (List ℕ)) (asked : Result Asked WireFault) (reply : Data) (text : List ℕ) (replies : List (List ℕ)) (n : ℕ) → IsStock before

@@ -43,11 +43,6 @@ counts_one asked room lists others (is, fits) =
     ap (λ (o : Option (List (List Access))). first_fits o room others) is
     ∙ cond-true (leb (length lists) room) (1 + others (room - length lists)) 0 (le-leb (length lists) room fits)
 
--- before the first of the lines
-pub has_first : (rows : Rows) (first : List (List Access)) (lines : List (List ℕ)) → length first ≤ 256 → All (λ list. AreNodes rows (nodes_of list)) first
-    → HasBatches rows first lines 0 (length first ∷ []) first
-has_first rows first lines few fit = record { batches = []; number = refl; are_read = refl; counted = refl; in_order = sym (append-nil first); few = few; fit = fit }
-
 -- and after one line more
 has_one_more : (rows : Rows) (first : List (List Access)) (lines : List (List ℕ)) (i : ℕ) (counts : List ℕ) (lists : List (List Access)) (line : List ℕ) (more : List (List Access))
     → i < length lines → line ≡ get_or lines i [] → HasBatches rows first lines i counts lists → FitsRoom (lists_in rows line) (256 - length lists) more

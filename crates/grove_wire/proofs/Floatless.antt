@@ -11,7 +11,7 @@ use Rattle.grove_plan.specs.declared.step.Step.{Step}
 use Rattle.grove_plan.specs.declared.step.Step.TheVariants.{Lock, Unlock, Access}
 use Rattle.grove_proof.specs.declared.flow.FlowRow.{FlowRow}
 use Rattle.grove_wire.specs.Writing.{number_data, reply_data, replies_data, numbers_data, count_data, step_data, plan_data, flow_row_data, flow_data}
-use Rattle.grove_wire.specs.Replies.{counts_data, error_data, planned_data, cost_data, lists_data, round_data, weights_data, changed_data}
+use Rattle.grove_wire.specs.Replies.{counts_data, planned_data, lists_data, round_data, weights_data}
 
 -- an array has none where no item has one
 pub array_has_no_float : {A : Type 0} (data_of : A → Data) → ((x : A) → has_float (data_of x) ≡ false) → (xs : List A) → has_float (array (items_of (map data_of xs))) ≡ false
@@ -53,20 +53,11 @@ lists_have_no_float replies = array_has_no_float replies_data replies_have_no_fl
 
 -- replies to lines
 
-pub error_has_no_float : (name : List ℕ) → has_float (error_data name) ≡ false
-error_has_no_float name = refl
-
 pub planned_has_no_float : (tree : Rows) (cost : ℕ) (plan : List Step) (flow : List FlowRow) → has_float (planned_data tree cost plan flow) ≡ false
 planned_has_no_float tree cost plan flow = rw (flow_has_no_float tree flow, plan_has_no_float tree plan) refl
-
-pub cost_has_no_float : (cost : ℕ) → has_float (cost_data cost) ≡ false
-cost_has_no_float cost = refl
 
 pub round_has_no_float : (round : ℕ) (places : List ℕ) (replies : List (List Reply)) → has_float (round_data round places replies) ≡ false
 round_has_no_float round places replies = rw (counts_have_no_float places, lists_have_no_float replies) refl
 
 pub weights_have_no_float : (waits weights : List ℕ) → has_float (weights_data waits weights) ≡ false
 weights_have_no_float waits weights = rw (counts_have_no_float waits, counts_have_no_float weights) refl
-
-pub changed_has_no_float : (changed : ℕ) → has_float (changed_data changed) ≡ false
-changed_has_no_float changed = refl
