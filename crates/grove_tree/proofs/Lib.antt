@@ -16,4 +16,5 @@ pub mod UniquePaths
 pub mod WeightsByRule
 pub mod SameTree
 pub mod SameNames
+pub mod SameOutlines
 pub mod WaysDown

@@ -57,7 +57,8 @@ child_step rows outline child node placed is (from, to) =
     let (own, name, weight) = placed_own rows (Some outline.0) child there (omega arith) in
     (own, rw own there)
 
-put_none : (rows : Rows) → parent_of rows 0 ≡ None → put_under None rows ≡ rows
+-- nothing changes where no row is put above rows that have none
+pub put_none : (rows : Rows) → parent_of rows 0 ≡ None → put_under None rows ≡ rows
 put_none [] h = refl
 put_none (row ∷ rows) h = ap (λ (p : Option ℕ). record { parent = p; name = row.name; weight = row.weight } ∷ rows) (sym h)
 

@@ -1,5 +1,5 @@
 -- Rows without their weights: equal where parents and names are.
-use Rattle.std.proofs.Common.{◌≡◌, ℕ, zero, suc, ◌<◌, List, [], ◌∷◌, length, Option, refl, sym, ◌∙◌, ap, arith}
+use Rattle.std.proofs.Common.{◌≡◌, ℕ, zero, suc, List, [], ◌∷◌, length, Option, refl, sym, ◌∙◌, ap}
 use Rattle.std.specs.List.{slice_get}
 use Rattle.std.specs.Option.{option_map, option_and_then, unwrap_or}
 use Rattle.grove_tree.specs.Trees.{Rows, parent_of, name_of}
@@ -31,13 +31,3 @@ unweighed_same rows others same = (
     sym (name_of-unweighed rows node) ∙ ap (λ (pairs : List (Option ℕ × List ℕ)). unwrap_or (option_map (λ pair. pair.1) (slice_get pairs node)) []) same ∙ name_of-unweighed others node,
   ),
 )
-
--- and rows with the same parents and names
-pub same_unweighed : (rows others : Rows) → length rows ≡ length others → ((node : ℕ) → node < length rows → AgreeAt rows others node) → unweighed rows ≡ unweighed others
-same_unweighed [] [] long alike = refl
-same_unweighed [] (other ∷ others) long alike = absurd (omega arith)
-same_unweighed (row ∷ rows) [] long alike = absurd (omega arith)
-same_unweighed (row ∷ rows) (other ∷ others) long alike =
-    let (parent, name) = alike 0 (omega arith) in
-    let rest = same_unweighed rows others (omega arith) (λ node lt. alike (suc node) (omega arith)) in
-    cc (parent, name, rest)

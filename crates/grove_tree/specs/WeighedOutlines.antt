@@ -1,8 +1,8 @@
 -- For the proofs alone: rows and outlines whose nodes get the weights that a rule gives.
-use Rattle.std.specs.Prelude.{ℕ, ◌+◌, ◌<◌, ⊤, List, [], ◌∷◌, length, ◌≡◌, suc, ◌==◌, if◌then◌else◌}
+use Rattle.std.specs.Prelude.{ℕ, ◌+◌, ◌<◌, ⊤, List, [], ◌∷◌, length, ◌≡◌, suc, Option, None, ◌==◌, if◌then◌else◌}
 use Rattle.grove_tree.specs.Trees.{Rows, weight_of, parent_of, name_of}
-use Rattle.grove_tree.specs.Outlines.{Under}
-use Rattle.grove_tree.specs.Weights.{weighed_from}
+use Rattle.grove_tree.specs.Outlines.{Under, put_under}
+use Rattle.grove_tree.specs.Weights.{weighed_from, unweighed}
 
 -- how many of the weights the rule changes
 abbrev pub changes_from : (ℕ → ℕ → ℕ) → ℕ → Rows → ℕ
@@ -12,6 +12,14 @@ changes_from weight node (row ∷ rows) = (if weight node row.weight == row.weig
 -- a node has the same parent and the same name in both
 abbrev pub AgreeAt : Rows → Rows → ℕ → Type 0
 AgreeAt rows others node = (parent_of rows node ≡ parent_of others node) × (name_of rows node ≡ name_of others node)
+
+-- an outline's rows without their weights, whatever is above its node
+abbrev pub bare : Under → List (Option ℕ × List ℕ)
+bare outline = unweighed (put_under None outline.1)
+
+-- both outlines are the same node's, and have the same rows save for their weights
+abbrev pub SameNames : Under → Under → Type 0
+SameNames outline other = (outline.0 ≡ other.0) × (bare outline ≡ bare other)
 
 abbrev pub weighed : (ℕ → ℕ → ℕ) → Under → Under
 weighed weight outline = (outline.0, weighed_from weight outline.0 outline.1)

@@ -17,6 +17,7 @@ mod fault;
 mod finding;
 mod gate;
 mod growing;
+mod likeness;
 mod node;
 mod outline;
 mod row;

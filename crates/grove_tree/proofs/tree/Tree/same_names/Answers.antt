@@ -1,15 +1,11 @@
-use Rattle.std.proofs.Common.{ℕ, ◌<◌, length, refl, sym, true≢false, arith}
-use Rattle.grove_tree.specs.WeighedOutlines.{AgreeAt}
-use Rattle.grove_tree.proofs.SameNames.{unweighed_same, same_unweighed}
+use Rattle.std.proofs.Common.{sym, ◌∙◌, ap}
+use Rattle.grove_tree.specs.Weights.{unweighed}
+use Rattle.grove_tree.proofs.SameOutlines.{roots_same}
 use Rattle.grove_tree.proofs.tree.Tree.same_names.Goals as goal
-
-pub returns-then-not-agrees_at : goal.returns-then-not-agrees_at
-returns-then-not-agrees_at c = (
-  λ no. absurd (true≢false (sym no)),
-  λ same. let (long, agree) = unweighed_same c.args.self.now c.args.other.now same in c.if-not-agrees_at.ensures.1 (agree c.new.result),
-)
 
 pub returns : goal.returns
 returns c =
-    let agree : (node : ℕ) → node < length c.args.self.now → AgreeAt c.args.self.now c.args.other.now node = λ node lt. c.loop-number.invariant node (omega arith) in
-    (λ yes. same_unweighed c.args.self.now c.args.other.now (omega arith) agree, λ same. refl)
+    let (to, from) = roots_same c.self.inside.root c.other.inside.root c.self.invariant.0 c.other.invariant.0 c.self.invariant.1 c.other.invariant.1 in (
+      λ yes. ap unweighed (sym c.self.view_is) ∙ to (c.have_same_names.ensures.0 yes) ∙ ap unweighed c.other.view_is,
+      λ same. c.have_same_names.ensures.1 (from (ap unweighed c.self.view_is ∙ same ∙ ap unweighed (sym c.other.view_is))),
+    )

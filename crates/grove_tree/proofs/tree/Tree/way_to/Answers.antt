@@ -1,9 +1,9 @@
-use Rattle.std.proofs.Common.{◌≡◌, ◌<◌, ℕ, ◌∷◌, ◌++◌, [], length, List, Some, None, sym, ◌∙◌, ap, subst, arith}
+use Rattle.std.proofs.Common.{◌≡◌, ℕ, ◌∷◌, ◌++◌, [], List, Some, None, sym, ◌∙◌, ap, subst, arith}
 use Rattle.grove_tree.specs.Trees.{Rows, IsTree, parent_of}
 use Rattle.grove_tree.specs.Outlines.{Under}
 use Rattle.grove_tree.specs.Ways.{way_of}
 use Rattle.grove_tree.specs.declared.way.WayNode.{WayNode}
-use Rattle.grove_tree.proofs.OutlineRows.{IsReached, reached_root, reached_child}
+use Rattle.grove_tree.proofs.OutlineRows.{reached_root, reached_child}
 use Rattle.grove_tree.proofs.WaysDown.{IsWayTo, way_begins, way_goes_on}
 use Rattle.grove_tree.proofs.tree.Tree.way_to.Goals as goal
 
