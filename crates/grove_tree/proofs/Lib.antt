@@ -10,6 +10,7 @@ pub mod ChildOfNode
 pub mod OutlineRows
 pub mod Names
 pub mod PathParts
+pub mod NameMarks
 pub mod PathDescent
 pub mod Paths
 pub mod UniquePaths

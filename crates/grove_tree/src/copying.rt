@@ -7,7 +7,7 @@ use std::alloc::{AllocError, Global};
 pub fn copy_of(alloc: Global, outline: &Outline) -> Result<Outline, AllocError>
     ensures { IfOk result (λ copy. copy ≡ outline.now) }
 {
-    let name = outline.name.clone()?;
+    let name = outline.name.copy()?;
     let mut children = Vec::new(alloc);
     for child in &outline.children {
         let copy = copy_of(alloc, child)?;

@@ -3,7 +3,7 @@ ghost use Rattle.grove_tree.specs.Trees.{IsTree, parent_of};
 ghost use Rattle.grove_tree.specs.Rules.{rows_of};
 ghost use Rattle.grove_tree.specs.OutlinesInTrees.{IsGrown};
 
-use crate::{Outline, Row};
+use crate::{Name, Outline, Row};
 use std::alloc::{AllocError, Global};
 
 /// Does the row stand in the list, with that parent?
@@ -24,7 +24,7 @@ pub fn grow(alloc: Global, rows: &[Row], node: u32) -> Result<Outline, AllocErro
     ensures { IfOk result (λ outline. IsGrown (rows_of rows.now) node outline) }
 {
     let row = &rows[node as usize];
-    let name = row.name.clone()?;
+    let name = Name::new(row.name.clone()?);
     let weight = row.weight;
     let mut children = Vec::new(alloc);
     let mut next = node + 1;

@@ -4,6 +4,7 @@
 pub use fault::TreeFault;
 pub use gate::{Gate, OpenGate};
 pub use grove_base::NoMemory;
+pub use name::Name;
 pub use node::Node;
 pub use outline::Outline;
 pub use row::Row;
@@ -18,6 +19,7 @@ mod finding;
 mod gate;
 mod growing;
 mod likeness;
+mod name;
 mod node;
 mod outline;
 mod row;

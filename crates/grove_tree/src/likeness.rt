@@ -8,7 +8,7 @@ pub fn have_same_names(outline: &Outline, other: &Outline) -> bool
     ensures { IsTrue result ↔ SameNames outline.now other.now }
 {
     if outline.number != other.number
-        || outline.name != other.name
+        || !outline.name.is_same(&other.name)
         || outline.children.len() != other.children.len()
     {
         return false;

@@ -3,14 +3,14 @@ ghost use Rattle.grove_tree.specs.Trees.{parent_of, name_of, weight_of};
 ghost use Rattle.grove_tree.specs.PathRests.{GoesOn};
 ghost use Rattle.grove_tree.specs.OutlinesInTrees.{Covers, IsChild};
 
-use crate::finding::after_name;
-use crate::{Node, WayNode};
+use crate::name::next_mark;
+use crate::{Name, Node, WayNode};
 use std::marker::Model;
 
 /// A node with all that is below it.
 #[derive(Debug, Drop)]
 pub struct Outline {
-    pub name: String,
+    pub name: Name,
     pub weight: u32,
     pub number: u32,
     /// How many nodes the outline has, its own included.
@@ -19,7 +19,7 @@ pub struct Outline {
 }
 
 impl Model for Outline {
-    ghost use Rattle.std.specs.Prelude.{◌∷◌, None, string_bytes, length};
+    ghost use Rattle.std.specs.Prelude.{◌∷◌, None, length};
     ghost use Rattle.grove_tree.specs.Trees.{NodeRow};
     ghost use Rattle.grove_tree.specs.Outlines.{Under, rows_under, IsOutline};
     ghost use Rattle.grove_tree.specs.OutlineFalls.{length-rows_under, most_le-total};
@@ -27,7 +27,7 @@ impl Model for Outline {
 
     ghost Value = { Under };
 
-    ghost view = { λ a. (a.number, record { parent = None; name = string_bytes a.name; weight = a.weight } ∷ rows_under a.number a.children.items) };
+    ghost view = { λ a. (a.number, record { parent = None; name = a.name; weight = a.weight } ∷ rows_under a.number a.children.items) };
 
     ghost invariant = { λ a. IsOutline a.number a.size a.children.items };
 
@@ -78,8 +78,9 @@ impl Outline {
             ((row : ℕ) (rest : List ℕ) → parent_of self.now.1 row ≡ Some self.now.0 → ¬ GoesOn path.now (name_of self.now.1 row) rest)
             (λ found. IsChild self.now found.0.now × GoesOn path.now (name_of found.0.now.1 0) found.1.now) }
     {
+        let mark = next_mark(path);
         for child in &self.children {
-            if let Some(rest) = after_name(path, child.name.as_bytes()) {
+            if let Some(rest) = child.name.rest_in(path, mark) {
                 return Some((child, rest));
             }
         }

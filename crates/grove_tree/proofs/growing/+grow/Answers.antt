@@ -44,5 +44,5 @@ own_row rows node row is within =
 pub returns : goal.returns
 returns t c =
     let here = own_row c.args.rows.now c.args.node c.index-rows-node.result c.index-rows-node.is c.requires.within in
-    rw c.in_ok-name.ensures.cases
+    rw (c.new-name.ensures, c.in_ok-clone.ensures.cases)
     (growing_done _ _ _ _ (row_of c.index-rows-node.result) c.loop-alloc.invariant here (λ h. true≢false (sym (c.loop-alloc-test.ensures.1 h))))

@@ -1,4 +1,4 @@
-use Rattle.std.proofs.Common.{◌≡◌, ℕ, List, Some, refl, sym, ◌∙◌, ap, subst, inl, inr, arith, string_bytes}
+use Rattle.std.proofs.Common.{◌≡◌, ℕ, List, Some, refl, sym, ◌∙◌, ap, subst, inl, inr, arith}
 use Rattle.std.specs.List.{slice_get}
 use Rattle.std.proofs.lemmas.Option.{slice_get_read, slice_get_within, same_Some}
 use Rattle.std.proofs.lemmas.Bool.{cases_lt}
@@ -14,7 +14,7 @@ returns-in-Some c =
     let all = c.deref-child-items.ensures.value in
     let got : slice_get c.deref-child-items.result.now c.loop-child.child-index ≡ Some c.child-item.result =
     slice_get_read c.deref-child-items.result.now _ _ c.child-item.result refl c.loop-child-test.true c.child-item.is in
-    let named = c.as_bytes.ensures.value ∙ ap (λ (v : Under). name_of v.1 0) c.child.view_is in (
+    let named = ap (λ (v : Under). name_of v.1 0) c.child.view_is in (
       subst (λ (v : Under). IsChild v c.child-item.result) c.self.view_is (is_child _ _ _ _ _ _ c.self.invariant (rw all at got)),
       subst (λ (bytes : List ℕ). GoesOn c.args.path.now bytes c.in-Some.rest.now) named c.in-Some.ensures,
     )
@@ -23,7 +23,7 @@ pub loop-child-preserved : goal.loop-child-preserved
 loop-child-preserved c = λ place child lt got rest goes.
     let here : slice_get c.deref-child-items.result.now c.loop-child.child-index ≡ Some c.child-item.result =
     slice_get_read c.deref-child-items.result.now _ _ c.child-item.result refl c.loop-child-test.true c.child-item.is in
-    let named = c.as_bytes.ensures.value ∙ ap (λ (v : Under). name_of v.1 0) c.child.view_is in
+    let named = ap (λ (v : Under). name_of v.1 0) c.child.view_is in
     elim (cases_lt place c.loop-child.child-index) [
       | inl before ↦ c.loop-child.invariant place child before got rest goes
       | inr past ↦
@@ -38,7 +38,7 @@ returns c =
     let all = c.deref-child-items.ensures.value in
     let past = c.loop-child-test.false in
     subst (λ (v : Under). (row : ℕ) (rest : List ℕ) → parent_of v.1 row ≡ Some v.0 → GoesOn c.args.path.now (name_of v.1 row) rest → ⊥) c.self.view_is
-    (none_goes_on c.self.inside.number c.self.inside.size (string_bytes c.self.inside.name) c.self.inside.weight c.self.inside.children.items c.args.path.now c.self.invariant
+    (none_goes_on c.self.inside.number c.self.inside.size c.self.inside.name c.self.inside.weight c.self.inside.children.items c.args.path.now c.self.invariant
     (λ place child got rest goes.
     let there : slice_get c.deref-child-items.result.now place ≡ Some child = rw all got in
     let within = slice_get_within c.deref-child-items.result.now place child there in

@@ -1,4 +1,4 @@
-use Rattle.std.proofs.Common.{◌≡◌, suc, ◌∷◌, [], length, None, sym, ◌∙◌, ap, subst, append_assoc, arith, string_bytes}
+use Rattle.std.proofs.Common.{◌≡◌, suc, ◌∷◌, [], length, None, sym, ◌∙◌, ap, subst, append_assoc, arith}
 use Rattle.grove_tree.specs.Trees.{Rows, IsTree, parent_of, name_of}
 use Rattle.grove_tree.specs.Rules.{IsWithinLimits}
 use Rattle.grove_tree.specs.Outlines.{Under, rows_under}
@@ -22,11 +22,11 @@ loop-child-preserved c =
     let longer = names_step c.args.self.now tree c.in-Some.child.now.0 c.loop-child.at.now.0 own in
     let long : suc (length (rows_under c.child.inside.number c.child.inside.children.items)) ≡ length c.in-Some.child.now.1 = ap (λ (v : Under). length v.1) c.child.view_is in
     let (parent, name, weight) = placed_own c.args.self.now _ c.in-Some.child.now next.placed (omega arith) in
-    let named : string_bytes c.child.inside.name ≡ name_of c.args.self.now c.in-Some.child.now.0 =
+    let named : c.child.inside.name ≡ name_of c.args.self.now c.in-Some.child.now.0 =
     ap (λ (v : Under). name_of v.1 0) c.child.view_is ∙ sym name in (
       next,
-      rw (c.in_ok-push_str-2.ensures.bytes, c.in_ok-push_str.ensures.bytes, c.as_str.ensures.value, c.loop-child.invariant.1, longer, ← named)
-          (append_assoc (names_of c.args.self.now c.loop-child.at.now.0) (47 ∷ []) (string_bytes c.child.inside.name)),
+      rw (c.in_ok-push_str-2.ensures.bytes, c.in_ok-push_str.ensures.bytes, c.as_str.ensures, c.loop-child.invariant.1, longer, ← named)
+          (append_assoc (names_of c.args.self.now c.loop-child.at.now.0) (47 ∷ []) c.child.inside.name),
     )
 
 pub returns-clause-found : goal.returns-clause-found
