@@ -54,3 +54,10 @@ some_left R [] (y ∷ ys) i x all at = absurd all
 some_left R (z ∷ xs) [] i x all at = absurd all
 some_left R (z ∷ xs) (y ∷ ys) zero x all at = (y, refl, subst (λ w. R w y) (same_Some _ _ at) all.0)
 some_left R (z ∷ xs) (y ∷ ys) (suc i) x all at = some_left R xs ys i x all.1 at
+
+-- what goes with the items of a mapped list
+pub AllZip-mapped : {A B C : Type 0} (f : A → B) (R : B → C → Type 0) (xs : List A) (ys : List C) → AllZip (λ x y. R (f x) y) xs ys → AllZip R (map f xs) ys
+AllZip-mapped f R [] [] all = tt
+AllZip-mapped f R [] (y ∷ ys) all = absurd all
+AllZip-mapped f R (x ∷ xs) [] all = absurd all
+AllZip-mapped f R (x ∷ xs) (y ∷ ys) all = (all.0, AllZip-mapped f R xs ys all.1)

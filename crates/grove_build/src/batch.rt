@@ -5,7 +5,7 @@ ghost use Rattle.grove_access.specs.Lists.{nodes_of, AreNodes};
 ghost use Rattle.grove_build.specs.Batches.{IsPlanned};
 
 use crate::planning::{Planned, plan};
-use crate::targets::distinct_of;
+use crate::targets::{distinct_of, each_of};
 use grove_access::AccessList;
 use grove_plan::Plan;
 use grove_proof::Flow;
@@ -34,6 +34,10 @@ pub fn plan_batch<R: Threads + Sync, G: Gate + Sync>(
         return Ok(Vec::new(alloc));
     }
     let distinct = distinct_of(alloc, lists)?;
+    if distinct.lists.len() == lists.len() {
+        let each = each_of(alloc, lists)?;
+        return plan_parts(rt, alloc, tree, gate, workers, 0, &each);
+    }
     let plans = plan_parts(rt, alloc, tree, gate, workers, 0, &distinct.lists)?;
     let mut all = Vec::new(alloc);
     for place in &distinct.places {
