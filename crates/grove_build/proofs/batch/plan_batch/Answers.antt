@@ -1,19 +1,42 @@
-use Rattle.std.proofs.Common.{length, ap, arith}
+use Rattle.std.proofs.Common.{length, sym, ap, arith}
+use Rattle.std.specs.List.{AllZip}
+use Rattle.std.proofs.lemmas.Result.{IfOk-weaker}
 use Rattle.std.proofs.lemmas.List.{take_all}
 use Rattle.std.proofs.lemmas.Slice.Zip.{AllZip-long}
-use Rattle.grove_build.proofs.Sorted.{planned_next, parts_fit}
+use Rattle.grove_base.proofs.Lists.{map_length}
+use Rattle.grove_build.specs.Batches.{IsPlanned}
+use Rattle.grove_build.proofs.Batched.{AllZip-mapped}
+use Rattle.grove_build.proofs.Sorted.{planned_next, parts_fit, each_fit}
 use Rattle.grove_build.proofs.batch.plan_batch.Goals as goal
 
 pub plan_parts-requires-clause-room : goal.plan_parts-requires-clause-room
-plan_parts-requires-clause-room g c κs within = let few = c.in_ok-distinct.ensures.few in rw c.deref.ensures.value (omega arith)
+plan_parts-requires-clause-room g c κs within =
+    let few = c.requires.few in
+    let long = ap length c.in_ok-each.ensures in
+    let same = map_length (λ list. list.now) c.in_ok-each.each.items in
+    rw c.deref.ensures.value (omega arith)
 
 pub plan_parts-requires-clause-fit : goal.plan_parts-requires-clause-fit
-plan_parts-requires-clause-fit g c κs within = rw c.deref.ensures.value (parts_fit c.args.tree.now c.in_ok-distinct.distinct.lists.items _ _ c.in_ok-distinct.ensures c.requires.fit)
+plan_parts-requires-clause-fit g c κs within = rw c.deref.ensures.value (each_fit c.args.tree.now c.in_ok-each.each.items _ c.in_ok-each.ensures c.requires.fit)
+
+pub returns-then-len-lists-clause-planned : goal.returns-then-len-lists-clause-planned
+returns-then-len-lists-clause-planned g c =
+    IfOk-weaker c.plan_parts.result _ _
+    (λ all planned.
+    let whole : AllZip (λ part one. IsPlanned c.args.tree.now part.now one) c.in_ok-each.each.items all.items = rw c.deref.ensures.value at planned in
+    rw (sym c.in_ok-each.ensures) (AllZip-mapped (λ list. list.now) (IsPlanned c.args.tree.now) c.in_ok-each.each.items all.items whole))
+    c.plan_parts.ensures
+
+pub plan_parts-requires-2-clause-room : goal.plan_parts-requires-2-clause-room
+plan_parts-requires-2-clause-room g c κs within = let few = c.in_ok-distinct.ensures.few in rw c.deref-2.ensures.value (omega arith)
+
+pub plan_parts-requires-2-clause-fit : goal.plan_parts-requires-2-clause-fit
+plan_parts-requires-2-clause-fit g c κs within = rw c.deref-2.ensures.value (parts_fit c.args.tree.now c.in_ok-distinct.distinct.lists.items _ _ c.in_ok-distinct.ensures c.requires.fit)
 
 pub index-requires : goal.index-requires
 index-requires g c =
     let e = ap length c.deref-place-items.ensures.value in
-    let plans = rw c.deref.ensures.value at c.in_ok-plans.ensures in
+    let plans = rw c.deref-2.ensures.value at c.in_ok-plans.ensures in
     let next = planned_next c.args.tree.now c.in_ok-distinct.distinct.lists.items c.in_ok-distinct.distinct.places.items c.args.lists.now c.in_ok-plans.plans.items c.in_ok-distinct.ensures
     plans c.loop-place.place-index (omega arith) in
     rw (c.deref-place-items.ensures.value, c.in_ok-plans.plans.ok.0) next.0
@@ -21,7 +44,7 @@ index-requires g c =
 pub loop-place-preserved : goal.loop-place-preserved
 loop-place-preserved g c =
     let e = ap length c.deref-place-items.ensures.value in
-    let plans = rw c.deref.ensures.value at c.in_ok-plans.ensures in
+    let plans = rw c.deref-2.ensures.value at c.in_ok-plans.ensures in
     let read = rw c.deref-place-items.ensures.value at c.index.ensures in
     let next = planned_next c.args.tree.now c.in_ok-distinct.distinct.lists.items c.in_ok-distinct.distinct.places.items c.args.lists.now c.in_ok-plans.plans.items c.in_ok-distinct.ensures
     plans c.loop-place.place-index (omega arith) in

@@ -11,7 +11,6 @@ use Rattle.grove_span.specs.SpanRows.{node_of_row, HaveParents, HaveWeights, Hav
 use Rattle.grove_build.specs.declared.planning.Planned.{Planned}
 use Rattle.grove_build.specs.Settled.{IsSettled}
 use Rattle.grove_build.specs.Networks.{IsSpan, weights_of}
-use Rattle.grove_build.proofs.Asked.{nodes_few}
 use Rattle.grove_build.proofs.planning.plan_watched.Goals as goal
 
 -- a settled plan is least
