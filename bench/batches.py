@@ -6,9 +6,9 @@
 `grove_bench batches` plans 256 lists of 64 accesses over 4,096 nodes, all different and all equal, and 256 different ones that
 force some 2,000 nodes each, changes the weights of 4,096 nodes 100 times, and runs 256 jobs: of 64 accesses over 2,049
 nodes each, and of one access at nodes of their own.
-`bench/locks.rs`, compiled here by `rustc`, takes the same locks for the same jobs by the same plans, with a Mutex a node. The
-two are run in turn, RUNS times; the median and the least time are printed, in milliseconds, and for the jobs how many are
-done in a second.
+`bench/locks.rs`, compiled here by `rustc`, takes the same locks for the same jobs by the same plans, with a Mutex a node;
+`bench/halves.rs` only counts, cut in two as a batch of lists is. The three are run in turn, RUNS times; the median and the
+least time are printed, in milliseconds, and for the jobs how many are done in a second.
 """
 import statistics
 import subprocess
@@ -33,6 +33,13 @@ def microseconds(commands, runs):
     return found
 
 
+def built(name, folder):
+    """A program of this folder, compiled by `rustc`."""
+    program = Path(folder) / name
+    subprocess.run(["rustc", "-O", "-o", program, TOP / f"bench/{name}.rs"], check=True)
+    return program
+
+
 def show(name, times):
     for what in dict.fromkeys(what for what, _ in times):
         spent = [times[what, workers] for workers in (1, 2, 4)]
@@ -49,9 +56,8 @@ def main():
         sys.exit(f"no program {PROGRAM}: cd crates/grove_bench && rt run")
     print("by 1, 2 and 4 workers")
     with tempfile.TemporaryDirectory() as folder:
-        locks = Path(folder) / "locks"
-        subprocess.run(["rustc", "-O", "-o", locks, TOP / "bench/locks.rs"], check=True)
-        found = microseconds({"grove": [PROGRAM, "batches"], "locks alone": [locks]}, runs)
+        locks, halves = (built(name, folder) for name in ("locks", "halves"))
+        found = microseconds({"grove": [PROGRAM, "batches"], "locks alone": [locks], "loops alone": [halves]}, runs)
     for name, times in found.items():
         show(name, times)
 

@@ -4,6 +4,7 @@
 use answer::{Stop, end};
 use command::{refused_words, run_command};
 use grove_session::{ReaderSource, WriterSink};
+use std::alloc::Global;
 use std::env;
 use std::io::ErrorKind;
 use std::process::ExitCode;
@@ -15,7 +16,11 @@ mod refusal;
 mod seats;
 mod serving;
 
+/// As large a block as the C library's allocator takes a sign from.
+const KEPT: usize = 1 << 24;
+
 fn main(rt: HostRuntime) -> ExitCode {
+    keep_freed_memory(rt.alloc());
     let mut input = ReaderSource::new(rt.stdin());
     let mut out = WriterSink::new(rt.stdout());
     let mut err = WriterSink::new(rt.stderr());
@@ -30,4 +35,12 @@ fn main(rt: HostRuntime) -> ExitCode {
         Err(_) => end(&rt, refused_words(rt.alloc()), &mut out, &mut err),
     };
     ExitCode::from(status)
+}
+
+/// Lets the C library's allocator keep what is freed, else threads wait for each other at the system's memory. It keeps
+/// about as much as the largest block that it gave back so far: here one is asked for, and given back untouched. Where it
+/// is refused, all goes on without.
+fn keep_freed_memory(alloc: Global) {
+    let block: Result<Vec<u8>, _> = Vec::with_capacity(alloc, KEPT);
+    drop(block);
 }

@@ -10,9 +10,14 @@ mod running;
 mod watch;
 
 use anyhow::Result;
+use std::alloc::Global;
 use std::env;
 
+/// As large a block as the C library's allocator takes a sign from.
+const KEPT: usize = 1 << 24;
+
 fn main(rt: HostRuntime) -> Result<()> {
+    keep_freed_memory(rt.alloc());
     for word in env::args(&rt)?.skip(1) {
         match word.as_str() {
             "plan" => planning::time(&rt)?,
@@ -22,4 +27,10 @@ fn main(rt: HostRuntime) -> Result<()> {
         }
     }
     Ok(())
+}
+
+/// Lets the C library's allocator keep what is freed, as the program does.
+fn keep_freed_memory(alloc: Global) {
+    let block: Result<Vec<u8>, _> = Vec::with_capacity(alloc, KEPT);
+    drop(block);
 }
