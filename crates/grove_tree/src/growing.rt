@@ -3,7 +3,8 @@ ghost use Rattle.grove_tree.specs.Trees.{IsTree, parent_of};
 ghost use Rattle.grove_tree.specs.Rules.{rows_of};
 ghost use Rattle.grove_tree.specs.OutlinesInTrees.{IsGrown};
 
-use crate::{Name, Outline, Row};
+use crate::name::Name;
+use crate::{Outline, Row};
 use std::alloc::{AllocError, Global};
 
 /// Does the row stand in the list, with that parent?

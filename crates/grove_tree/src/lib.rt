@@ -4,7 +4,6 @@
 pub use fault::TreeFault;
 pub use gate::{Gate, OpenGate};
 pub use grove_base::NoMemory;
-pub use name::Name;
 pub use node::Node;
 pub use outline::Outline;
 pub use row::Row;

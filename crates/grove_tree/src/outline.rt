@@ -3,8 +3,8 @@ ghost use Rattle.grove_tree.specs.Trees.{parent_of, name_of, weight_of};
 ghost use Rattle.grove_tree.specs.PathRests.{GoesOn};
 ghost use Rattle.grove_tree.specs.OutlinesInTrees.{Covers, IsChild};
 
-use crate::name::next_mark;
-use crate::{Name, Node, WayNode};
+use crate::name::{Name, next_mark};
+use crate::{Node, WayNode};
 use std::marker::Model;
 
 /// A node with all that is below it.
