@@ -32,7 +32,7 @@ fn count_parts(workers: usize, parts: usize, times: usize) {
 }
 
 fn main() {
-    for (what, times) in [("count-short", 20), ("count-long", 120)] {
+    for (what, times) in [("count-short", 40), ("count-long", 250)] {
         for workers in [1, 2, 4] {
             let since = Instant::now();
             count_parts(workers, PARTS, times);
