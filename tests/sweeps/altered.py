@@ -70,7 +70,7 @@ def altered(flow: list) -> Iterator[tuple[str, list]]:
     for number, row in enumerate(flow):
         before, after = flow[:number], flow[number + 1 :]
         for amount in AMOUNTS:
-            for value in {row[amount] - 1, row[amount] + 1, 0, MOST} - {row[amount], -1}:
+            for value in {row[amount] - 1, row[amount] + 1, 0, MOST, MOST + 1} - {row[amount], -1}:
                 yield f"row {number}, {amount} {value}", [*before, {**row, amount: value}, *after]
         for giver, taker in permutations(ALIKE, 2):
             moved = {**row, giver: row[giver] - 1, taker: row[taker] + 1}

@@ -1,5 +1,5 @@
-"""Broken session lines by a seeded generator, alone and between good ones: each gets its one reply, the good ones their
-own, and the store is what the good ones made it."""
+"""Broken session lines by a seeded generator, alone and between good ones, and lines about as long as one may be: each gets
+its one reply, the good ones their own, and the store is what the good ones made it."""
 
 from __future__ import annotations
 
@@ -8,7 +8,7 @@ from functools import partial
 from random import Random
 
 from server import Serving
-from store import Store, compact
+from store import MOST_LINE, Store, compact
 
 from sweeps.documents import access, paths_of, put_back, seeded
 from sweeps.mutilated import mutilated
@@ -19,16 +19,19 @@ TRIED = "session lines, most of them broken"
 SEEDED = 16
 # How many broken lines are made for each document: between good ones, and alone.
 BETWEEN, ALONE = 300, 60
+# How long lines are made with blanks.
+LENGTHS = [MOST_LINE - 1, MOST_LINE, MOST_LINE + 1, MOST_LINE + 4096, 2 * MOST_LINE]
 
 
 def tries(program: str, _room: str) -> list[Try]:
-    return [Try(f"seeded document {seed}", partial(break_lines, program, seed)) for seed in range(SEEDED)]
+    broken = [Try(f"seeded document {seed}", partial(break_lines, program, seed)) for seed in range(SEEDED)]
+    return [*broken, Try("long lines", partial(lengthen_lines, program))]
 
 
 def break_lines(program: str, seed: int, tally: Tally) -> None:
     random = Random(f"lines {seed}")
     document = seeded(seed)
-    good = good_lines(random, json.loads(put_back(document, run(program, "plan", text=document).out)))
+    good = good_lines(program, random, document)
     store = Store(json.loads(document))
     between = b"\n".join(line for _ in range(BETWEEN) for line in (broken(random, good), random.choice(good))) + b"\n"
     with Serving(program, document) as server:
@@ -39,13 +42,27 @@ def break_lines(program: str, seed: int, tally: Tally) -> None:
         note_replies(store, look(store), server.talk(look(store)), "at the end", tally)
 
 
+def lengthen_lines(program: str, tally: Tally) -> None:
+    """Each long line has good ones before and behind it, which are sent with it."""
+    random = Random("long lines")
+    document = seeded(0)
+    good = good_lines(program, random, document)
+    lines = [line for length in LENGTHS for line in (random.choice(good), random.choice(good).ljust(length))]
+    text = b"\n".join([*lines, random.choice(good)]) + b"\n"
+    store = Store(json.loads(document))
+    with Serving(program, document) as server:
+        note_replies(store, text, server.talk(text), "long ones between good ones", tally)
+        note_replies(store, look(store), server.talk(look(store)), "at the end", tally)
+
+
 def broken(random: Random, good: list[bytes]) -> bytes:
     """A good line changed; by chance it may be good again, or have become two lines."""
     return mutilated(random, random.choice(good))
 
 
-def good_lines(random: Random, document: dict) -> list[bytes]:
+def good_lines(program: str, random: Random, text: bytes) -> list[bytes]:
     """Lines of every kind that ask for something; most of them are batches."""
+    document = json.loads(put_back(text, run(program, "plan", text=text).out))
     paths = paths_of(document["nodes"])
     check = {"check": {name: document[name] for name in ("list", "plan", "flow")}}
     batches = [{"batch": [some_list(random, paths) for _ in range(random.randrange(4))]} for _ in range(12)]

@@ -28,4 +28,5 @@ def finish(timing: Path, tally: Tally) -> None:
     ran = subprocess.run([timing, "core"], capture_output=True, timeout=SECONDS, check=False)
     lines = [line.strip() for line in ran.stdout.decode(errors="replace").splitlines()]
     well = ran.returncode == 0 and lines[-1:] == [WANTED]
-    tally.note("its last line", None if well else f"wanted {WANTED!r}; came status {ran.returncode}, {short(ran.stdout)}")
+    came = f"status {ran.returncode}, {lines[-1:]}, {short(ran.stderr)}"
+    tally.note("its last line", None if well else f"wanted {WANTED!r}; came {came}")

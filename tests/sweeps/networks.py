@@ -34,11 +34,12 @@ def solve(search: Path, seed: int, tally: Tally) -> None:
     text = "\n".join([str(EACH), *(network(rng) for _ in range(EACH))])
     ran = subprocess.run([search], input=text.encode(), capture_output=True, timeout=SECONDS, check=False)
     lines = ran.stdout.decode(errors="replace").splitlines()
-    for number in range(EACH):
-        solved = number + 1 < len(lines)
-        tally.note(f"network {number}", None if solved else f"status {ran.returncode}, {short(ran.stderr)}")
-    well = ran.returncode == 0 and lines[-1:] == [f"{EACH} networks solved"]
-    tally.blame("the last line", None if well else f"status {ran.returncode}, {short(ran.stdout)}, {short(ran.stderr)}")
+    solved = sum(line.endswith(" microseconds") for line in lines)
+    for number in range(solved):
+        tally.note(f"network {number}", None)
+    well = ran.returncode == 0 and solved == EACH and lines[-1:] == [f"{EACH} networks solved"]
+    fault = None if well else f"status {ran.returncode}, {short(ran.stdout)}, {short(ran.stderr)}"
+    tally.blame(f"network {solved}", fault)
 
 
 def network(rng: random.Random) -> str:
