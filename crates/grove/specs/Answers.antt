@@ -37,7 +37,7 @@ IsRefusalLine (Refused text) = (fault : List ℕ) × (string_bytes text ≡ refu
 IsRefusalLine (Usage text) = Unit {0}
 IsRefusalLine (Listen line service) = Unit {0}
 
--- an answer has a text, where no command made it
+-- an answer is no refusal and has a text
 abbrev pub HasText : Answer → Type 0
 HasText (Done text) = string_bytes text ≢ []
 HasText (Refused text) = ⊥

@@ -28,7 +28,7 @@ abbrev pub first_beyond : ℕ → ℕ → List ℕ → Option ℕ
 first_beyond n place [] = None
 first_beyond n place (node ∷ nodes) = if nat_lt node n then first_beyond n (suc place) nodes else Some place
 
--- how many accesses a list has at most, and how many slots an access takes
+-- how many accesses a list has at most, and how many slots an access takes at most
 abbrev pub most_accesses : ℕ
 most_accesses = 64
 
@@ -42,17 +42,18 @@ is_length slots = nat_le 1 slots && nat_le slots longest
 abbrev pub AreLengths : List ℕ → Type 0
 AreLengths lengths = (access slots : ℕ) → slice_get lengths access ≡ Some slots → (1 ≤ slots) × (slots ≤ longest)
 
--- the first place of a list that is none, counted on from a number
+-- the first place of a list whose length is none, counted on from a number
 abbrev pub first_bad_length : ℕ → List ℕ → Option ℕ
 first_bad_length place [] = None
 first_bad_length place (slots ∷ lengths) = if is_length slots then first_bad_length (suc place) lengths else Some place
 
--- why accesses are no list over a tree, want of memory aside
+-- the fault of the first access beyond the nodes, else of the first bad length
 abbrev pub bad_access : Option ℕ → Option ℕ → Option ListFault
 bad_access (Some place) other = Some (NoNode place)
 bad_access None (Some place) = Some (BadLength place)
 bad_access None None = None
 
+-- why accesses are no list over a tree, want of memory aside
 abbrev pub list_fault_of : Rows → List Access → Option ListFault
 list_fault_of rows accesses = if nat_lt most_accesses (length accesses) then Some TooLong else bad_access (first_beyond (length rows) 0 (nodes_of accesses)) (first_bad_length 0 (lengths_of accesses))
 

@@ -77,13 +77,6 @@ impl Carry {
         self.known.len() == self.most_nodes
     }
 
-    /// Is the node out?
-    pub fn is_out(&self, node: Node) -> bool
-        ensures { result ≡ is_some (known_at self.now.known node) }
-    {
-        known_value(&self.known, node).is_some()
-    }
-
     /// The present value of a node.
     pub fn value(&self, node: Node) -> Option<i64>
         ensures { result ≡ present_at self.now node }

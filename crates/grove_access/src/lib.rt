@@ -7,7 +7,7 @@ pub use carry::Carry;
 pub use entry::Entry;
 pub use fault::ListFault;
 pub use known::Known;
-pub use list::AccessList;
+pub use list::{AccessList, LONGEST_ACCESS, MOST_ACCESSES};
 pub use records::Records;
 pub use reply::Reply;
 

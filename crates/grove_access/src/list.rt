@@ -7,11 +7,11 @@ use grove_tree::Tree;
 use std::alloc::Global;
 use std::marker::Model;
 
-/// The most accesses that a list may have.
-const LIMIT: usize = 64;
+/// No list has more accesses.
+pub const MOST_ACCESSES: usize = 64;
 
-/// The most slots that an access may take.
-const LONGEST: u32 = 1000;
+/// No access of a list takes more slots.
+pub const LONGEST_ACCESS: u32 = 1000;
 
 /// The accesses of a transaction, at most 64, done in this order.
 #[derive(Debug, Drop)]
@@ -32,6 +32,8 @@ impl Model for AccessList {
 }
 
 impl AccessList {
+    /// The accesses as a list over the tree. It is refused where they are too many; else for the first access that names no
+    /// node; else for the first of a bad length; and last for want of memory.
     pub fn new(alloc: Global, tree: &Tree, accesses: &[Access]) -> Result<AccessList, ListFault>
         ensures accesses { IfOk result (λ list. list ≡ accesses.now) }
         ensures faultless { IfOk result (λ list. list_fault_of tree.now accesses.now ≡ None) }
@@ -40,7 +42,7 @@ impl AccessList {
         ensures refused { IfErr result (λ fault. fault ≢ ListFault.Memory → ¬ AreListed tree.now accesses.now) }
         ensures memory { IsErrOf result ListFault.Memory → list_fault_of tree.now accesses.now ≡ None }
     {
-        if accesses.len() > LIMIT {
+        if accesses.len() > MOST_ACCESSES {
             return Err(ListFault::TooLong);
         }
         if let Some(access) = first_beyond(accesses, tree.len()) {
@@ -111,7 +113,7 @@ fn first_bad_length(accesses: &[Access]) -> Option<u32>
     ensures { result ≡ first_place_of_no_length 0 (lengths_of accesses.now) }
 {
     for (place, access) in accesses.iter().enumerate() {
-        if access.length == 0 || access.length > LONGEST {
+        if access.length == 0 || access.length > LONGEST_ACCESS {
             return Some(place as u32);
         }
     }

@@ -3,7 +3,7 @@ use grove_span::SpanRow;
 use grove_tree::NoMemory;
 use std::alloc::Global;
 
-/// What rows cost, each with all that hangs below it, by the positions of its lock and its release. The costs are
+/// What rows cost, each with all that hangs below it, by the gaps of its lock and its release. The costs are
 /// convex, and told by their slopes.
 ///
 /// Tables of slopes are kept of the rows that have several children, or a child and accesses. The others are the ends
@@ -85,58 +85,48 @@ pub struct RowSlopes<'a> {
 }
 
 impl RowSlopes<'_> {
-    /// The slopes on the step that ends at the position.
-    pub fn at(self, position: usize) -> Slopes {
-        self.cost.slopes(self.base_at(position))
+    /// The slopes on the step that ends at the gap.
+    pub fn at(self, gap: usize) -> Slopes {
+        self.cost.slopes(self.base_at(gap))
     }
 
     /// The least slope on that step.
-    pub fn least_at(self, position: usize) -> i64 {
+    pub fn least_at(self, gap: usize) -> i64 {
         let base = match self.cost.base {
-            Base::End(own) => own.least_alone(position),
-            Base::Table(_) => self.in_table(position).least,
+            Base::End(own) => own.least_alone(gap),
+            Base::Table(_) => self.in_table(gap).least,
         };
         base.max(self.cost.floor)
     }
 
-    /// The last position up to which the cost doesn't rise, between these two.
+    /// The last gap up to which the cost doesn't rise, between these two.
     pub fn lock(self, from: usize, to: usize) -> usize {
         if let Base::End(own) = self.cost.base {
             return own.first.min(to).max(from);
         }
-        for position in from..to {
-            if self.least_at(position + 1) > 0 {
-                return position;
+        for gap in from..to {
+            if self.least_at(gap + 1) > 0 {
+                return gap;
             }
         }
         from.max(to)
     }
 
-    fn base_at(self, position: usize) -> Slopes {
+    fn base_at(self, gap: usize) -> Slopes {
         match self.cost.base {
-            Base::End(own) => own.slopes(Slopes::FLAT, position),
-            Base::Table(_) => self.in_table(position),
+            Base::End(own) => own.slopes(Slopes::FLAT, gap),
+            Base::Table(_) => self.in_table(gap),
         }
     }
 
-    fn in_table(self, position: usize) -> Slopes {
-        self.table.get(position).copied().unwrap_or(Slopes::FLAT)
+    fn in_table(self, gap: usize) -> Slopes {
+        self.table.get(gap).copied().unwrap_or(Slopes::FLAT)
     }
 
     /// Puts the row's slopes into those of its parent.
     fn add_to(self, sum: &mut [Slopes]) {
-        let floor = self.cost.floor;
-        match self.cost.base {
-            Base::End(own) => {
-                for (position, slopes) in sum.iter_mut().enumerate() {
-                    *slopes = slopes.with_child(own.least_alone(position).max(floor));
-                }
-            }
-            Base::Table(_) => {
-                for (slopes, base) in sum.iter_mut().zip(self.table) {
-                    *slopes = slopes.with_child(base.least.max(floor));
-                }
-            }
+        for (gap, slopes) in sum.iter_mut().enumerate() {
+            *slopes = slopes.with_child(self.least_at(gap));
         }
     }
 }
@@ -151,12 +141,8 @@ impl Costs {
     ) -> Result<Costs, NoMemory> {
         let mut costs = Costs {
             tables: Vec::new(alloc),
-            rows: Vec::with_capacity(alloc, rows.len())?,
+            rows: ends_of(alloc, rows, needs)?,
         };
-        for (k, row) in rows.iter().enumerate() {
-            let own = Own::new(row, weight_at(needs, k));
-            costs.rows.push(RowCost::new(Base::End(own)))?;
-        }
         let mut sums = sums_of(alloc, rows, accesses)?;
         for (k, row) in rows.iter().enumerate().rev() {
             if let Some(sum) = sums.pop() {
@@ -176,8 +162,8 @@ impl Costs {
             && !sum.is_empty()
         {
             let mut table = sum;
-            for (position, slopes) in table.iter_mut().enumerate() {
-                *slopes = own.slopes(*slopes, position);
+            for (gap, slopes) in table.iter_mut().enumerate() {
+                *slopes = own.slopes(*slopes, gap);
             }
             cost.base = Base::Table(self.tables.len());
             self.tables.push(table)?;
@@ -247,6 +233,16 @@ fn children_of(alloc: Global, rows: &[SpanRow]) -> Result<Vec<u32>, NoMemory> {
         }
     }
     Ok(children)
+}
+
+/// The rows, each as it is before it has children.
+fn ends_of(alloc: Global, rows: &[SpanRow], needs: &[i64]) -> Result<Vec<RowCost>, NoMemory> {
+    let mut ends = Vec::with_capacity(alloc, rows.len())?;
+    for (k, row) in rows.iter().enumerate() {
+        let own = Own::new(row, weight_at(needs, k));
+        ends.push(RowCost::new(Base::End(own)))?;
+    }
+    Ok(ends)
 }
 
 fn weight_at(needs: &[i64], k: usize) -> i64 {

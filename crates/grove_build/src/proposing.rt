@@ -47,7 +47,7 @@ pub fn propose(
     Ok(solution)
 }
 
-/// What a parent leaves to a row: between which positions its lock stands, and what it gets and gives along their arcs.
+/// What a parent leaves to a row: between which gaps its lock stands, and what it gets and gives along their arcs.
 struct Share {
     from: usize,
     to: usize,
@@ -88,7 +88,7 @@ fn stand_of(
     (stand, flow)
 }
 
-/// What the row's parent leaves to it. The topmost row has all positions.
+/// What the row's parent leaves to it. The topmost row has all gaps.
 fn share_of(slopes: RowSlopes<'_>, row: &SpanRow, end: usize, stands: &mut [Stand]) -> Share {
     if let Some(parent) = row.parent
         && let Some(parent) = stands.get_mut(parent as usize)
@@ -172,11 +172,11 @@ fn take_up_to(left: &mut i64, most: i64) -> i64 {
     more
 }
 
-/// The last position up to which the cost of the row's release doesn't rise.
+/// The last gap up to which the cost of the row's release doesn't rise.
 fn release_of(slopes: RowSlopes<'_>, lock: usize, end: usize) -> usize {
-    for position in lock..end {
-        if slopes.at(position + 1).release > 0 {
-            return position;
+    for gap in lock..end {
+        if slopes.at(gap + 1).release > 0 {
+            return gap;
         }
     }
     lock.max(end)
@@ -199,8 +199,8 @@ fn send_along(amounts: &mut [u64], arc: Option<usize>, sent: u64) {
     }
 }
 
-fn slot_at(slots: &[u32], position: usize) -> i64 {
-    match slots.get(position) {
+fn slot_at(slots: &[u32], gap: usize) -> i64 {
+    match slots.get(gap) {
         Some(slot) => i64::from(*slot),
         None => 0,
     }

@@ -3,7 +3,7 @@ use grove_span::SpanRow;
 /// Steeper than all weights together.
 const WALL: i64 = 1 << 40;
 
-/// By how much the cost of a row, with all that hangs below it, rises on the step that ends at a position.
+/// By how much the cost of a row, with all that hangs below it, rises on the step that ends at a gap.
 #[derive(Clone, Copy)]
 pub struct Slopes {
     /// Where its lock takes the step.
@@ -35,9 +35,9 @@ impl Slopes {
 #[derive(Clone, Copy)]
 pub struct Own {
     weight: i64,
-    /// The last position at which the lock may stand.
+    /// The last gap at which the lock may stand.
     pub first: usize,
-    /// The first position after the step that the release has to be past.
+    /// The first gap after the step that the release has to be past.
     behind: usize,
 }
 
@@ -51,22 +51,22 @@ impl Own {
     }
 
     /// The least slope of a row that has accesses and no children.
-    pub fn least_alone(self, position: usize) -> i64 {
-        if self.first < position {
+    pub fn least_alone(self, gap: usize) -> i64 {
+        if self.first < gap {
             WALL
         } else {
             0i64.saturating_sub(self.weight)
         }
     }
 
-    /// The row's slopes on the step that ends at the position, where its children come to these.
-    pub fn slopes(self, children: Slopes, position: usize) -> Slopes {
-        let lock = if self.first < position {
+    /// The row's slopes on the step that ends at the gap, where its children come to these.
+    pub fn slopes(self, children: Slopes, gap: usize) -> Slopes {
+        let lock = if self.first < gap {
             WALL
         } else {
             children.lock.saturating_sub(self.weight)
         };
-        let release = if position < self.behind {
+        let release = if gap < self.behind {
             -WALL
         } else {
             children.release.saturating_add(self.weight)

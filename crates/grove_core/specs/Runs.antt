@@ -91,11 +91,12 @@ IsRefused jobs past event Marked = (event ≡ Mark (job_of event))
 
 -- What a run did.
 
--- the access that a step does
+-- a job's access, where its list has it
 abbrev pub deed_at : ℕ → Option Visit → List Deed
 deed_at t None = []
 deed_at t (Some visit) = record { job = t; access = visit } ∷ []
 
+-- the access that a step does
 abbrev pub deed_of : ℕ → List Visit → Option Step → List Deed
 deed_of t list None = []
 deed_of t list (Some (Lock v)) = []
@@ -120,9 +121,10 @@ waits_of jobs [] node = 0
 waits_of jobs (Take u ∷ past) node = waits_of jobs past node
 waits_of jobs (Mark u ∷ past) node = (if locks node (next_step jobs past u) then 1 else 0) + waits_of jobs past node
 
--- the steps and the lock steps of all plans together
+-- how many steps of a plan are locks
 abbrev pub lock_steps : List Step → ℕ
 lock_steps plan = count_below (length plan) (λ i. is_lock (slice_get plan i))
 
+-- the steps and the lock steps of all plans together
 abbrev pub most_events : List Job → ℕ
 most_events jobs = sum_below (length jobs) (λ t. length (plan_of jobs t) + lock_steps (plan_of jobs t))

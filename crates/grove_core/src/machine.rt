@@ -47,7 +47,7 @@ impl<'a> Model for Core<'a> {
 }
 
 impl<'a> Core<'a> {
-    /// The core of these jobs over the tree, before the first event. It keeps copies of the records and lends the rest.
+    /// The core of these jobs over the tree, before the first event. It keeps a copy of the records and borrows the rest.
     /// After `BadPlan` and `Memory` nothing has changed; `Memory` may come before `BadPlan`.
     pub fn open(
         alloc: Global,

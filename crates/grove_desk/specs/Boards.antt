@@ -23,7 +23,7 @@ pub record IsSound (names : Names) (ledger : Option Books) (slots : List Slot) :
   pub over : IfSome ledger (λ books. unweighed books.store.rows ≡ names)
   pub held : All (Holds names) slots
 
--- a turn over these names that took so many lines: the store with some lines, or a receipt without any
+-- what a turn over these names gives: the store with some lines, a receipt that these names allow, or nothing to do
 abbrev pub Fits : Names → ℕ → Turn → Type 0
 Fits names lines (turn.Lead books) = (unweighed books.store.rows ≡ names) × (0 < lines)
 Fits names lines (turn.Done done) = IfOk done (IsAllowed names)

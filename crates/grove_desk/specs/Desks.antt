@@ -1,4 +1,4 @@
--- A desk and a visit to it, as their callers see them, and the text that a visitor's session writes.
+-- A desk and a visit to it, as their callers see them.
 use Rattle.std.specs.Prelude.{◌≡◌, ℕ, ◌≤◌, Bool, List, Option, Some, None}
 use Rattle.grove_store.specs.Stocks.{Stock}
 use Rattle.grove_desk.specs.Receipts.{Names, Entry, Allows}

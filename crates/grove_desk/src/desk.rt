@@ -118,14 +118,19 @@ impl Desk {
                 }
                 Turn::Lead(ledger) => {
                     drop(board);
-                    if full {
-                        self.moved.notify_all();
-                    }
+                    self.tell_room(full);
                     self.lead(rt, alloc, ledger, &mut batch, gate)?;
                 }
             }
         }
         unreachable!()
+    }
+
+    /// Wakes those that wait for room on a board that was full and no longer is.
+    fn tell_room(&self, was_full: bool) {
+        if was_full {
+            self.moved.notify_all();
+        }
     }
 
     /// Puts a line once fewer than 16 wait, and gives its ticket.

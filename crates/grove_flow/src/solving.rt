@@ -10,7 +10,7 @@ use grove_base::NoMemory;
 use std::alloc::Global;
 
 /// Sends what the network needs along its arcs, beginning from places that meet every arc. An arc with an
-/// amount is tight at the end, which makes the places the cheapest: nothing is gained by a longer arc.
+/// amount is tight at the end, so no places that meet the arcs have a smaller sum of needs times places.
 ///
 /// This is the primal-dual method by successive shortest paths: the places are the potentials, and an arc's slack is
 /// its reduced cost.

@@ -4,21 +4,21 @@ ghost use Rattle.grove_tree.specs.Trees.{weight_of};
 ghost use Rattle.grove_meter.specs.Waits.{new_weight_of, reweighed};
 
 use crate::WaitRule;
-use grove_tree::{Gate, Tree};
+use grove_tree::{Gate, HEAVIEST, Tree};
 use std::thread::Threads;
 
-const HEAVIEST: u64 = 1000;
-
-/// The weight of a node once it was waited for so many times: about half of the old one and the waits, at most 1,000.
+/// The weight of a node once it was waited for so many times: 1, half of what the old weight is above 1, rounded down, and
+/// the waits, added up, but at most 1,000.
 pub fn new_weight(weight: u32, waits: u32) -> u32
     requires { (1 ≤ weight) × (weight ≤ 1000) }
     ensures { result ≡ new_weight_of weight waits }
 {
     let sum = 1 + u64::from(weight - 1) / 2 + u64::from(waits);
-    sum.min(HEAVIEST) as u32
+    sum.min(u64::from(HEAVIEST)) as u32
 }
 
-/// Gives each node of the tree its new weight by the waits at its number. The result is the number of weights changed.
+/// Gives each node of the tree its new weight by the waits at its number. The result is the number of weights changed. Before
+/// a node's weight is made the gate is called with the node's number, and 0.
 pub fn reweigh<R: Threads + Sync, G: Gate + Sync>(
     rt: &R,
     tree: &mut Tree,

@@ -46,11 +46,12 @@ step_fault rows nodes plan position (Some (Unlock node)) = unlock_fault rows pla
 step_fault rows nodes plan position (Some (Access access)) = access_fault nodes plan position access
 step_fault rows nodes plan position None = None
 
--- the fault of the first of the first n steps that has one
+-- the first fault, else the next one
 abbrev pub fault_or : Option PlanFault → Option PlanFault → Option PlanFault
 fault_or (Some fault) next = Some fault
 fault_or None next = next
 
+-- the fault of the first of the first n steps that has one
 abbrev pub steps_fault : Rows → List ℕ → List Step → ℕ → Option PlanFault
 steps_fault rows nodes plan zero = None
 steps_fault rows nodes plan (suc n) = fault_or (steps_fault rows nodes plan n) (step_fault rows nodes plan n (slice_get plan n))

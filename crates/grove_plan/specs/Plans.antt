@@ -5,7 +5,7 @@ use Rattle.grove_tree.specs.Trees.{Rows, parent_of, weight_of}
 use Rattle.grove_plan.specs.declared.step.Step.{Step}
 use Rattle.grove_plan.specs.declared.step.Step.TheVariants.{Lock, Unlock, Access}
 
--- the tests of the step at a position
+-- tests of the step that a plan has at a position, if it has one there
 abbrev pub locks : ℕ → Option Step → Bool
 locks node (Some (Lock v)) = v == node
 locks node (Some (Unlock v)) = false

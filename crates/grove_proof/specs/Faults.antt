@@ -11,7 +11,6 @@ use Rattle.grove_proof.specs.declared.fault.ProofFault.{ProofFault}
 use Rattle.grove_proof.specs.declared.fault.ProofFault.TheVariants as fault
 use Rattle.grove_proof.specs.Forced.{IsForcedList}
 use Rattle.grove_proof.specs.Flows.{node_of, is_sign_ok, is_small, is_lock_balanced, is_release_balanced, AllRows, gains, losses}
-use Rattle.grove_proof.specs.declared.ledger.Test.TheVariants.{Sign}
 
 -- two lists differ first at a place, which may be the end of one of them
 pub record IsFirstDifference (xs ys : List ℕ) (i : ℕ) : Type 0 where

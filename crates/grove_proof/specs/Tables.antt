@@ -55,11 +55,12 @@ pub record AreVisits (nodes : List ℕ) (n v : ℕ) (visits : Visits) : Type 0 w
 abbrev pub VisitsByNode : Rows → List ℕ → ℕ → List Visits → Type 0
 VisitsByNode rows nodes n table = (v : ℕ) → v < length rows → (visits : Visits) × (slice_get table v ≡ Some visits) × AreVisits nodes n v visits
 
--- an amount, added up over the rows of a node's children
+-- the amount of a row that a name tells
 abbrev pub amount_of : Amount → FlowRow → ℕ
 amount_of Above row = row.above
 amount_of Held row = row.held
 
+-- an amount, added up over the rows of a node's children
 abbrev pub sum_at : Rows → Amount → ℕ → List FlowRow → ℕ
 sum_at rows amount v flow = sum_by (λ child. if is_at v (parent_of rows child.node) then amount_of amount child else 0) flow
 

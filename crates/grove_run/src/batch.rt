@@ -19,8 +19,9 @@ use std::marker::Brand;
 use std::sync::{Mutex, Wait};
 use std::thread::Threads;
 
-/// Brings the jobs to a finished run over copies of the records, by so many threads. Before the first try of each step a
-/// worker calls `gate.at(job, step)` outside every lock.
+/// Brings the jobs to a finished run over copies of the records, by at most so many threads, the caller's among them, and
+/// by no more than there are jobs; 0 is as 1. Before the first try of each step a worker calls `gate.at(job, step)` outside
+/// every lock.
 pub fn run_batch<'a, R: Threads + Wait + Sync, G: Gate + Sync>(
     rt: &R,
     alloc: Global,

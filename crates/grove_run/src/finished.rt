@@ -66,7 +66,7 @@ impl<'a> Finished<'a> {
         &self.order
     }
 
-    /// For each job its position in the order.
+    /// For each job its place in the order.
     pub fn places(&self, alloc: Global) -> Result<Vec<u32>, NoMemory>
         ensures { IfOk result (λ places. places.items ≡ places_of self.now.order (length self.now.core.jobs)) }
     {

@@ -109,12 +109,8 @@ fn pass<'a, B: Batch, R: Wait>(
     for _ in rt.forever() {
         match guard.carry_step(carry) {
             CarryStep::Stepped => return true,
-            CarryStep::Blocked => {
-                if guard.is_foreign() {
-                    return false;
-                }
-                guard = bells.of(node).wait(rt, guard);
-            }
+            CarryStep::Blocked if guard.is_foreign() => return false,
+            CarryStep::Blocked => guard = bells.of(node).wait(rt, guard),
             CarryStep::Ended | CarryStep::Foreign => {
                 guard.set_foreign();
                 bells.ring_all();

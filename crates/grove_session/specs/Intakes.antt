@@ -68,7 +68,7 @@ pub record RepliesInPart {S : Type 0} (lawful : Lawful S) (old : S) (before : In
   pub replied : IsHeldReplied lawful old (held_line before.line) reply new
   pub sends : SendsInPart before reply n more
 
--- or there is no reply
+-- or it has none, or a sink failed within it
 abbrev pub FailsNext : {S : Type 0} → Lawful S → S → Intake → SessionFault → List ℕ → S → Type 0
 FailsNext lawful old before (Write n) more new = RepliesInPart lawful old before n more new
 FailsNext lawful old before Memory more new = (more ≡ []) × (new ≡ old)

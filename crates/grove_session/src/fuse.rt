@@ -12,6 +12,7 @@ pub struct Fuse {
 }
 
 impl Fuse {
+    /// A sink that takes so many bytes and then fails for good.
     pub fn new(alloc: Global, room: usize) -> Fuse
         ensures contents { ⟦<Fuse as Sink>⟧.contents result ≡ Some [] }
         ensures failed { ⟦<Fuse as Sink>⟧.has_failed result ≡ false }

@@ -1,9 +1,9 @@
 -- For the proofs alone: what the tables say while a span is found.
-use Rattle.std.specs.Prelude.{◌≡◌, ◌≢◌, ℕ, ◌-◌, ◌<◌, ◌≤◌, ◌↔◌, List, length, map, slice_get, Option, Some, None, if◌then◌else◌}
+use Rattle.std.specs.Prelude.{◌≡◌, ◌≢◌, ℕ, ◌-◌, ◌<◌, ◌≤◌, ◌↔◌, List, map, slice_get, Option, Some, None, if◌then◌else◌}
 use Rattle.grove_base.specs.Numbers.{any_below, passing_below, least_below, last_below}
 use Rattle.grove_tree.specs.Trees.{Rows, IsAbove}
 use Rattle.grove_access.specs.Forced.{names_at, IsCommon, IsForcedByTree, is_forced}
-use Rattle.grove_span.specs.SpanRows.{node_of_row, find_place, HaveParents, HaveWeights, HaveAccesses}
+use Rattle.grove_span.specs.SpanRows.{node_of_row, HaveParents, HaveWeights, HaveAccesses}
 use Rattle.grove_span.specs.declared.row.SpanRow.{SpanRow}
 use Rattle.grove_span.specs.declared.visit.Visits.{Visits}
 

@@ -5,11 +5,8 @@ ghost use Rattle.grove_store.specs.Parts.{IsRoundOf, FitsRoom, NoneFits};
 
 use grove_access::AccessList;
 use grove_tree::{NoMemory, Tree};
-use grove_wire::{Request, WireFault, read_request};
+use grove_wire::{MOST_LISTS, Request, WireFault, read_request};
 use std::alloc::Global;
-
-/// The most lists that are run as one batch.
-const MOST_LISTS: usize = 256;
 
 /// Batches that are run as one: their lists, in order, and how many are each line's.
 #[derive(Debug, Drop)]

@@ -34,11 +34,12 @@ heaviest = 1000
 
 -- the rules of one row, as tests
 
--- the first row has no parent, and every other row's parent is the row before it or above that row
+-- a parent is told, and is the row before or above that row
 abbrev pub is_on_the_way : Rows → ℕ → Option ℕ → Bool
 is_on_the_way rows before None = false
 is_on_the_way rows before (Some parent) = is_above rows parent before
 
+-- the first row has no parent, and every other row's parent is the row before it or above that row
 abbrev pub is_well_placed : Rows → ℕ → Bool
 is_well_placed rows zero = is_none (parent_of rows zero)
 is_well_placed rows (suc before) = is_on_the_way rows before (parent_of rows (suc before))
@@ -48,11 +49,12 @@ abbrev pub is_well_named : Rows → ℕ → Bool
 is_well_named rows zero = bytes_eq (name_of rows zero) []
 is_well_named rows (suc before) = is_name (name_of rows (suc before))
 
--- another row has the same parent and the same name
+-- two parents are told, and are the same
 abbrev pub share_parent : Option ℕ → Option ℕ → Bool
 share_parent None other = false
 share_parent (Some parent) other = is_at parent other
 
+-- another row has the same parent and the same name
 abbrev pub is_twin : Rows → ℕ → ℕ → Bool
 is_twin rows row other = share_parent (parent_of rows row) (parent_of rows other) && bytes_eq (name_of rows other) (name_of rows row)
 
@@ -69,11 +71,12 @@ row_fault rows row =
     else if not (is_weight (weight_of rows row)) then Some (BadWeight row)
     else None
 
--- the first fault among the first n rows
+-- the fault of the rows before, else that of this row
 abbrev pub first_fault : Rows → ℕ → Option TreeFault → Option TreeFault
 first_fault rows row (Some fault) = Some fault
 first_fault rows row None = row_fault rows row
 
+-- the first fault among the first n rows
 abbrev pub rows_fault : Rows → ℕ → Option TreeFault
 rows_fault rows zero = None
 rows_fault rows (suc n) = first_fault rows n (rows_fault rows n)

@@ -7,7 +7,7 @@ pub use grove_base::NoMemory;
 pub use node::Node;
 pub use outline::Outline;
 pub use row::Row;
-pub use rules::DEEPEST;
+pub use rules::{DEEPEST, HEAVIEST};
 pub use tree::Tree;
 pub use way::WayNode;
 pub use weighing::Rule;

@@ -25,7 +25,8 @@ pub const DEEPEST: u32 = 32;
 
 const LONGEST_NAME: usize = 32;
 
-const HEAVIEST: u32 = 1000;
+/// No row of a tree weighs more.
+pub const HEAVIEST: u32 = 1000;
 
 fn parent_of_row(rows: &[Row], row: u32) -> Option<u32>
     requires { row < length rows.now }

@@ -32,10 +32,11 @@ HasShortArrays d = HasArraysWithin 4194304 d
 abbrev pub as_signed : Data → Option ℤ
 as_signed d = option_and_then as_i64 (as_number d)
 
--- an unsigned number of 32 bits
+-- a number that has 32 bits
 abbrev pub if_short : ℕ → Option ℕ
 if_short n = if nat_lt n (2 ^ 32) then Some n else None
 
+-- an unsigned number of 32 bits
 unfoldable pub as_short : Data → Option ℕ
 as_short d = option_and_then if_short (option_and_then as_u64 (as_number d))
 
@@ -71,10 +72,11 @@ row_form d =
 
 -- ---- versions
 
--- 1 where nothing is told; the first has no lengths, the second may have
+-- the version with a number
 abbrev pub version_numbered : ℕ → Option Version
 version_numbered n = if n == 1 then Some First else if n == 2 then Some Second else None
 
+-- 1 where nothing is told; the first has no lengths, the second may have
 abbrev pub version_of : Option Data → Option Version
 version_of None = Some First
 version_of (Some d) = option_and_then version_numbered (option_and_then as_u64 (as_number d))

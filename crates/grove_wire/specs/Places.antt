@@ -12,11 +12,12 @@ whole_of part = record { part = part; at = None; item = None }
 abbrev pub item_of : Part → ℕ → Place
 item_of part at = record { part = part; at = Some at; item = None }
 
--- an item of what stands at a place: an item of a part, or an access of a list in `lists`
+-- an item of a part, or an access of a list in `lists`
 abbrev pub item_within : Part → Option ℕ → ℕ → Place
 item_within part None at = item_of part at
 item_within part (Some list) at = record { part = part; at = Some list; item = Some at }
 
+-- an item of what stands at a place
 abbrev pub item_on : Place → ℕ → Place
 item_on place at = item_within place.part place.at at
 

@@ -7,12 +7,12 @@ use crate::forms::{is_word, list_items};
 use crate::paths::node_on;
 use crate::versions::Version;
 use crate::{Place, WireFault};
-use grove_access::{Access, Op};
+use grove_access::{Access, LONGEST_ACCESS, Op};
 use grove_tree::Tree;
 use serde_json::Value;
 
-/// The greatest length of an access.
-const LONGEST: u64 = 1000;
+/// The greatest length of an access, as documents tell numbers.
+const LONGEST: u64 = LONGEST_ACCESS as u64;
 
 /// An access with its node and its length: first its form, then its path and last its length.
 #[tactic(auto, unfolding(crate::specs::Reading::access_at))]

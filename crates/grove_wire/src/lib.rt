@@ -6,7 +6,7 @@ pub use fault::WireFault;
 pub use fault_names::{plan_fault_name, proof_fault_name, run_fault_name, wire_fault_name};
 pub use fault_texts::{plan_fault_text, proof_fault_text, run_fault_text, wire_fault_text};
 pub use flows::read_flow;
-pub use lists::{read_list, read_lists};
+pub use lists::{MOST_LISTS, read_list, read_lists};
 pub use nodes::read_tree;
 pub use place::{Part, Place};
 pub use plan_values::{flow_value, plan_value};
@@ -16,7 +16,7 @@ pub use reply_values::{
     changed_value, cost_value, counts_value, error_value, lists_value, planned_value, round_value,
     weights_value,
 };
-pub use request::{MOST_LINE_BYTES, Request, read_request, request_laws};
+pub use request::{Request, read_request, request_laws};
 
 mod accesses;
 mod document;

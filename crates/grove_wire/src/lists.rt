@@ -10,16 +10,13 @@ use crate::document::items_in;
 use crate::forms::list_items;
 use crate::versions::{Version, version_of};
 use crate::{Part, Place, WireFault};
-use grove_access::{Access, AccessList, ListFault};
+use grove_access::{Access, AccessList, ListFault, MOST_ACCESSES};
 use grove_tree::Tree;
 use serde_json::Value;
 use std::alloc::Global;
 
-/// The greatest number of accesses of a list.
-const MOST_ACCESSES: usize = 64;
-
-/// The greatest number of lists of a batch.
-const MOST_LISTS: usize = 256;
+/// No batch has more lists.
+pub const MOST_LISTS: usize = 256;
 
 /// The accesses of the document's `list`, over the tree. More than 64 are `Limit`; then the accesses are read in order,
 /// each first for its `Shape`, then for its `NoPath` and last for its `BadLength`. Accesses tell lengths in version 2 alone.

@@ -20,9 +20,6 @@ use grove_tree::Tree;
 use serde_json::Value;
 use std::alloc::Global;
 
-/// The greatest number of bytes of a session line, without its line feed.
-pub const MOST_LINE_BYTES: usize = 1_048_576;
-
 /// What a session line asks for.
 #[derive(Debug, Drop)]
 pub enum Request {

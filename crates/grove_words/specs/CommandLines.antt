@@ -21,7 +21,7 @@ word_of Plan = codes "plan"
 word_of Run = codes "run"
 word_of Serve = codes "serve"
 
--- the command that a word names, where one has it
+-- the command that a word names; any other word is taken for `judge`
 abbrev pub command_named : List ℕ → Command
 command_named word =
     if bytes_eq word (codes "check") then Check
@@ -58,7 +58,7 @@ AreDocument words (Some name) =
 abbrev pub document_command : List ℕ → App
 document_command name = with_rule (new_app name) (new_rule (codes "DOC"))
 
--- the program's words begin with the command
+-- the program before it has a command; its own name is no part of its words
 abbrev pub no_command : App
 no_command = record { top = record ((new_app (codes "grove")).top) { no_binary_name = true; has_version = true }; subs = (new_app (codes "grove")).subs }
 

@@ -16,8 +16,8 @@ pub struct Closed {
 
 impl Desk {
     /// Closes the desk. Where a journal was kept, it is refused, with the store, unless the journal begins with the store that the
-    /// desk was opened with, and the receipts stand in it: their numbers rise, and each is the journal's of its number. It takes
-    /// no memory.
+    /// desk was opened with, and the receipts stand in it: their numbers rise, and each is the journal's of its number. `None`
+    /// is answered where the store isn't there, which never comes: a call that takes it out puts it back. It takes no memory.
     pub fn close(self, alloc: Global, receipts: &[Receipt]) -> Result<Closed, Option<Store>>
         ensures kept { IfOk result (λ closed. self.kept ≡ true → IsHistory self.opening receipts.now closed.journal.items closed.store) }
         ensures plain { IfOk result (λ closed. self.kept ≡ false → closed.journal.items ≡ []) }

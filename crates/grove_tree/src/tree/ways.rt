@@ -6,7 +6,7 @@ use crate::{NoMemory, Node, Tree, WayNode};
 use std::alloc::Global;
 
 impl Tree {
-    /// The way from the root down to the node, with both. It is one walk down.
+    /// The way from the root down to the node, both of them included. It is one walk down.
     pub fn way_to(&self, alloc: Global, node: Node) -> Result<Vec<WayNode>, NoMemory>
         requires { node < length self.now }
         ensures nodes { IfOk result (λ way. map node_on_way way.items ≡ way_of self.now node) }
