@@ -125,9 +125,25 @@ impl RowSlopes<'_> {
 
     /// Puts the row's slopes into those of its parent.
     fn add_to(self, sum: &mut [Slopes]) {
-        for (gap, slopes) in sum.iter_mut().enumerate() {
-            *slopes = slopes.with_child(self.least_at(gap));
+        let floor = self.cost.floor;
+        match self.cost.base {
+            Base::End(own) => add_alone(own, floor, sum),
+            Base::Table(_) => add_table(self.table, floor, sum),
         }
+    }
+}
+
+/// Puts the slopes of a row that has accesses and no children into those of its parent.
+fn add_alone(own: Own, floor: i64, sum: &mut [Slopes]) {
+    for (gap, slopes) in sum.iter_mut().enumerate() {
+        *slopes = slopes.with_child(own.least_alone(gap).max(floor));
+    }
+}
+
+/// Puts the slopes of a row that has a table into those of its parent.
+fn add_table(table: &[Slopes], floor: i64, sum: &mut [Slopes]) {
+    for (slopes, base) in sum.iter_mut().zip(table) {
+        *slopes = slopes.with_child(base.least.max(floor));
     }
 }
 
