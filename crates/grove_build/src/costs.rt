@@ -127,23 +127,17 @@ impl RowSlopes<'_> {
     fn add_to(self, sum: &mut [Slopes]) {
         let floor = self.cost.floor;
         match self.cost.base {
-            Base::End(own) => add_alone(own, floor, sum),
-            Base::Table(_) => add_table(self.table, floor, sum),
+            Base::End(own) => {
+                for (gap, slopes) in sum.iter_mut().enumerate() {
+                    *slopes = slopes.with_child(own.least_alone(gap).max(floor));
+                }
+            }
+            Base::Table(_) => {
+                for (slopes, base) in sum.iter_mut().zip(self.table) {
+                    *slopes = slopes.with_child(base.least.max(floor));
+                }
+            }
         }
-    }
-}
-
-/// Puts the slopes of a row that has accesses and no children into those of its parent.
-fn add_alone(own: Own, floor: i64, sum: &mut [Slopes]) {
-    for (gap, slopes) in sum.iter_mut().enumerate() {
-        *slopes = slopes.with_child(own.least_alone(gap).max(floor));
-    }
-}
-
-/// Puts the slopes of a row that has a table into those of its parent.
-fn add_table(table: &[Slopes], floor: i64, sum: &mut [Slopes]) {
-    for (slopes, base) in sum.iter_mut().zip(table) {
-        *slopes = slopes.with_child(base.least.max(floor));
     }
 }
 
@@ -157,8 +151,12 @@ impl Costs {
     ) -> Result<Costs, NoMemory> {
         let mut costs = Costs {
             tables: Vec::new(alloc),
-            rows: ends_of(alloc, rows, needs)?,
+            rows: Vec::with_capacity(alloc, rows.len())?,
         };
+        for (k, row) in rows.iter().enumerate() {
+            let own = Own::new(row, weight_at(needs, k));
+            costs.rows.push(RowCost::new(Base::End(own)))?;
+        }
         let mut sums = sums_of(alloc, rows, accesses)?;
         for (k, row) in rows.iter().enumerate().rev() {
             if let Some(sum) = sums.pop() {
@@ -249,16 +247,6 @@ fn children_of(alloc: Global, rows: &[SpanRow]) -> Result<Vec<u32>, NoMemory> {
         }
     }
     Ok(children)
-}
-
-/// The rows, each as it is before it has children.
-fn ends_of(alloc: Global, rows: &[SpanRow], needs: &[i64]) -> Result<Vec<RowCost>, NoMemory> {
-    let mut ends = Vec::with_capacity(alloc, rows.len())?;
-    for (k, row) in rows.iter().enumerate() {
-        let own = Own::new(row, weight_at(needs, k));
-        ends.push(RowCost::new(Base::End(own)))?;
-    }
-    Ok(ends)
 }
 
 fn weight_at(needs: &[i64], k: usize) -> i64 {
