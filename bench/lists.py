@@ -151,7 +151,7 @@ def forced(case):
 
 
 def network(case):
-    """What `grove_search` and the peer read: the numbers of variables and of arcs; of each arc where it begins,
+    """What `grove_bench solve` and the peer read: the numbers of variables and of arcs; of each arc where it begins,
     where it ends and its least; each variable's need; each one's place to begin from. Row k is the variables 2k and
     2k + 1, its lock and its release, and the last variable is the base."""
     nodes = forced(case)

@@ -4,7 +4,7 @@
     usage: bench/peer.py [ROUNDS]        (default: 5; it needs g++ and LEMON, on Debian the package liblemon-dev)
 
 For each list of bench/lists.py in turn, ROUNDS times, each program takes the least of many runs: LEMON its set-up over a
-graph that is there and its run (bench/peer.cpp), `grove_bench plan` each layer of the planner, `grove_search` the
+graph that is there and its run (bench/peer.cpp), `grove_bench plan` each layer of the planner, `grove_bench solve` the
 search alone, which the planner needs only where its proposal is refused. Of all rounds the least counts. The planner's
 cost has to be LEMON's.
 """
@@ -19,7 +19,6 @@ import lists
 
 TOP = Path(__file__).resolve().parent.parent
 BENCH = TOP / "crates/grove_bench/out/grove_bench"
-SEARCH = TOP / "crates/grove_search/out/grove_search"
 PEER_RUNS = "30"
 SEARCH_RUNS = 3
 LAYERS = ["span", "network", "walk", "test", "latest", "layout", "rows"]
@@ -36,7 +35,7 @@ def told(text):
 
 def search_time(network):
     text = "\n".join([str(SEARCH_RUNS)] + [network] * SEARCH_RUNS)
-    lines = output([SEARCH], text).splitlines()
+    lines = output([BENCH, "solve"], text).splitlines()
     return 1000 * min(int(line.split()[0]) for line in lines[:-1])
 
 

@@ -2,8 +2,8 @@
 values it then answers what is right for it. A session that ends so has given just the replies before; one more, with a fresh
 store, gives all of them.
 
-`grove_again` makes the calls; it stands beside the program where the gate has built both, and where it isn't there nothing
-is tried. It makes no command's run anew: the sweeps `growths` and `served_growths` do.
+`grove_bench` makes the calls, by words that end in `-again`; it stands beside the program where the gate has built both,
+and where it isn't there nothing is tried. It makes no command's run anew: the sweeps `growths` and `served_growths` do.
 """
 
 from __future__ import annotations
@@ -75,12 +75,12 @@ SESSIONS = ["session", "desk_session"]
 
 
 def tries(program: str, room: str) -> list[Try]:
-    again = Path(program).resolve().parents[2] / "grove_again/out/grove_again"
-    if not os.access(again, os.X_OK):
+    bench = Path(program).resolve().parents[2] / "grove_bench/out/grove_bench"
+    if not os.access(bench, os.X_OK):
         return []
     library = library_in(room)
-    alone = [Try(word, partial(refuse_each, again, library, word, by_calls(calls))) for word, calls in CALLS.items()]
-    return alone + [Try(word, partial(refuse_each, again, library, word, by_sessions())) for word in SESSIONS]
+    alone = [Try(word, partial(refuse_each, bench, library, word, by_calls(calls))) for word, calls in CALLS.items()]
+    return alone + [Try(word, partial(refuse_each, bench, library, word, by_sessions())) for word in SESSIONS]
 
 
 @dataclass(frozen=True)
@@ -109,13 +109,13 @@ def by_sessions() -> Right:
     return Right(whole, cut)
 
 
-def refuse_each(again: Path, library: str, word: str, right: Right, tally: Tally) -> None:
+def refuse_each(bench: Path, library: str, word: str, right: Right, tally: Tally) -> None:
     """Refuses the growths of a word's run in turn, until a run has no growth of that number. Each call that takes memory
     has to have been refused some."""
     unseen = set(right.refused)
     for number in range(1, MOST_GROWTHS + 1):
         with refusing(library, number) as (how, ends):
-            ran = run(str(again), word, **how)
+            ran = run(str(bench), f"{word}-again", **how)
             was_refused = is_told(ends)
         if not was_refused:
             tally.blame("no growth of that number", None if ran == done(right.whole) else f"came {ran}")

@@ -23,16 +23,16 @@ SECONDS = 60
 
 
 def tries(program: str, room: str) -> list[Try]:
-    search = Path(program).resolve().parents[2] / "grove_search/out/grove_search"
-    if not os.access(search, os.X_OK):
+    bench = Path(program).resolve().parents[2] / "grove_bench/out/grove_bench"
+    if not os.access(bench, os.X_OK):
         return []
-    return [Try(f"seed {seed}", partial(solve, search, seed)) for seed in range(1, PARTS + 1)]
+    return [Try(f"seed {seed}", partial(solve, bench, seed)) for seed in range(1, PARTS + 1)]
 
 
-def solve(search: Path, seed: int, tally: Tally) -> None:
+def solve(bench: Path, seed: int, tally: Tally) -> None:
     rng = random.Random(seed)
     text = "\n".join([str(EACH), *(network(rng) for _ in range(EACH))])
-    ran = subprocess.run([search], input=text.encode(), capture_output=True, timeout=SECONDS, check=False)
+    ran = subprocess.run([bench, "solve"], input=text.encode(), capture_output=True, timeout=SECONDS, check=False)
     lines = ran.stdout.decode(errors="replace").splitlines()
     solved = sum(line.endswith(" microseconds") for line in lines)
     for number in range(solved):
@@ -43,7 +43,7 @@ def solve(search: Path, seed: int, tally: Tally) -> None:
 
 
 def network(rng: random.Random) -> str:
-    """A network as `grove_search` reads it: the numbers of variables and arcs; of each arc where it begins, where it
+    """A network as `grove_bench solve` reads it: the numbers of variables and arcs; of each arc where it begins, where it
     ends and its least; the needs; places that meet each arc."""
     rows = rng.randint(1, 6)
     count = 2 * rows + 1

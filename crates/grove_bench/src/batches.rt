@@ -14,7 +14,7 @@ use std::alloc::Global;
 use std::rt::Runtime;
 use std::sync::Wait;
 use std::thread::Threads;
-use std::time::Instant;
+use std::time::{Duration, Instant};
 
 /// How many lists and jobs a batch has.
 const BATCH: u32 = 256;
@@ -36,14 +36,29 @@ pub fn time<R: Runtime + Threads + Wait + Sync>(rt: &R, alloc: Global) -> Result
 }
 
 fn time_plans<R: Runtime + Threads + Sync>(rt: &R, alloc: Global) -> Result<()> {
-    let tree = shops(alloc)?;
-    let distinct = lists(alloc, &tree, 251)?;
-    time_lists(rt, alloc, "plan-distinct", &tree, &distinct)?;
-    let equal = lists(alloc, &tree, 0)?;
-    time_lists(rt, alloc, "plan-equal", &tree, &equal)?;
+    let shops = shops(alloc)?;
+    time_steps_apart(rt, alloc, "plan-distinct", &shops, 251)?;
+    time_steps_apart(rt, alloc, "plan-equal", &shops, 0)?;
+    time_long_plans(rt, alloc)
+}
+
+fn time_steps_apart<R: Runtime + Threads + Sync>(
+    rt: &R,
+    alloc: Global,
+    what: &str,
+    shops: &Tree,
+    apart: u32,
+) -> Result<()>
+    requires { apart < 4096 }
+{
+    let lists = lists(alloc, shops, apart)?;
+    time_lists(rt, alloc, what, shops, &lists)
+}
+
+fn time_long_plans<R: Runtime + Threads + Sync>(rt: &R, alloc: Global) -> Result<()> {
     let chains = running::tree(alloc)?;
-    let long = long_lists(alloc, &chains)?;
-    time_lists(rt, alloc, "plan-long", &chains, &long)
+    let lists = long_lists(alloc, &chains)?;
+    time_lists(rt, alloc, "plan-long", &chains, &lists)
 }
 
 fn time_lists<R: Runtime + Threads + Sync>(
@@ -91,6 +106,14 @@ fn time_weights<R: Runtime + Threads + Sync>(rt: &R, alloc: Global) -> Result<()
 fn time_weighing<R: Runtime + Threads + Sync>(rt: &R, alloc: Global, workers: u32) -> Result<()>
     requires { (1 ≤ workers) × (workers ≤ 16) }
 {
+    let spent = weigh_often(rt, alloc, workers)?;
+    println!(rt; "reweigh {workers} {} of {TIMES} times", spent.as_micros())?;
+    Ok(())
+}
+
+fn weigh_often<R: Runtime + Threads + Sync>(rt: &R, alloc: Global, workers: u32) -> Result<Duration>
+    requires { (1 ≤ workers) × (workers ≤ 16) }
+{
     let mut tree = shops(alloc)?;
     let waits = vec![in alloc; 7u32; 4096]?;
     let since = Instant::now(rt)?;
@@ -100,49 +123,52 @@ fn time_weighing<R: Runtime + Threads + Sync>(rt: &R, alloc: Global, workers: u3
         }
         reweigh(rt, &mut tree, &waits, workers, &OpenGate);
     }
-    let spent = since.elapsed(rt)?;
-    println!(rt; "reweigh {workers} {} of {TIMES} times", spent.as_micros())?;
-    Ok(())
+    Ok(since.elapsed(rt)?)
 }
 
 fn time_short_runs<R: Runtime + Threads + Wait + Sync>(rt: &R, alloc: Global) -> Result<()> {
     let tree = shops(alloc)?;
-    let records = running::zeros(alloc, tree.len())?;
     let jobs = short_jobs(alloc, &tree)?;
-    for workers in [1, 2, 4] {
-        time_run(rt, alloc, "run-short", &tree, &records, &jobs, workers)?;
-    }
-    Ok(())
+    time_runs(rt, alloc, "run-short", &tree, &jobs)
 }
 
 fn time_long_runs<R: Runtime + Threads + Wait + Sync>(rt: &R, alloc: Global) -> Result<()> {
     let tree = running::tree(alloc)?;
-    let records = running::zeros(alloc, tree.len())?;
     let jobs = running::jobs(alloc, &tree)?;
-    for workers in [1, 2, 4] {
-        time_run(rt, alloc, "run-long", &tree, &records, &jobs, workers)?;
-    }
-    Ok(())
+    time_runs(rt, alloc, "run-long", &tree, &jobs)
 }
 
-fn time_run<R: Runtime + Threads + Wait + Sync>(
+fn time_runs<R: Runtime + Threads + Wait + Sync>(
     rt: &R,
     alloc: Global,
     what: &str,
     tree: &Tree,
+    jobs: &[Job],
+) -> Result<()> {
+    let records = running::zeros(alloc, tree.len())?;
+    for workers in [1, 2, 4] {
+        let (spent, steps) = time_run(rt, alloc, tree, &records, jobs, workers)?;
+        println!(rt; "{what} {workers} {} of {steps} events", spent.as_micros())?;
+    }
+    Ok(())
+}
+
+/// How long a run takes, and how many events it has.
+fn time_run<R: Runtime + Threads + Wait + Sync>(
+    rt: &R,
+    alloc: Global,
+    tree: &Tree,
     records: &Records,
     jobs: &[Job],
     workers: usize,
-) -> Result<()> {
+) -> Result<(Duration, usize)> {
     if !records.fits(tree) || !all_fit(tree, jobs) || jobs.len() > BATCH as usize {
         bail!("the jobs don't fit");
     }
     let since = Instant::now(rt)?;
     let finished = run_batch(rt, alloc, tree, records, jobs, workers, &OpenGate)?;
     let spent = since.elapsed(rt)?;
-    let steps = finished.core().history().len();
-    println!(rt; "{what} {workers} {} of {steps} events", spent.as_micros())?;
-    Ok(())
+    Ok((spent, finished.core().history().len()))
 }
 
 /// A root, shops below it and shelves in these, numbered shop by shop.

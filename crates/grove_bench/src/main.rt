@@ -1,12 +1,15 @@
-//! Times the layers on the largest inputs, one for each word: `plan`, `core` and `batches`. Without words it prints nothing.
+//! Makes the calls of the libraries for the benchmarks and the sweeps, one for each word. Without words it prints nothing.
 #![tactic(auto)]
 
+mod again;
 mod batches;
 mod branches;
 mod laps;
 mod listing;
+mod networks;
 mod planning;
 mod running;
+mod steps;
 mod watch;
 
 use anyhow::Result;
@@ -19,12 +22,14 @@ const KEPT: usize = 1 << 24;
 fn main(rt: HostRuntime) -> Result<()> {
     keep_freed_memory(rt.alloc());
     for word in env::args(&rt)?.skip(1) {
-        match word.as_str() {
-            "plan" => planning::time(&rt)?,
-            "core" => running::time(&rt)?,
-            "batches" => batches::time(&rt, rt.alloc())?,
-            _ => println!(rt; "the words are plan, core and batches")?,
-        }
+        let made = match word.as_str() {
+            "plan" => planning::time(&rt),
+            "core" => running::time(&rt),
+            "batches" => batches::time(&rt, rt.alloc()),
+            "solve" => networks::solve_each(&rt),
+            other => again::call(&rt, other),
+        };
+        made?;
     }
     Ok(())
 }

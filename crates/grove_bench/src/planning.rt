@@ -4,7 +4,7 @@ use crate::laps::Laps;
 use crate::listing::read_list;
 use anyhow::{Result, ensure};
 use grove_access::AccessList;
-use grove_build::{Layer, plan, plan_watched};
+use grove_build::{Layer, Planned, plan, plan_watched};
 use grove_plan::judge;
 use grove_proof::check;
 use grove_tree::Tree;
@@ -67,11 +67,17 @@ fn time_plan(rt: &HostRuntime, tree: &Tree, list: &AccessList) -> Result<()>
     Ok(())
 }
 
-/// Times the judge and the checker, which judges too.
 fn time_checks(rt: &HostRuntime, tree: &Tree, list: &AccessList) -> Result<()>
     requires { AreNodes tree.now (nodes_of list.now) }
 {
     let planned = plan(rt.alloc(), tree, list)?;
+    time_checks_of(rt, tree, list, &planned)
+}
+
+/// Times the judge and the checker, which judges too.
+fn time_checks_of(rt: &HostRuntime, tree: &Tree, list: &AccessList, planned: &Planned) -> Result<()>
+    requires { AreNodes tree.now (nodes_of list.now) }
+{
     let since = Instant::now(rt)?;
     let judged = judge(rt.alloc(), tree, list, &planned.plan)?;
     println!(rt; "judge {}", since.elapsed(rt)?.as_nanos())?;

@@ -1,12 +1,13 @@
 ghost use Rattle.std.specs.Prelude.{◌<◌};
 
 use crate::branches::{BRANCHES, branches, each_end};
+use crate::steps::{lock, unlock};
 use crate::watch::Watch;
 use anyhow::{Result, bail};
 use grove_access::Records;
 use grove_core::{Core, Event, Job, all_fit, serial_order};
 use grove_plan::{Plan, Step};
-use grove_tree::{Node, Tree};
+use grove_tree::Tree;
 use std::alloc::Global;
 
 const JOBS: u32 = 256;
@@ -128,12 +129,4 @@ fn go_down(steps: &mut Vec<Step>, branch: u32) -> Result<()>
     steps.push(Step::Access(branch))?;
     steps.push(unlock(first + DEPTH - 1))?;
     Ok(())
-}
-
-fn lock(node: u32) -> Step {
-    Step::Lock(Node::new(node))
-}
-
-fn unlock(node: u32) -> Step {
-    Step::Unlock(Node::new(node))
 }

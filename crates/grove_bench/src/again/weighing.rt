@@ -1,8 +1,9 @@
-use crate::values::leaves_below;
+use crate::again::values::leaves_below;
 use anyhow::{Result, ensure};
 use grove_meter::reweigh;
-use grove_tree::{Node, OpenGate};
+use grove_tree::{Node, OpenGate, Tree};
 use std::alloc::AllocGlobal;
+use std::io;
 use std::thread::Threads;
 
 /// New weights of three nodes by two workers. It takes no memory, so it can't be refused any.
@@ -11,9 +12,13 @@ pub fn weigh<R: AllocGlobal + Print + Threads + Sync>(rt: &R) -> Result<()> {
     ensure!(tree.len() == 3, "the tree has other nodes");
     let changed = reweigh(rt, &mut tree, &[1, 0, 2000], 2, &OpenGate);
     print!(rt; "changed {changed} weights")?;
+    tell_weights(rt, &tree)?;
+    Ok(())
+}
+
+fn tell_weights<R: Print>(rt: &R, tree: &Tree) -> io::Result<()> {
     for number in 0..tree.len() {
         print!(rt; " {}", tree.weight(Node::new(number)))?;
     }
-    println!(rt; "")?;
-    Ok(())
+    println!(rt; "")
 }

@@ -80,14 +80,6 @@ pub fn job_of(alloc: Global, tree: &Tree, accesses: &[Access], steps: &[Step]) -
     })
 }
 
-pub fn lock(node: u32) -> Step {
-    Step::Lock(Node::new(node))
-}
-
-pub fn unlock(node: u32) -> Step {
-    Step::Unlock(Node::new(node))
-}
-
 /// Lines of a session: one of each kind, some whose effects the next ones show, and two that are refused.
 pub const LINES: &str = r#"{"plan":[["get","/a"]]}
 {"batch":[[["add","/a",1],["get","/a"]]]}

@@ -1,5 +1,5 @@
-use crate::telling::say_memory;
-use crate::values::{LINES, store_below};
+use crate::again::telling::say_memory;
+use crate::again::values::{LINES, store_below};
 use anyhow::{Result, bail};
 use grove_desk::{Desk, desk_session};
 use grove_session::{BytesSource, SessionFault, WriterSink, session};
@@ -12,17 +12,22 @@ use std::thread::Threads;
 /// Ten lines in a session, whose replies go to standard output; where it ends for want of memory, once more with a fresh
 /// store.
 pub fn talk_to_store<R: AllocGlobal + Print + Threads + Wait + Sync>(rt: &R) -> Result<()> {
-    let mut store = store_below(rt.alloc(), 5)?;
-    let lines = match talk(rt, &mut store) {
+    let lines = match talk_to_fresh(rt)? {
         Err(SessionFault::Memory) => {
             say_memory(rt)?;
-            let mut fresh = store_below(rt.alloc(), 5)?;
-            talk(rt, &mut fresh)?
+            talk_to_fresh(rt)??
         }
         first => first?,
     };
     println!(rt; "lines {lines}")?;
     Ok(())
+}
+
+fn talk_to_fresh<R: AllocGlobal + Print + Threads + Wait + Sync>(
+    rt: &R,
+) -> Result<Result<u64, SessionFault>> {
+    let mut store = store_below(rt.alloc(), 5)?;
+    Ok(talk(rt, &mut store))
 }
 
 fn talk<R: AllocGlobal + Print + Threads + Wait + Sync>(
@@ -36,16 +41,22 @@ fn talk<R: AllocGlobal + Print + Threads + Wait + Sync>(
 
 /// The same at a desk.
 pub fn talk_to_desk<R: AllocGlobal + Print + Threads + Wait + Sync>(rt: &R) -> Result<()> {
-    let desk = desk_of(rt)?;
-    let lines = match talk_at(rt, &desk) {
+    let lines = match talk_at_fresh(rt)? {
         Err(SessionFault::Memory) => {
             say_memory(rt)?;
-            talk_at(rt, &desk_of(rt)?)?
+            talk_at_fresh(rt)??
         }
         first => first?,
     };
     println!(rt; "lines {lines}")?;
     Ok(())
+}
+
+fn talk_at_fresh<R: AllocGlobal + Print + Threads + Wait + Sync>(
+    rt: &R,
+) -> Result<Result<u64, SessionFault>> {
+    let desk = desk_of(rt)?;
+    Ok(talk_at(rt, &desk))
 }
 
 fn desk_of<R: AllocGlobal + Print + Threads + Wait + Sync>(rt: &R) -> Result<Desk> {

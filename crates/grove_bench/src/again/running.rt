@@ -1,12 +1,13 @@
-use crate::telling::{say_memory, tell_run};
-use crate::values::{A, access, get, job_of, leaves_below, lock, unlock};
+use crate::again::telling::{say_memory, tell_run};
+use crate::again::values::{A, access, get, job_of, leaves_below};
+use crate::steps::{lock, unlock};
 use anyhow::{Result, ensure};
 use grove_access::{Op, Records};
 use grove_core::{Core, Event, Job, OpenFault, all_fit, serial_order};
 use grove_plan::Step;
 use grove_run::{Finished, RunFault, run_batch};
 use grove_tree::{NoMemory, OpenGate, Tree};
-use std::alloc::AllocGlobal;
+use std::alloc::{AllocGlobal, Global};
 use std::sync::Wait;
 use std::thread::Threads;
 
@@ -14,18 +15,42 @@ use std::thread::Threads;
 pub fn run_core<R: AllocGlobal + Print>(rt: &R) -> Result<()> {
     let tree = leaves_below(rt.alloc(), 1)?;
     let records = Records::new(rt.alloc(), &[0, 7, 0])?;
+    let jobs = setter_and_reader(rt.alloc(), &tree)?;
+    run_in_turn(rt, &tree, &records, &jobs)
+}
+
+fn setter_and_reader(alloc: Global, tree: &Tree) -> Result<Vec<Job>> {
     let steps = [lock(A), Step::Access(0), unlock(A)];
-    let jobs = [
-        job_of(rt.alloc(), &tree, &[access(A, Op::Set(1))], &steps)?,
-        job_of(rt.alloc(), &tree, &[get(A)], &steps)?,
-    ];
-    let mut core = open(rt, &tree, &records, &jobs)?;
-    println!(rt; "jobs {}", core.jobs().len())?;
+    let mut jobs = Vec::new(alloc);
+    jobs.push(job_of(alloc, tree, &[access(A, Op::Set(1))], &steps)?)?;
+    jobs.push(job_of(alloc, tree, &[get(A)], &steps)?)?;
+    Ok(jobs)
+}
+
+/// Takes the steps of the second job and then those of the first.
+fn run_in_turn<R: AllocGlobal + Print>(
+    rt: &R,
+    tree: &Tree,
+    records: &Records,
+    jobs: &[Job],
+) -> Result<()> {
+    let mut core = opened(rt, tree, records, jobs)?;
     for txn in [1, 1, 1, 0, 0, 0] {
         core.step(Event::Take(txn))?;
     }
     let order = order_of(rt, &core)?;
     tell_run(rt, &core, &order)
+}
+
+fn opened<'a, R: AllocGlobal + Print>(
+    rt: &R,
+    tree: &'a Tree,
+    records: &Records,
+    jobs: &'a [Job],
+) -> Result<Core<'a>> {
+    let core = open(rt, tree, records, jobs)?;
+    println!(rt; "jobs {}", core.jobs().len())?;
+    Ok(core)
 }
 
 fn open<'a, R: AllocGlobal + Print>(
@@ -62,13 +87,27 @@ fn order_of<R: AllocGlobal + Print>(rt: &R, core: &Core) -> Result<Vec<u32>> {
 pub fn run_jobs<R: AllocGlobal + Print + Threads + Wait + Sync>(rt: &R) -> Result<()> {
     let tree = leaves_below(rt.alloc(), 1)?;
     let records = Records::new(rt.alloc(), &[0, 10, 0])?;
+    let jobs = two_adders(rt.alloc(), &tree)?;
+    run_by_one(rt, &tree, &records, &jobs)
+}
+
+fn two_adders(alloc: Global, tree: &Tree) -> Result<Vec<Job>> {
     let accesses = [access(A, Op::Add(1)), get(A)];
     let steps = [lock(A), Step::Access(0), Step::Access(1), unlock(A)];
-    let jobs = [
-        job_of(rt.alloc(), &tree, &accesses, &steps)?,
-        job_of(rt.alloc(), &tree, &accesses, &steps)?,
-    ];
-    let finished = run(rt, &tree, &records, &jobs)?;
+    let mut jobs = Vec::new(alloc);
+    for _job in 0..2 {
+        jobs.push(job_of(alloc, tree, &accesses, &steps)?)?;
+    }
+    Ok(jobs)
+}
+
+fn run_by_one<R: AllocGlobal + Print + Threads + Wait + Sync>(
+    rt: &R,
+    tree: &Tree,
+    records: &Records,
+    jobs: &[Job],
+) -> Result<()> {
+    let finished = run(rt, tree, records, jobs)?;
     tell_run(rt, finished.core(), finished.order())
 }
 

@@ -1,7 +1,7 @@
 ghost use Rattle.std.specs.Prelude.{◌<◌, ◌≤◌, length, All};
 
-use crate::telling::{say_memory, tell_reply};
-use crate::values::{LINES, store_below};
+use crate::again::telling::{say_memory, tell_reply};
+use crate::again::values::{LINES, store_below};
 use anyhow::{Result, ensure};
 use grove_session::LINE_LIMIT;
 use grove_store::Store;
@@ -43,7 +43,15 @@ pub fn answer_together<R: AllocGlobal + Print + Threads + Wait + Sync>(rt: &R) -
         br#"{"batch":[[["get","/a"]],[["get","/b"]]]}"#.as_slice(),
         br#"{"weights":null}"#.as_slice(),
     ];
-    let replies = answered_together(rt, &mut store, &lines)?;
+    tell_answers(rt, &mut store, &lines)
+}
+
+fn tell_answers<R: AllocGlobal + Print + Threads + Wait + Sync>(
+    rt: &R,
+    store: &mut Store,
+    lines: &[&[u8]],
+) -> Result<()> {
+    let replies = answered_together(rt, store, lines)?;
     for reply in &replies {
         tell_reply(rt, reply)?;
     }

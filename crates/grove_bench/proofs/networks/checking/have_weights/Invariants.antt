@@ -1,6 +1,6 @@
 use Rattle.std.proofs.Common.{◌≡◌, ℕ, ◌+◌, ◌*◌, ◌<◌, pos, negsuc}
 use Rattle.grove_flow.specs.Networks.{place}
-use Rattle.grove_search.proofs.checking.have_weights.Given as goal
+use Rattle.grove_bench.proofs.networks.checking.have_weights.Given as goal
 
 abbrev pub invariant-loop-k : goal.invariant-loop-k
 invariant-loop-k l =

@@ -1,6 +1,6 @@
 use Rattle.std.proofs.Common.{ℕ, ◌<◌}
 use Rattle.grove_flow.specs.Networks.{IsArcOf, arc_at}
-use Rattle.grove_search.proofs.checking.are_arcs.Given as goal
+use Rattle.grove_bench.proofs.networks.checking.are_arcs.Given as goal
 
 abbrev pub invariant-loop-arc : goal.invariant-loop-arc
 invariant-loop-arc l = (i : ℕ) → i < l.arc-index → IsArcOf l.count (arc_at l.arcs i)

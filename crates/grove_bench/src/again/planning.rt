@@ -1,10 +1,9 @@
 ghost use Rattle.std.specs.Prelude.{◌≤◌, length, All, IfOk};
 ghost use Rattle.grove_access.specs.Lists.{nodes_of, AreNodes};
 
-use crate::telling::{say_memory, tell_plan};
-use crate::values::{
-    A, B, ROOT, access, get, leaves_below, list_of, lock, plan_of, rows_of, unlock,
-};
+use crate::again::telling::{say_memory, tell_plan};
+use crate::again::values::{A, B, ROOT, access, get, leaves_below, list_of, plan_of, rows_of};
+use crate::steps::{lock, unlock};
 use anyhow::{Result, ensure};
 use grove_access::{Access, AccessList, ListFault};
 use grove_build::{Planned, plan, plan_batch};
@@ -16,19 +15,24 @@ use std::thread::Threads;
 
 /// A tree of four nodes, a list of two accesses over it, and its plan.
 pub fn plan_one<R: AllocGlobal + Print>(rt: &R) -> Result<()> {
-    let rows = [
-        (None, "", 9),
-        (Some(0), "y", 1),
-        (Some(0), "p", 1),
-        (Some(2), "x", 3),
-    ];
-    let tree = build(rt, &rows_of(rt.alloc(), &rows)?)?;
-    println!(rt; "tree {}", tree.len())?;
+    let tree = four_nodes(rt)?;
     let list = listed(rt, &tree, &[get(1), get(3)])?;
-    println!(rt; "list {}", list.len())?;
-    let planned = planned(rt, &tree, &list)?;
-    tell_plan(rt, &planned)?;
-    Ok(())
+    tell_planned(rt, &tree, &list)
+}
+
+fn four_nodes<R: AllocGlobal + Print>(rt: &R) -> Result<Tree> {
+    let rows = rows_of(
+        rt.alloc(),
+        &[
+            (None, "", 9),
+            (Some(0), "y", 1),
+            (Some(0), "p", 1),
+            (Some(2), "x", 3),
+        ],
+    )?;
+    let tree = build(rt, &rows)?;
+    println!(rt; "tree {}", tree.len())?;
+    Ok(tree)
 }
 
 fn build<R: AllocGlobal + Print>(rt: &R, rows: &[Row]) -> Result<Tree> {
@@ -44,6 +48,14 @@ fn build<R: AllocGlobal + Print>(rt: &R, rows: &[Row]) -> Result<Tree> {
 fn listed<R: AllocGlobal + Print>(rt: &R, tree: &Tree, accesses: &[Access]) -> Result<AccessList>
     ensures { IfOk result (λ list. AreNodes tree.now (nodes_of list)) }
 {
+    let list = list(rt, tree, accesses)?;
+    println!(rt; "list {}", list.len())?;
+    Ok(list)
+}
+
+fn list<R: AllocGlobal + Print>(rt: &R, tree: &Tree, accesses: &[Access]) -> Result<AccessList>
+    ensures { IfOk result (λ list. AreNodes tree.now (nodes_of list)) }
+{
     match AccessList::new(rt.alloc(), tree, accesses) {
         Err(ListFault::Memory) => {
             say_memory(rt)?;
@@ -51,6 +63,14 @@ fn listed<R: AllocGlobal + Print>(rt: &R, tree: &Tree, accesses: &[Access]) -> R
         }
         first => Ok(first?),
     }
+}
+
+fn tell_planned<R: AllocGlobal + Print>(rt: &R, tree: &Tree, list: &AccessList) -> Result<()>
+    requires { AreNodes tree.now (nodes_of list.now) }
+{
+    let planned = planned(rt, tree, list)?;
+    tell_plan(rt, &planned)?;
+    Ok(())
 }
 
 fn planned<R: AllocGlobal + Print>(rt: &R, tree: &Tree, list: &AccessList) -> Result<Planned>
@@ -69,30 +89,40 @@ fn planned<R: AllocGlobal + Print>(rt: &R, tree: &Tree, list: &AccessList) -> Re
 pub fn check_one<R: AllocGlobal + Print>(rt: &R) -> Result<()> {
     let tree = leaves_below(rt.alloc(), 5)?;
     let list = list_of(rt.alloc(), &tree, &[get(A), get(B)])?;
-    let plan = plan_of(
-        rt.alloc(),
-        &[
-            lock(ROOT),
-            lock(A),
-            lock(B),
-            unlock(ROOT),
-            Step::Access(0),
-            unlock(A),
-            Step::Access(1),
-            unlock(B),
-        ],
-    )?;
-    let flow = flow_of(
-        rt.alloc(),
-        &[
-            row(ROOT, 0, 0, 0, 0, 4),
-            row(A, 1, 0, 2, 1, 0),
-            row(B, 0, 1, 0, 1, 0),
-        ],
-    )?;
-    let cost = checked(rt, &tree, &list, &plan, &flow)?;
+    check_reads(rt, &tree, &list)
+}
+
+fn check_reads<R: AllocGlobal + Print>(rt: &R, tree: &Tree, list: &AccessList) -> Result<()>
+    requires { AreNodes tree.now (nodes_of list.now) }
+{
+    let plan = plan_for_both(rt.alloc())?;
+    let flow = flow_for_both(rt.alloc())?;
+    let cost = checked(rt, tree, list, &plan, &flow)?;
     println!(rt; "cost {cost}")?;
     Ok(())
+}
+
+fn plan_for_both(alloc: Global) -> Result<Plan> {
+    let steps = [
+        lock(ROOT),
+        lock(A),
+        lock(B),
+        unlock(ROOT),
+        Step::Access(0),
+        unlock(A),
+        Step::Access(1),
+        unlock(B),
+    ];
+    plan_of(alloc, &steps)
+}
+
+fn flow_for_both(alloc: Global) -> Result<Flow> {
+    let rows = [
+        row(ROOT, 0, 0, 0, 0, 4),
+        row(A, 1, 0, 2, 1, 0),
+        row(B, 0, 1, 0, 1, 0),
+    ];
+    Ok(Flow::new(Vec::from_slice(alloc, &rows)?))
 }
 
 fn checked<R: AllocGlobal + Print>(
@@ -111,11 +141,6 @@ fn checked<R: AllocGlobal + Print>(
         }
         first => Ok(first?),
     }
-}
-
-fn flow_of(alloc: Global, rows: &[FlowRow]) -> Result<Flow> {
-    ensure!(rows.len() < 100, "the flow has too many rows");
-    Ok(Flow::new(Vec::from_slice(alloc, rows)?))
 }
 
 fn row(node: u32, above: u64, held: u64, first: u64, last: u64, own: u64) -> FlowRow {

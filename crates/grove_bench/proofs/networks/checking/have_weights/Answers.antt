@@ -1,7 +1,7 @@
 use Rattle.std.proofs.Common.{◌≡◌, ℕ, ◌+◌, ◌*◌, ◌<◌, SFits, w64, pos, negsuc, rules, below_more}
 use Rattle.std.proofs.lemmas.Int.{to_z-of_z}
 use Rattle.grove_flow.specs.Networks.{place}
-use Rattle.grove_search.proofs.checking.have_weights.Goals as goal
+use Rattle.grove_bench.proofs.networks.checking.have_weights.Goals as goal
 
 pub loop-k-preserved : goal.loop-k-preserved
 loop-k-preserved c =

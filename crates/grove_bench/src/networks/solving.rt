@@ -1,5 +1,5 @@
-use crate::checking::{is_network, is_start};
-use crate::reading::{Problem, next_number, read_problem};
+use crate::networks::checking::{is_network, is_start};
+use crate::networks::reading::{Problem, next_number, read_problem};
 use anyhow::{Context, Result, ensure};
 use grove_flow::{Network, is_solution, solve};
 use std::io;

@@ -1,5 +1,5 @@
 use Rattle.std.proofs.Common.{◌/◌, length, arith, rules}
-use Rattle.grove_search.proofs.checking.is_network.Goals as goal
+use Rattle.grove_bench.proofs.networks.checking.is_network.Goals as goal
 
 pub returns : goal.returns
 returns c own =

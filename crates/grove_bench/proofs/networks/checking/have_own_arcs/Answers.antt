@@ -1,6 +1,6 @@
 use Rattle.std.proofs.Common.{◌≡◌, ℕ, ◌+◌, ◌*◌, ◌<◌, length, below_more}
 use Rattle.grove_flow.specs.Networks.{arc_at}
-use Rattle.grove_search.proofs.checking.have_own_arcs.Goals as goal
+use Rattle.grove_bench.proofs.networks.checking.have_own_arcs.Goals as goal
 
 pub loop-k-preserved : goal.loop-k-preserved
 loop-k-preserved c =

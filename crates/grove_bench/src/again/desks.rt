@@ -1,5 +1,5 @@
-use crate::telling::say_memory;
-use crate::values::store_below;
+use crate::again::telling::say_memory;
+use crate::again::values::store_below;
 use anyhow::{Result, bail, ensure};
 use grove_desk::{Desk, DeskFault, Receipt};
 use grove_session::LINE_LIMIT;
@@ -11,20 +11,27 @@ use std::thread::Threads;
 
 /// Three batches at a desk with a journal, which is then closed.
 pub fn answer_lines<R: AllocGlobal + Print + Threads + Wait + Sync>(rt: &R) -> Result<()> {
+    let desk = open(rt, store_below(rt.alloc(), 1)?)?;
+    println!(rt; "waiting {}", desk.waiting(rt))?;
+    let receipts = receipts_for(rt, &desk)?;
+    close(rt, desk, &receipts)
+}
+
+fn receipts_for<R: AllocGlobal + Print + Threads + Wait + Sync>(
+    rt: &R,
+    desk: &Desk,
+) -> Result<Vec<Receipt>> {
     let lines = [
         br#"{"batch":[[["get","/a"]]]}"#.as_slice(),
         br#"{"batch":[[["add","/b",1]]]}"#.as_slice(),
         br#"{"batch":[[["add","/b",1]]]}"#.as_slice(),
     ];
     let mut receipts = Vec::with_capacity(rt.alloc(), lines.len())?;
-    let desk = open(rt, store_below(rt.alloc(), 1)?)?;
-    println!(rt; "waiting {}", desk.waiting(rt))?;
     for line in lines {
-        let receipt = answered(rt, &desk, line)?;
-        tell_receipt(rt, &receipt)?;
+        let receipt = answered(rt, desk, line)?;
         receipts.push(receipt)?;
     }
-    close(rt, desk, &receipts)
+    Ok(receipts)
 }
 
 fn open<R: AllocGlobal + Print + Threads + Wait + Sync>(rt: &R, store: Store) -> Result<Desk> {
@@ -46,22 +53,22 @@ fn answered<R: AllocGlobal + Print + Threads + Wait + Sync>(
     line: &[u8],
 ) -> Result<Receipt> {
     ensure!(line.len() <= LINE_LIMIT, "the line is too long");
-    match desk.answer(rt, rt.alloc(), None, line, &OpenGate) {
-        Err(DeskFault::Memory) => {
-            say_memory(rt)?;
-            Ok(desk.answer(rt, rt.alloc(), None, line, &OpenGate)?)
+    for _time in 0..2 {
+        match desk.answer(rt, rt.alloc(), None, line, &OpenGate) {
+            Err(DeskFault::Memory) => say_memory(rt)?,
+            answer => return told(rt, answer?),
         }
-        first => Ok(first?),
     }
+    bail!("memory once more")
 }
 
-fn tell_receipt<R: Print>(rt: &R, receipt: &Receipt) -> Result<()> {
+fn told<R: Print>(rt: &R, receipt: Receipt) -> Result<Receipt> {
     let reply = str::from_utf8(&receipt.reply)?;
     println!(rt;
         "receipt {} {reply} rounds {}",
         receipt.number, receipt.rounds
     )?;
-    Ok(())
+    Ok(receipt)
 }
 
 fn close<R: AllocGlobal + Print + Threads + Wait + Sync>(
