@@ -3,7 +3,7 @@ use crate::meeting::Meeting;
 use crate::roll::Roll;
 use crate::scripts::alone;
 use grove_access::{Access, AccessList, Op};
-use grove_build::plan_batch;
+use grove_build::{Planned, plan_batch};
 use grove_plan::Step;
 use grove_tree::{Gate, Tree};
 use std::alloc::Global;
@@ -42,10 +42,14 @@ fn plans<R: Abort + Threads + Sync, G: Gate + Sync>(
     assert!(rt; 1 <= workers && workers <= 16);
     assert!(rt; lists.len() <= 256 && lists.iter().all(|list| list.fits(&tree)));
     let all = plan_batch(rt, alloc, &tree, &lists, workers, gate).expect(rt, "plans");
-    assert_eq!(rt; all.len(), batch.len());
+    are_plans(rt, &all, batch);
+}
+
+fn are_plans(rt: &impl Abort, all: &[Planned], batch: &[Worked]) {
+    assert!(rt; all.len() == batch.len());
     for (planned, (_, steps, cost)) in all.iter().zip(batch) {
-        assert_eq!(rt; planned.plan.steps(), *steps);
-        assert_eq!(rt; planned.cost, *cost);
+        assert!(rt; planned.plan.steps() == *steps);
+        assert!(rt; planned.cost == *cost);
     }
 }
 

@@ -89,10 +89,13 @@ fn lines_of_one_caller_are_rounds_of_their_own_and_the_journal_has_them(rt: Host
     assert!(rt; first.reply.as_slice() == FIRST_REPLY);
     assert!(rt; second.reply.as_slice() == SECOND_REPLY);
     assert!(rt; first.number == 0 && second.number == 1);
-    let Closed { store, journal } = desk
-        .close(alloc, &[first, second])
-        .ok()
-        .expect(&rt, "a desk that closes");
+    close_after_two_rounds(&rt, alloc, desk, &[first, second]);
+}
+
+/// Closes the desk, at which each of two lines had a round of its own.
+fn close_after_two_rounds(rt: &impl Abort, alloc: Global, desk: Desk, receipts: &[Receipt]) {
+    let closed = desk.close(alloc, receipts).ok();
+    let Closed { store, journal } = closed.expect(rt, "a desk that closes");
     assert!(rt; journal.len() == 2);
     assert!(rt; journal.iter().all(|kept| kept.receipts.len() == 1));
     assert!(rt; store.rounds() == 2);

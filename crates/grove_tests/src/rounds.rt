@@ -116,6 +116,23 @@ fn by_number(first: Receipt, one: Receipt, other: Receipt) -> [Receipt; 3] {
     }
 }
 
+/// Closes the desk, at which one line had a round of its own and two lines shared the next.
+fn close_after_two_rounds(rt: &impl Abort, alloc: Global, desk: Desk, receipts: &[Receipt]) {
+    let closed = desk.close(alloc, receipts).ok();
+    let Closed { store, journal } = closed.expect(rt, "a desk that closes");
+    assert!(rt; journal.len() == 2);
+    assert!(rt;
+        journal
+            .iter()
+            .zip([1, 2])
+            .all(|(kept, lines)| kept.receipts.len() == lines)
+    );
+    let records = store.records();
+    assert!(rt; records.len() == 3);
+    assert!(rt; records.get(Node::new(A)) == 10);
+    assert!(rt; records.get(Node::new(B)) == 22);
+}
+
 #[test]
 fn lines_that_wait_for_a_round_share_the_next(rt: HostRuntime) {
     let alloc = rt.alloc();
@@ -129,19 +146,6 @@ fn lines_that_wait_for_a_round_share_the_next(rt: HostRuntime) {
     assert!(rt; !hold.gave_up.load(Ordering::SeqCst));
     assert!(rt; first.reply.as_slice() == FIRST_ROUND);
     assert!(rt; are_shared(&one, &other));
-    let Closed { store, journal } = desk
-        .close(alloc, &by_number(first, one, other))
-        .ok()
-        .expect(&rt, "a desk that closes");
-    assert!(rt; journal.len() == 2);
-    assert!(rt;
-        journal
-            .iter()
-            .zip([1, 2])
-            .all(|(kept, lines)| kept.receipts.len() == lines)
-    );
-    let records = store.records();
-    assert_eq!(rt; records.len(), 3);
-    assert_eq!(rt; records.get(Node::new(A)), 10);
-    assert_eq!(rt; records.get(Node::new(B)), 22);
+    let receipts = by_number(first, one, other);
+    close_after_two_rounds(&rt, alloc, desk, &receipts);
 }
