@@ -1,5 +1,6 @@
 ghost use Rattle.std.specs.Prelude.{◌≡◌, IfOk, string_bytes};
 ghost use Rattle.serde_json.specs.View.{view};
+ghost use Rattle.grove_access.specs.Effects.{records_after, replies_to};
 ghost use Rattle.grove_wire.specs.Forms.{HasShortArrays};
 ghost use Rattle.grove_answer.specs.Says.{IsFitting, Says};
 ghost use Rattle.grove_answer.specs.Outcomes.{ThenSays, trial_in, judge_lines, IsJudged};
@@ -22,24 +23,31 @@ pub fn judge_document(alloc: Global, document: &Value) -> Result<String, Refusal
     judge_trial(alloc, task, &plan)
 }
 
-#[tactic(auto, using(crate::proofs::Faults::fault_fits, crate::proofs::Records::records_keep_number))]
+#[tactic(auto, using(crate::proofs::Faults::fault_fits))]
 fn judge_trial(alloc: Global, task: Task, plan: &Plan) -> Result<String, Refusal>
     requires { IsFitting task }
     ensures { Says (IsJudged (task, plan.now)) result }
+{
+    match judge(alloc, &task.tree, &task.list, plan) {
+        Ok(cost) => Ok(lines_of(alloc, task, cost)?),
+        Err(fault) => Err(Refusal::of_plan(alloc, &task.tree, &fault)),
+    }
+}
+
+/// Does the list alone on the records.
+#[tactic(auto, using(crate::proofs::Records::records_keep_number))]
+fn lines_of(alloc: Global, task: Task, cost: u64) -> Result<String, NoMemory>
+    requires { IsFitting task }
+    ensures { IfOk result (λ lines. string_bytes lines ≡ judge_lines cost (replies_to task.list task.records) (records_after task.list task.records)) }
 {
     let Task {
         tree,
         mut records,
         list,
     } = task;
-    match judge(alloc, &tree, &list, plan) {
-        Ok(cost) => {
-            let replies = run_alone(alloc, &mut records, &list)?;
-            let numbers = numbers_of(alloc, &tree, &records)?;
-            Ok(judge_lines(alloc, cost, &replies, &numbers)?)
-        }
-        Err(fault) => Err(Refusal::of_plan(alloc, &tree, &fault)),
-    }
+    let replies = run_alone(alloc, &mut records, &list)?;
+    let numbers = numbers_of(alloc, &tree, &records)?;
+    judge_lines(alloc, cost, &replies, &numbers)
 }
 
 fn judge_lines(

@@ -94,27 +94,12 @@ fn command_named(word: &str) -> Command
 pub fn command_line<'a>(alloc: Global) -> Result<clap::Command<'a>, AllocError>
     ensures { IfOk result (λ command. app_of command ≡ grove_command) }
 {
-    let judge = on_document(alloc, "judge")?.about(
-        "Judge a plan: its cost, and the replies and records of its list",
-    );
-    let check = on_document(alloc, "check")?.about(
-        "Check a plan by its flow: its cost, below which no legal plan for the list is",
-    );
-    let plan = on_document(alloc, "plan")?.about(
-        "Plan a list: the cheapest plan, and the flow that proves it",
-    );
-    let run = on_batch(alloc, "run")?.about(
-        "Run a batch of lists at once: their serial order, the replies, the records and the waits",
-    );
-    let serve = on_port(alloc, "serve")?.about(
-        "Serve sessions with the records of a tree over TCP, at 127.0.0.1",
-    );
     program(alloc)?
-        .subcommand(judge)?
-        .subcommand(check)?
-        .subcommand(plan)?
-        .subcommand(run)?
-        .subcommand(serve)
+        .subcommand(judge(alloc)?)?
+        .subcommand(check(alloc)?)?
+        .subcommand(plan(alloc)?)?
+        .subcommand(run(alloc)?)?
+        .subcommand(serve(alloc)?)
 }
 
 /// The program before it has its commands.
@@ -130,32 +115,65 @@ fn program<'a>(alloc: Global) -> Result<clap::Command<'a>, AllocError>
     )
 }
 
-/// A command that reads one document.
-fn on_document<'a>(alloc: Global, name: &'static str) -> Result<clap::Command<'a>, AllocError>
-    ensures app { IfOk result (λ command. app_of command ≡ document_command name.now) }
+fn judge<'a>(alloc: Global) -> Result<clap::Command<'a>, AllocError>
+    ensures app { IfOk result (λ command. app_of command ≡ document_command (codes "judge")) }
     ensures local { IfOk result (λ command. (out-Command command).has_globals ≡ false) }
 {
-    clap::Command::new(alloc, name).arg(document(alloc))
+    let about = "Judge a plan: its cost, and the replies and records of its list";
+    on_document(alloc, "judge", about)
+}
+
+fn check<'a>(alloc: Global) -> Result<clap::Command<'a>, AllocError>
+    ensures app { IfOk result (λ command. app_of command ≡ document_command (codes "check")) }
+    ensures local { IfOk result (λ command. (out-Command command).has_globals ≡ false) }
+{
+    let about = "Check a plan by its flow: its cost, below which no legal plan for the list is";
+    on_document(alloc, "check", about)
+}
+
+fn plan<'a>(alloc: Global) -> Result<clap::Command<'a>, AllocError>
+    ensures app { IfOk result (λ command. app_of command ≡ document_command (codes "plan")) }
+    ensures local { IfOk result (λ command. (out-Command command).has_globals ≡ false) }
+{
+    let about = "Plan a list: the cheapest plan, and the flow that proves it";
+    on_document(alloc, "plan", about)
 }
 
 /// A command that reads one document and may be told how many workers there are.
-fn on_batch<'a>(alloc: Global, name: &'static str) -> Result<clap::Command<'a>, AllocError>
-    ensures app { IfOk result (λ command. app_of command ≡ batch_command name.now) }
+fn run<'a>(alloc: Global) -> Result<clap::Command<'a>, AllocError>
+    ensures app { IfOk result (λ command. app_of command ≡ batch_command (codes "run")) }
     ensures local { IfOk result (λ command. (out-Command command).has_globals ≡ false) }
 {
-    on_document(alloc, name)?.arg(workers(alloc))
+    let about =
+        "Run a batch of lists at once: their serial order, the replies, the records and the waits";
+    on_document(alloc, "run", about)?.arg(workers(alloc))
 }
 
 /// A command that serves a document's tree at a port, and may be told how many workers there are.
-fn on_port<'a>(alloc: Global, name: &'static str) -> Result<clap::Command<'a>, AllocError>
-    ensures app { IfOk result (λ command. app_of command ≡ port_command name.now) }
+fn serve<'a>(alloc: Global) -> Result<clap::Command<'a>, AllocError>
+    ensures app { IfOk result (λ command. app_of command ≡ port_command (codes "serve")) }
     ensures local { IfOk result (λ command. (out-Command command).has_globals ≡ false) }
 {
-    let command = clap::Command::new(alloc, name);
-    command
+    let about = "Serve sessions with the records of a tree over TCP, at 127.0.0.1";
+    clap::Command::new(alloc, "serve")
+        .about(about)
         .arg(tree(alloc))?
         .arg(port(alloc))?
         .arg(workers(alloc))
+}
+
+/// A command that reads one document.
+fn on_document<'a>(
+    alloc: Global,
+    name: &'static str,
+    about: &'static str,
+) -> Result<clap::Command<'a>, AllocError>
+    ensures app { IfOk result (λ command. app_of command ≡ document_command name.now) }
+    ensures local { IfOk result (λ command. (out-Command command).has_globals ≡ false) }
+{
+    clap::Command::new(alloc, name)
+        .about(about)
+        .arg(document(alloc))
 }
 
 fn document<'a>(alloc: Global) -> Arg<'a>
