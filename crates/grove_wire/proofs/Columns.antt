@@ -1,11 +1,33 @@
 -- Rows read in turn into two lists, one of rows and one of records.
-use Rattle.std.proofs.Common.{List, ◌++◌}
-use Rattle.std.specs.Prelude.{Result, Ok, ℤ}
+use Rattle.std.proofs.Common.{◌≡◌, ℕ, ◌+◌, ◌<◌, ◌≤◌, List, [], ◌∷◌, ◌++◌, length, get_or, refl, append_assoc, append-nil}
+use Rattle.std.specs.Prelude.{Result, Ok, Err, ℤ}
+use Rattle.serde_json.specs.View.{view}
+use Rattle.serde_json.specs.declared.value.Value.{Value}
 use Rattle.grove_tree.specs.Trees.{Rows, NodeRow}
 use Rattle.grove_wire.specs.declared.fault.WireFault.{WireFault}
 use Rattle.grove_wire.specs.Outcomes.{◌>>=◌}
-use Rattle.grove_wire.specs.Reading.{rows_in, records_in}
+use Rattle.grove_wire.specs.Reading.{rows_in, records_in, row_at}
+use Rattle.grove_wire.proofs.Each.{rest_read, rest_stops, rest_ends, rest_goes}
 
 -- rows and records that were read before, and then those of the rest
 abbrev pub with_columns : Rows → List ℤ → Result (List (NodeRow × ℤ)) WireFault → Result (Rows × List ℤ) WireFault
 with_columns rows records rest = rest >>= λ others. Ok (rows ++ rows_in others, records ++ records_in others)
+
+-- one more row at the ends is one more before the rest
+with_columns-more : (rows : Rows) (records : List ℤ) (x : NodeRow × ℤ) (rest : Result (List (NodeRow × ℤ)) WireFault)
+    → with_columns rows records (rest >>= λ others. Ok (x ∷ others)) ≡ with_columns (rows ++ x.0 ∷ []) (records ++ x.1 ∷ []) rest
+with_columns-more rows records x (Ok others) = rw (append_assoc rows (x.0 ∷ []) (rows_in others), append_assoc records (x.1 ∷ []) (records_in others)) refl
+with_columns-more rows records x (Err fault) = refl
+
+-- what a loop has read so far, and then the rest
+module _ (rows : Rows) (records : List ℤ) (values : List Value) (at : ℕ) where
+  pub columns_stop : (value : Value) (fault : WireFault) → at < length values → value ≡ get_or values at value → row_at at (view value) ≡ Err fault
+      → with_columns rows records (rest_read row_at values at) ≡ Err fault
+  columns_stop value fault within is refused = rw (rest_stops row_at values at value fault within is refused) refl
+
+  pub columns_end : length values ≤ at → with_columns rows records (rest_read row_at values at) ≡ Ok (rows, records)
+  columns_end beyond = rw (rest_ends row_at values at beyond, append-nil rows, append-nil records) refl
+
+  pub columns_go : (value : Value) (x : NodeRow × ℤ) → at < length values → value ≡ get_or values at value → row_at at (view value) ≡ Ok x
+      → with_columns rows records (rest_read row_at values at) ≡ with_columns (rows ++ x.0 ∷ []) (records ++ x.1 ∷ []) (rest_read row_at values (at + 1))
+  columns_go value x within is told = rw (rest_goes row_at values at value x within is told) (with_columns-more rows records x (rest_read row_at values (at + 1)))

@@ -1,13 +1,13 @@
 -- Items read in turn, by a loop that has read some of them.
 use Rattle.std.proofs.Common.{◌≡◌, ℕ, suc, ◌+◌, ◌<◌, ◌≤◌, List, [], ◌∷◌, ◌++◌, length, drop, get_or, refl, ap, sym, ◌∙◌, add-one, append_assoc, append-nil, drop-cons}
-use Rattle.std.specs.Prelude.{Result, Ok, Err, map}
+use Rattle.std.specs.Prelude.{Result, Ok, Err, IsErrAnd, map}
 use Rattle.std.proofs.lemmas.List.{drop_all}
 use Rattle.serde_json.specs.Data.{Data}
 use Rattle.serde_json.specs.View.{view}
 use Rattle.serde_json.specs.declared.value.Value.{Value}
 use Rattle.grove_wire.specs.declared.fault.WireFault.{WireFault}
 use Rattle.grove_wire.specs.declared.fault.WireFault.TheVariants.{BadJson, Shape, NoPath, BadLength, Limit, Tree, Memory}
-use Rattle.grove_wire.specs.Outcomes.{◌>>=◌, each_from, Fails}
+use Rattle.grove_wire.specs.Outcomes.{◌>>=◌, each_from, Fails, Gives}
 
 -- a call that fails with the fault that is given fails as is said
 pub fails_so : {A : Type 0} (fault : WireFault) (read : Result A WireFault) → read ≡ Err fault → Fails fault read
@@ -18,6 +18,21 @@ fails_so (BadLength place) read is = is
 fails_so (Limit place) read is = is
 fails_so (Tree fault) read is = is
 fails_so Memory read is = tt
+
+-- where a part's fault is that of the whole, the whole fails as the part does
+pub fails_as : {A B : Type 0} (fault : WireFault) (part : Result A WireFault) (whole : Result B WireFault) → (part ≡ Err fault → whole ≡ Err fault) → Fails fault part → Fails fault whole
+fails_as BadJson part whole so fails = so fails
+fails_as (Shape place) part whole so fails = so fails
+fails_as (NoPath place) part whole so fails = so fails
+fails_as (BadLength place) part whole so fails = so fails
+fails_as (Limit place) part whole so fails = so fails
+fails_as (Tree fault) part whole so fails = so fails
+fails_as Memory part whole so fails = tt
+
+-- a call that passes a fault on answers as is said of the fault
+pub passes_on : {T A : Type 0} (seen : T → A) (result : Result T WireFault) (read : Result A WireFault) (fault : WireFault) → IsErrAnd result (λ passed. passed ≡ fault) → Fails fault read → Gives seen result read
+passes_on seen (Ok x) read fault passed fails = absurd passed
+passes_on seen (Err other) read fault passed fails = rw passed fails
 
 -- what was read before, and then the rest
 abbrev pub with_front : {A : Type 0} → List A → Result (List A) WireFault → Result (List A) WireFault

@@ -3,7 +3,7 @@ ghost use Rattle.serde_json.specs.View.{view};
 ghost use Rattle.grove_tree.specs.Rules.{row_of, rows_of, tree_fault_of};
 ghost use Rattle.grove_wire.specs.Forms.{HasShortArrays, as_parent, as_record, row_with, row_form};
 ghost use Rattle.grove_wire.specs.Outcomes.{Gives};
-ghost use Rattle.grove_wire.specs.Reading.{row_at, columns_of, unless_fault, tree_in};
+ghost use Rattle.grove_wire.specs.Reading.{row_at, columns_of, unless_fault, tree_of, tree_in};
 
 use crate::document::items_in;
 use crate::forms::short_number;
@@ -23,8 +23,17 @@ pub fn read_tree(alloc: Global, document: &Value) -> Result<(Tree, Records), Wir
 {
     let items = items_in(document, Part::Nodes)?;
     let (rows, values) = read_rows(alloc, items)?;
-    let tree = build_tree(alloc, &rows)?;
-    let records = Records::new(alloc, &values)?;
+    tree_of(alloc, &rows, &values)
+}
+
+/// The tree of the rows, beside the records of its nodes.
+fn tree_of(alloc: Global, rows: &[Row], values: &[i64]) -> Result<(Tree, Records), WireFault>
+    requires { length values.now ≡ length rows.now }
+    ensures read { Gives (λ read. (read.0, read.1)) result (tree_of (rows_of rows.now, values.now)) }
+    ensures fits { IfOk result (λ read. length read.1 ≡ length read.0) }
+{
+    let tree = build_tree(alloc, rows)?;
+    let records = Records::new(alloc, values)?;
     Ok((tree, records))
 }
 

@@ -1,6 +1,6 @@
-use Rattle.std.proofs.Common.{◌∙◌, ◌+◌, sym, ap, arith}
+use Rattle.std.proofs.Common.{◌∙◌, ◌+◌, sym, ap}
 use Rattle.grove_wire.specs.Reading.{flow_row_in}
-use Rattle.grove_wire.proofs.Each.{with_front-none, each_goes, each_stops, each_ends, fails_so}
+use Rattle.grove_wire.proofs.Each.{with_front-none, each_goes, each_stops, each_ends, fails_so, passes_on}
 use Rattle.grove_wire.proofs.flows.read_flow_rows.Goals as goal
 
 pub loop-at-init : goal.loop-at-init
@@ -12,8 +12,7 @@ loop-at-init c = record {
 pub returns-in_err-row-clause-read : goal.returns-in_err-row-clause-read
 returns-in_err-row-clause-read c =
     let stop = sym c.loop-at.invariant.read ∙ each_stops (flow_row_in c.args.tree.now) c.loop-at.rows.items c.args.items.now c.loop-at.at c.index-items-at.result c.in_err-row.field-0.0 c.loop-at-test.true c.index-items-at.is (cc (c.flow_row_at.ensures, c.item.ensures, c.in_err-row.was)) in
-    let fails = fails_so c.in_err-row.field-0.0 _ stop in
-    grind arith
+    passes_on _ c.from_residual.result _ c.in_err-row.field-0.0 c.from_residual.ensures.1 (fails_so c.in_err-row.field-0.0 _ stop)
 
 pub loop-at-preserved : goal.loop-at-preserved
 loop-at-preserved c =
