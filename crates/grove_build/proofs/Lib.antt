@@ -24,3 +24,4 @@ pub mod TargetLists
 pub mod Batched
 pub mod Sorted
 pub mod Reaching
+pub mod Pushes

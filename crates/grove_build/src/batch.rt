@@ -1,4 +1,4 @@
-ghost use Rattle.std.specs.Prelude.{◌≡◌, ◌+◌, ◌<◌, ◌≤◌, ◌/◌, ◌^◌, length, IfOk, IsOk, All};
+ghost use Rattle.std.specs.Prelude.{◌≡◌, ◌+◌, ◌<◌, ◌≤◌, ◌/◌, ◌^◌, length, slice_get, Some, IfOk, IsOk, All};
 ghost use Rattle.std.specs.List.{AllZip};
 ghost use Rattle.std.specs.Thread.{IsSync};
 ghost use Rattle.grove_access.specs.Lists.{nodes_of, AreNodes};
@@ -39,12 +39,20 @@ pub fn plan_batch<R: Threads + Sync, G: Gate + Sync>(
         return plan_parts(rt, alloc, tree, gate, workers, 0, &each);
     }
     let plans = plan_parts(rt, alloc, tree, gate, workers, 0, &distinct.lists)?;
-    let mut all = Vec::new(alloc);
-    for place in &distinct.places {
+    copies_of(alloc, &plans, &distinct.places)
+}
+
+/// A copy of the plan at each of the places.
+fn copies_of(alloc: Global, plans: &[Planned], places: &[usize]) -> Result<Vec<Planned>, NoMemory>
+    requires { All (λ place. place < length plans.now) places.now }
+    ensures { IfOk result (λ copies. AllZip (λ place planned. slice_get plans.now place ≡ Some planned) places.now copies.items) }
+{
+    let mut copies = Vec::new(alloc);
+    for place in places {
         let planned = plans[*place].copy(alloc)?;
-        all.push(planned)?;
+        copies.push(planned)?;
     }
-    Ok(all)
+    Ok(copies)
 }
 
 /// Plans the lists, of which the first has the given number. With two workers or more, a slice of two lists or more is cut

@@ -146,11 +146,7 @@ fn push_arc(arcs: &mut Vec<Arc>, from: u32, to: u32, least: i64) -> Result<usize
 pub fn weights_of(alloc: Global, rows: &[SpanRow]) -> Result<Vec<u32>, NoMemory>
     ensures { IfOk result (λ weights. weights.items ≡ map (λ row. row.weight) rows.now) }
 {
-    let mut weights = Vec::with_capacity(alloc, rows.len())?;
-    for row in rows {
-        weights.push(row.weight)?;
-    }
-    Ok(weights)
+    Ok(rows.iter().map(|row| row.weight).collect(alloc)?)
 }
 
 fn needs_of(alloc: Global, weights: &[u32]) -> Result<Vec<i64>, NoMemory>
@@ -159,8 +155,7 @@ fn needs_of(alloc: Global, weights: &[u32]) -> Result<Vec<i64>, NoMemory>
     let mut needs = Vec::with_capacity(alloc, weights.len().saturating_mul(2).saturating_add(1))?;
     for weight in weights {
         let weight = i64::from(*weight);
-        needs.push(-weight)?;
-        needs.push(weight)?;
+        push_pair(&mut needs, -weight, weight)?;
     }
     needs.push(0)?;
     Ok(needs)
@@ -173,9 +168,17 @@ pub fn start_of(alloc: Global, rows: &[SpanRow], slots: u32) -> Result<Vec<i64>,
     let end = i64::from(slots);
     let mut start = Vec::new(alloc);
     for _row in rows {
-        start.push(0)?;
-        start.push(end)?;
+        push_pair(&mut start, 0, end)?;
     }
     start.push(0)?;
     Ok(start)
+}
+
+/// Pushes what a row's lock has, and what its release has.
+fn push_pair(numbers: &mut Vec<i64>, lock: i64, release: i64) -> Result<(), NoMemory>
+    ensures { OnOk result (numbers.new.items ≡ numbers.old.items ++ (lock ∷ (release ∷ []))) }
+{
+    numbers.push(lock)?;
+    numbers.push(release)?;
+    Ok(())
 }

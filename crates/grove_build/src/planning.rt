@@ -2,6 +2,8 @@ ghost use Rattle.std.specs.Prelude.{◌≡◌, length, IfOk};
 ghost use Rattle.grove_access.specs.Lists.{nodes_of, lengths_of, AreNodes};
 ghost use Rattle.grove_plan.specs.Plans.{IsLeast, cost};
 ghost use Rattle.grove_proof.specs.Flows.{IsCertificate};
+ghost use Rattle.grove_span.specs.SpanRows.{HaveWeights};
+ghost use Rattle.grove_build.specs.Batches.{IsPlanned};
 ghost use Rattle.grove_build.specs.Settled.{IsSettled};
 ghost use Rattle.grove_build.specs.Networks.{IsSpan, IsSolved, AreSlots, names_from, weights_of};
 
@@ -58,10 +60,25 @@ pub fn plan_watched<W: Watch>(
     let _accesses = list.len();
     let rows = span(alloc, tree, list)?;
     watch.done(Layer::Span);
-    let weights = weights_of(alloc, &rows)?;
+    plan_rows(alloc, tree, list, &rows, watch)
+}
+
+/// The settled plan from the rows of the list.
+fn plan_rows<W: Watch>(
+    alloc: Global,
+    tree: &Tree,
+    list: &AccessList,
+    rows: &[SpanRow],
+    watch: &mut W,
+) -> Result<Planned, NoMemory>
+    requires span { IsSpan tree.now (nodes_of list.now) (lengths_of list.now) rows.now }
+    requires weights { HaveWeights tree.now rows.now }
+    ensures { IfOk result (IsPlanned tree.now list.now) }
+{
+    let weights = weights_of(alloc, rows)?;
     let slots = slots_of(alloc, list)?;
-    let solved = solve_rows(alloc, tree, list, &rows, &weights, &slots, watch)?;
-    settle(alloc, tree, list, &rows, &weights, &slots, &solved, watch)
+    let solved = solve_rows(alloc, tree, list, rows, &weights, &slots, watch)?;
+    settle(alloc, tree, list, rows, &weights, &slots, &solved, watch)
 }
 
 /// The settled plan from the solved network.
@@ -80,9 +97,7 @@ fn settle<W: Watch>(
     requires slots { AreSlots (lengths_of list.now) (length (nodes_of list.now)) slots.now }
     requires names { solved.now.names.items ≡ names_from rows.now 0 }
     requires solved { IsSolved tree.now (lengths_of list.now) (length (nodes_of list.now)) rows.now solved.now.amounts.items solved.now.gaps.items }
-    ensures settled { IfOk result (λ planned. IsSettled tree.now (nodes_of list.now) (lengths_of list.now) planned.plan) }
-    ensures cost { IfOk result (λ planned. planned.cost ≡ cost tree.now (lengths_of list.now) planned.plan) }
-    ensures certificate { IfOk result (λ planned. IsCertificate tree.now (nodes_of list.now) (lengths_of list.now) planned.flow (cost tree.now (lengths_of list.now) planned.plan)) }
+    ensures { IfOk result (IsPlanned tree.now list.now) }
 {
     // The limits that hold of every tree and every list are told with their lengths.
     let _nodes = tree.len();

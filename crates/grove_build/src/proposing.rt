@@ -29,11 +29,25 @@ pub fn propose(
     let end = slots.len().saturating_sub(1);
     let network = &named.network;
     let costs = Costs::new(alloc, rows, &network.needs, end)?;
-    let mut stands: Vec<Stand> = Vec::with_capacity(alloc, rows.len())?;
     let mut solution = Solution {
         amounts: vec![in alloc; 0u64; network.arcs.len()]?,
         places: Vec::with_capacity(alloc, network.needs.len())?,
     };
+    go_down(alloc, named, rows, slots, &costs, &mut solution)?;
+    Ok(solution)
+}
+
+/// The walk's way down: lets each row stand where that costs least, and sends along its arcs.
+fn go_down(
+    alloc: Global,
+    named: &RowsNetwork,
+    rows: &[SpanRow],
+    slots: &[u32],
+    costs: &Costs,
+    solution: &mut Solution,
+) -> Result<(), NoMemory> {
+    let end = slots.len().saturating_sub(1);
+    let mut stands: Vec<Stand> = Vec::with_capacity(alloc, rows.len())?;
     for (k, row) in rows.iter().enumerate() {
         let (stand, flow) = stand_of(costs.of(k), row, end, &mut stands);
         if let Some(name) = named.names.get(k) {
@@ -44,7 +58,7 @@ pub fn propose(
         stands.push(stand)?;
     }
     solution.places.push(0)?;
-    Ok(solution)
+    Ok(())
 }
 
 /// What a parent leaves to a row: between which gaps its lock stands, and what it gets and gives along their arcs.

@@ -1,6 +1,6 @@
 ghost use Rattle.std.specs.Prelude.{◌≡◌, ℕ, ◌+◌, ◌*◌, ◌<◌, ◌≤◌, length, slice_index, slice_index_or, false, IfOk};
 ghost use Rattle.grove_build.specs.Networks.{HaveOwnParents};
-ghost use Rattle.grove_build.specs.Stays.{is_needed, stays_from, rows_cost};
+ghost use Rattle.grove_build.specs.Stays.{is_needed, stay_of, stays_from, rows_cost};
 
 use grove_span::SpanRow;
 use grove_tree::{NoMemory, Node};
@@ -50,17 +50,25 @@ pub fn stays_of(
 {
     let mut stays = Vec::new(alloc);
     for (k, row) in rows.iter().enumerate() {
-        let lock = gaps[2 * k];
-        let release = gaps[2 * k + 1];
-        let early = lock < release && !needed[k];
-        stays.push(Stay {
-            node: row.node,
-            lock,
-            release,
-            early,
-        })?;
+        stays.push(stay_of(row, gaps, needed, k))?;
     }
     Ok(stays)
+}
+
+/// When the node of the row with the number k is held.
+fn stay_of(row: &SpanRow, gaps: &[u32], needed: &[bool], k: usize) -> Stay
+    requires gaps { 2 * k + 1 < length gaps.now }
+    requires needed { k < length needed.now }
+    ensures { result ≡ stay_of gaps.now needed.now k row.now }
+{
+    let lock = gaps[2 * k];
+    let release = gaps[2 * k + 1];
+    Stay {
+        node: row.node,
+        lock,
+        release,
+        early: lock < release && !needed[k],
+    }
 }
 
 /// What it costs to hold each row's node from the gap of its lock to that of its unlock, in weight times slots.

@@ -1,8 +1,18 @@
-use Rattle.std.proofs.Common.{rules, IfOk}
+use Rattle.std.proofs.Common.{rules, arith, IfOk}
 use Rattle.std.specs.List.{AllZip}
 use Rattle.grove_build.specs.Batches.{IsPlanned}
 use Rattle.grove_build.proofs.Batched.{AllZip-halves}
 use Rattle.grove_build.proofs.batch.+halving.Goals as goal
+
+pub join+arg2-plan_parts-requires : goal.join+arg2-plan_parts-requires
+join+arg2-plan_parts-requires g t c κs within =
+    let (sync_R, sync_G, room, size, fit) = c.requires in
+    (search rules, (within.0, (within.1, (sync_R, (sync_G, (omega arith, fit))))))
+
+pub join+arg3-plan_parts-requires : goal.join+arg3-plan_parts-requires
+join+arg3-plan_parts-requires g t c κs within =
+    let (sync_R, sync_G, room, fit) = c.requires in
+    (search rules, (within.0, (within.1, (sync_R, (sync_G, (room, fit))))))
 
 pub returns : goal.returns
 returns g t c =

@@ -137,11 +137,17 @@ returns g c =
     c.cost_of-cost.ensures
     ∙ (ap₂ (λ w g. rows_cost w c.args.slots.now g (length c.args.weights.now)) c.requires.weights c.deref-7.ensures.value
     ∙ ap (λ n. rows_cost (weights_of c.args.tree.now c.args.rows.now) c.args.slots.now c.args.solved.now.gaps.items n) many) in
+    let settled : IsSettled c.args.tree.now (nodes_of c.args.list.now) (lengths_of c.args.list.now) c.new.result =
+    subst P (sym plan) (steps_settle c.args.tree.now (nodes_of c.args.list.now) (lengths_of c.args.list.now)
+    c.args.rows.now
+    c.args.solved.now.amounts.items c.args.solved.now.gaps.items c.requires.span c.requires.solved
+    (nodes_few c.args.list.now c.len-accesses.ensures.few) c.len-nodes.ensures.limits c.in_ok-needed.needed.items
+    marked) in
     record {
-      settled = subst P (sym plan) (steps_settle c.args.tree.now (nodes_of c.args.list.now) (lengths_of c.args.list.now) c.args.rows.now
-          c.args.solved.now.amounts.items c.args.solved.now.gaps.items c.requires.span c.requires.solved
-          (nodes_few c.args.list.now c.len-accesses.ensures.few) c.len-nodes.ensures.limits c.in_ok-needed.needed.items marked);
-      cost = priced ∙ (steps_cost c.args.tree.now (nodes_of c.args.list.now) (lengths_of c.args.list.now) c.args.rows.now
+      settled = settled;
+      least = settled.least;
+      priced = priced ∙ (steps_cost c.args.tree.now (nodes_of c.args.list.now) (lengths_of c.args.list.now)
+          c.args.rows.now
           c.args.solved.now.amounts.items c.args.solved.now.gaps.items c.requires.span c.requires.solved
           (nodes_few c.args.list.now c.len-accesses.ensures.few) c.len-nodes.ensures.limits c.in_ok-needed.needed.items marked c.args.slots.now c.requires.slots ∙ ap (λ p. cost c.args.tree.now (lengths_of c.args.list.now) p) (sym plan));
       certificate = subst S (sym (c.new-2.ensures ∙ flow)) (subst Q (sym plan) (steps_certified c.args.tree.now (nodes_of c.args.list.now) (lengths_of c.args.list.now) c.args.rows.now

@@ -1,9 +1,17 @@
-use Rattle.std.proofs.Common.{◌≡◌, ◌<◌, length, refl, sym, arith, ◌∙◌}
+use Rattle.std.proofs.Common.{◌≡◌, ◌<◌, false, length, refl, sym, arith, ◌∙◌}
 use Rattle.std.proofs.lemmas.Option.{slice_get_read}
 use Rattle.std.proofs.Common.{length-set}
+use Rattle.std.proofs.lemmas.List.{length-replicate, get_or-replicate}
 use Rattle.grove_build.proofs.Walks.{needed_set, needed_apart, needed_none}
 use Rattle.grove_build.proofs.stays.needed_of.Goals.{in-Some+then-gaps-k, in-Some+else-gaps-k, in_default}
 use Rattle.grove_build.proofs.stays.needed_of.Goals as goal
+
+pub loop-k-init : goal.loop-k-init
+loop-k-init c =
+    rw (c.in_ok-needed.ensures.items_if_clones_equal (λ y is. is)) (
+      length-replicate (length c.args.rows.now) false,
+      λ j within. get_or-replicate (length c.args.rows.now) j false false within,
+    )
 
 pub loop-k-preserved : goal.loop-k-preserved
 loop-k-preserved c =
