@@ -1,4 +1,4 @@
-ghost use Rattle.std.specs.Prelude.{◌≡◌, ◌≤◌, length, IfOk, IfErr};
+ghost use Rattle.std.specs.Prelude.{◌≡◌, ◌≤◌, [], length, vec_capacity, IfOk, IfErr};
 ghost use Rattle.grove_core.specs.Runs.{IsRun, IsFinished};
 ghost use Rattle.grove_core.specs.Orders.{placement_order};
 ghost use Rattle.grove_core.specs.Laws.{IsEachOnce, IsSerialBy};
@@ -69,12 +69,30 @@ fn run_as<'a, B: Batch + Send + Sync, R: Threads + Wait + Sync, G: Gate + Sync>(
     ensures fault { IfErr result (λ fault. IsRunFault B.tree B.jobs fault) }
 {
     let core = Core::open(alloc, tree, records, jobs)?;
-    let mut order = Vec::with_capacity(alloc, jobs.len())?;
+    let order = Vec::with_capacity(alloc, jobs.len())?;
     let carries = carries_of(alloc, jobs)?;
     let register = Mutex::new(Register::<B>::new(Book::open(core), carries));
     let bells = Bells::new();
     work_all(rt, jobs, &register, &bells, workers.min(jobs.len()), gate);
-    let register = register.into_inner();
+    finished_of(register.into_inner(), order)
+}
+
+/// What a register that no worker has any more comes to. The order goes into an empty vector with room for each job.
+fn finished_of<'a, B: Batch>(
+    register: Register<'a, B>,
+    mut order: Vec<u32>,
+) -> Result<Finished<'a>, RunFault>
+    requires few { vec_capacity order ≤ 256 }
+    requires empty { order.items ≡ [] }
+    requires room { length B.jobs ≤ vec_capacity order }
+    ensures batch { IfOk result (λ finished. IsCoreOf B.tree B.jobs B.opening finished.core) }
+    ensures run { IfOk result (λ finished. IsRun B.jobs (past_of finished.core)) }
+    ensures ended { IfOk result (λ finished. IsFinished B.jobs (past_of finished.core)) }
+    ensures order { IfOk result (λ finished. finished.order ≡ placement_order B.tree B.jobs (past_of finished.core)) }
+    ensures once { IfOk result (λ finished. IsEachOnce finished.order (length B.jobs)) }
+    ensures serial { IfOk result (λ finished. IsSerialBy finished.order B.jobs B.opening (past_of finished.core)) }
+    ensures fault { IfErr result (λ fault. IsRunFault B.tree B.jobs fault) }
+{
     if register.is_foreign() {
         return Err(RunFault::Foreign);
     }
