@@ -1,2 +1,3 @@
 pub mod Books
+pub mod FinishedRuns
 pub mod Runs

@@ -5,6 +5,7 @@ ghost use Rattle.grove_core.specs.Laws.{IsEachOnce, IsSerialBy};
 ghost use Rattle.grove_core.specs.Kept.{past_of};
 ghost use Rattle.grove_core.specs.Openings.{AllFit};
 ghost use Rattle.grove_run.specs.Runs.{IsRunFault, IsCoreOf};
+ghost use Rattle.grove_run.specs.FinishedRuns.{IsFinishedRun};
 
 use crate::bells::Bells;
 use crate::carries::carries_of;
@@ -60,12 +61,7 @@ fn run_as<'a, B: Batch + Send + Sync, R: Threads + Wait + Sync, G: Gate + Sync>(
     requires tree { tree.now ≡ B.tree }
     requires jobs { jobs.now ≡ B.jobs }
     requires opening { records.now ≡ B.opening }
-    ensures batch { IfOk result (λ finished. IsCoreOf B.tree B.jobs B.opening finished.core) }
-    ensures run { IfOk result (λ finished. IsRun B.jobs (past_of finished.core)) }
-    ensures ended { IfOk result (λ finished. IsFinished B.jobs (past_of finished.core)) }
-    ensures order { IfOk result (λ finished. finished.order ≡ placement_order B.tree B.jobs (past_of finished.core)) }
-    ensures once { IfOk result (λ finished. IsEachOnce finished.order (length B.jobs)) }
-    ensures serial { IfOk result (λ finished. IsSerialBy finished.order B.jobs B.opening (past_of finished.core)) }
+    ensures run { IfOk result (IsFinishedRun B.tree B.jobs B.opening) }
     ensures fault { IfErr result (λ fault. IsRunFault B.tree B.jobs fault) }
 {
     let core = Core::open(alloc, tree, records, jobs)?;
@@ -85,12 +81,7 @@ fn finished_of<'a, B: Batch>(
     requires few { vec_capacity order ≤ 256 }
     requires empty { order.items ≡ [] }
     requires room { length B.jobs ≤ vec_capacity order }
-    ensures batch { IfOk result (λ finished. IsCoreOf B.tree B.jobs B.opening finished.core) }
-    ensures run { IfOk result (λ finished. IsRun B.jobs (past_of finished.core)) }
-    ensures ended { IfOk result (λ finished. IsFinished B.jobs (past_of finished.core)) }
-    ensures order { IfOk result (λ finished. finished.order ≡ placement_order B.tree B.jobs (past_of finished.core)) }
-    ensures once { IfOk result (λ finished. IsEachOnce finished.order (length B.jobs)) }
-    ensures serial { IfOk result (λ finished. IsSerialBy finished.order B.jobs B.opening (past_of finished.core)) }
+    ensures run { IfOk result (IsFinishedRun B.tree B.jobs B.opening) }
     ensures fault { IfErr result (λ fault. IsRunFault B.tree B.jobs fault) }
 {
     if register.is_foreign() {
