@@ -5,6 +5,8 @@ ghost use Rattle.grove_access.specs.Lists.{nodes_of, AreNodes};
 ghost use Rattle.grove_core.specs.Kept.{past_of};
 ghost use Rattle.grove_core.specs.Orders.{placement_order};
 ghost use Rattle.grove_core.specs.Runs.{waits_of};
+ghost use Rattle.grove_core.specs.Openings.{AllFit};
+ghost use Rattle.grove_store.specs.Rounds.{AreSettledJobs};
 ghost use Rattle.grove_wire.specs.Forms.{HasShortArrays};
 ghost use Rattle.grove_answer.specs.Says.{Says};
 ghost use Rattle.grove_answer.specs.Outcomes.{ThenSays, batch_in, batch_lines, run_lines, IsRunBatch};
@@ -12,12 +14,12 @@ ghost use Rattle.grove_answer.specs.Outcomes.{ThenSays, batch_in, batch_lines, r
 use crate::reading::{Batch, read_batch};
 use crate::refusal::{Refusal, or_refuse};
 use crate::texts::{counts_text, lists_text, numbers_of, numbers_text};
-use grove_access::Reply;
+use grove_access::{Records, Reply};
 use grove_base::NoMemory;
-use grove_core::Core;
+use grove_core::{Core, Job};
 use grove_run::run_batch;
 use grove_store::{replies_of, settled_jobs};
-use grove_tree::{Node, OpenGate};
+use grove_tree::{Node, OpenGate, Tree};
 use serde_json::Value;
 use std::alloc::{AllocError, Global};
 use std::sync::Wait;
@@ -58,17 +60,27 @@ fn run_lists<R: Threads + Wait + Sync>(
         lists,
     } = batch;
     let jobs = settled_jobs(rt, alloc, &tree, lists, workers)?;
-    match run_batch(
-        rt,
-        alloc,
-        &tree,
-        &records,
-        &jobs,
-        workers as usize,
-        &OpenGate,
-    ) {
+    run_jobs(rt, alloc, &tree, &records, &jobs, workers as usize)
+}
+
+/// Runs the jobs of lists that are planned.
+fn run_jobs<R: Threads + Wait + Sync>(
+    rt: &R,
+    alloc: Global,
+    tree: &Tree,
+    records: &Records,
+    jobs: &[Job],
+    workers: usize,
+) -> Result<String, Refusal>
+    requires records { length records.now ≡ length tree.now }
+    requires fits { AllFit tree.now jobs.now }
+    requires few { length jobs.now ≤ 256 }
+    requires settled { AreSettledJobs tree.now (map (λ job. job.list) jobs.now) jobs.now }
+    ensures { Says (IsRunBatch (tree.now, records.now, map (λ job. job.list) jobs.now)) result }
+{
+    match run_batch(rt, alloc, tree, records, jobs, workers, &OpenGate) {
         Ok(finished) => Ok(run_lines(alloc, finished.core(), finished.order())?),
-        Err(fault) => Err(Refusal::of_run(alloc, &tree, &fault)),
+        Err(fault) => Err(Refusal::of_run(alloc, tree, &fault)),
     }
 }
 
