@@ -1,6 +1,6 @@
 ghost use Rattle.std.specs.Prelude.{◌≡◌, ◌≤◌, ℕ, List, false, codes, map, Some, None, IfOk, IfErr, IfSome, IsErrAnd, string_bytes};
 ghost use Rattle.clap.specs.declared.builder.command.Command.{out-Command};
-ghost use Rattle.clap.specs.Words.{HasKind, Row, app_of, fault_of, first_of, rule_of, new_rule, subcommand_of, subcommand_rows_of};
+ghost use Rattle.clap.specs.Words.{App, HasKind, Row, app_of, fault_of, first_of, rule_of, new_rule, subcommand_of, subcommand_rows_of, with_subcommand};
 ghost use Rattle.grove_words.specs.CommandLines.{batch_command, command_named, document_command, grove_command, no_command, port_command, port_rule, tree_rule, workers_rule, AreWrong, AskFor, AskToServe, AskToShow, IsPortIn, text_of};
 ghost use Rattle.grove_words.specs.NoOrders.{HasText, TellsShown, TellsWrong};
 
@@ -94,12 +94,23 @@ fn command_named(word: &str) -> Command
 pub fn command_line<'a>(alloc: Global) -> Result<clap::Command<'a>, AllocError>
     ensures { IfOk result (λ command. app_of command ≡ grove_command) }
 {
-    program(alloc)?
-        .subcommand(judge(alloc)?)?
-        .subcommand(check(alloc)?)?
-        .subcommand(plan(alloc)?)?
-        .subcommand(run(alloc)?)?
-        .subcommand(serve(alloc)?)
+    let judges = add(program(alloc), judge(alloc));
+    let checks = add(judges, check(alloc));
+    let plans = add(checks, plan(alloc));
+    let runs = add(plans, run(alloc));
+    add(runs, serve(alloc))
+}
+
+/// The program with one more command, where there was memory for both.
+fn add<'a>(
+    program: Result<clap::Command<'a>, AllocError>,
+    command: Result<clap::Command<'a>, AllocError>,
+) -> Result<clap::Command<'a>, AllocError>
+    requires local { IfOk command (λ command. (out-Command command).has_globals ≡ false) }
+    ensures { (a b : App) → IfOk program.entry (λ program. app_of program ≡ a) → IfOk command.entry (λ command. app_of command ≡ b)
+        → IfOk result (λ added. app_of added ≡ with_subcommand a b.top) }
+{
+    program?.subcommand(command?)
 }
 
 /// The program before it has its commands.
