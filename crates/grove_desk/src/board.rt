@@ -161,15 +161,37 @@ impl Board {
         ensures room { vec_capacity batch.new ≡ vec_capacity batch.old }
         ensures same { self.new ≡ self.old }
     {
+        let back = self.keep(tree, ledger);
+        if back {
+            self.leave(batch, answered);
+        }
+        back
+    }
+
+    /// Puts the store back, where the board is that of its tree and no store is here.
+    fn keep(&mut self, tree: &Tree, ledger: Ledger) -> bool
+        requires { unweighed ledger.store.rows ≡ unweighed tree.now }
+        ensures names { IsTrue result → unweighed tree.now ≡ self.new }
+        ensures same { self.new ≡ self.old }
+    {
         if !self.tree.same_names(tree) || self.ledger.is_some() {
             return false;
         }
         self.ledger = Some(ledger);
+        true
+    }
+
+    /// Leaves to the caller of each line what it was answered.
+    fn leave(&mut self, batch: &mut Vec<Asked>, answered: Result<Vec<Receipt>, NoMemory>)
+        requires { IfOk answered (λ receipts. All (IsAllowed self.old) receipts.items) }
+        ensures batch { batch.new.items ≡ [] }
+        ensures room { vec_capacity batch.new ≡ vec_capacity batch.old }
+        ensures same { self.new ≡ self.old }
+    {
         match answered {
             Ok(receipts) => self.settle(batch, receipts),
             Err(NoMemory) => self.refuse(batch),
         }
-        true
     }
 
     /// Leaves the receipts to the callers of the first lines.

@@ -93,7 +93,7 @@ impl Desk {
         u32::try_from(self.board.lock(rt).waiting()).unwrap_or(u32::MAX)
     }
 
-    /// Puts a line and waits for what it was answered; answers lines itself whenever it finds the store there.
+    /// Puts a line and waits for what it was answered.
     fn receipt<R: Threads + Wait + Sync, G: Gate + Sync>(
         &self,
         rt: &R,
@@ -105,12 +105,26 @@ impl Desk {
         ensures { IfOk result (IsAllowed (unweighed self.now.opening.rows)) }
     {
         let mut batch = Vec::with_capacity(alloc, MOST_LINES)?;
-        let line = Line::new(alloc, line)?;
-        let ticket = self.put(rt, line)?;
+        let ticket = self.put(rt, Line::new(alloc, line)?)?;
+        self.attend(rt, alloc, ticket, &mut batch, gate)
+    }
+
+    /// Waits for what the line of this ticket was answered; answers lines itself whenever it finds the store there.
+    fn attend<R: Threads + Wait + Sync, G: Gate + Sync>(
+        &self,
+        rt: &R,
+        alloc: Global,
+        ticket: u64,
+        batch: &mut Vec<Asked>,
+        gate: &G,
+    ) -> Result<Receipt, DeskFault>
+        requires { (batch.old.items ≡ []) × (vec_capacity batch.old ≡ 16) }
+        ensures { IfOk result (IsAllowed (unweighed self.now.opening.rows)) }
+    {
         for _ in rt.forever() {
             let mut board = self.board.lock(rt);
             let full = board.is_full();
-            match board.turn(self.opening.tree(), ticket, &mut batch) {
+            match board.turn(self.opening.tree(), ticket, batch) {
                 Turn::Foreign => return Err(DeskFault::Foreign),
                 Turn::Done(done) => return Ok(done?),
                 Turn::Wait => {
@@ -119,7 +133,7 @@ impl Desk {
                 Turn::Lead(ledger) => {
                     drop(board);
                     self.tell_room(full);
-                    self.lead(rt, alloc, ledger, &mut batch, gate)?;
+                    self.lead(rt, alloc, ledger, batch, gate)?;
                 }
             }
         }
@@ -182,6 +196,18 @@ fn copies_of(
 {
     let opening = store.copy(alloc)?;
     let tree = store.tree().copy(alloc)?;
-    let first = if kept { Some(store.copy(alloc)?) } else { None };
+    let first = first_of(alloc, store, kept)?;
     Ok((opening, tree, first))
+}
+
+/// The store that a journal begins with, where one is kept.
+fn first_of(alloc: Global, store: &Store, kept: bool) -> Result<Option<Store>, NoMemory>
+    ensures first { IfOk result (λ first. IfSome first (λ first. first ≡ store.now)) }
+    ensures kept { IfOk result (λ first. IsSome first ↔ (kept ≡ true)) }
+{
+    if kept {
+        Ok(Some(store.copy(alloc)?))
+    } else {
+        Ok(None)
+    }
 }

@@ -168,13 +168,8 @@ fn receipts_of(
     let mut receipts = Vec::with_capacity(alloc, replies.len())?;
     for reply in replies {
         let place = receipts.len();
-        let receipt = Receipt {
-            number: number_of(first, place),
-            line: Vec::from_slice(alloc, lines[place])?,
-            reply: Vec::from_slice(alloc, reply)?,
-            rounds,
-        };
-        receipts.push(receipt)?;
+        let number = number_of(first, place);
+        receipts.push(Receipt::new(alloc, number, lines[place], reply, rounds)?)?;
     }
     Ok(receipts)
 }

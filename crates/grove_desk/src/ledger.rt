@@ -1,6 +1,7 @@
 ghost use Rattle.std.specs.Prelude.{◌≡◌, [], Some, None, ◌<◌, ◌≤◌, length, map, take, All, IfOk, IfSome, OnErr};
 ghost use Rattle.std.specs.Option.{option_map};
 ghost use Rattle.grove_tree.specs.Weights.{unweighed};
+ghost use Rattle.grove_store.specs.Rounds.{IsLawfulRound};
 ghost use Rattle.grove_desk.specs.Histories.{IsCall};
 ghost use Rattle.grove_desk.specs.Ledgers.{noted_in, IsKept};
 
@@ -67,13 +68,39 @@ impl Ledger {
     {
         let before = self.store.copy(alloc)?;
         let replies = self.store.answer_round(rt, alloc, lines, gate)?;
-        let rounds = self.store.rounds();
-        match note(alloc, &mut self.journal, before, lines, &replies, rounds) {
-            Ok(receipts) => Ok(receipts),
-            Err(before) => {
-                self.store = before;
-                Err(NoMemory)
-            }
+        note_round(
+            alloc,
+            &mut self.store,
+            &mut self.journal,
+            before,
+            lines,
+            &replies,
+        )
+    }
+}
+
+/// Notes the round that the store has just answered. Where memory is refused, the store is the one before it again.
+fn note_round(
+    alloc: Global,
+    store: &mut Store,
+    journal: &mut Option<Journal>,
+    before: Store,
+    lines: &[&[u8]],
+    replies: &[Vec<u8>],
+) -> Result<Vec<Receipt>, NoMemory>
+    requires round { IsLawfulRound before (take (length replies.now) (map (λ line. line.now) lines.now)) (map (λ reply. reply.items) replies.now) store.old }
+    requires kept { IsKept journal.old before }
+    ensures lines { IfOk result (λ receipts. map (λ receipt. receipt.line) receipts.items ≡ take (length receipts.items) (map (λ line. line.now) lines.now)) }
+    ensures call { IfOk result (λ receipts. IsCall before receipts.items store.new) }
+    ensures journal { IfOk result (λ receipts. journal.new ≡ option_map (noted_in (record { before = before; receipts = receipts.items })) journal.old) }
+    ensures kept { IsKept journal.new store.new }
+    ensures err { OnErr result ((journal.new ≡ journal.old) × (store.new ≡ before)) }
+{
+    match note(alloc, journal, before, lines, replies, store.rounds()) {
+        Ok(receipts) => Ok(receipts),
+        Err(before) => {
+            *store = before;
+            Err(NoMemory)
         }
     }
 }

@@ -28,16 +28,29 @@ impl Model for Receipt {
 }
 
 impl Receipt {
+    /// The receipt of a line, of which it takes a copy.
+    pub(crate) fn new(
+        alloc: Global,
+        number: u64,
+        line: &[u8],
+        reply: &[u8],
+        rounds: u64,
+    ) -> Result<Receipt, NoMemory>
+        ensures { IfOk result (λ receipt. receipt ≡ record { number = number; line = line.now; reply = reply.now; rounds = rounds }) }
+    {
+        Ok(Receipt {
+            number,
+            line: Vec::from_slice(alloc, line)?,
+            reply: Vec::from_slice(alloc, reply)?,
+            rounds,
+        })
+    }
+
     /// The same receipt once more.
     pub(crate) fn copy(&self, alloc: Global) -> Result<Receipt, NoMemory>
         ensures { IfOk result (λ copy. copy ≡ self.now) }
     {
-        Ok(Receipt {
-            number: self.number,
-            line: Vec::from_slice(alloc, &self.line)?,
-            reply: Vec::from_slice(alloc, &self.reply)?,
-            rounds: self.rounds,
-        })
+        Receipt::new(alloc, self.number, &self.line, &self.reply, self.rounds)
     }
 
     /// Is it the receipt of this line?

@@ -3,6 +3,7 @@ ghost use Rattle.grove_desk.specs.Histories.{IsHistory};
 ghost use Rattle.grove_desk.specs.Ledgers.{IsAccount};
 
 use crate::journal::{Journal, Kept};
+use crate::ledger::Ledger;
 use crate::{Desk, Receipt};
 use grove_store::Store;
 use std::alloc::Global;
@@ -28,20 +29,32 @@ impl Desk {
             board,
             moved: _,
         } = self;
-        let Some(ledger) = board.into_inner().into_ledger() else {
-            return Err(None);
-        };
-        let (store, journal) = ledger.into_parts();
-        if !kept {
-            return Ok(Closed {
-                store,
-                journal: Vec::new(alloc),
-            });
+        match board.into_inner().into_ledger() {
+            Some(ledger) if kept => audited(&opening, ledger, receipts),
+            Some(ledger) => Ok(plain(alloc, ledger)),
+            None => Err(None),
         }
-        match journal {
-            Some(journal) => settled(&opening, store, journal, receipts),
-            None => Err(Some(store)),
-        }
+    }
+}
+
+/// What a ledger without a journal leaves.
+fn plain(alloc: Global, ledger: Ledger) -> Closed
+    ensures { result.journal.items ≡ [] }
+{
+    let (store, _) = ledger.into_parts();
+    Closed {
+        store,
+        journal: Vec::new(alloc),
+    }
+}
+
+/// The store and the journal of a ledger that keeps one, where they pass.
+fn audited(opening: &Store, ledger: Ledger, receipts: &[Receipt]) -> Result<Closed, Option<Store>>
+    ensures { IfOk result (λ closed. IsHistory opening.now receipts.now closed.journal.items closed.store) }
+{
+    match ledger.into_parts() {
+        (store, Some(journal)) => settled(opening, store, journal, receipts),
+        (store, None) => Err(Some(store)),
     }
 }
 

@@ -1,6 +1,6 @@
 use Rattle.std.proofs.Common.{◌≡◌, []}
 use Rattle.std.specs.Vec.{vec_capacity}
-use Rattle.grove_desk.proofs.desk.Desk.receipt.Given as goal
+use Rattle.grove_desk.proofs.desk.Desk.attend.Given as goal
 
 abbrev pub invariant-loop : goal.invariant-loop
 invariant-loop g l =
