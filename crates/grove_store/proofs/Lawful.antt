@@ -61,19 +61,21 @@ round_lawful before after line others first lists counts replies store here few 
 -- the same of lines as they are handed in
 pub first_alone : (before after : Stock) (rows : Rows) (lines : List (Bor (List ℕ))) (d : Bor (List ℕ)) (asked : Result Asked WireFault) (reply : Data) (text : List ℕ) (replies : List (List ℕ)) (n : ℕ) → IsStock before
     → rows ≡ before.rows → 0 < length lines → request_of rows (get_or lines 0 d).now ≡ asked → lists_asked asked ≡ None → RepliesAlone before asked reply after → text ≡ compact_text reply → replies ≡ text ∷ []
-    → n ≡ length replies → IsLawfulRound before (take n (map (λ line. line.now) lines)) replies after
+    → n ≡ length replies → (n ≡ round_length before.rows (map (λ line. line.now) lines)) × IsLawfulRound before (take n (map (λ line. line.now) lines)) replies after
 first_alone before after rows lines d asked reply text replies n store same some read none answers told one long =
     let here : request_of before.rows (get_or lines 0 d).now ≡ asked = ap (λ (rs : Rows). request_of rs (get_or lines 0 d).now) (sym same) ∙ read in
-    let lawful = alone_lawful before after (get_or lines 0 d).now (map (λ (line : Bor (List ℕ)). line.now) (drop 1 lines)) asked reply text replies store here none answers told one in
-    subst (λ (ls : List (List ℕ)). IsLawfulRound before (take n ls) replies after) (sym (first_line lines d some))
-    (subst (λ (m : ℕ). IsLawfulRound before (take m ((get_or lines 0 d).now ∷ map (λ line. line.now) (drop 1 lines))) replies after) (sym long) lawful.1)
+    let lawful = alone_lawful before after (get_or lines 0 d).now (map (λ (line : Bor (List ℕ)). line.now) (drop 1 lines)) asked reply text replies store here none answers told one in (
+      long ∙ lawful.0 ∙ ap (λ (ls : List (List ℕ)). round_length before.rows ls) (sym (first_line lines d some)),
+      subst (λ (ls : List (List ℕ)). IsLawfulRound before (take n ls) replies after) (sym (first_line lines d some))
+          (subst (λ (m : ℕ). IsLawfulRound before (take m ((get_or lines 0 d).now ∷ map (λ line. line.now) (drop 1 lines))) replies after) (sym long) lawful.1),
+    )
 
 -- and where the store is as it was
 pub first_kept : (before now : Stock) (lines : List (Bor (List ℕ))) (d : Bor (List ℕ)) (asked : Result Asked WireFault) (reply : Data) (text : List ℕ) (replies : List (List ℕ)) (n : ℕ) → before ≡ now → IsStock before
     → 0 < length lines → request_of before.rows (get_or lines 0 d).now ≡ asked → lists_asked asked ≡ None → RepliesAlone before asked reply before → text ≡ compact_text reply → replies ≡ text ∷ []
-    → n ≡ length replies → IsLawfulRound now (take n (map (λ line. line.now) lines)) replies now
+    → n ≡ length replies → (n ≡ round_length now.rows (map (λ line. line.now) lines)) × IsLawfulRound now (take n (map (λ line. line.now) lines)) replies now
 first_kept before now lines d asked reply text replies n same store some read none answers told one long =
-    subst (λ (s : Stock). IsLawfulRound s (take n (map (λ line. line.now) lines)) replies s) same
+    subst (λ (s : Stock). (n ≡ round_length s.rows (map (λ line. line.now) lines)) × IsLawfulRound s (take n (map (λ line. line.now) lines)) replies s) same
     (first_alone before before before.rows lines d asked reply text replies n store refl some read none answers told one long)
 
 -- batches, as they are handed in

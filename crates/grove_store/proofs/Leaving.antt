@@ -74,6 +74,11 @@ fails_unfinished : (before : Stock) (lists : List (List Access)) (counts : List 
     → AnswersRound before lists counts replies before
 fails_unfinished before lists counts replies room is batches joins counted = inr (inl (room, inr (refuses (codes "unfinished") before counts batches replies counted is)))
 
+-- a count of rounds that can't grow
+pub fails_full : (before : Stock) (lists : List (List Access)) (counts : List ℕ) (replies : List (List ℕ)) → before.rounds ≡ 2 ^ 64 - 1 → replies ≡ replicate (length counts) (error_text (codes "rounds"))
+    → AnswersRound before lists counts replies before
+fails_full before lists counts replies full is batches joins counted = inr (inr (full, refuses (codes "rounds") before counts batches replies counted is))
+
 -- each line of a round has a reply
 pub answered_long : (before : Stock) (batches : List (List (List Access))) (replies : List (List ℕ)) (after : Stock) → RunsRound before batches replies after ⊎ FailsRound before batches replies after → length replies ≡ length batches
 answered_long before batches replies after (inl runs) =

@@ -1,5 +1,5 @@
 //! The texts of replies.
-ghost use Rattle.std.specs.Prelude.{◌≡◌, ◌≢◌, ◌⊎◌, ◌≤◌, [], ◌∷◌, length, map, replicate, sum, IfOk};
+ghost use Rattle.std.specs.Prelude.{◌≡◌, ◌≢◌, ◌⊎◌, ◌≤◌, [], ◌∷◌, length, map, replicate, sum, IfOk, MatchResult};
 ghost use Rattle.serde_json.specs.Written.{compact_text};
 ghost use Rattle.grove_access.specs.Lists.{nodes_of, AreNodes};
 ghost use Rattle.grove_wire.specs.Names.{wire_name, proof_name, run_name};
@@ -26,10 +26,11 @@ fn error_text(alloc: Global, name: &str) -> Result<Vec<u8>, NoMemory>
     Ok(error_value(alloc, name)?.to_vec(alloc)?)
 }
 
-/// The reply of a line that is answered alone.
-pub fn alone(alloc: Global, text: Vec<u8>) -> Result<Vec<Vec<u8>>, NoMemory>
-    ensures { IfOk result (λ texts. map (λ text. text.items) texts.items ≡ text.items ∷ []) }
+/// The reply of a line that is answered alone, where there was memory for its text.
+pub fn alone(alloc: Global, text: Result<Vec<u8>, NoMemory>) -> Result<Vec<Vec<u8>>, NoMemory>
+    ensures { IfOk result (λ texts. MatchResult text (λ text. map (λ text. text.items) texts.items ≡ text.items ∷ []) (λ _. ⊥)) }
 {
+    let text = text?;
     let mut texts = Vec::with_capacity(alloc, 1)?;
     texts.push(text)?;
     Ok(texts)

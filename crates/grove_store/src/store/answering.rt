@@ -50,13 +50,13 @@ impl Store {
                 let round = round_of(alloc, &self.tree, lists, &lines[1..])?;
                 self.run_round(rt, alloc, round, gate)
             }
-            Ok(Request::Plan(list)) => alone(alloc, plan_text(alloc, &self.tree, &list)?),
+            Ok(Request::Plan(list)) => alone(alloc, plan_text(alloc, &self.tree, &list)),
             Ok(Request::Check(list, plan, flow)) => {
-                alone(alloc, check_text(alloc, &self.tree, &list, &plan, &flow)?)
+                alone(alloc, check_text(alloc, &self.tree, &list, &plan, &flow))
             }
-            Ok(Request::Weights) => alone(alloc, weights_text(alloc, &self.tree, &self.waits)?),
+            Ok(Request::Weights) => alone(alloc, weights_text(alloc, &self.tree, &self.waits)),
             Ok(Request::Reweigh) => self.reweigh(rt, alloc),
-            Err(fault) => alone(alloc, wire_refusal(alloc, fault)?),
+            Err(fault) => alone(alloc, wire_refusal(alloc, fault)),
         }
     }
 }

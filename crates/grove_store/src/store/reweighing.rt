@@ -20,7 +20,7 @@ impl Store {
     {
         let mut tree = self.tree.copy(alloc)?;
         let changed = reweigh(rt, &mut tree, &self.waits, self.workers, &OpenGate);
-        let replies = alone(alloc, changed_text(alloc, changed)?)?;
+        let replies = alone(alloc, changed_text(alloc, changed))?;
         self.tree = tree;
         self.waits.fill(0);
         Ok(replies)

@@ -8,6 +8,7 @@ use Rattle.grove_wire.specs.Replies.{error_data, weights_data, weights_of, chang
 use Rattle.grove_wire.specs.Requests.{Plan, Check, Weights, Reweigh}
 use Rattle.grove_store.specs.Stocks.{Stock, IsStock, changes}
 use Rattle.grove_store.proofs.Together.{counts_all}
+use Rattle.grove_store.proofs.Telling.{text_made}
 use Rattle.grove_store.proofs.Lawful.{first_alone, first_kept, first_round, fails_so}
 use Rattle.grove_store.proofs.store.Store.answer_round.Goals as goal
 
@@ -32,43 +33,92 @@ returns-in_ok-round-in-Ok-Batch-clause-round g c =
     (map (λ reply. reply.items) replies.items) (length replies.items) (subst IsStock c.self.view_is c.self.invariant) (ap (λ (s : Stock). s.rows) c.self.view_is) some (take_rest c.args.lines.now 1)
     read fits.0 c.in_ok-round-in-Ok-Batch.ensures answers (sym (length-map replies.items (λ reply. reply.items)))).1) c.run_round.ensures.round
 
-pub returns-in_ok-plan_text-in-Ok-Plan-clause-round : goal.returns-in_ok-plan_text-in-Ok-Plan-clause-round
-returns-in_ok-plan_text-in-Ok-Plan-clause-round g c =
+pub returns-in-Ok-Plan-clause-length : goal.returns-in-Ok-Plan-clause-length
+returns-in-Ok-Plan-clause-length g c =
     let read = rw c.in-Ok-Plan.field-0-is at c.in-Ok-Plan.ensures.read in
     let some : 0 < length c.args.lines.now = c.requires.count.0 in
-    IfOk-weaker c.alone.result _ _ (λ replies one. first_kept _ c.args.self.now c.args.lines.now _ (Ok (Plan c.in-Ok-Plan.list)) c.in_ok-plan_text-in-Ok-Plan.ensures.0 c.in_ok-plan_text-in-Ok-Plan.field-0.items
-    (map (λ reply. reply.items) replies.items) (length replies.items) c.self.view_is c.self.invariant some read refl (c.in_ok-plan_text-in-Ok-Plan.ensures.1, refl) c.in_ok-plan_text-in-Ok-Plan.ensures.2 one
-    (sym (length-map replies.items (λ reply. reply.items)))) c.alone.ensures
+    IfOk-weaker c.alone.result _ _ (λ replies one. let made = text_made (λ text. text.items) c.plan_text.result (map (λ reply. reply.items) replies.items) c.plan_text.ensures one in
+    (first_kept _ c.args.self.now c.args.lines.now _ (Ok (Plan c.in-Ok-Plan.list)) made.1.0 made.0.items
+    (map (λ reply. reply.items) replies.items) (length replies.items) c.self.view_is c.self.invariant some read refl (made.1.1, refl) made.1.2 made.2
+    (sym (length-map replies.items (λ reply. reply.items)))).0) c.alone.ensures
 
-pub returns-in_ok-check_text-in-Ok-Check-clause-round : goal.returns-in_ok-check_text-in-Ok-Check-clause-round
-returns-in_ok-check_text-in-Ok-Check-clause-round g c =
+pub returns-in-Ok-Plan-clause-round : goal.returns-in-Ok-Plan-clause-round
+returns-in-Ok-Plan-clause-round g c =
+    let read = rw c.in-Ok-Plan.field-0-is at c.in-Ok-Plan.ensures.read in
+    let some : 0 < length c.args.lines.now = c.requires.count.0 in
+    IfOk-weaker c.alone.result _ _ (λ replies one. let made = text_made (λ text. text.items) c.plan_text.result (map (λ reply. reply.items) replies.items) c.plan_text.ensures one in
+    (first_kept _ c.args.self.now c.args.lines.now _ (Ok (Plan c.in-Ok-Plan.list)) made.1.0 made.0.items
+    (map (λ reply. reply.items) replies.items) (length replies.items) c.self.view_is c.self.invariant some read refl (made.1.1, refl) made.1.2 made.2
+    (sym (length-map replies.items (λ reply. reply.items)))).1) c.alone.ensures
+
+pub returns-in-Ok-Check-clause-length : goal.returns-in-Ok-Check-clause-length
+returns-in-Ok-Check-clause-length g c =
     let read = rw c.in-Ok-Check.field-0-is at c.in-Ok-Check.ensures.read in
     let some : 0 < length c.args.lines.now = c.requires.count.0 in
-    IfOk-weaker c.alone-in-Ok-Check.result _ _ (λ replies one. first_kept _ c.args.self.now c.args.lines.now _ (Ok (Check c.in-Ok-Check.list c.in-Ok-Check.plan c.in-Ok-Check.flow)) c.in_ok-check_text-in-Ok-Check.ensures.0 c.in_ok-check_text-in-Ok-Check.field-0.items
-    (map (λ reply. reply.items) replies.items) (length replies.items) c.self.view_is c.self.invariant some read refl (c.in_ok-check_text-in-Ok-Check.ensures.1, refl) c.in_ok-check_text-in-Ok-Check.ensures.2 one
-    (sym (length-map replies.items (λ reply. reply.items)))) c.alone-in-Ok-Check.ensures
+    IfOk-weaker c.alone-in-Ok-Check.result _ _ (λ replies one. let made = text_made (λ text. text.items) c.check_text.result (map (λ reply. reply.items) replies.items) c.check_text.ensures one in
+    (first_kept _ c.args.self.now c.args.lines.now _ (Ok (Check c.in-Ok-Check.list c.in-Ok-Check.plan c.in-Ok-Check.flow)) made.1.0 made.0.items
+    (map (λ reply. reply.items) replies.items) (length replies.items) c.self.view_is c.self.invariant some read refl (made.1.1, refl) made.1.2 made.2
+    (sym (length-map replies.items (λ reply. reply.items)))).0) c.alone-in-Ok-Check.ensures
 
-pub returns-in_ok-weights_text-in-Ok-Weights-clause-round : goal.returns-in_ok-weights_text-in-Ok-Weights-clause-round
-returns-in_ok-weights_text-in-Ok-Weights-clause-round g c =
+pub returns-in-Ok-Check-clause-round : goal.returns-in-Ok-Check-clause-round
+returns-in-Ok-Check-clause-round g c =
+    let read = rw c.in-Ok-Check.field-0-is at c.in-Ok-Check.ensures.read in
+    let some : 0 < length c.args.lines.now = c.requires.count.0 in
+    IfOk-weaker c.alone-in-Ok-Check.result _ _ (λ replies one. let made = text_made (λ text. text.items) c.check_text.result (map (λ reply. reply.items) replies.items) c.check_text.ensures one in
+    (first_kept _ c.args.self.now c.args.lines.now _ (Ok (Check c.in-Ok-Check.list c.in-Ok-Check.plan c.in-Ok-Check.flow)) made.1.0 made.0.items
+    (map (λ reply. reply.items) replies.items) (length replies.items) c.self.view_is c.self.invariant some read refl (made.1.1, refl) made.1.2 made.2
+    (sym (length-map replies.items (λ reply. reply.items)))).1) c.alone-in-Ok-Check.ensures
+
+pub returns-in-Ok-Weights-clause-length : goal.returns-in-Ok-Weights-clause-length
+returns-in-Ok-Weights-clause-length g c =
     let read = rw c.in-Ok-Weights.field-0-is at c.in-Ok-Weights.ensures.read in
     let some : 0 < length c.args.lines.now = c.requires.count.0 in
-    IfOk-weaker c.alone-in-Ok-Weights.result _ _ (λ replies one. first_kept _ c.args.self.now c.args.lines.now _ (Ok Weights) (weights_data c.deref.result.now (weights_of c.self.inside.tree)) c.in_ok-weights_text-in-Ok-Weights.field-0.items
-    (map (λ reply. reply.items) replies.items) (length replies.items) c.self.view_is c.self.invariant some read refl (ap (λ waits. weights_data waits (weights_of c.self.inside.tree)) c.deref.ensures.value, refl) c.in_ok-weights_text-in-Ok-Weights.ensures one
-    (sym (length-map replies.items (λ reply. reply.items)))) c.alone-in-Ok-Weights.ensures
+    IfOk-weaker c.alone-in-Ok-Weights.result _ _ (λ replies one. let made = text_made (λ text. text.items) c.weights_text.result (map (λ reply. reply.items) replies.items) c.weights_text.ensures one in
+    (first_kept _ c.args.self.now c.args.lines.now _ (Ok Weights) (weights_data c.deref.result.now (weights_of c.self.inside.tree)) made.0.items
+    (map (λ reply. reply.items) replies.items) (length replies.items) c.self.view_is c.self.invariant some read refl (ap (λ waits. weights_data waits (weights_of c.self.inside.tree)) c.deref.ensures.value, refl) made.1 made.2
+    (sym (length-map replies.items (λ reply. reply.items)))).0) c.alone-in-Ok-Weights.ensures
 
-pub returns-in_ok-wire_refusal-in-Err-clause-round : goal.returns-in_ok-wire_refusal-in-Err-clause-round
-returns-in_ok-wire_refusal-in-Err-clause-round g c =
+pub returns-in-Ok-Weights-clause-round : goal.returns-in-Ok-Weights-clause-round
+returns-in-Ok-Weights-clause-round g c =
+    let read = rw c.in-Ok-Weights.field-0-is at c.in-Ok-Weights.ensures.read in
     let some : 0 < length c.args.lines.now = c.requires.count.0 in
-    IfOk-weaker c.alone-in-Err.result _ _ (λ replies one. first_kept _ c.args.self.now c.args.lines.now _ (Err c.in-Err.fault) (error_data (wire_name c.in-Err.fault)) c.in_ok-wire_refusal-in-Err.field-0.items
-    (map (λ reply. reply.items) replies.items) (length replies.items) c.self.view_is c.self.invariant some (fails_so c.in-Err.fault _ c.in_ok-wire_refusal-in-Err.ensures.0 c.in-Err.ensures.read) refl (refl, refl) c.in_ok-wire_refusal-in-Err.ensures.1 one
-    (sym (length-map replies.items (λ reply. reply.items)))) c.alone-in-Err.ensures
+    IfOk-weaker c.alone-in-Ok-Weights.result _ _ (λ replies one. let made = text_made (λ text. text.items) c.weights_text.result (map (λ reply. reply.items) replies.items) c.weights_text.ensures one in
+    (first_kept _ c.args.self.now c.args.lines.now _ (Ok Weights) (weights_data c.deref.result.now (weights_of c.self.inside.tree)) made.0.items
+    (map (λ reply. reply.items) replies.items) (length replies.items) c.self.view_is c.self.invariant some read refl (ap (λ waits. weights_data waits (weights_of c.self.inside.tree)) c.deref.ensures.value, refl) made.1 made.2
+    (sym (length-map replies.items (λ reply. reply.items)))).1) c.alone-in-Ok-Weights.ensures
+
+pub returns-in-Err-clause-length : goal.returns-in-Err-clause-length
+returns-in-Err-clause-length g c =
+    let some : 0 < length c.args.lines.now = c.requires.count.0 in
+    IfOk-weaker c.alone-in-Err.result _ _ (λ replies one. let made = text_made (λ text. text.items) c.wire_refusal.result (map (λ reply. reply.items) replies.items) c.wire_refusal.ensures one in
+    (first_kept _ c.args.self.now c.args.lines.now _ (Err c.in-Err.fault) (error_data (wire_name c.in-Err.fault)) made.0.items
+    (map (λ reply. reply.items) replies.items) (length replies.items) c.self.view_is c.self.invariant some (fails_so c.in-Err.fault _ made.1.0 c.in-Err.ensures.read) refl (refl, refl) made.1.1 made.2
+    (sym (length-map replies.items (λ reply. reply.items)))).0) c.alone-in-Err.ensures
+
+pub returns-in-Err-clause-round : goal.returns-in-Err-clause-round
+returns-in-Err-clause-round g c =
+    let some : 0 < length c.args.lines.now = c.requires.count.0 in
+    IfOk-weaker c.alone-in-Err.result _ _ (λ replies one. let made = text_made (λ text. text.items) c.wire_refusal.result (map (λ reply. reply.items) replies.items) c.wire_refusal.ensures one in
+    (first_kept _ c.args.self.now c.args.lines.now _ (Err c.in-Err.fault) (error_data (wire_name c.in-Err.fault)) made.0.items
+    (map (λ reply. reply.items) replies.items) (length replies.items) c.self.view_is c.self.invariant some (fails_so c.in-Err.fault _ made.1.0 c.in-Err.ensures.read) refl (refl, refl) made.1.1 made.2
+    (sym (length-map replies.items (λ reply. reply.items)))).1) c.alone-in-Err.ensures
+
+pub returns-in-Ok-Reweigh-clause-length : goal.returns-in-Ok-Reweigh-clause-length
+returns-in-Ok-Reweigh-clause-length g c =
+    let read = rw c.in-Ok-Reweigh.field-0-is at c.in-Ok-Reweigh.ensures.read in
+    let now = c.args.self.now in
+    let some : 0 < length c.args.lines.now = c.requires.count.0 in
+    IfOk-weaker c.reweigh.result _ _ (λ replies answers. (first_alone now c.reweigh.new.self c.self.inside.tree c.args.lines.now _ (Ok Reweigh) (changed_data (changes now.rows (reweighed now.waits now.rows))) _
+    (map (λ reply. reply.items) replies.items) (length replies.items) (subst IsStock c.self.view_is c.self.invariant)
+    (ap (λ (s : Stock). s.rows) c.self.view_is) some read refl (refl, answers.1) refl answers.0
+    (sym (length-map replies.items (λ reply. reply.items)))).0) c.reweigh.ensures.reply
 
 pub returns-in-Ok-Reweigh-clause-round : goal.returns-in-Ok-Reweigh-clause-round
 returns-in-Ok-Reweigh-clause-round g c =
     let read = rw c.in-Ok-Reweigh.field-0-is at c.in-Ok-Reweigh.ensures.read in
     let now = c.args.self.now in
     let some : 0 < length c.args.lines.now = c.requires.count.0 in
-    IfOk-weaker c.reweigh.result _ _ (λ replies answers. first_alone now c.reweigh.new.self c.self.inside.tree c.args.lines.now _ (Ok Reweigh) (changed_data (changes now.rows (reweighed now.waits now.rows))) _
+    IfOk-weaker c.reweigh.result _ _ (λ replies answers. (first_alone now c.reweigh.new.self c.self.inside.tree c.args.lines.now _ (Ok Reweigh) (changed_data (changes now.rows (reweighed now.waits now.rows))) _
     (map (λ reply. reply.items) replies.items) (length replies.items) (subst IsStock c.self.view_is c.self.invariant)
     (ap (λ (s : Stock). s.rows) c.self.view_is) some read refl (refl, answers.1) refl answers.0
-    (sym (length-map replies.items (λ reply. reply.items)))) c.reweigh.ensures.reply
+    (sym (length-map replies.items (λ reply. reply.items)))).1) c.reweigh.ensures.reply

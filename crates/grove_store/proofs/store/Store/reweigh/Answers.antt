@@ -3,6 +3,7 @@ use Rattle.grove_tree.specs.Trees.{Rows}
 use Rattle.grove_meter.specs.Waits.{reweighed}
 use Rattle.grove_store.specs.Stocks.{Stock}
 use Rattle.grove_store.specs.Parts.{AnswersReweigh}
+use Rattle.grove_store.proofs.Telling.{text_made}
 use Rattle.grove_store.proofs.Reweighing.{reweighed_is, reweigh_answers}
 use Rattle.grove_store.proofs.store.Store.reweigh.Goals as goal
 
@@ -20,8 +21,9 @@ returns-clause-reply g c =
     let waits = c.self.inside.waits in
     let waited : length waits.items ≡ length c.self.inside.tree = c.self.invariant.waited in
     let long : vec_len waits ≡ length c.self.inside.tree = omega (arith, waits.ok.0) in
+    let made = text_made (λ text. text.items) c.changed_text.result (map (λ reply. reply.items) c.in_ok-replies.replies.items) c.changed_text.ensures c.in_ok-replies.ensures in
     let before : Stock = record { rows = c.self.inside.tree; records = c.self.inside.records; waits = waits.items; workers = c.self.inside.workers; rounds = c.self.inside.rounds } in
     subst (λ (stock : Stock). AnswersReweigh stock (map (λ reply. reply.items) c.in_ok-replies.replies.items) (record before { rows = c.reweigh-changed.new.tree; waits = c.fill.new.self.items })) c.self.view_is
-    (reweigh_answers before c.in_ok-tree.tree c.reweigh-changed.new.tree c.deref.result.now c.fill.new.self.items c.in_ok-changed_text.field-0.items c.reweigh-changed.result _
+    (reweigh_answers before c.in_ok-tree.tree c.reweigh-changed.new.tree c.deref.result.now c.fill.new.self.items made.0.items c.reweigh-changed.result _
     c.in_ok-tree.ensures c.deref.ensures.value c.reweigh-changed.ensures.rows c.reweigh-changed.ensures.count (c.fill.ensures.items (λ y e. e) ∙ ap (λ (n : ℕ). replicate n 0) long)
-    c.in_ok-changed_text.ensures c.in_ok-replies.ensures)
+    made.1 made.2)

@@ -1,4 +1,5 @@
 use Rattle.std.proofs.Common.{◌≡◌, ℕ, List, ◌-◌, ◌^◌, ◌<◌, length, map, replicate, sym, ◌∙◌, ap, subst, arith}
+use Rattle.std.specs.Prelude.{codes}
 use Rattle.std.proofs.lemmas.Result.{IfOk-weaker}
 use Rattle.grove_tree.specs.Trees.{Rows}
 use Rattle.grove_access.specs.declared.access.Access.{Access}
@@ -10,7 +11,7 @@ use Rattle.grove_store.specs.Rounds.{AreSettledJobs}
 use Rattle.grove_store.specs.Parts.{AnswersRound}
 use Rattle.grove_store.proofs.Jobs.{settled_fit}
 use Rattle.grove_store.proofs.Keeping.{left_fits}
-use Rattle.grove_store.proofs.Leaving.{runs_round, fails_run}
+use Rattle.grove_store.proofs.Leaving.{runs_round, fails_run, fails_full}
 use Rattle.grove_store.proofs.store.Store.run_round.Goals as goal
 
 -- the jobs, as they are lent to the run
@@ -52,3 +53,12 @@ returns-clause-round g c =
     IfOk-weaker c.run_refusals.result _ _ (λ texts told. fails_run before c.args.round.lists.items c.deref.result.now c.args.round.counts.items (map (λ reply. reply.items) texts.items) c.in-Err.fault
     (settled _ _ _ _ _ (ap (λ (s : Stock). s.rows) c.self.view_is) c.deref.ensures.value c.in_ok-jobs.ensures) room c.in-Err.ensures.fault told.0
     (told.1 ∙ ap (λ (n : ℕ). replicate n (error_text (run_name c.in-Err.fault))) number)) c.run_refusals.ensures
+
+pub returns-then-self-clause-round : goal.returns-then-self-clause-round
+returns-then-self-clause-round g c =
+    let before = c.args.self.now in
+    let same : before.rounds ≡ c.self.inside.rounds = sym (ap (λ (s : Stock). s.rounds) c.self.view_is) in
+    let full : before.rounds ≡ 2 ^ 64 - 1 = omega (arith, c.if-self.true) in
+    let number : c.len.result ≡ length c.args.round.counts.items = omega (arith, c.args.round.counts.ok.0) in
+    IfOk-weaker c.refusals.result _ _ (λ texts told. fails_full before c.args.round.lists.items c.args.round.counts.items (map (λ reply. reply.items) texts.items) full
+    (told ∙ ap (λ (n : ℕ). replicate n (error_text (codes "rounds"))) number)) c.refusals.ensures
