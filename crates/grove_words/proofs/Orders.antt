@@ -1,5 +1,5 @@
 -- Words that are an order are taken by clap, and are no second order.
-use Rattle.std.proofs.Common.{◌≡◌, ◌≢◌, ◌∙◌, ℕ, ap, refl, sym, subst, false, List, [], ◌∷◌, length, Option, Some, None, inl, inr, codes, ◌⊎◌, Result, fold}
+use Rattle.std.proofs.Common.{◌≡◌, ◌≢◌, ◌∙◌, ap, refl, sym, subst, false, List, [], ◌∷◌, length, Option, Some, None, inl, inr, codes, fold}
 use Rattle.std.specs.Prelude.{is_some}
 use Rattle.clap.specs.Words.{Row, Text, fault_of, first_of, subcommand_of, built}
 use Rattle.clap.specs.Walk.{Walk, idle, nothing_held, walk, walked, walk_from, word_met, settled, finished, rows_after}
@@ -18,7 +18,7 @@ use Rattle.grove_words.specs.declared.order.Command.TheVariants.{Judge, Check, P
 use Rattle.grove_words.specs.declared.order.Order.{Order}
 use Rattle.grove_words.specs.CommandLines.{command_named, grove_command, hyphens, IsPlain, AreCommand, AreDocument, AreFor, AreTakenFor, AskFor, AskToShow, word_of, text_of}
 use Rattle.grove_words.proofs.Words.{top_rules, leaf_rules, HasNoFlag, no_flag, differs, met_plain}
-use Rattle.grove_words.proofs.Documents.{leaf, leaf_fault, named, walked_plain, hyphens_after}
+use Rattle.grove_words.proofs.Documents.{leaf, leaf_fault, walked_plain, hyphens_after}
 use Rattle.grove_words.proofs.Asking.{names, top, at_command, is_one_of, shape_of, rules_of, below_fault, rows_are, no_command_found, hyphens_found}
 
 or_nil : (a b : Kinds) → a ≡ [] → b ≡ [] → or_else a b ≡ []

@@ -1,5 +1,5 @@
 -- The port that clap finds is the number that its text writes.
-use Rattle.std.proofs.Common.{◌≡◌, ℕ, codes, List, Option, Some, None, Result, Ok, IfSome, IsSomeAnd, option_map, option_and_then, refl, subst}
+use Rattle.std.proofs.Common.{◌≡◌, ℕ, codes, List, Option, Some, None, Result, Ok, IfSome, IsSomeAnd, option_map, refl, subst}
 use Rattle.std.specs.Str.Parse.{digits_value, without_leading_plus}
 use Rattle.clap.specs.Words.{ReadsOne, Row, Text, one_of}
 use Rattle.grove_words.specs.CommandLines.{IsPortIn}
