@@ -43,8 +43,8 @@ def solve(bench: Path, seed: int, tally: Tally) -> None:
 
 
 def network(rng: random.Random) -> str:
-    """A network as `grove_bench solve` reads it: the numbers of variables and arcs; of each arc where it begins, where it
-    ends and its least; the needs; places that meet each arc."""
+    """A network as `grove_bench solve` reads it: the numbers of variables and arcs; of each arc where it begins, where
+    it ends and its least; the needs; places that meet each arc."""
     rows = rng.randint(1, 6)
     count = 2 * rows + 1
     places = [rng.randint(0, 20) for _ in range(count)]
