@@ -3,11 +3,11 @@
 
 mod desks;
 mod planning;
-mod running;
+pub mod running;
 mod sessions;
 mod stores;
 mod telling;
-mod values;
+pub mod values;
 mod weighing;
 
 use anyhow::{Result, bail};

@@ -1,16 +1,19 @@
 ghost use Rattle.std.specs.Prelude.{◌≤◌, ◌<◌};
 
+use crate::again::values::{access, job_of, list_of};
 use crate::branches::BRANCHES;
 use crate::running::{self, DEPTH};
+use crate::steps::{lock, unlock};
 use anyhow::{Result, bail};
 use grove_access::{Access, AccessList, Op, Records};
 use grove_build::plan_batch;
 use grove_core::{Job, all_fit};
 use grove_meter::reweigh;
-use grove_plan::{Plan, Step};
-use grove_run::run_batch;
-use grove_tree::{Node, OpenGate, Row, Tree};
+use grove_plan::Step;
+use grove_run::{Finished, run_batch};
+use grove_tree::{OpenGate, Row, Tree};
 use std::alloc::Global;
+use std::io;
 use std::rt::Runtime;
 use std::sync::Wait;
 use std::thread::Threads;
@@ -88,12 +91,18 @@ fn time_plan<R: Runtime + Threads + Sync>(
     }
     let since = Instant::now(rt)?;
     let plans = plan_batch(rt, alloc, tree, lists, workers, &OpenGate)?;
-    let spent = since.elapsed(rt)?;
-    println!(rt;
-        "{what} {workers} {} of {} lists",
-        spent.as_micros(),
-        plans.len()
-    )?;
+    tell_plans(rt, what, workers, since.elapsed(rt), plans.len())
+}
+
+fn tell_plans<R: Print>(
+    rt: &R,
+    what: &str,
+    workers: u32,
+    spent: io::Result<Duration>,
+    plans: usize,
+) -> Result<()> {
+    let spent = spent?.as_micros();
+    println!(rt; "{what} {workers} {spent} of {plans} lists")?;
     Ok(())
 }
 
@@ -116,12 +125,23 @@ fn weigh_often<R: Runtime + Threads + Sync>(rt: &R, alloc: Global, workers: u32)
 {
     let mut tree = shops(alloc)?;
     let waits = vec![in alloc; 7u32; 4096]?;
+    weigh_by(rt, &mut tree, &waits, workers)
+}
+
+fn weigh_by<R: Runtime + Threads + Sync>(
+    rt: &R,
+    tree: &mut Tree,
+    waits: &[u32],
+    workers: u32,
+) -> Result<Duration>
+    requires { (1 ≤ workers) × (workers ≤ 16) }
+{
     let since = Instant::now(rt)?;
     for _time in 0..TIMES {
-        if tree.len() != 4096 {
+        if tree.len() as usize != waits.len() {
             bail!("the tree has other nodes");
         }
-        reweigh(rt, &mut tree, &waits, workers, &OpenGate);
+        reweigh(rt, tree, waits, workers, &OpenGate);
     }
     Ok(since.elapsed(rt)?)
 }
@@ -146,8 +166,19 @@ fn time_runs<R: Runtime + Threads + Wait + Sync>(
     jobs: &[Job],
 ) -> Result<()> {
     let records = running::zeros(alloc, tree.len())?;
+    time_each_run(rt, alloc, what, tree, &records, jobs)
+}
+
+fn time_each_run<R: Runtime + Threads + Wait + Sync>(
+    rt: &R,
+    alloc: Global,
+    what: &str,
+    tree: &Tree,
+    records: &Records,
+    jobs: &[Job],
+) -> Result<()> {
     for workers in [1, 2, 4] {
-        let (spent, steps) = time_run(rt, alloc, tree, &records, jobs, workers)?;
+        let (spent, steps) = time_run(rt, alloc, tree, records, jobs, workers)?;
         println!(rt; "{what} {workers} {} of {steps} events", spent.as_micros())?;
     }
     Ok(())
@@ -167,8 +198,11 @@ fn time_run<R: Runtime + Threads + Wait + Sync>(
     }
     let since = Instant::now(rt)?;
     let finished = run_batch(rt, alloc, tree, records, jobs, workers, &OpenGate)?;
-    let spent = since.elapsed(rt)?;
-    Ok((spent, finished.core().history().len()))
+    told(since.elapsed(rt), &finished)
+}
+
+fn told(spent: io::Result<Duration>, finished: &Finished) -> Result<(Duration, usize)> {
+    Ok((spent?, finished.core().history().len()))
 }
 
 /// A root, shops below it and shelves in these, numbered shop by shop.
@@ -176,13 +210,19 @@ fn shops(alloc: Global) -> Result<Tree> {
     let mut rows = Vec::new(alloc);
     rows.push(row(alloc, None, 0)?)?;
     for shop in 0..SHOPS {
-        let above = 1 + shop * (SHELVES + 1);
-        rows.push(row(alloc, Some(0), above)?)?;
-        for shelf in 0..SHELVES {
-            rows.push(row(alloc, Some(above), above + 1 + shelf)?)?;
-        }
+        push_shop(alloc, &mut rows, 1 + shop * (SHELVES + 1))?;
     }
     Ok(Tree::build(alloc, &rows)?)
+}
+
+fn push_shop(alloc: Global, rows: &mut Vec<Row>, shop: u32) -> Result<()>
+    requires { shop < 4096 }
+{
+    rows.push(row(alloc, Some(0), shop)?)?;
+    for shelf in 0..SHELVES {
+        rows.push(row(alloc, Some(shop), shop + 1 + shelf)?)?;
+    }
+    Ok(())
 }
 
 fn row(alloc: Global, parent: Option<u32>, number: u32) -> Result<Row> {
@@ -203,35 +243,43 @@ fn lists(alloc: Global, tree: &Tree, apart: u32) -> Result<Vec<AccessList>>
 {
     let mut lists = Vec::new(alloc);
     for number in 0..BATCH {
-        let mut accesses = Vec::new(alloc);
-        for access in 0..ACCESSES {
-            accesses.push(add_one(1 + (number * apart + access * 67) % 4095))?;
-        }
-        lists.push(AccessList::new(alloc, tree, &accesses)?)?;
+        lists.push(list_from(alloc, tree, number * apart)?)?;
     }
     Ok(lists)
+}
+
+fn list_from(alloc: Global, tree: &Tree, first: u32) -> Result<AccessList>
+    requires { first < 1048576 }
+{
+    let mut accesses = Vec::new(alloc);
+    for access in 0..ACCESSES {
+        accesses.push(add_one(1 + (first + access * 67) % 4095))?;
+    }
+    list_of(alloc, tree, &accesses)
 }
 
 /// Lists that add 1 to a node near the end of each chain, in turn, no two lists alike.
 fn long_lists(alloc: Global, tree: &Tree) -> Result<Vec<AccessList>> {
     let mut lists = Vec::new(alloc);
     for number in 0..BATCH {
-        let mut accesses = Vec::new(alloc);
-        for access in 0..ACCESSES {
-            let chain = (number + access) % BRANCHES;
-            accesses.push(add_one((chain + 1) * DEPTH - number / BRANCHES))?;
-        }
-        lists.push(AccessList::new(alloc, tree, &accesses)?)?;
+        lists.push(long_list(alloc, tree, number)?)?;
     }
     Ok(lists)
 }
 
-fn add_one(node: u32) -> Access {
-    Access {
-        node: Node::new(node),
-        op: Op::Add(1),
-        length: 1,
+fn long_list(alloc: Global, tree: &Tree, number: u32) -> Result<AccessList>
+    requires { number < 256 }
+{
+    let mut accesses = Vec::new(alloc);
+    for access in 0..ACCESSES {
+        let chain = (number + access) % BRANCHES;
+        accesses.push(add_one((chain + 1) * DEPTH - number / BRANCHES))?;
     }
+    list_of(alloc, tree, &accesses)
+}
+
+fn add_one(node: u32) -> Access {
+    access(node, Op::Add(1))
 }
 
 /// Jobs of one access each, no two at the same shelf.
@@ -239,16 +287,8 @@ fn short_jobs(alloc: Global, tree: &Tree) -> Result<Vec<Job>> {
     let mut jobs = Vec::new(alloc);
     for number in 0..BATCH {
         let shelf = 2 + number % SHOPS * (SHELVES + 1) + number / SHOPS;
-        let node = Node::new(shelf);
-        let list = AccessList::new(alloc, tree, &[add_one(shelf)])?;
-        let mut steps = Vec::new(alloc);
-        steps.push(Step::Lock(node))?;
-        steps.push(Step::Access(0))?;
-        steps.push(Step::Unlock(node))?;
-        jobs.push(Job {
-            list,
-            plan: Plan::new(steps),
-        })?;
+        let steps = [lock(shelf), Step::Access(0), unlock(shelf)];
+        jobs.push(job_of(alloc, tree, &[add_one(shelf)], &steps)?)?;
     }
     Ok(jobs)
 }

@@ -25,20 +25,26 @@ pub fn read_list(rt: &HostRuntime) -> Result<Listed> {
 fn read_tree(alloc: Global, words: &mut SplitWhitespace<'_>) -> Result<Tree> {
     let mut rows = Vec::new(alloc);
     for number in 0..next_number(words)? {
-        let parent = next_number(words)?;
-        let weight = next_number(words)?;
-        let is_root = parent == number;
-        rows.push(Row {
-            parent: if is_root { None } else { Some(parent) },
-            name: if is_root {
-                String::new(alloc)
-            } else {
-                format!(in alloc; "n{number}")?
-            },
-            weight,
-        })?;
+        rows.push(read_row(alloc, words, number)?)?;
     }
     Ok(Tree::build(alloc, &rows)?)
+}
+
+fn read_row(alloc: Global, words: &mut SplitWhitespace<'_>, number: u32) -> Result<Row> {
+    let parent = next_number(words)?;
+    let weight = next_number(words)?;
+    if parent == number {
+        return Ok(Row {
+            parent: None,
+            name: String::new(alloc),
+            weight,
+        });
+    }
+    Ok(Row {
+        parent: Some(parent),
+        name: format!(in alloc; "n{number}")?,
+        weight,
+    })
 }
 
 fn read_accesses(
@@ -48,15 +54,19 @@ fn read_accesses(
 ) -> Result<AccessList> {
     let mut accesses = Vec::new(alloc);
     for _access in 0..next_number(words)? {
-        let node = Node::new(next_number(words)?);
-        let length = next_number(words)?;
-        accesses.push(Access {
-            node,
-            op: Op::Get,
-            length,
-        })?;
+        accesses.push(read_access(words)?)?;
     }
     Ok(AccessList::new(alloc, tree, &accesses)?)
+}
+
+fn read_access(words: &mut SplitWhitespace<'_>) -> Result<Access> {
+    let node = Node::new(next_number(words)?);
+    let length = next_number(words)?;
+    Ok(Access {
+        node,
+        op: Op::Get,
+        length,
+    })
 }
 
 fn next_number(words: &mut SplitWhitespace<'_>) -> Result<u32> {

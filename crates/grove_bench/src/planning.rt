@@ -46,6 +46,10 @@ fn time_layers(rt: &HostRuntime, tree: &Tree, list: &AccessList) -> Result<()>
         laps.begin();
         plan_watched(rt.alloc(), tree, list, &mut laps)?;
     }
+    tell_laps(rt, &laps)
+}
+
+fn tell_laps(rt: &HostRuntime, laps: &Laps) -> Result<()> {
     for (name, layer) in LAYERS {
         let least = laps.least[layer as usize];
         println!(rt; "{name} {least}")?;

@@ -1,11 +1,12 @@
 ghost use Rattle.std.specs.Prelude.{◌<◌};
 
+use crate::again::running::open;
 use crate::branches::{BRANCHES, branches, each_end};
 use crate::steps::{lock, unlock};
 use crate::watch::Watch;
 use anyhow::{Result, bail};
 use grove_access::Records;
-use grove_core::{Core, Event, Job, all_fit, serial_order};
+use grove_core::{Core, Event, Job, serial_order};
 use grove_plan::{Plan, Step};
 use grove_tree::Tree;
 use std::alloc::Global;
@@ -26,11 +27,15 @@ pub fn time(rt: &HostRuntime) -> Result<()> {
 }
 
 fn time_core(rt: &HostRuntime, tree: &Tree, records: &Records, jobs: &[Job]) -> Result<()> {
-    let mut watch = Watch::start(rt)?;
-    let mut core = open(rt.alloc(), tree, records, jobs)?;
+    let watch = Watch::start(rt)?;
+    let mut core = open(rt, tree, records, jobs)?;
+    time_opened(rt, watch, &mut core)
+}
+
+fn time_opened(rt: &HostRuntime, mut watch: Watch, core: &mut Core) -> Result<()> {
     watch.lap(rt, "open")?;
-    time_run(rt, &mut core)?;
-    time_order(rt, &core)
+    time_run(rt, core)?;
+    time_order(rt, core)
 }
 
 fn time_run(rt: &HostRuntime, core: &mut Core) -> Result<()> {
@@ -46,10 +51,10 @@ fn time_order(rt: &HostRuntime, core: &Core) -> Result<()> {
         bail!("some job is left");
     }
     let mut watch = Watch::start(rt)?;
-    let order = serial_order(rt.alloc(), core)?;
+    let finished = serial_order(rt.alloc(), core)?.len();
     watch.lap(rt, "order")?;
     let steps = core.history().len();
-    println!(rt; "  {} jobs finished in {steps} steps", order.len())?;
+    println!(rt; "  {finished} jobs finished in {steps} steps")?;
     Ok(())
 }
 
@@ -62,13 +67,6 @@ pub fn tree(alloc: Global) -> Result<Tree> {
 pub fn zeros(alloc: Global, nodes: u32) -> Result<Records> {
     let zeros = vec![in alloc; 0i64; nodes as usize]?;
     Ok(Records::new(alloc, &zeros)?)
-}
-
-fn open<'a>(alloc: Global, tree: &'a Tree, records: &Records, jobs: &'a [Job]) -> Result<Core<'a>> {
-    if !records.fits(tree) || !all_fit(tree, jobs) || jobs.len() > JOBS as usize {
-        bail!("the jobs don't fit");
-    }
-    Ok(Core::open(alloc, tree, records, jobs)?)
 }
 
 /// Tries one `Take` of each job in turn, until a round has none that is accepted. Gives the number of rounds before.
@@ -90,17 +88,20 @@ fn take_in_turn(core: &mut Core) -> usize {
 pub fn jobs(alloc: Global, tree: &Tree) -> Result<Vec<Job>> {
     let mut jobs = Vec::with_capacity(alloc, JOBS as usize)?;
     for _txn in 0..JOBS {
-        let list = each_end(alloc, tree, DEPTH)?;
-        let steps = chain_by_chain(alloc)?;
-        if steps.len() > STEPS {
-            bail!("a plan has too many steps");
-        }
-        jobs.push(Job {
-            list,
-            plan: Plan::new(steps),
-        })?;
+        jobs.push(job(alloc, tree)?)?;
     }
     Ok(jobs)
+}
+
+fn job(alloc: Global, tree: &Tree) -> Result<Job> {
+    let steps = chain_by_chain(alloc)?;
+    if steps.len() > STEPS {
+        bail!("a plan has too many steps");
+    }
+    Ok(Job {
+        list: each_end(alloc, tree, DEPTH)?,
+        plan: Plan::new(steps),
+    })
 }
 
 /// Locks the root and the first node of each chain, lets the root go, and goes down one chain after the other, each

@@ -68,16 +68,21 @@ fn eight_callers_of_fifty_batches_leave_a_record_400_higher(rt: HostRuntime) {
     let alloc = rt.alloc();
     let desk = open_desk(&rt, alloc, 1, false);
     eight_add_fifty(&rt, alloc, &desk);
-    let looked = desk
-        .answer(&rt, alloc, None, GET, &OpenGate)
-        .expect(&rt, "a receipt");
-    assert!(rt;
-        looked
-            .reply
-            .starts_with(b"{\"places\":[0],\"replies\":[[410]],\"round\":")
-    );
-    assert!(rt; looked.rounds <= 401);
+    is_400_higher(&rt, alloc, &desk);
     assert_eq!(rt; desk.waiting(&rt), 0);
+}
+
+/// The record of `/a`, which was 10, is 410 after at most 401 rounds.
+fn is_400_higher<R: Abort + Threads + Wait + Sync>(rt: &R, alloc: Global, desk: &Desk) {
+    let looked = desk
+        .answer(rt, alloc, None, GET, &OpenGate)
+        .expect(rt, "a receipt");
+    assert!(rt;
+        looked.rounds <= 401
+            && looked
+                .reply
+                .starts_with(b"{\"places\":[0],\"replies\":[[410]],\"round\":")
+    );
 }
 
 #[test]
@@ -94,11 +99,25 @@ fn lines_of_one_caller_are_rounds_of_their_own_and_the_journal_has_them(rt: Host
 
 /// Closes the desk, at which each of two lines had a round of its own.
 fn close_after_two_rounds(rt: &impl Abort, alloc: Global, desk: Desk, receipts: &[Receipt]) {
+    let closed = close(rt, alloc, desk, receipts);
+    has_rounds_of(rt, &closed, [1, 1]);
+}
+
+pub fn close(rt: &impl Abort, alloc: Global, desk: Desk, receipts: &[Receipt]) -> Closed {
     let closed = desk.close(alloc, receipts).ok();
-    let Closed { store, journal } = closed.expect(rt, "a desk that closes");
-    assert!(rt; journal.len() == 2);
-    assert!(rt; journal.iter().all(|kept| kept.receipts.len() == 1));
-    assert!(rt; store.rounds() == 2);
+    closed.expect(rt, "a desk that closes")
+}
+
+/// There were two rounds, of so many lines each.
+pub fn has_rounds_of(rt: &impl Abort, closed: &Closed, lines: [usize; 2]) {
+    let Closed { store, journal } = closed;
+    assert!(rt; store.rounds() == 2 && journal.len() == 2);
+    assert!(rt;
+        journal
+            .iter()
+            .zip(lines)
+            .all(|(kept, lines)| kept.receipts.len() == lines)
+    );
 }
 
 #[test]

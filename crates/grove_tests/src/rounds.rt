@@ -1,6 +1,7 @@
-use crate::desks::kept_desk;
+use crate::desks::{close, has_rounds_of, kept_desk};
 use crate::fixtures::{A, B};
-use grove_desk::{Closed, Desk, Receipt};
+use grove_access::Records;
+use grove_desk::{Desk, Receipt};
 use grove_tree::{Gate, Node, OpenGate};
 use std::alloc::Global;
 use std::process::Abort;
@@ -118,16 +119,12 @@ fn by_number(first: Receipt, one: Receipt, other: Receipt) -> [Receipt; 3] {
 
 /// Closes the desk, at which one line had a round of its own and two lines shared the next.
 fn close_after_two_rounds(rt: &impl Abort, alloc: Global, desk: Desk, receipts: &[Receipt]) {
-    let closed = desk.close(alloc, receipts).ok();
-    let Closed { store, journal } = closed.expect(rt, "a desk that closes");
-    assert!(rt; journal.len() == 2);
-    assert!(rt;
-        journal
-            .iter()
-            .zip([1, 2])
-            .all(|(kept, lines)| kept.receipts.len() == lines)
-    );
-    let records = store.records();
+    let closed = close(rt, alloc, desk, receipts);
+    has_rounds_of(rt, &closed, [1, 2]);
+    are_10_and_22(rt, closed.store.records());
+}
+
+fn are_10_and_22(rt: &impl Abort, records: &Records) {
     assert!(rt; records.len() == 3);
     assert!(rt; records.get(Node::new(A)) == 10);
     assert!(rt; records.get(Node::new(B)) == 22);

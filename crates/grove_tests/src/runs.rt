@@ -40,16 +40,17 @@ fn plays(
 ) {
     let tree = two_leaves(rt, alloc);
     let records = Records::new(alloc, opening).expect(rt, "room for records");
-    let jobs = [
-        job_of(rt, alloc, &tree, &scripts[0]),
-        job_of(rt, alloc, &tree, &scripts[1]),
-    ];
+    let jobs = scripts.map(|script| job_of(rt, alloc, &tree, &script));
     let mut core = open(rt, alloc, &tree, &records, &jobs).expect(rt, "a core");
+    plays_on(rt, alloc, &mut core, turns, outcome);
+}
+
+fn plays_on(rt: &impl Abort, alloc: Global, core: &mut Core, turns: &[Turn], outcome: &Outcome) {
     for (count, event, answer) in turns {
-        turn(rt, &mut core, *count, *event, *answer);
+        turn(rt, core, *count, *event, *answer);
     }
-    comes_to(rt, &core, outcome);
-    is_in_order(rt, alloc, &core, &outcome.order);
+    comes_to(rt, core, outcome);
+    is_in_order(rt, alloc, core, &outcome.order);
 }
 
 fn turn(rt: &impl Abort, core: &mut Core, count: u32, event: Event, answer: Result<(), StepFault>) {
@@ -64,6 +65,11 @@ fn comes_to(rt: &impl Abort, core: &Core, outcome: &Outcome) {
     assert!(rt; core.jobs().len() == 2);
     assert!(rt; core.replies(0) == outcome.first_replies);
     assert!(rt; core.replies(1) == outcome.second_replies);
+    leaves(rt, core, outcome);
+}
+
+/// The run leaves these records, and these waits.
+fn leaves(rt: &impl Abort, core: &Core, outcome: &Outcome) {
     assert!(rt; core.tree().len() == 3);
     assert!(rt; core.records().len() == 3);
     for number in 0..3u32 {

@@ -1,7 +1,7 @@
 use crate::again::telling::say_memory;
 use crate::again::values::store_below;
 use anyhow::{Result, bail, ensure};
-use grove_desk::{Desk, DeskFault, Receipt};
+use grove_desk::{Closed, Desk, DeskFault, Receipt};
 use grove_session::LINE_LIMIT;
 use grove_store::Store;
 use grove_tree::OpenGate;
@@ -12,15 +12,20 @@ use std::thread::Threads;
 /// Three batches at a desk with a journal, which is then closed.
 pub fn answer_lines<R: AllocGlobal + Print + Threads + Wait + Sync>(rt: &R) -> Result<()> {
     let desk = open(rt, store_below(rt.alloc(), 1)?)?;
-    println!(rt; "waiting {}", desk.waiting(rt))?;
+    answer_at(rt, desk)
+}
+
+fn answer_at<R: AllocGlobal + Print + Threads + Wait + Sync>(rt: &R, desk: Desk) -> Result<()> {
     let receipts = receipts_for(rt, &desk)?;
-    close(rt, desk, &receipts)
+    let closed = close(rt, desk, &receipts)?;
+    tell_closed(rt, &closed)
 }
 
 fn receipts_for<R: AllocGlobal + Print + Threads + Wait + Sync>(
     rt: &R,
     desk: &Desk,
 ) -> Result<Vec<Receipt>> {
+    println!(rt; "waiting {}", desk.waiting(rt))?;
     let lines = [
         br#"{"batch":[[["get","/a"]]]}"#.as_slice(),
         br#"{"batch":[[["add","/b",1]]]}"#.as_slice(),
@@ -28,8 +33,7 @@ fn receipts_for<R: AllocGlobal + Print + Threads + Wait + Sync>(
     ];
     let mut receipts = Vec::with_capacity(rt.alloc(), lines.len())?;
     for line in lines {
-        let receipt = answered(rt, desk, line)?;
-        receipts.push(receipt)?;
+        receipts.push(receipt_for(rt, desk, line)?)?;
     }
     Ok(receipts)
 }
@@ -37,14 +41,26 @@ fn receipts_for<R: AllocGlobal + Print + Threads + Wait + Sync>(
 fn open<R: AllocGlobal + Print + Threads + Wait + Sync>(rt: &R, store: Store) -> Result<Desk> {
     match Desk::open(rt.alloc(), store, true) {
         Ok(desk) => Ok(desk),
-        Err(back) => {
-            say_memory(rt)?;
-            match Desk::open(rt.alloc(), back, true) {
-                Ok(desk) => Ok(desk),
-                Err(_) => bail!("memory once more"),
-            }
-        }
+        Err(back) => open_again(rt, back),
     }
+}
+
+fn open_again<R: AllocGlobal + Print>(rt: &R, store: Store) -> Result<Desk> {
+    say_memory(rt)?;
+    match Desk::open(rt.alloc(), store, true) {
+        Ok(desk) => Ok(desk),
+        Err(_) => bail!("memory once more"),
+    }
+}
+
+fn receipt_for<R: AllocGlobal + Print + Threads + Wait + Sync>(
+    rt: &R,
+    desk: &Desk,
+    line: &[u8],
+) -> Result<Receipt> {
+    let receipt = answered(rt, desk, line)?;
+    tell_receipt(rt, &receipt)?;
+    Ok(receipt)
 }
 
 fn answered<R: AllocGlobal + Print + Threads + Wait + Sync>(
@@ -53,32 +69,36 @@ fn answered<R: AllocGlobal + Print + Threads + Wait + Sync>(
     line: &[u8],
 ) -> Result<Receipt> {
     ensure!(line.len() <= LINE_LIMIT, "the line is too long");
-    for _time in 0..2 {
-        match desk.answer(rt, rt.alloc(), None, line, &OpenGate) {
-            Err(DeskFault::Memory) => say_memory(rt)?,
-            answer => return told(rt, answer?),
+    match desk.answer(rt, rt.alloc(), None, line, &OpenGate) {
+        Err(DeskFault::Memory) => {
+            say_memory(rt)?;
+            Ok(desk.answer(rt, rt.alloc(), None, line, &OpenGate)?)
         }
+        first => Ok(first?),
     }
-    bail!("memory once more")
 }
 
-fn told<R: Print>(rt: &R, receipt: Receipt) -> Result<Receipt> {
+fn tell_receipt<R: Print>(rt: &R, receipt: &Receipt) -> Result<()> {
     let reply = str::from_utf8(&receipt.reply)?;
     println!(rt;
         "receipt {} {reply} rounds {}",
         receipt.number, receipt.rounds
     )?;
-    Ok(receipt)
+    Ok(())
 }
 
 fn close<R: AllocGlobal + Print + Threads + Wait + Sync>(
     rt: &R,
     desk: Desk,
     receipts: &[Receipt],
-) -> Result<()> {
-    let Ok(closed) = desk.close(rt.alloc(), receipts) else {
-        bail!("the journal hasn't the receipts");
-    };
+) -> Result<Closed> {
+    match desk.close(rt.alloc(), receipts) {
+        Ok(closed) => Ok(closed),
+        Err(_) => bail!("the journal hasn't the receipts"),
+    }
+}
+
+fn tell_closed<R: Print>(rt: &R, closed: &Closed) -> Result<()> {
     println!(rt;
         "calls {} rounds {}",
         closed.journal.len(),

@@ -16,8 +16,7 @@ use std::thread::Threads;
 /// A tree of four nodes, a list of two accesses over it, and its plan.
 pub fn plan_one<R: AllocGlobal + Print>(rt: &R) -> Result<()> {
     let tree = four_nodes(rt)?;
-    let list = listed(rt, &tree, &[get(1), get(3)])?;
-    tell_planned(rt, &tree, &list)
+    plan_over(rt, &tree)
 }
 
 fn four_nodes<R: AllocGlobal + Print>(rt: &R) -> Result<Tree> {
@@ -30,9 +29,7 @@ fn four_nodes<R: AllocGlobal + Print>(rt: &R) -> Result<Tree> {
             (Some(2), "x", 3),
         ],
     )?;
-    let tree = build(rt, &rows)?;
-    println!(rt; "tree {}", tree.len())?;
-    Ok(tree)
+    build(rt, &rows)
 }
 
 fn build<R: AllocGlobal + Print>(rt: &R, rows: &[Row]) -> Result<Tree> {
@@ -45,12 +42,10 @@ fn build<R: AllocGlobal + Print>(rt: &R, rows: &[Row]) -> Result<Tree> {
     }
 }
 
-fn listed<R: AllocGlobal + Print>(rt: &R, tree: &Tree, accesses: &[Access]) -> Result<AccessList>
-    ensures { IfOk result (λ list. AreNodes tree.now (nodes_of list)) }
-{
-    let list = list(rt, tree, accesses)?;
-    println!(rt; "list {}", list.len())?;
-    Ok(list)
+fn plan_over<R: AllocGlobal + Print>(rt: &R, tree: &Tree) -> Result<()> {
+    println!(rt; "tree {}", tree.len())?;
+    let list = list(rt, tree, &[get(1), get(3)])?;
+    plan_list(rt, tree, &list)
 }
 
 fn list<R: AllocGlobal + Print>(rt: &R, tree: &Tree, accesses: &[Access]) -> Result<AccessList>
@@ -65,12 +60,12 @@ fn list<R: AllocGlobal + Print>(rt: &R, tree: &Tree, accesses: &[Access]) -> Res
     }
 }
 
-fn tell_planned<R: AllocGlobal + Print>(rt: &R, tree: &Tree, list: &AccessList) -> Result<()>
+fn plan_list<R: AllocGlobal + Print>(rt: &R, tree: &Tree, list: &AccessList) -> Result<()>
     requires { AreNodes tree.now (nodes_of list.now) }
 {
+    println!(rt; "list {}", list.len())?;
     let planned = planned(rt, tree, list)?;
-    tell_plan(rt, &planned)?;
-    Ok(())
+    Ok(tell_plan(rt, &planned)?)
 }
 
 fn planned<R: AllocGlobal + Print>(rt: &R, tree: &Tree, list: &AccessList) -> Result<Planned>
@@ -95,11 +90,17 @@ pub fn check_one<R: AllocGlobal + Print>(rt: &R) -> Result<()> {
 fn check_reads<R: AllocGlobal + Print>(rt: &R, tree: &Tree, list: &AccessList) -> Result<()>
     requires { AreNodes tree.now (nodes_of list.now) }
 {
-    let plan = plan_for_both(rt.alloc())?;
-    let flow = flow_for_both(rt.alloc())?;
-    let cost = checked(rt, tree, list, &plan, &flow)?;
+    let cost = cost_of_both(rt, tree, list)?;
     println!(rt; "cost {cost}")?;
     Ok(())
+}
+
+fn cost_of_both<R: AllocGlobal + Print>(rt: &R, tree: &Tree, list: &AccessList) -> Result<u64>
+    requires { AreNodes tree.now (nodes_of list.now) }
+{
+    let plan = plan_for_both(rt.alloc())?;
+    let flow = flow_for_both(rt.alloc())?;
+    checked(rt, tree, list, &plan, &flow)
 }
 
 fn plan_for_both(alloc: Global) -> Result<Plan> {
@@ -158,8 +159,16 @@ fn row(node: u32, above: u64, held: u64, first: u64, last: u64, own: u64) -> Flo
 pub fn plan_many<R: AllocGlobal + Print + Threads + Sync>(rt: &R) -> Result<()> {
     let tree = leaves_below(rt.alloc(), 5)?;
     let lists = five_lists(rt.alloc(), &tree)?;
+    plan_by_each(rt, &tree, &lists)
+}
+
+fn plan_by_each<R: AllocGlobal + Print + Threads + Sync>(
+    rt: &R,
+    tree: &Tree,
+    lists: &[AccessList],
+) -> Result<()> {
     for workers in [1, 2, 3, 16] {
-        tell_plans(rt, &tree, &lists, workers)?;
+        tell_plans(rt, tree, lists, workers)?;
     }
     Ok(())
 }

@@ -34,26 +34,26 @@ fn run_in_turn<R: AllocGlobal + Print>(
     records: &Records,
     jobs: &[Job],
 ) -> Result<()> {
-    let mut core = opened(rt, tree, records, jobs)?;
+    let mut core = open(rt, tree, records, jobs)?;
+    take_six(rt, &mut core)?;
+    tell_finished(rt, &core)
+}
+
+fn tell_finished<R: AllocGlobal + Print>(rt: &R, core: &Core) -> Result<()> {
+    let order = order_of(rt, core)?;
+    tell_run(rt, core, &order)
+}
+
+fn take_six<R: Print>(rt: &R, core: &mut Core) -> Result<()> {
+    println!(rt; "jobs {}", core.jobs().len())?;
     for txn in [1, 1, 1, 0, 0, 0] {
         core.step(Event::Take(txn))?;
     }
-    let order = order_of(rt, &core)?;
-    tell_run(rt, &core, &order)
+    Ok(())
 }
 
-fn opened<'a, R: AllocGlobal + Print>(
-    rt: &R,
-    tree: &'a Tree,
-    records: &Records,
-    jobs: &'a [Job],
-) -> Result<Core<'a>> {
-    let core = open(rt, tree, records, jobs)?;
-    println!(rt; "jobs {}", core.jobs().len())?;
-    Ok(core)
-}
-
-fn open<'a, R: AllocGlobal + Print>(
+/// A core of the jobs, where they fit.
+pub fn open<'a, R: AllocGlobal + Print>(
     rt: &R,
     tree: &'a Tree,
     records: &Records,

@@ -13,8 +13,15 @@ use std::thread::Threads;
 /// Ten lines, answered one after the other by one store.
 pub fn answer_lines<R: AllocGlobal + Print + Threads + Wait + Sync>(rt: &R) -> Result<()> {
     let mut store = store_below(rt.alloc(), 5)?;
+    answer_each(rt, &mut store)
+}
+
+fn answer_each<R: AllocGlobal + Print + Threads + Wait + Sync>(
+    rt: &R,
+    store: &mut Store,
+) -> Result<()> {
     for line in LINES.lines() {
-        let reply = answered(rt, &mut store, line.as_bytes())?;
+        let reply = answered(rt, store, line.as_bytes())?;
         tell_reply(rt, &reply)?;
     }
     Ok(())

@@ -1,4 +1,5 @@
 use anyhow::Result;
+use grove_access::Records;
 use grove_build::Planned;
 use grove_core::Core;
 use grove_plan::Step;
@@ -14,11 +15,12 @@ pub fn say_memory<R: Print>(rt: &R) -> io::Result<()> {
 pub fn tell_plan<R: Print>(rt: &R, planned: &Planned) -> io::Result<()> {
     print!(rt; "cost {}", planned.cost)?;
     for step in planned.plan.steps() {
-        match step {
-            Step::Lock(node) => print!(rt; " lock {}", node.number())?,
-            Step::Unlock(node) => print!(rt; " unlock {}", node.number())?,
-            Step::Access(number) => print!(rt; " access {number}")?,
-        }
+        let (word, number) = match step {
+            Step::Lock(node) => ("lock", node.number()),
+            Step::Unlock(node) => ("unlock", node.number()),
+            Step::Access(access) => ("access", *access),
+        };
+        print!(rt; " {word} {number}")?;
     }
     println!(rt; "")
 }
@@ -26,11 +28,19 @@ pub fn tell_plan<R: Print>(rt: &R, planned: &Planned) -> io::Result<()> {
 /// The order of a run's jobs, what each replies, and the records.
 pub fn tell_run<R: Print>(rt: &R, core: &Core, order: &[u32]) -> Result<()> {
     print!(rt; "order {order:?} replies")?;
+    tell_replies(rt, core)?;
+    print!(rt; " records")?;
+    tell_records(rt, core.records())
+}
+
+fn tell_replies<R: Print>(rt: &R, core: &Core) -> io::Result<()> {
     for txn in 0..core.jobs().len() {
         print!(rt; " {:?}", core.replies(txn as u32))?;
     }
-    print!(rt; " records")?;
-    let records = core.records();
+    Ok(())
+}
+
+fn tell_records<R: Print>(rt: &R, records: &Records) -> Result<()> {
     for number in 0..records.len() {
         let node = Node::new(u32::try_from(number)?);
         print!(rt; " {}", records.get(node))?;

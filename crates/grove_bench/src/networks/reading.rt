@@ -27,12 +27,16 @@ pub fn read_problem(alloc: Global, words: &mut SplitWhitespace<'_>) -> Result<Pr
 fn read_arcs(alloc: Global, words: &mut SplitWhitespace<'_>, count: i64) -> Result<Vec<Arc>> {
     let mut arcs = Vec::new(alloc);
     for _arc in 0..count {
-        let from = u32::try_from(next_number(words)?)?;
-        let to = u32::try_from(next_number(words)?)?;
-        let least = next_number(words)?;
-        arcs.push(Arc { from, to, least })?;
+        arcs.push(read_arc(words)?)?;
     }
     Ok(arcs)
+}
+
+fn read_arc(words: &mut SplitWhitespace<'_>) -> Result<Arc> {
+    let from = u32::try_from(next_number(words)?)?;
+    let to = u32::try_from(next_number(words)?)?;
+    let least = next_number(words)?;
+    Ok(Arc { from, to, least })
 }
 
 fn read_numbers(alloc: Global, words: &mut SplitWhitespace<'_>, count: i64) -> Result<Vec<i64>> {

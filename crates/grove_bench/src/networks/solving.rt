@@ -1,9 +1,12 @@
+ghost use Rattle.std.specs.Prelude.{length};
+ghost use Rattle.grove_flow.specs.Networks.{AreArcsOf};
+
 use crate::networks::checking::{is_network, is_start};
 use crate::networks::reading::{Problem, next_number, read_problem};
 use anyhow::{Context, Result, ensure};
-use grove_flow::{Network, is_solution, solve};
+use grove_flow::{Network, Solution, is_solution, solve};
 use std::io;
-use std::time::Instant;
+use std::time::{Duration, Instant};
 
 /// Solves the networks on standard input, which begins with their number, and tests each answer. Prints the
 /// microseconds that each took, and at the end how many were solved. It fails at the first that can't be solved, or
@@ -32,11 +35,22 @@ fn solve_one(rt: &HostRuntime, problem: &Problem) -> Result<()> {
     );
     let since = Instant::now(rt)?;
     let answer = solve(rt.alloc(), network, start)?;
-    let spent = since.elapsed(rt)?;
+    tell_answer(rt, since.elapsed(rt), network, &answer)
+}
+
+fn tell_answer(
+    rt: &HostRuntime,
+    spent: io::Result<Duration>,
+    network: &Network,
+    answer: &Solution,
+) -> Result<()>
+    requires { AreArcsOf network.now.arcs.items (length network.now.needs.items) }
+{
+    let spent = spent?.as_micros();
     ensure!(
         is_solution(rt.alloc(), network, &answer.amounts, &answer.places)?,
         "its answer isn't a solution"
     );
-    println!(rt; "{} microseconds", spent.as_micros())?;
+    println!(rt; "{spent} microseconds")?;
     Ok(())
 }
