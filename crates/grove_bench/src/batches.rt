@@ -91,10 +91,10 @@ fn time_plan<R: Runtime + Threads + Sync>(
     }
     let since = Instant::now(rt)?;
     let plans = plan_batch(rt, alloc, tree, lists, workers, &OpenGate)?;
-    tell_plans(rt, what, workers, since.elapsed(rt), plans.len())
+    tell_spent(rt, what, workers, since.elapsed(rt), plans.len())
 }
 
-fn tell_plans<R: Print>(
+fn tell_spent<R: Print>(
     rt: &R,
     what: &str,
     workers: u32,
@@ -125,10 +125,10 @@ fn weigh_often<R: Runtime + Threads + Sync>(rt: &R, alloc: Global, workers: u32)
 {
     let mut tree = shops(alloc)?;
     let waits = vec![in alloc; 7u32; 4096]?;
-    weigh_by(rt, &mut tree, &waits, workers)
+    reweigh_often(rt, &mut tree, &waits, workers)
 }
 
-fn weigh_by<R: Runtime + Threads + Sync>(
+fn reweigh_often<R: Runtime + Threads + Sync>(
     rt: &R,
     tree: &mut Tree,
     waits: &[u32],
@@ -198,10 +198,10 @@ fn time_run<R: Runtime + Threads + Wait + Sync>(
     }
     let since = Instant::now(rt)?;
     let finished = run_batch(rt, alloc, tree, records, jobs, workers, &OpenGate)?;
-    told(since.elapsed(rt), &finished)
+    measured(since.elapsed(rt), &finished)
 }
 
-fn told(spent: io::Result<Duration>, finished: &Finished) -> Result<(Duration, usize)> {
+fn measured(spent: io::Result<Duration>, finished: &Finished) -> Result<(Duration, usize)> {
     Ok((spent?, finished.core().history().len()))
 }
 

@@ -39,27 +39,17 @@ fn plans<R: Abort + Threads + Sync, G: Gate + Sync>(
 ) {
     let tree = leaves_below(rt, alloc, 5);
     let lists = lists_of(rt, alloc, &tree, batch);
-    let all = planned(rt, alloc, &tree, &lists, workers, gate);
-    are_plans(rt, &all, batch);
-}
-
-fn planned<R: Abort + Threads + Sync, G: Gate + Sync>(
-    rt: &R,
-    alloc: Global,
-    tree: &Tree,
-    lists: &[AccessList],
-    workers: u32,
-    gate: &G,
-) -> Vec<Planned> {
     assert!(rt; 1 <= workers && workers <= 16);
-    assert!(rt; lists.len() <= 256 && lists.iter().all(|list| list.fits(tree)));
-    plan_batch(rt, alloc, tree, lists, workers, gate).expect(rt, "plans")
+    assert!(rt; lists.len() <= 256 && lists.iter().all(|list| list.fits(&tree)));
+    let all = plan_batch(rt, alloc, &tree, &lists, workers, gate).expect(rt, "plans");
+    are_plans(rt, &all, batch);
 }
 
 fn are_plans(rt: &impl Abort, all: &[Planned], batch: &[Worked]) {
     assert!(rt; all.len() == batch.len());
     for (planned, (_, steps, cost)) in all.iter().zip(batch) {
-        assert!(rt; planned.plan.steps() == *steps && planned.cost == *cost);
+        assert!(rt; planned.plan.steps() == *steps);
+        assert!(rt; planned.cost == *cost);
     }
 }
 

@@ -1,7 +1,7 @@
 use crate::fixtures::{A, access, lock, two_leaves, unlock};
 use crate::scripts::{Script, job_of, open};
 use grove_access::{AccessList, Carry, Op, Records, Reply};
-use grove_core::{Core, Job};
+use grove_core::Job;
 use grove_plan::Step;
 use grove_run::{Book, BookStep, CarryStep};
 use grove_tree::{Node, Tree};
@@ -17,10 +17,6 @@ fn book_of<'a>(rt: &impl Abort, alloc: Global, tree: &'a Tree, jobs: &'a [Job]) 
 /// The book has so many events, and `/a` has this record.
 fn comes_to(rt: &impl Abort, book: Book, events: usize, record: i64) {
     let core = book.into_core();
-    has_record(rt, &core, events, record);
-}
-
-fn has_record(rt: &impl Abort, core: &Core, events: usize, record: i64) {
     assert!(rt; core.history().len() == events);
     assert!(rt; core.records().len() == 3);
     assert!(rt; core.records().get(Node::new(A)) == record);

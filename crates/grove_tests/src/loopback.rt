@@ -140,10 +140,6 @@ fn a_second_client_is_answered_while_the_first_stays(rt: HostRuntime) {
     let serve_two = || join(&rt, || serve_at(&rt, &desk, &listener), serve_one);
     let (answered, replies) = join(&rt, serve_two, || ask_in_turn(&rt, address));
     assert!(rt; answered == (Ok(2), Ok(1)) || answered == (Ok(1), Ok(2)));
-    are_sums(&rt, &replies);
-}
-
-fn are_sums(rt: &impl Abort, replies: &[String; 3]) {
-    let [first, second, third] = replies;
+    let [first, second, third] = &replies;
     assert!(rt; [first.as_str(), second.as_str(), third.as_str()] == SUMS);
 }

@@ -65,11 +65,6 @@ fn comes_to(rt: &impl Abort, core: &Core, outcome: &Outcome) {
     assert!(rt; core.jobs().len() == 2);
     assert!(rt; core.replies(0) == outcome.first_replies);
     assert!(rt; core.replies(1) == outcome.second_replies);
-    leaves(rt, core, outcome);
-}
-
-/// The run leaves these records, and these waits.
-fn leaves(rt: &impl Abort, core: &Core, outcome: &Outcome) {
     assert!(rt; core.tree().len() == 3);
     assert!(rt; core.records().len() == 3);
     for number in 0..3u32 {

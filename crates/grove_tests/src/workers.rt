@@ -55,12 +55,12 @@ fn meet_at<R: Abort + Threads + Wait + Sync>(
     let meeting = Meeting::at_step(step, 0, 1);
     let finished = run(rt, alloc, tree, jobs, &meeting).expect(rt, "a finished run");
     assert!(rt; meeting.has_met());
-    have_read(rt, finished.core(), step);
+    have_read(rt, finished.core());
+    assert!(rt; step == 1 || ends_apart(finished.core()));
 }
 
-/// The first job has read 10, and the second 20; where they met at the unlock, each ended before the other went on.
-fn have_read(rt: &impl Abort, core: &Core, step: u32) {
-    assert!(rt; step == 1 || ends_apart(core));
+/// The first job has read 10, and the second 20.
+fn have_read(rt: &impl Abort, core: &Core) {
     assert!(rt; core.jobs().len() == 2);
     assert!(rt; core.replies(0) == [Reply::Value(10)].as_slice());
     assert!(rt; core.replies(1) == [Reply::Value(20)].as_slice());
@@ -83,11 +83,8 @@ fn two_jobs_are_in_mid_plan_at_once(rt: HostRuntime) {
 fn a_batch_may_be_empty(rt: HostRuntime) {
     let tree = two_leaves(&rt, rt.alloc());
     let finished = run(&rt, rt.alloc(), &tree, &[], &OpenGate).expect(&rt, "a finished run");
-    assert!(rt; is_empty(&finished));
-}
-
-fn is_empty(finished: &Finished) -> bool {
-    finished.order().is_empty() && finished.core().history().is_empty()
+    assert!(rt; finished.order().is_empty());
+    assert!(rt; finished.core().history().is_empty());
 }
 
 #[test]
@@ -101,15 +98,6 @@ fn a_batch_may_have_a_bad_plan(rt: HostRuntime) {
         reads(&rt, rt.alloc(), &tree, B),
         job_of(&rt, rt.alloc(), &tree, &locks_twice),
     ];
-    let fault = fault_of(&rt, rt.alloc(), &tree, &jobs);
+    let fault = run(&rt, rt.alloc(), &tree, &jobs, &OpenGate).err();
     assert!(rt; fault == Some(RunFault::BadPlan(1, PlanFault::Relock(2))));
-}
-
-fn fault_of<R: Abort + Threads + Wait + Sync>(
-    rt: &R,
-    alloc: Global,
-    tree: &Tree,
-    jobs: &[Job],
-) -> Option<RunFault> {
-    run(rt, alloc, tree, jobs, &OpenGate).err()
 }

@@ -16,6 +16,7 @@ pub fn answer_lines<R: AllocGlobal + Print + Threads + Wait + Sync>(rt: &R) -> R
 }
 
 fn answer_at<R: AllocGlobal + Print + Threads + Wait + Sync>(rt: &R, desk: Desk) -> Result<()> {
+    println!(rt; "waiting {}", desk.waiting(rt))?;
     let receipts = receipts_for(rt, &desk)?;
     let closed = close(rt, desk, &receipts)?;
     tell_closed(rt, &closed)
@@ -25,7 +26,6 @@ fn receipts_for<R: AllocGlobal + Print + Threads + Wait + Sync>(
     rt: &R,
     desk: &Desk,
 ) -> Result<Vec<Receipt>> {
-    println!(rt; "waiting {}", desk.waiting(rt))?;
     let lines = [
         br#"{"batch":[[["get","/a"]]]}"#.as_slice(),
         br#"{"batch":[[["add","/b",1]]]}"#.as_slice(),

@@ -16,7 +16,7 @@ pub fn run_core<R: AllocGlobal + Print>(rt: &R) -> Result<()> {
     let tree = leaves_below(rt.alloc(), 1)?;
     let records = Records::new(rt.alloc(), &[0, 7, 0])?;
     let jobs = setter_and_reader(rt.alloc(), &tree)?;
-    run_in_turn(rt, &tree, &records, &jobs)
+    open_and_run(rt, &tree, &records, &jobs)
 }
 
 fn setter_and_reader(alloc: Global, tree: &Tree) -> Result<Vec<Job>> {
@@ -27,29 +27,24 @@ fn setter_and_reader(alloc: Global, tree: &Tree) -> Result<Vec<Job>> {
     Ok(jobs)
 }
 
-/// Takes the steps of the second job and then those of the first.
-fn run_in_turn<R: AllocGlobal + Print>(
+fn open_and_run<R: AllocGlobal + Print>(
     rt: &R,
     tree: &Tree,
     records: &Records,
     jobs: &[Job],
 ) -> Result<()> {
     let mut core = open(rt, tree, records, jobs)?;
-    take_six(rt, &mut core)?;
-    tell_finished(rt, &core)
-}
-
-fn tell_finished<R: AllocGlobal + Print>(rt: &R, core: &Core) -> Result<()> {
-    let order = order_of(rt, core)?;
-    tell_run(rt, core, &order)
-}
-
-fn take_six<R: Print>(rt: &R, core: &mut Core) -> Result<()> {
     println!(rt; "jobs {}", core.jobs().len())?;
+    run_in_turn(rt, &mut core)
+}
+
+/// Takes the steps of the second job and then those of the first.
+fn run_in_turn<R: AllocGlobal + Print>(rt: &R, core: &mut Core) -> Result<()> {
     for txn in [1, 1, 1, 0, 0, 0] {
         core.step(Event::Take(txn))?;
     }
-    Ok(())
+    let order = order_of(rt, core)?;
+    tell_run(rt, core, &order)
 }
 
 /// A core of the jobs, where they fit.
