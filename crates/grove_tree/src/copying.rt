@@ -13,11 +13,13 @@ pub fn copy_of(alloc: Global, outline: &Outline) -> Result<Outline, AllocError>
         let copy = copy_of(alloc, child)?;
         children.push(copy)?;
     }
+    let marks = Vec::from_slice(alloc, &outline.marks)?;
     Ok(Outline {
         name,
         weight: outline.weight,
         number: outline.number,
         size: outline.size,
         children,
+        marks,
     })
 }

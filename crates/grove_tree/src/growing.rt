@@ -3,6 +3,7 @@ ghost use Rattle.grove_tree.specs.Trees.{IsTree, parent_of};
 ghost use Rattle.grove_tree.specs.Rules.{rows_of};
 ghost use Rattle.grove_tree.specs.OutlinesInTrees.{IsGrown};
 
+use crate::child_mark::marks_of;
 use crate::name::Name;
 use crate::{Outline, Row};
 use std::alloc::{AllocError, Global};
@@ -34,11 +35,13 @@ pub fn grow(alloc: Global, rows: &[Row], node: u32) -> Result<Outline, AllocErro
         next += child.size;
         children.push(child)?;
     }
+    let marks = marks_of(alloc, &children)?;
     Ok(Outline {
         name,
         weight,
         number: node,
         size: next - node,
         children,
+        marks,
     })
 }

@@ -12,6 +12,7 @@ pub use tree::Tree;
 pub use way::WayNode;
 pub use weighing::Rule;
 
+mod child_mark;
 mod copying;
 mod fault;
 mod finding;

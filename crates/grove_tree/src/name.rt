@@ -47,6 +47,12 @@ impl Name {
         self.text.as_str()
     }
 
+    pub(crate) fn mark(&self) -> u32
+        ensures { result ≡ mark_of self.now }
+    {
+        self.mark
+    }
+
     pub(crate) fn is_same(&self, other: &Name) -> bool
         ensures { IsTrue result ↔ (self.now ≡ other.now) }
     {

@@ -9,14 +9,14 @@ use Rattle.grove_tree.specs.OutlinesInTrees.{IsChild}
 use Rattle.grove_tree.proofs.ChildOfNode.{is_child, none_goes_on}
 use Rattle.grove_tree.proofs.outline.Outline.child_on.Goals as goal
 
-pub returns-in-Some : goal.returns-in-Some
-returns-in-Some c =
+pub returns-in-Some-rest_in : goal.returns-in-Some-rest_in
+returns-in-Some-rest_in c =
     let all = c.deref-child-items.ensures.value in
     let got : slice_get c.deref-child-items.result.now c.loop-child.child-index ≡ Some c.child-item.result =
     slice_get_read c.deref-child-items.result.now _ _ c.child-item.result refl c.loop-child-test.true c.child-item.is in
     let named = ap (λ (v : Under). name_of v.1 0) c.child.view_is in (
       subst (λ (v : Under). IsChild v c.child-item.result) c.self.view_is (is_child _ _ _ _ _ _ c.self.invariant (rw all at got)),
-      subst (λ (bytes : List ℕ). GoesOn c.args.path.now bytes c.in-Some.rest.now) named c.in-Some.ensures,
+      subst (λ (bytes : List ℕ). GoesOn c.args.path.now bytes c.in-Some-rest_in.rest.now) named c.in-Some-rest_in.ensures,
     )
 
 pub loop-child-preserved : goal.loop-child-preserved
@@ -30,7 +30,7 @@ loop-child-preserved c = λ place child lt got rest goes.
           let e : place ≡ c.loop-child.child-index = omega arith in
           let same : child ≡ c.child-item.result = same_Some _ _ (sym got ∙ ap (λ (k : ℕ). slice_get c.deref-child-items.result.now k) e ∙ here) in
           let named2 = ap (λ (v : Under). name_of v.1 0) same ∙ sym named in
-          c.in_default.ensures rest (subst (λ (bytes : List ℕ). GoesOn c.args.path.now bytes rest) named2 goes)
+          c.in_default-rest_in.ensures rest (subst (λ (bytes : List ℕ). GoesOn c.args.path.now bytes rest) named2 goes)
     ]
 
 pub returns : goal.returns
