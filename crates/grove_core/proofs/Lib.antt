@@ -10,7 +10,9 @@ pub mod LockTimes
 pub mod ConflictOrder
 pub mod OwnAccesses
 pub mod SerialRuns
+pub mod WaitingJobs
 pub mod NeverStalls
+pub mod NoCircles
 pub mod MutualExclusion
 pub mod Refusals
 pub mod RunBounds

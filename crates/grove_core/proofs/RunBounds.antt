@@ -1,5 +1,5 @@
 -- How many events and marks a run can have.
-use Rattle.std.proofs.Common.{◌≡◌, ◌≢◌, ℕ, zero, suc, ◌+◌, ◌<◌, ◌≤◌, Bool, true, false, cond, ◌&&◌, eqb, ℤ, List, [], ◌∷◌, ◌++◌, length, take, Option, Some, None, refl, sym, ◌∙◌, ap, subst, inl, inr, arith, length-append}
+use Rattle.std.proofs.Common.{◌≡◌, ◌≢◌, ℕ, zero, suc, ◌+◌, ◌<◌, ◌≤◌, Bool, true, false, cond, ◌&&◌, eqb, ℤ, List, [], ◌∷◌, ◌++◌, length, take, Option, Some, None, refl, sym, ◌∙◌, ap, subst, inl, inr, arith, length-append, zero-add, ◌⊎◌, if◌then◌else◌}
 use Rattle.std.specs.List.{slice_get}
 use Rattle.std.proofs.lemmas.Bool.{cases_eq, cases_Bool, both_ways, eq-eqb, ne_eqb, cond-true, cond-false}
 use Rattle.grove_base.specs.Numbers.{count_below, sum_below}
@@ -195,6 +195,19 @@ waits_most rows jobs legal past run node =
     (λ i j h k. (legal t lt).obeys.once i j node (locks_true node (slice_get (plan_of jobs t) i) h) (locks_true node (slice_get (plan_of jobs t) j) k)) in
     omega arith) in
     omega arith
+
+-- a node that was waited for is one that some job's plan locks
+pub waited_locked : (jobs : List Job) (past : List Event) (node : ℕ)
+    → (waits_of jobs past node ≡ 0) ⊎ ((t : ℕ) × (i : ℕ) × (slice_get (plan_of jobs t) i ≡ Some (Lock node)))
+waited_locked jobs [] node = inl refl
+waited_locked jobs (Take u ∷ past) node = waited_locked jobs past node
+waited_locked jobs (Mark u ∷ past) node = elim (cases_Bool (locks node (next_step jobs past u))) [
+  | inl yes' ↦ inr (u, steps_done past u, locks_true node (next_step jobs past u) yes')
+  | inr no' ↦ elim (waited_locked jobs past node) [
+    | inl none ↦ inl (ap (λ (b : Bool). (if b then 1 else 0) + waits_of jobs past node) no' ∙ zero-add (waits_of jobs past node) ∙ none)
+    | inr some ↦ inr some
+  ]
+]
 
 -- the events, job by job
 events_sum : (jobs : List Job) (past : List Event) → IsRun jobs past → length past ≡ sum_below (length jobs) (λ t. steps_done past t + marks_by jobs is_lock past t)

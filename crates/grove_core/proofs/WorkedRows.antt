@@ -16,6 +16,7 @@ use Rattle.grove_plan.proofs.Held.{lock_same, unlock_no_lock, access_no_lock}
 use Rattle.grove_core.proofs.NeverStalls.{free_if, is_other_holder}
 use Rattle.grove_core.specs.Runs.{steps_done, next_step, IsFree, MayHappen, IsRun, run_records, run_replies, waits_of, most_events}
 use Rattle.grove_core.specs.Orders.{placement_order}
+use Rattle.grove_core.specs.Laws.{WaitsAlong}
 
 abbrev tree : Rows
 tree = record { parent = None; name = []; weight = 1 } ∷ record { parent = Some 0; name = 97 ∷ []; weight = 1 } ∷ record { parent = Some 0; name = 98 ∷ []; weight = 1 } ∷ []
@@ -206,3 +207,23 @@ follower_order = refl
 
 follower_most : most_events followers ≡ 22
 follower_most = refl
+
+-- jobs that wait in a row: 2 for 1, which holds the root, and 1 for 0, which holds a child
+abbrev in_a_row : List Job
+in_a_row = one_access 1 Get ∷ two_sets (pos 1) ∷ one_access 0 Get ∷ []
+
+row_run : IsRun in_a_row (Take 1 ∷ Take 0 ∷ [])
+row_run = (locks_free in_a_row (Take 0 ∷ []) 1 0 refl refl, (locks_free in_a_row [] 0 1 refl refl, tt))
+
+row_waits : WaitsAlong in_a_row (Take 1 ∷ Take 0 ∷ []) 2 (1 ∷ []) 0
+row_waits = ((0, refl, ((λ e. absurd (cc)), refl)), (1, refl, ((λ e. absurd (cc)), refl)))
+
+-- plans that aren't legal, since they lock a second node without its parent, may wait for each other in a circle
+abbrev crossing : List Job
+crossing = record { list = []; plan = Lock 1 ∷ Lock 2 ∷ Unlock 1 ∷ Unlock 2 ∷ [] } ∷ record { list = []; plan = Lock 2 ∷ Lock 1 ∷ Unlock 2 ∷ Unlock 1 ∷ [] } ∷ []
+
+crossing_run : IsRun crossing (Take 1 ∷ Take 0 ∷ [])
+crossing_run = (locks_free crossing (Take 0 ∷ []) 1 2 refl refl, (locks_free crossing [] 0 1 refl refl, tt))
+
+crossing_waits : WaitsAlong crossing (Take 1 ∷ Take 0 ∷ []) 0 (1 ∷ []) 0
+crossing_waits = ((2, refl, ((λ e. absurd (cc)), refl)), (1, refl, ((λ e. absurd (cc)), refl)))

@@ -1,5 +1,5 @@
 -- What holds of every run.
-use Rattle.std.specs.Prelude.{◌≡◌, ◌≢◌, ℕ, ◌<◌, ℤ, List, length, slice_get, Some}
+use Rattle.std.specs.Prelude.{◌≡◌, ◌≢◌, ℕ, ◌<◌, ℤ, List, [], ◌∷◌, length, slice_get, Some}
 use Rattle.grove_tree.specs.Trees.{Rows, IsTree}
 use Rattle.grove_core.specs.declared.job.Job.{Job}
 use Rattle.grove_core.specs.declared.event.Event.{Event}
@@ -8,7 +8,7 @@ use Rattle.grove_core.specs.declared.fault.StepFault.{StepFault}
 use Rattle.grove_core.specs.declared.fault.OpenFault.{OpenFault}
 use Rattle.grove_core.specs.declared.fault.OpenFault.TheVariants.{Memory}
 use Rattle.grove_core.specs.Serial.{serial_records, serial_replies}
-use Rattle.grove_core.specs.Runs.{list_of, plan_of, steps_done, AllLegal, MayHappen, IsRun, IsFinished, IsRefused, run_records, run_replies}
+use Rattle.grove_core.specs.Runs.{list_of, plan_of, steps_done, AllLegal, MayHappen, IsRun, IsFinished, IsBlocked, IsRefused, run_records, run_replies}
 use Rattle.grove_core.specs.Orders.{placement_order}
 use Rattle.grove_core.specs.Openings.{IsFirstFault}
 
@@ -35,6 +35,16 @@ CanGoOn jobs past = (next : ℕ) × MayHappen jobs past (Take next)
 abbrev pub RunsGoOn : Type 0
 RunsGoOn = (rows : Rows) → IsTree rows → (jobs : List Job) → AllLegal rows jobs → (past : List Event) → IsRun jobs past
     → (t : ℕ) → steps_done past t < length (plan_of jobs t) → CanGoOn jobs past
+
+-- the job waits for the first of the others, each of these for the next, and the last of them for job u
+abbrev pub WaitsAlong : List Job → List Event → ℕ → List ℕ → ℕ → Type 0
+WaitsAlong jobs past t [] u = IsBlocked jobs past t u
+WaitsAlong jobs past t (next ∷ others) u = IsBlocked jobs past t next × WaitsAlong jobs past next others u
+
+-- no jobs wait for each other in a circle
+abbrev pub NoCircles : Type 0
+NoCircles = (rows : Rows) → IsTree rows → (jobs : List Job) → AllLegal rows jobs → (past : List Event) → IsRun jobs past
+    → (t : ℕ) (others : List ℕ) → ¬ WaitsAlong jobs past t others t
 
 -- an event that is refused may not happen
 abbrev pub RefusedMayNot : Type 0

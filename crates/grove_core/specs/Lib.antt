@@ -1,6 +1,7 @@
 pub mod Serial
 pub mod Runs
 pub mod Orders
+pub mod Depths
 pub mod Laws
 pub mod Owners
 pub mod Kept

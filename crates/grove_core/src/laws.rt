@@ -1,11 +1,12 @@
-ghost use Rattle.grove_core.specs.Laws.{RunsAreSerial, RunsGoOn, RefusedMayNot, RefusedForOne, FirstFaultIsOne};
+ghost use Rattle.grove_core.specs.Laws.{RunsAreSerial, RunsGoOn, NoCircles, RefusedMayNot, RefusedForOne, FirstFaultIsOne};
 
 /// What holds of every run, said of the definitions alone: a finished run is serial by the placement order, which has
-/// each job once; in an unfinished one some job's next step may be done; an event that is refused may not happen, and is
-/// refused for one reason; and jobs that aren't opened have one first fault.
+/// each job once; in an unfinished one some job's next step may be done; no jobs wait for each other in a circle; an event
+/// that is refused may not happen, and is refused for one reason; and jobs that aren't opened have one first fault.
 pub fn run_laws()
     ensures serial { RunsAreSerial }
     ensures going { RunsGoOn }
+    ensures circles { NoCircles }
     ensures refused { RefusedMayNot }
     ensures reason { RefusedForOne }
     ensures opening { FirstFaultIsOne }

@@ -7,6 +7,7 @@ pub use fitting::all_fit;
 pub use job::Job;
 pub use laws::run_laws;
 pub use machine::Core;
+pub use opening::judge_all;
 pub use ordering::{serial_order, serial_order_into};
 
 mod event;

@@ -2,7 +2,8 @@ ghost use Rattle.std.specs.Prelude.{◌≡◌, ℕ, ◌≤◌, ◌<◌, ◌∷�
 ghost use Rattle.grove_access.specs.Effects.{record_at};
 ghost use Rattle.grove_core.specs.Runs.{plan_of, next_step, AllLegal, IsRun, IsFinished, MayHappen, IsRefused, IsFree, IsHeldBy, is_marked, run_records, run_replies, waits_of, most_events};
 ghost use Rattle.grove_tree.specs.Trees.{IsTree};
-ghost use Rattle.grove_core.specs.Orders.{first_lock, lock_time, locks_first_at, earlier};
+ghost use Rattle.grove_core.specs.Orders.{first_lock, lock_time, earlier};
+ghost use Rattle.grove_core.specs.Depths.{first_depth};
 ghost use Rattle.grove_core.specs.Laws.{CanGoOn};
 ghost use Rattle.grove_core.specs.Openings.{AllFit, IsFirstFault};
 ghost use Rattle.grove_core.specs.Kept.{past_of};
@@ -15,7 +16,7 @@ use crate::progress::Progress;
 use crate::{Event, Job, OpenFault, StepFault};
 use grove_access::{Records, Reply};
 use grove_plan::Step;
-use grove_tree::{Node, Tree};
+use grove_tree::{NoMemory, Node, Tree};
 use std::alloc::Global;
 use std::marker::Model;
 
@@ -63,6 +64,21 @@ impl<'a> Core<'a> {
         ensures fault { IfErr result (λ fault. IsFirstFault tree.now jobs.now fault) }
     {
         judge_all(alloc, tree, jobs)?;
+        Ok(Core::open_legal(alloc, tree, records, jobs)?)
+    }
+
+    /// The same of jobs whose plans are known to be legal: none is judged again.
+    pub fn open_legal(
+        alloc: Global,
+        tree: &'a Tree,
+        records: &Records,
+        jobs: &'a [Job],
+    ) -> Result<Core<'a>, NoMemory>
+        requires legal { AllLegal tree.now jobs.now }
+        requires records { length records.now ≡ length tree.now }
+        requires few { length jobs.now ≤ 256 }
+        ensures { IfOk result (λ core. core ≡ record { tree = tree.now; jobs = jobs.now; opening = records.now; history = [] }) }
+    {
         let nodes = tree.len() as usize;
         let opening = records.copy(alloc)?;
         let history = Vec::with_capacity(alloc, room(jobs))?;
@@ -121,6 +137,14 @@ impl<'a> Core<'a> {
         ensures { result.now ≡ run_records self.now.jobs self.now.opening (past_of self.now) }
     {
         &self.records
+    }
+
+    /// The records as they are now, given out.
+    pub fn into_records(self) -> Records
+        ensures { result ≡ run_records self.entry.jobs self.entry.opening (past_of self.entry) }
+    {
+        let Core { records, .. } = self;
+        records
     }
 
     /// The replies of a job, one for each access that it has done.
@@ -240,15 +264,13 @@ impl<'a> Core<'a> {
         first_lock(self.jobs[txn as usize].plan.steps())
     }
 
-    /// Has the first node that a job locks this depth?
-    pub(crate) fn locks_first_at(&self, txn: u32, depth: u32) -> bool
+    /// How deep the node lies that a job locks first.
+    pub(crate) fn first_depth(&self, txn: u32) -> Option<u32>
         requires { txn < length self.now.jobs }
-        ensures { result ≡ locks_first_at self.now.tree self.now.jobs depth txn }
+        ensures { result ≡ first_depth self.now.tree self.now.jobs txn }
     {
-        match self.first_lock(txn) {
-            Some(node) => self.tree().depth(node) == depth,
-            None => false,
-        }
+        let node = self.first_lock(txn)?;
+        Some(self.tree().depth(node))
     }
 
     /// Is it known that no job locked the node after this one?

@@ -7,6 +7,7 @@ use Rattle.grove_core.specs.declared.job.Job.{Job}
 use Rattle.grove_core.specs.declared.fault.OpenFault.{OpenFault}
 use Rattle.grove_core.specs.declared.fault.OpenFault.TheVariants.{BadPlan as BadOpen, Memory as NoRoom}
 use Rattle.grove_core.specs.Openings.{IsFirstFault}
+use Rattle.grove_core.specs.Runs.{AllLegal}
 use Rattle.grove_core.specs.Kept.{State}
 use Rattle.grove_run.specs.declared.fault.RunFault.{RunFault}
 use Rattle.grove_run.specs.declared.fault.RunFault.TheVariants.{BadPlan, Memory, Foreign, Unfinished}
@@ -15,12 +16,19 @@ abbrev pub fault_of_open : OpenFault → RunFault
 fault_of_open (BadOpen t fault) = BadPlan t fault
 fault_of_open NoRoom = Memory
 
--- a bad plan is the first fault of the jobs
+-- what can come once no plan is bad
+abbrev pub IsLegalRunFault : RunFault → Type 0
+IsLegalRunFault (BadPlan t fault) = ⊥
+IsLegalRunFault Memory = ⊤
+IsLegalRunFault Foreign = ⊤
+IsLegalRunFault Unfinished = ⊤
+
+-- a bad plan is the first fault of the jobs, and only where none is bad the workers can fail
 abbrev pub IsRunFault : Rows → List Job → RunFault → Type 0
 IsRunFault rows jobs (BadPlan t fault) = IsFirstFault rows jobs (BadOpen t fault)
 IsRunFault rows jobs Memory = ⊤
-IsRunFault rows jobs Foreign = ⊤
-IsRunFault rows jobs Unfinished = ⊤
+IsRunFault rows jobs Foreign = AllLegal rows jobs
+IsRunFault rows jobs Unfinished = AllLegal rows jobs
 
 -- the core is one of these jobs over this tree and these records
 pub record IsCoreOf (rows : Rows) (jobs : List Job) (opening : List ℤ) (core : State) : Type 0 where

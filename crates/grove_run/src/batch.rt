@@ -1,10 +1,10 @@
 ghost use Rattle.std.specs.Prelude.{◌≡◌, ◌≤◌, [], length, vec_capacity, IfOk, IfErr};
-ghost use Rattle.grove_core.specs.Runs.{IsRun, IsFinished};
+ghost use Rattle.grove_core.specs.Runs.{AllLegal, IsRun, IsFinished};
 ghost use Rattle.grove_core.specs.Orders.{placement_order};
 ghost use Rattle.grove_core.specs.Laws.{IsEachOnce, IsSerialBy};
 ghost use Rattle.grove_core.specs.Kept.{past_of};
 ghost use Rattle.grove_core.specs.Openings.{AllFit};
-ghost use Rattle.grove_run.specs.Runs.{IsRunFault, IsCoreOf};
+ghost use Rattle.grove_run.specs.Runs.{IsRunFault, IsLegalRunFault, IsCoreOf};
 ghost use Rattle.grove_run.specs.FinishedRuns.{IsFinishedRun};
 
 use crate::bells::Bells;
@@ -13,7 +13,7 @@ use crate::register::{Batch, Register};
 use crate::working::work_all;
 use crate::{Book, Finished, RunFault};
 use grove_access::Records;
-use grove_core::{Core, Job, serial_order_into};
+use grove_core::{Core, Job, judge_all, serial_order_into};
 use grove_tree::{Gate, Tree};
 use std::alloc::Global;
 use std::marker::Brand;
@@ -43,6 +43,31 @@ pub fn run_batch<'a, R: Threads + Wait + Sync, G: Gate + Sync>(
     ensures serial { IfOk result (λ finished. IsSerialBy finished.order jobs.now records.now (past_of finished.core)) }
     ensures fault { IfErr result (λ fault. IsRunFault tree.now jobs.now fault) }
 {
+    judge_all(alloc, tree, jobs)?;
+    run_legal(rt, alloc, tree, records, jobs, workers, gate)
+}
+
+/// The same of jobs whose plans are known to be legal: none is judged again, and none is told as bad.
+pub fn run_legal<'a, R: Threads + Wait + Sync, G: Gate + Sync>(
+    rt: &R,
+    alloc: Global,
+    tree: &'a Tree,
+    records: &Records,
+    jobs: &'a [Job],
+    workers: usize,
+    gate: &G,
+) -> Result<Finished<'a>, RunFault>
+    requires legal { AllLegal tree.now jobs.now }
+    requires records { length records.now ≡ length tree.now }
+    requires few { length jobs.now ≤ 256 }
+    ensures batch { IfOk result (λ finished. IsCoreOf tree.now jobs.now records.now finished.core) }
+    ensures run { IfOk result (λ finished. IsRun jobs.now (past_of finished.core)) }
+    ensures ended { IfOk result (λ finished. IsFinished jobs.now (past_of finished.core)) }
+    ensures order { IfOk result (λ finished. finished.order ≡ placement_order tree.now jobs.now (past_of finished.core)) }
+    ensures once { IfOk result (λ finished. IsEachOnce finished.order (length jobs.now)) }
+    ensures serial { IfOk result (λ finished. IsSerialBy finished.order jobs.now records.now (past_of finished.core)) }
+    ensures fault { IfErr result IsLegalRunFault }
+{
     run_as::<Brand, R, G>(rt, alloc, tree, records, jobs, workers, gate)
 }
 
@@ -55,16 +80,16 @@ fn run_as<'a, B: Batch + Send + Sync, R: Threads + Wait + Sync, G: Gate + Sync>(
     workers: usize,
     gate: &G,
 ) -> Result<Finished<'a>, RunFault>
-    requires lists { AllFit tree.now jobs.now }
+    requires legal { AllLegal tree.now jobs.now }
     requires records { length records.now ≡ length tree.now }
     requires few { length jobs.now ≤ 256 }
     requires tree { tree.now ≡ B.tree }
     requires jobs { jobs.now ≡ B.jobs }
     requires opening { records.now ≡ B.opening }
     ensures run { IfOk result (IsFinishedRun B.tree B.jobs B.opening) }
-    ensures fault { IfErr result (λ fault. IsRunFault B.tree B.jobs fault) }
+    ensures fault { IfErr result IsLegalRunFault }
 {
-    let core = Core::open(alloc, tree, records, jobs)?;
+    let core = Core::open_legal(alloc, tree, records, jobs)?;
     let order = Vec::with_capacity(alloc, jobs.len())?;
     let carries = carries_of(alloc, jobs)?;
     let register = Mutex::new(Register::<B>::new(Book::open(core), carries));
@@ -82,7 +107,7 @@ fn finished_of<'a, B: Batch>(
     requires empty { order.items ≡ [] }
     requires room { length B.jobs ≤ vec_capacity order }
     ensures run { IfOk result (IsFinishedRun B.tree B.jobs B.opening) }
-    ensures fault { IfErr result (λ fault. IsRunFault B.tree B.jobs fault) }
+    ensures fault { IfErr result IsLegalRunFault }
 {
     if register.is_foreign() {
         return Err(RunFault::Foreign);

@@ -1,10 +1,11 @@
 ghost use Rattle.std.specs.Prelude.{◌≡◌, ◌≤◌, length, IfOk};
 ghost use Rattle.grove_run.specs.Runs.{places_of};
-ghost use Rattle.grove_core.specs.Runs.{IsRun, IsFinished};
+ghost use Rattle.grove_core.specs.Runs.{IsRun, IsFinished, run_records};
 ghost use Rattle.grove_core.specs.Orders.{placement_order};
 ghost use Rattle.grove_core.specs.Laws.{IsEachOnce, IsSerialBy};
 ghost use Rattle.grove_core.specs.Kept.{past_of};
 
+use grove_access::Records;
 use grove_core::Core;
 use grove_tree::NoMemory;
 use std::alloc::Global;
@@ -64,6 +65,14 @@ impl<'a> Finished<'a> {
         ensures few { length self.now.order ≤ 256 }
     {
         &self.order
+    }
+
+    /// The records as the run left them.
+    pub fn into_records(self) -> Records
+        ensures { result ≡ run_records self.entry.core.jobs self.entry.core.opening (past_of self.entry.core) }
+    {
+        let Finished { core, order: _ } = self;
+        core.into_records()
     }
 
     /// For each job its place in the order.

@@ -1,7 +1,7 @@
 //! Jobs brought to a finished run by worker threads: the book of what happens, under which records travel with locks.
 #![tactic(auto)]
 
-pub use batch::run_batch;
+pub use batch::{run_batch, run_legal};
 pub use book::Book;
 pub use fault::RunFault;
 pub use finished::Finished;

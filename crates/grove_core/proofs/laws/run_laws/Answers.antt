@@ -1,5 +1,6 @@
 use Rattle.grove_core.proofs.SerialRuns.{runs_are_serial}
 use Rattle.grove_core.proofs.NeverStalls.{runs_go_on}
+use Rattle.grove_core.proofs.NoCircles.{no_circles}
 use Rattle.grove_core.proofs.Refusals.{refused_may_not, refused_for_one, first_fault_is_one}
 use Rattle.grove_core.proofs.laws.run_laws.Goals as goal
 
@@ -8,6 +9,9 @@ returns-clause-serial c = runs_are_serial
 
 pub returns-clause-going : goal.returns-clause-going
 returns-clause-going c = runs_go_on
+
+pub returns-clause-circles : goal.returns-clause-circles
+returns-clause-circles c = no_circles
 
 pub returns-clause-refused : goal.returns-clause-refused
 returns-clause-refused c = refused_may_not

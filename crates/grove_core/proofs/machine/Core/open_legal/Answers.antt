@@ -2,13 +2,13 @@ use Rattle.std.proofs.Common.{rules, ◌≡◌, ◌≤◌, length, sym, ◌∙�
 use Rattle.std.specs.Prelude.{vec_capacity}
 use Rattle.grove_core.specs.Runs.{most_events}
 use Rattle.grove_core.proofs.CoreOpens.{opened}
-use Rattle.grove_core.proofs.machine.Core.open.Goals as goal
+use Rattle.grove_core.proofs.machine.Core.open_legal.Goals as goal
 
 pub invariant_of-result : goal.invariant_of-result
 invariant_of-result c = (
   rw c.in_ok-history.ensures.items
       (opened c.args.tree.now c.args.jobs.now c.in_ok-opening.opening c.in_ok-records.records c.in_ok-progress.progress.items c.in_ok-owners.owners.items c.in_ok-waits.waits.items
-      c.len-nodes.result c.len-nodes.ensures.tree c.requires.few c.in_ok-judge_all.ensures.legal c.room.ensures.short
+      c.len-nodes.result c.len-nodes.ensures.tree c.requires.few c.requires.legal c.room.ensures.short
       (ap length c.in_ok-opening.ensures ∙ c.requires.records) c.len-nodes.ensures.number
       (c.in_ok-records.ensures ∙ sym c.in_ok-opening.ensures) c.in_ok-progress.ensures.number c.in_ok-progress.ensures.started
       (c.in_ok-owners.ensures.items_if_clones_equal (search rules)) (c.in_ok-waits.ensures.items_if_clones_equal (search rules))),
