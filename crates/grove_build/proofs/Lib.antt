@@ -25,3 +25,6 @@ pub mod Batched
 pub mod Sorted
 pub mod Reaching
 pub mod Pushes
+pub mod Keeping
+pub mod Missing
+pub mod Popped

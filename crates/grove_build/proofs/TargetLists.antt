@@ -1,5 +1,5 @@
 -- The targets of lists: their nodes and their lengths, and when two lists of targets are the same.
-use Rattle.std.proofs.Common.{◌≡◌, ℕ, Bool, true, ◌&&◌, nat_eq, List, map, refl, ap, ap₂, Bor}
+use Rattle.std.proofs.Common.{◌≡◌, ℕ, Bool, true, ◌&&◌, nat_eq, List, [], ◌∷◌, map, refl, ap, ap₂, Bor}
 use Rattle.std.specs.Bool.{Decides}
 use Rattle.std.specs.Cmp.Lexicographic.{pointwise}
 use Rattle.std.proofs.lemmas.Bool.{and_parts, and_from}
@@ -41,3 +41,18 @@ decides a b = (
 -- lists of targets that compare as equal are the same
 pub same_targets : (xs ys : List Target) → pointwise is_same xs ys ≡ true → xs ≡ ys
 same_targets xs ys same = (slice_eq-Decides decides xs ys _ refl).0 same
+
+-- and the same lists of targets compare as equal
+pub compare_same : (xs ys : List Target) → xs ≡ ys → pointwise is_same xs ys ≡ true
+compare_same xs ys same = (slice_eq-Decides decides xs ys _ refl).1 same
+
+-- targets with the same nodes and the same lengths are the same
+pub targets_alike : (xs ys : List Target) → map (λ (t : Target). t.node) xs ≡ map (λ (t : Target). t.node) ys
+    → map (λ (t : Target). t.length) xs ≡ map (λ (t : Target). t.length) ys → xs ≡ ys
+targets_alike [] [] nodes lengths = refl
+targets_alike [] (y ∷ ys) nodes lengths = cc
+targets_alike (x ∷ xs) [] nodes lengths = cc
+targets_alike (x ∷ xs) (y ∷ ys) nodes lengths =
+    let node : x.node ≡ y.node = cc in
+    let slots : x.length ≡ y.length = cc in
+    ap₂ (λ (t : Target) (ts : List Target). t ∷ ts) (ap₂ made node slots) (targets_alike xs ys (cc) (cc))

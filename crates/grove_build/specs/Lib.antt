@@ -4,3 +4,5 @@ pub mod Networks
 pub mod Stays
 pub mod Batches
 pub mod Reaches
+pub mod KeptPlans
+pub mod Keeping

@@ -59,7 +59,7 @@ fn copies_of(alloc: Global, plans: &[Planned], places: &[usize]) -> Result<Vec<P
 /// in two and both halves are planned at once, the first by half of the workers; where no thread can be started, the first
 /// half is planned first.
 #[cycle(halving)]
-fn plan_parts<R: Threads + Sync, G: Gate + Sync>(
+pub fn plan_parts<R: Threads + Sync, G: Gate + Sync>(
     rt: &R,
     alloc: Global,
     tree: &Tree,
@@ -126,15 +126,22 @@ fn plan_each<G: Gate>(
 }
 
 impl Planned {
-    fn copy(&self, alloc: Global) -> Result<Planned, NoMemory>
+    pub(crate) fn copy(&self, alloc: Global) -> Result<Planned, NoMemory>
         ensures { IfOk result (λ copy. copy ≡ self.now) }
     {
-        let steps = Vec::from_slice(alloc, self.plan.steps())?;
+        let plan = copy_of(alloc, &self.plan)?;
         let rows = Vec::from_slice(alloc, self.flow.rows())?;
         Ok(Planned {
-            plan: Plan::new(steps),
+            plan,
             cost: self.cost,
             flow: Flow::new(rows),
         })
     }
+}
+
+pub fn copy_of(alloc: Global, plan: &Plan) -> Result<Plan, NoMemory>
+    ensures { IfOk result (λ copy. copy ≡ plan.now) }
+{
+    let steps = Vec::from_slice(alloc, plan.steps())?;
+    Ok(Plan::new(steps))
 }

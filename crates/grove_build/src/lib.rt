@@ -2,6 +2,7 @@
 #![tactic(auto)]
 
 pub use batch::plan_batch;
+pub use kept_plans::KeptPlans;
 pub use laws::settled_laws;
 pub use planning::{Planned, plan, plan_watched};
 pub use watch::{Layer, Watch};
@@ -9,6 +10,7 @@ pub use watch::{Layer, Watch};
 mod batch;
 mod costs;
 mod flow_rows;
+mod kept_plans;
 mod laws;
 mod network;
 mod places;

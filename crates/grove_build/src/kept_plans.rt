@@ -1,0 +1,126 @@
+ghost use Rattle.std.specs.Prelude.{◌≡◌, ◌≤◌, ◌<◌, [], List, length, slice_get, IfOk, OnOk, IfSome, IfNone};
+ghost use Rattle.grove_access.specs.declared.access.Access.{Access};
+ghost use Rattle.grove_access.specs.Lists.{nodes_of, AreNodes};
+ghost use Rattle.grove_build.specs.Batches.{IsPlanned};
+ghost use Rattle.grove_build.specs.KeptPlans.{Kept, kept_of, StandsAt, IsKeptIn, AreSettledFor};
+ghost use Rattle.grove_build.specs.Keeping.{AreTargetsOf, AddsAtMost};
+
+use crate::planning::{Planned, plan};
+use crate::targets::{Target, targets_of};
+use grove_access::AccessList;
+use grove_tree::{NoMemory, Tree};
+use indexmap::IndexMap;
+use std::alloc::Global;
+use std::marker::Model;
+
+mod batches;
+
+/// No more plans are kept.
+const MOST_KEPT: usize = 1024;
+
+/// What was planned over a tree, at most 1024 times, by what a plan depends on beside the tree: the nodes and the lengths
+/// of its list's accesses.
+#[derive(Debug, Drop)]
+pub struct KeptPlans {
+    plans: IndexMap<Vec<Target>, Planned>,
+}
+
+impl Model for KeptPlans {
+    ghost use Rattle.std.specs.Prelude.{List, ◌≤◌, length, map};
+    ghost use Rattle.grove_build.specs.KeptPlans.{Kept, kept_of};
+
+    ghost Value = { List Kept };
+
+    ghost view = { λ kept. map (λ entry. kept_of entry.0.items entry.1) kept.plans.entries };
+
+    ghost invariant = { λ kept. length kept.plans.entries ≤ 1024 };
+}
+
+impl KeptPlans {
+    /// Nothing is kept yet.
+    pub fn new(alloc: Global) -> KeptPlans
+        ensures { result ≡ [] }
+    {
+        KeptPlans {
+            plans: IndexMap::new(alloc),
+        }
+    }
+
+    /// Keeps nothing any more: what was planned over a tree is no good once its weights change. It takes no memory.
+    pub fn forget(&mut self)
+        ensures { self.new ≡ [] }
+    {
+        self.plans.clear();
+    }
+
+    /// How many are kept.
+    pub fn len(&self) -> usize
+        ensures number { result ≡ length self.now }
+        ensures few { length self.now ≤ 1024 }
+    {
+        self.plans.len()
+    }
+
+    /// What the planner answers for the list, which is planned only where nothing is kept for it. The only refusal is for
+    /// want of memory.
+    pub fn plan(
+        &mut self,
+        alloc: Global,
+        tree: &Tree,
+        list: &AccessList,
+    ) -> Result<Planned, NoMemory>
+        requires fits { AreNodes tree.now (nodes_of list.now) }
+        requires settled { AreSettledFor tree.now self.old }
+        ensures planned { IfOk result (IsPlanned tree.now list.now) }
+        ensures settled { AreSettledFor tree.now self.new }
+        ensures kept { OnOk result (IsKeptIn self.new list.now) }
+        ensures known { IsKeptIn self.old list.now → self.new ≡ self.old }
+    {
+        let place = self.place(alloc, tree, list)?;
+        self.at(place).copy(alloc)
+    }
+
+    /// Where the list's plan stands, which is planned first where nothing is kept for the list.
+    fn place(&mut self, alloc: Global, tree: &Tree, list: &AccessList) -> Result<usize, NoMemory>
+        requires fits { AreNodes tree.now (nodes_of list.now) }
+        requires settled { AreSettledFor tree.now self.old }
+        ensures stands { IfOk result (StandsAt self.new list.now) }
+        ensures settled { AreSettledFor tree.now self.new }
+        ensures known { IsKeptIn self.old list.now → self.new ≡ self.old }
+    {
+        let targets = targets_of(alloc, list)?;
+        if let Some(place) = self.place_of(&targets) {
+            return Ok(place);
+        }
+        let planned = plan(alloc, tree, list)?;
+        self.keep(targets, planned)
+    }
+
+    /// Where the plan of these targets stands.
+    fn place_of(&self, targets: &Vec<Target>) -> Option<usize>
+        ensures stands { IfSome result (λ place. (list : List Access) → AreTargetsOf list targets.now.items → StandsAt self.now list place) }
+        ensures none { IfNone result ((list : List Access) → AreTargetsOf list targets.now.items → ¬ IsKeptIn self.now list) }
+    {
+        self.plans.get_index_of(targets)
+    }
+
+    /// The plan at a place.
+    fn at(&self, place: usize) -> &Planned
+        requires { place < length self.now }
+        ensures { (kept : Kept) × (slice_get self.now place ≡ Some kept) × (kept.planned ≡ result.now) }
+    {
+        &self.plans[place]
+    }
+
+    /// Keeps a plan, and tells where it stands. Where there is no room for it, all others are forgotten.
+    fn keep(&mut self, targets: Vec<Target>, planned: Planned) -> Result<usize, NoMemory>
+        ensures place { IfOk result (λ place. slice_get self.new place ≡ Some (kept_of targets.items planned)) }
+        ensures others { AddsAtMost self.old (kept_of targets.items planned) self.new }
+    {
+        if self.len() >= MOST_KEPT {
+            self.forget();
+        }
+        let (place, _) = self.plans.insert_full(targets, planned)?;
+        Ok(place)
+    }
+}

@@ -1,0 +1,133 @@
+ghost use Rattle.std.specs.Prelude.{◌≡◌, ◌≤◌, [], length, All, IfOk, OnOk};
+ghost use Rattle.std.specs.List.{AllZip};
+ghost use Rattle.indexmap.specs.IndexMap.{values};
+ghost use Rattle.grove_tree.specs.Trees.{Rows};
+ghost use Rattle.grove_access.specs.Lists.{nodes_of, lengths_of, AreNodes};
+ghost use Rattle.grove_build.specs.Batches.{IsPlanned};
+ghost use Rattle.grove_build.specs.Settled.{IsSettled};
+ghost use Rattle.grove_build.specs.KeptPlans.{AreSettledFor};
+ghost use Rattle.grove_build.specs.Keeping.{AreOf};
+
+use crate::batch::{copy_of, plan_parts};
+use crate::kept_plans::{KeptPlans, MOST_KEPT};
+use crate::planning::Planned;
+use crate::targets::{Target, targets_of, values_of};
+use grove_access::AccessList;
+use grove_plan::Plan;
+use grove_tree::{Gate, NoMemory, Tree};
+use indexmap::IndexMap;
+use std::alloc::Global;
+use std::thread::Threads;
+
+impl KeptPlans {
+    /// The settled plan of each list, in the lists' order. Up to `workers` threads plan those for which nothing is kept, and
+    /// lists with the same targets are planned once. The gate is called with k, and 0, just before the k-th of these is
+    /// planned, counted from 0 in the order in which they first occur. The only refusal is for want of memory.
+    pub fn plan_all<R: Threads + Sync, G: Gate + Sync>(
+        &mut self,
+        rt: &R,
+        alloc: Global,
+        tree: &Tree,
+        lists: &[AccessList],
+        workers: u32,
+        gate: &G,
+    ) -> Result<Vec<Plan>, NoMemory>
+        requires few { length lists.now ≤ 256 }
+        requires fit { All (λ list. AreNodes tree.now (nodes_of list)) lists.now }
+        requires settled { AreSettledFor tree.now self.old }
+        ensures plans { IfOk result (λ plans. AllZip (λ list plan. IsSettled tree.now (nodes_of list) (lengths_of list) plan) lists.now plans.items) }
+        ensures settled { AreSettledFor tree.now self.new }
+    {
+        let missing = self.missing_with_room(alloc, lists)?;
+        let planned = plan_parts(rt, alloc, tree, gate, workers, 0, &missing)?;
+        self.keep_each(alloc, &missing, planned)?;
+        self.plan_each(alloc, tree, lists)
+    }
+
+    /// The lists that have to be planned. Where there is no room for their plans, all others are forgotten first.
+    fn missing_with_room<'a>(
+        &mut self,
+        alloc: Global,
+        lists: &'a [AccessList],
+    ) -> Result<Vec<&'a AccessList>, NoMemory>
+        ensures missing { IfOk result (λ missing. AreOf lists.now missing.items) }
+        ensures settled { (rows : Rows) → AreSettledFor rows self.old → AreSettledFor rows self.new }
+    {
+        let missing = self.missing(alloc, lists)?;
+        if self.len() + missing.len() <= MOST_KEPT {
+            return Ok(missing);
+        }
+        self.forget();
+        self.missing(alloc, lists)
+    }
+
+    /// The lists for which nothing is kept, one of those that have the same targets.
+    fn missing<'a>(
+        &self,
+        alloc: Global,
+        lists: &'a [AccessList],
+    ) -> Result<Vec<&'a AccessList>, NoMemory>
+        ensures { IfOk result (λ missing. AreOf lists.now missing.items) }
+    {
+        let mut parts = IndexMap::new(alloc);
+        self.add_missing(alloc, lists, &mut parts)?;
+        Ok(values_of(alloc, &parts)?)
+    }
+
+    /// Adds those lists to `parts`, which is empty at first.
+    fn add_missing<'a>(
+        &self,
+        alloc: Global,
+        lists: &'a [AccessList],
+        parts: &mut IndexMap<Vec<Target>, &'a AccessList>,
+    ) -> Result<(), NoMemory>
+        requires { parts.old.entries ≡ [] }
+        ensures { OnOk result (AreOf lists.now (values parts.new)) }
+    {
+        for list in lists {
+            let targets = targets_of(alloc, list)?;
+            if self.place_of(&targets).is_none() {
+                parts.insert(targets, list)?;
+            }
+        }
+        Ok(())
+    }
+
+    /// Keeps what was planned for each of the parts, the last first.
+    fn keep_each(
+        &mut self,
+        alloc: Global,
+        parts: &[&AccessList],
+        mut planned: Vec<Planned>,
+    ) -> Result<(), NoMemory>
+        requires { length planned.items ≤ length parts.now }
+        ensures { (rows : Rows) → AllZip (λ part planned. IsPlanned rows part.now planned) parts.now planned.items → AreSettledFor rows self.old → AreSettledFor rows self.new }
+    {
+        while let Some(last) = planned.pop() {
+            let targets = targets_of(alloc, parts[planned.len()])?;
+            self.keep(targets, last)?;
+        }
+        Ok(())
+    }
+
+    /// The plan of each list.
+    fn plan_each(
+        &mut self,
+        alloc: Global,
+        tree: &Tree,
+        lists: &[AccessList],
+    ) -> Result<Vec<Plan>, NoMemory>
+        requires fit { All (λ list. AreNodes tree.now (nodes_of list)) lists.now }
+        requires settled { AreSettledFor tree.now self.old }
+        ensures plans { IfOk result (λ plans. AllZip (λ list plan. IsSettled tree.now (nodes_of list) (lengths_of list) plan) lists.now plans.items) }
+        ensures settled { AreSettledFor tree.now self.new }
+    {
+        let mut plans = Vec::with_capacity(alloc, lists.len())?;
+        for list in lists {
+            let place = self.place(alloc, tree, list)?;
+            let plan = copy_of(alloc, &self.at(place).plan)?;
+            plans.push(plan)?;
+        }
+        Ok(plans)
+    }
+}
