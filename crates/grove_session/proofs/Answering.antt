@@ -1,14 +1,15 @@
 -- Texts that answer lines, and what is added to them.
-use Rattle.std.proofs.Common.{◌≡◌, ℕ, ◌<◌, ◌≤◌, List, [], ◌∷◌, ◌++◌, Some, length, take, refl, sym, ap, subst, ◌∙◌, append_assoc, arith, length-append}
+use Rattle.std.proofs.Common.{◌≡◌, ℕ, ◌<◌, ◌≤◌, List, [], ◌∷◌, ◌++◌, Some, length, take, Result, Ok, Err, refl, sym, ap, subst, ◌∙◌, append_assoc, arith, length-append}
 use Rattle.std.specs.Prelude.{slice_get}
 use Rattle.std.proofs.lemmas.List.{take-append-le}
 use Rattle.std.proofs.Math.Seq.{take-append_seam, take-append-add}
 use Rattle.std.proofs.lemmas.Option.{slice_get_within}
 use Rattle.grove_base.proofs.Lists.{get_append_left}
+use Rattle.grove_session.specs.declared.intake.Intake.{Intake}
 use Rattle.grove_session.specs.declared.session_fault.SessionFault.{SessionFault}
 use Rattle.grove_session.specs.declared.session_fault.SessionFault.TheVariants.{Read, Write, Memory, Turns, Foreign}
 use Rattle.grove_session.specs.Sessions.{Lawful, IsReplied, IsAnswered, StopsBefore, StopsWithin}
-use Rattle.grove_session.specs.Intakes.{EndsAmong}
+use Rattle.grove_session.specs.Intakes.{held_line, IsHeldReplied, SendsWhole, SendsInPart, Sends, AnswersNext, EndsAmong}
 
 -- the line behind lines
 pub get_here : (lines others : List (List ℕ)) (line : List ℕ) → slice_get (lines ++ line ∷ others) (length lines) ≡ Some line
@@ -101,3 +102,16 @@ module _ {S : Type 0} (lawful : Lawful S) where
       (line, done, get_append_left lines others done here ∙ next, take_among lines others done old new text (omega arith) answered)
   ends_among lines others old new Read text h = absurd h
   ends_among lines others old new Turns text h = absurd h
+
+-- what is sent is the reply to the line that is held, with its line feed
+pub answers_next : {S T : Type 0} (lawful : Lawful S) (old new : S) (before after : Intake) (reply text : List ℕ) (result : Result T SessionFault) (more : List ℕ)
+    → IsHeldReplied lawful old (held_line before.line) reply new → text ≡ reply ++ 10 ∷ [] → Sends before text result more after
+    → AnswersNext lawful old before result more new after
+answers_next lawful old new before after reply text (Ok done) more replied is sends =
+    record { reply = reply; replied = replied; sends = subst (λ (t : List ℕ). SendsWhole before t more after) is sends }
+answers_next lawful old new before after reply text (Err (Write n)) more replied is sends =
+    record { reply = reply; replied = replied; sends = subst (λ (t : List ℕ). SendsInPart before t n more) is sends }
+answers_next lawful old new before after reply text (Err Memory) more replied is sends = absurd sends
+answers_next lawful old new before after reply text (Err Foreign) more replied is sends = absurd sends
+answers_next lawful old new before after reply text (Err Read) more replied is sends = absurd sends
+answers_next lawful old new before after reply text (Err Turns) more replied is sends = absurd sends

@@ -1,5 +1,5 @@
 -- How a session goes on with the bytes that it reads.
-use Rattle.std.proofs.Common.{◌≡◌, ◌≢◌, ℕ, ◌+◌, Bool, true, false, cond, List, [], ◌∷◌, ◌++◌, Option, None, Some, Result, Ok, Err, length, take, refl, sym, ap, subst, ◌∙◌, append_assoc, append-nil, inl, inr, arith, length-append}
+use Rattle.std.proofs.Common.{◌≡◌, ℕ, ◌+◌, Bool, true, false, cond, List, [], ◌∷◌, ◌++◌, Option, None, Some, Result, Ok, Err, length, take, refl, sym, ap, subst, ◌∙◌, append_assoc, append-nil, inl, inr, arith, length-append}
 use Rattle.std.specs.Prelude.{slice_get, nat_lt}
 use Rattle.std.specs.Io.KnownBytes.{IsAtEnd}
 use Rattle.std.proofs.lemmas.List.{length_push}
@@ -10,22 +10,23 @@ use Rattle.grove_session.specs.declared.intake.Intake.{Intake}
 use Rattle.grove_session.specs.declared.session_fault.SessionFault.{SessionFault}
 use Rattle.grove_session.specs.declared.session_fault.SessionFault.TheVariants.{Read, Write, Memory, Turns, Foreign}
 use Rattle.grove_session.specs.Sessions.{Lawful, UnlessLong, whole_lines, rest_of, last_line, lines_of, lines_from, IsReplied, IsAnswered, StopsBefore, StopsWithin, SessionEnds}
-use Rattle.grove_session.specs.Intakes.{clip, with_byte, held_line, IsHeldReplied, RepliesWhole, FailsNext, AnswersNext, TakesBytes, IsUnderWay, EndsAmong, Continues, Breaks, Finishes}
-use Rattle.grove_session.proofs.Lines.{whole_lines-feed, rest_of-feed, whole_lines-byte, rest_of-byte, lines_from-append}
+use Rattle.grove_session.specs.Cuts.{IsFeedless}
+use Rattle.grove_session.specs.Intakes.{clip, with_bytes, held_line, IsHeldReplied, RepliesWhole, FailsNext, AnswersNext, TakesBytes, IsUnderWay, EndsAmong, Continues, Breaks, Finishes}
+use Rattle.grove_session.proofs.Lines.{whole_lines-feed, rest_of-feed, whole_lines-feedless, rest_of-feedless, lines_from-append}
 use Rattle.grove_session.proofs.Answering.{one_more_answer, get_here, take_before, stops_before, stops_within, ends_among}
 
 -- ---- a line that is held
 
-held_more : (b : Bool) (line : List ℕ) (byte : ℕ) → nat_lt 1048576 (length line) ≡ b → with_byte (cond b None (Some line)) byte ≡ clip (line ++ byte ∷ [])
-held_more true line byte long =
-    let more = length_push line byte in
+held_more : (b : Bool) (line bytes : List ℕ) → nat_lt 1048576 (length line) ≡ b → with_bytes (cond b None (Some line)) bytes ≡ clip (line ++ bytes)
+held_more true line bytes long =
+    let more = length-append line bytes in
     let less = ltb-true 1048576 (length line) long in
-    sym (cond-true (nat_lt 1048576 (length (line ++ byte ∷ []))) None (Some (line ++ byte ∷ [])) (lt-ltb 1048576 (length (line ++ byte ∷ [])) (omega arith)))
-held_more false line byte short = refl
+    sym (cond-true (nat_lt 1048576 (length (line ++ bytes))) None (Some (line ++ bytes)) (lt-ltb 1048576 (length (line ++ bytes)) (omega arith)))
+held_more false line bytes short = refl
 
--- a byte more of a line is one more of what is held of it
-pub clip-grow : (line : List ℕ) (byte : ℕ) → with_byte (clip line) byte ≡ clip (line ++ byte ∷ [])
-clip-grow line byte = held_more (nat_lt 1048576 (length line)) line byte refl
+-- more bytes of a line are as many more of what is held of it
+pub clip-grow : (line bytes : List ℕ) → with_bytes (clip line) bytes ≡ clip (line ++ bytes)
+clip-grow line bytes = held_more (nat_lt 1048576 (length line)) line bytes refl
 
 held_nothing : (b : Bool) (line : List ℕ) → ◌≡◌ {A = Option (List ℕ)} (cond b None (Some line)) (Some []) → line ≡ []
 held_nothing true line h = absurd (cc)
@@ -91,20 +92,26 @@ module _ {S : Type 0} (lawful : Lawful S) where
         (ends_among lawful (whole_lines (input ++ xs)) (lines_from (rest_of (input ++ xs)) ys) first new fault (text ++ more) (h.off first input text under));
   }
 
-  -- ---- one byte
+  -- ---- bytes of one line, and a line feed
 
-  -- a byte of a line is held
-  pub byte_goes : (old : S) (before after : Intake) (byte : ℕ) → byte ≢ 10 → held_line after.line ≡ with_byte (held_line before.line) byte
-      → after.answered ≡ before.answered → after.written ≡ before.written → Continues lawful old before (byte ∷ []) [] old after
-  byte_goes old before after byte ne held answered written = record {
+  -- bytes without a line feed are held
+  pub bytes_go : (old : S) (before after : Intake) (bytes : List ℕ) → IsFeedless bytes → held_line after.line ≡ with_bytes (held_line before.line) bytes
+      → after.answered ≡ before.answered → after.written ≡ before.written → Continues lawful old before bytes [] old after
+  bytes_go old before after bytes none held answered written = record {
     on = λ first input text h. record {
-      answers = subst (λ (ls : List (List ℕ)). IsAnswered lawful first ls (text ++ []) old) (sym (whole_lines-byte input byte ne))
+      answers = subst (λ (ls : List (List ℕ)). IsAnswered lawful first ls (text ++ []) old) (sym (whole_lines-feedless input bytes none))
           (subst (λ (t : List ℕ). IsAnswered lawful first (whole_lines input) t old) (sym (append-nil text)) h.answers);
-      held = held ∙ ap (λ (it : Option (List ℕ)). with_byte it byte) h.held ∙ clip-grow (rest_of input) byte ∙ ap clip (sym (rest_of-byte input byte ne));
-      answered = answered ∙ h.answered ∙ ap (length {A = List ℕ}) (sym (whole_lines-byte input byte ne));
+      held = held ∙ ap (λ (it : Option (List ℕ)). with_bytes it bytes) h.held ∙ clip-grow (rest_of input) bytes ∙ ap clip (sym (rest_of-feedless input bytes none));
+      answered = answered ∙ h.answered ∙ ap (length {A = List ℕ}) (sym (whole_lines-feedless input bytes none));
       written = written ∙ h.written ∙ ap (length {A = ℕ}) (sym (append-nil text));
     };
   }
+
+  -- bytes that went, and a rest that is held
+  pub rest_goes : (old mid : S) (before between after : Intake) (front rest bytes more : List ℕ) → front ++ rest ≡ bytes → Continues lawful old before front more mid between
+      → Continues lawful mid between rest [] mid after → Continues lawful old before bytes (more ++ []) mid after
+  rest_goes old mid before between after front rest bytes more all one two =
+      subst (λ (it : List ℕ). Continues lawful old before it (more ++ []) mid after) all (continues_then old mid mid before between after front rest more [] one two)
 
   -- a line feed, whose line is answered
   pub feed_goes : (old new : S) (before after : Intake) (more : List ℕ) → RepliesWhole lawful old before more new after → Continues lawful old before (10 ∷ []) more new after
@@ -155,7 +162,7 @@ module _ {S : Type 0} (lawful : Lawful S) where
         (among first old new input text more [] before fault under h);
   }
 
-  -- a byte for which there is no room
+  -- bytes for which there is no room
   pub no_room_breaks : (old : S) (before : Intake) (bytes : List ℕ) → Breaks lawful old before bytes [] Memory old
   no_room_breaks old before bytes = record {
     off = λ first input text under. subst (λ (ls : List (List ℕ)). StopsBefore lawful first ls (text ++ []) old) (sym (lines_from-append [] input bytes))
@@ -163,12 +170,24 @@ module _ {S : Type 0} (lawful : Lawful S) where
   }
 
   -- a line feed, whose line is answered or not
-  pub takes_feed : {T : Type 0} (old new : S) (before after : Intake) (byte : ℕ) (result : Result T SessionFault) (more : List ℕ) → byte ≡ 10
-      → AnswersNext lawful old before result more new after → TakesBytes lawful old before (byte ∷ []) result more new after
-  takes_feed old new before after byte (Ok done) more is h =
-      subst (λ (b : ℕ). Continues lawful old before (b ∷ []) more new after) (sym is) (feed_goes old new before after more h)
-  takes_feed old new before after byte (Err fault) more is h =
-      subst (λ (b : ℕ). Breaks lawful old before (b ∷ []) more fault new) (sym is) (feed_breaks old new before more fault h)
+  takes_feed : {T : Type 0} (old new : S) (before after : Intake) (result : Result T SessionFault) (more : List ℕ)
+      → AnswersNext lawful old before result more new after → TakesBytes lawful old before (10 ∷ []) result more new after
+  takes_feed old new before after (Ok done) more h = feed_goes old new before after more h
+  takes_feed old new before after (Err fault) more h = feed_breaks old new before more fault h
+
+  -- bytes that go, and bytes behind them
+  takes_then : {T : Type 0} (old mid new : S) (before between after : Intake) (xs ys more others : List ℕ) (result : Result T SessionFault)
+      → Continues lawful old before xs more mid between → TakesBytes lawful mid between ys result others new after
+      → TakesBytes lawful old before (xs ++ ys) result (more ++ others) new after
+  takes_then old mid new before between after xs ys more others (Ok done) one two = continues_then old mid new before between after xs ys more others one two
+  takes_then old mid new before between after xs ys more others (Err fault) one two = breaks_then old mid new before between xs ys more others fault one two
+
+  -- the end of a line and its line feed
+  pub takes_end : {T : Type 0} (old new : S) (before between after : Intake) (end : List ℕ) (result : Result T SessionFault) (more : List ℕ)
+      → Continues lawful old before end [] old between → AnswersNext lawful old between result more new after
+      → TakesBytes lawful old before (end ++ 10 ∷ []) result more new after
+  takes_end old new before between after end result more one h =
+      takes_then old old new before between after end (10 ∷ []) [] more result one (takes_feed old new between after result more h)
 
   -- ---- ends
 

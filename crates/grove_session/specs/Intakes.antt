@@ -11,10 +11,10 @@ use Rattle.grove_session.specs.Sessions.{Lawful, whole_lines, rest_of, long_line
 abbrev pub clip : List ℕ → Option (List ℕ)
 clip line = if nat_lt 1048576 (length line) then None else Some line
 
--- a byte more of a line that is held
-abbrev pub with_byte : Option (List ℕ) → ℕ → Option (List ℕ)
-with_byte None byte = None
-with_byte (Some line) byte = clip (line ++ byte ∷ [])
+-- more bytes of a line that is held
+abbrev pub with_bytes : Option (List ℕ) → List ℕ → Option (List ℕ)
+with_bytes None bytes = None
+with_bytes (Some line) bytes = clip (line ++ bytes)
 
 -- the bytes of a line, unless it is too long
 abbrev pub held_line : Line → Option (List ℕ)
@@ -36,37 +36,37 @@ IsApart (Err Turns) = ⊥
 
 -- ---- the line that is held is answered
 
--- a reply and a line feed went out, and the next line begins
-pub record SendsWhole (before : Intake) (reply more : List ℕ) (after : Intake) : Type 0 where
-  pub sent : more ≡ reply ++ 10 ∷ []
+-- a text went out, and the next line begins
+pub record SendsWhole (before : Intake) (text more : List ℕ) (after : Intake) : Type 0 where
+  pub sent : more ≡ text
   pub fresh : held_line after.line ≡ Some []
   pub answered : after.answered ≡ before.answered + 1
   pub written : after.written ≡ before.written + length more
 
--- they didn't go out whole
-pub record SendsInPart (before : Intake) (reply : List ℕ) (n : ℕ) (more : List ℕ) : Type 0 where
-  pub unfinished : length more < length (reply ++ 10 ∷ [])
-  pub cut : more ≡ take (length more) (reply ++ 10 ∷ [])
+-- it didn't go out whole
+pub record SendsInPart (before : Intake) (text : List ℕ) (n : ℕ) (more : List ℕ) : Type 0 where
+  pub unfinished : length more < length text
+  pub cut : more ≡ take (length more) text
   pub counted : n ≡ before.written + length more
 
 abbrev pub Sends : {T : Type 0} → Intake → List ℕ → Result T SessionFault → List ℕ → Intake → Type 0
-Sends before reply (Ok _) more after = SendsWhole before reply more after
-Sends before reply (Err (Write n)) more after = SendsInPart before reply n more
-Sends before reply (Err Read) more after = ⊥
-Sends before reply (Err Memory) more after = ⊥
-Sends before reply (Err Turns) more after = ⊥
-Sends before reply (Err Foreign) more after = ⊥
+Sends before text (Ok _) more after = SendsWhole before text more after
+Sends before text (Err (Write n)) more after = SendsInPart before text n more
+Sends before text (Err Read) more after = ⊥
+Sends before text (Err Memory) more after = ⊥
+Sends before text (Err Turns) more after = ⊥
+Sends before text (Err Foreign) more after = ⊥
 
--- the line that is held has this reply
+-- the line that is held has this reply, and it goes out with a line feed
 pub record RepliesWhole {S : Type 0} (lawful : Lawful S) (old : S) (before : Intake) (more : List ℕ) (new : S) (after : Intake) : Type 0 where
   pub reply : List ℕ
   pub replied : IsHeldReplied lawful old (held_line before.line) reply new
-  pub sends : SendsWhole before reply more after
+  pub sends : SendsWhole before (reply ++ 10 ∷ []) more after
 
 pub record RepliesInPart {S : Type 0} (lawful : Lawful S) (old : S) (before : Intake) (n : ℕ) (more : List ℕ) (new : S) : Type 0 where
   pub reply : List ℕ
   pub replied : IsHeldReplied lawful old (held_line before.line) reply new
-  pub sends : SendsInPart before reply n more
+  pub sends : SendsInPart before (reply ++ 10 ∷ []) n more
 
 -- or it has none, or a sink failed within it
 abbrev pub FailsNext : {S : Type 0} → Lawful S → S → Intake → SessionFault → List ℕ → S → Type 0

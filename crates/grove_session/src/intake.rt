@@ -2,13 +2,16 @@ ghost use Rattle.std.specs.Prelude.{◌≡◌, ℕ, ◌+◌, ◌*◌, ◌^◌, �
 ghost use Rattle.std.specs.Io.KnownBytes.{Appends};
 ghost use Rattle.grove_session.specs.declared.session_fault.SessionFault.TheVariants.{Foreign};
 ghost use Rattle.grove_session.specs.Sessions.{is_write};
+ghost use Rattle.grove_session.specs.Cuts.{IsFeedless};
 
 use crate::line::Line;
 use crate::whole::{Cut, write_until_cut};
 use crate::{Answers, SessionFault, Sink};
+use memchr::memchr;
 use std::alloc::Global;
 
-const LONG_LINE: &[u8] = b"{\"error\":\"long-line\"}";
+/// The reply to a line that is too long, with its line feed.
+const LONG_LINE: &[u8] = b"{\"error\":\"long-line\"}\n";
 
 /// What a session has between two reads: the line that is being read, how many lines are answered, and how many bytes of answers went out.
 #[derive(Debug, Drop)]
@@ -50,32 +53,34 @@ impl Intake {
         ensures foreign { result ≡ Err Foreign → A.is_shared ≡ true }
         ensures apart { IsApart result }
     {
-        for byte in bytes {
-            self.take_byte(rt, answers, sink, *byte)?;
+        let mut rest = bytes;
+        while let Some(length) = memchr(b'\n', rest) {
+            self.take_end(rt, answers, sink, &rest[..length])?;
+            rest = &rest[length + 1..];
         }
+        self.line.extend(rest)?;
         Ok(())
     }
 
-    fn take_byte<R, A: Answers<R>, O: Sink>(
+    /// Answers the line that is held once this end is behind it; a line feed comes next.
+    fn take_end<R, A: Answers<R>, O: Sink>(
         &mut self,
         rt: &R,
         answers: &mut A,
         sink: &mut O,
-        byte: u8,
+        end: &[u8],
     ) -> Result<(), SessionFault>
         requires asks { A.asks }
         requires room { self.old.answered + 1 < 2 ^ 63 }
-        ensures taken { (more : List ℕ) × Appends (O.contents sink.old) (O.contents sink.new) more × TakesBytes A.lawful answers.old self.old (byte ∷ []) result more answers.new self.new }
+        requires feedless { IsFeedless end.now }
+        ensures taken { (more : List ℕ) × Appends (O.contents sink.old) (O.contents sink.new) more × TakesBytes A.lawful answers.old self.old (end.now ++ 10 ∷ []) result more answers.new self.new }
         ensures few { OnOk result (self.new.answered ≤ self.old.answered + 1) }
         ensures failed { O.has_failed sink.new ≡ (O.has_failed sink.old || is_write result) }
         ensures foreign { result ≡ Err Foreign → A.is_shared ≡ true }
         ensures apart { IsApart result }
     {
-        if byte == b'\n' {
-            return self.answer(rt, answers, sink);
-        }
-        self.line.push(byte)?;
-        Ok(())
+        self.line.extend(end)?;
+        self.answer(rt, answers, sink)
     }
 
     /// Answers a last line, where there is one, and gives the number of lines that are answered.
@@ -115,23 +120,26 @@ impl Intake {
     {
         match self.line.bytes() {
             Some(line) => {
-                let reply = answers.answer(rt, line)?;
-                self.send(sink, &reply)
+                let mut reply = answers.answer(rt, line)?;
+                match reply.push(b'\n') {
+                    Ok(()) => self.send(sink, &reply, b""),
+                    Err(_) => self.send(sink, &reply, b"\n"),
+                }
             }
-            None => self.send(sink, LONG_LINE),
+            None => self.send(sink, LONG_LINE, b""),
         }
     }
 
-    /// Sends a reply and a line feed, and begins the next line.
-    fn send<O: Sink>(&mut self, sink: &mut O, reply: &[u8]) -> Result<(), SessionFault>
+    /// Sends a reply with its line feed, and begins the next line. The line feed stands in `end` where there was no room for it behind the reply: its line has had its effect by then, so this is no fault.
+    fn send<O: Sink>(&mut self, sink: &mut O, front: &[u8], end: &[u8]) -> Result<(), SessionFault>
         requires room { self.old.answered + 1 < 2 ^ 63 }
-        ensures sent { (more : List ℕ) × Appends (O.contents sink.old) (O.contents sink.new) more × Sends self.old reply.now result more self.new }
+        ensures sent { (more : List ℕ) × Appends (O.contents sink.old) (O.contents sink.new) more × Sends self.old (front.now ++ end.now) result more self.new }
         ensures failed { O.has_failed sink.new ≡ (O.has_failed sink.old || is_write result) }
         ensures apart { IsApart result }
     {
-        match send_line(sink, reply) {
+        match send_both(sink, front, end) {
             Ok(()) => {
-                self.written += reply.len() as u128 + 1;
+                self.written += front.len() as u128 + end.len() as u128;
                 self.answered += 1;
                 self.line.clear();
                 Ok(())
@@ -141,18 +149,18 @@ impl Intake {
     }
 }
 
-/// Writes a line and a line feed, and where the sink fails tells how many bytes it took. The two are written apart, so that nothing grows once a line has had its effect.
-fn send_line<O: Sink>(sink: &mut O, line: &[u8]) -> Result<(), Cut>
-    ensures bytes { OnOk result (Appends (O.contents sink.old) (O.contents sink.new) (line.now ++ 10 ∷ [])) }
-    ensures unfinished { IfErr result (λ cut. cut.written < length (line.now ++ 10 ∷ [])) }
-    ensures cut { IfErr result (λ cut. Appends (O.contents sink.old) (O.contents sink.new) (take cut.written (line.now ++ 10 ∷ []))) }
+/// Writes bytes and then their end, and where the sink fails tells how many of all these it took. An empty end costs no write.
+fn send_both<O: Sink>(sink: &mut O, front: &[u8], end: &[u8]) -> Result<(), Cut>
+    ensures bytes { OnOk result (Appends (O.contents sink.old) (O.contents sink.new) (front.now ++ end.now)) }
+    ensures unfinished { IfErr result (λ cut. cut.written < length (front.now ++ end.now)) }
+    ensures cut { IfErr result (λ cut. Appends (O.contents sink.old) (O.contents sink.new) (take cut.written (front.now ++ end.now))) }
     ensures failed { O.has_failed sink.new ≡ (O.has_failed sink.old || is_err result) }
 {
-    write_until_cut(sink, line)?;
-    match write_until_cut(sink, b"\n") {
+    write_until_cut(sink, front)?;
+    match write_until_cut(sink, end) {
         Ok(()) => Ok(()),
-        Err(_) => Err(Cut {
-            written: line.len(),
+        Err(cut) => Err(Cut {
+            written: front.len() + cut.written,
         }),
     }
 }

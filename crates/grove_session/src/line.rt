@@ -15,7 +15,7 @@ pub(crate) struct Line {
 impl Line {
     ghost use Rattle.std.specs.Prelude.{Option};
     ghost use Rattle.std.specs.Option.{option_map};
-    ghost use Rattle.grove_session.specs.Intakes.{held_line, with_byte};
+    ghost use Rattle.grove_session.specs.Intakes.{held_line, with_bytes};
 
     pub(crate) fn new(alloc: Global) -> Line
         ensures { held_line result ≡ Some [] }
@@ -43,14 +43,14 @@ impl Line {
         !self.is_long && self.bytes.is_empty()
     }
 
-    pub(crate) fn push(&mut self, byte: u8) -> Result<(), AllocError>
-        ensures ok { OnOk result (held_line self.new ≡ with_byte (held_line self.old) byte) }
+    pub(crate) fn extend(&mut self, bytes: &[u8]) -> Result<(), AllocError>
+        ensures ok { OnOk result (held_line self.new ≡ with_bytes (held_line self.old) bytes.now) }
     {
-        if self.bytes.len() == LINE_LIMIT {
+        if bytes.len() > LINE_LIMIT - self.bytes.len() {
             self.is_long = true;
         }
         if !self.is_long {
-            self.bytes.push(byte)?;
+            self.bytes.extend_from_slice(bytes)?;
         }
         Ok(())
     }

@@ -31,7 +31,7 @@ pub fn session<R: AllocGlobal, A: Answers<R>, I: Source, O: Sink>(
     ensures foreign { result ≡ Err Foreign → A.is_shared ≡ true }
 {
     let mut intake = Intake::new(rt.alloc());
-    let mut buffer = [0u8; 4096];
+    let mut buffer = [0u8; 16_384];
     for _ in 0..MOST_READS {
         let count = source.read(&mut buffer)?;
         if count == 0 {

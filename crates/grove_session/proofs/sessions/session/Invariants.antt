@@ -12,6 +12,6 @@ invariant-loop g l = record {
   sound_source : g.I.Source.has_failed l.source ≡ false;
   sound_sink : g.O.Sink.has_failed l.sink ≡ false;
   reads : g.I.Source.read_count l.source ≡ g.I.Source.read_count l.initial.source + l.counter;
-  lines : l.intake.answered ≤ 4096 * l.counter;
-  buffer : length l.buffer ≡ 4096;
+  lines : l.intake.answered ≤ 16384 * l.counter;
+  buffer : length l.buffer ≡ 16384;
 }
