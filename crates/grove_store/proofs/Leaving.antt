@@ -2,7 +2,6 @@
 use Rattle.std.proofs.Common.{◌≡◌, ◌≢◌, ◌⊎◌, ℕ, ◌+◌, ◌-◌, ◌^◌, ◌<◌, ℤ, List, length, map, replicate, refl, sym, ◌∙◌, ap, subst, inl, inr}
 use Rattle.std.specs.Prelude.{codes}
 use Rattle.std.proofs.lemmas.List.{length-map, length-replicate}
-use Rattle.std.proofs.lemmas.Option.{none-some}
 use Rattle.grove_access.specs.declared.access.Access.{Access}
 use Rattle.grove_core.specs.declared.job.Job.{Job}
 use Rattle.grove_core.specs.Kept.{State, past_of}
@@ -10,13 +9,12 @@ use Rattle.grove_core.specs.Orders.{placement_order}
 use Rattle.grove_core.specs.Runs.{IsRun, IsFinished, run_records}
 use Rattle.grove_run.specs.declared.fault.RunFault.{RunFault}
 use Rattle.grove_run.specs.declared.fault.RunFault.TheVariants.{BadPlan, Memory, Foreign, Unfinished}
-use Rattle.grove_run.specs.Runs.{IsCoreOf, IsRunFault, places_of}
+use Rattle.grove_run.specs.Runs.{IsCoreOf, IsLegalRunFault, places_of}
 use Rattle.grove_wire.specs.Names.{run_name}
 use Rattle.grove_wire.specs.Replies.{error_text}
 use Rattle.grove_store.specs.Stocks.{Stock}
 use Rattle.grove_store.specs.Rounds.{AreSettledJobs, replies_of, waits_after, round_texts, RunsRound, RefusesRound, FailsRound}
 use Rattle.grove_store.specs.Parts.{texts_of, LeavesRound, AnswersRound}
-use Rattle.grove_store.proofs.Jobs.{settled_faultless}
 use Rattle.grove_store.proofs.Telling.{texts_by_counts, texts_long}
 
 -- what the core of a finished run tells is what the jobs leave
@@ -87,11 +85,10 @@ answered_long before batches replies after (inr (inl (room, inl refused))) = ap 
 answered_long before batches replies after (inr (inl (room, inr refused))) = ap length refused.0 ∙ length-replicate (length batches) _
 answered_long before batches replies after (inr (inr (full, refused))) = ap length refused.0 ∙ length-replicate (length batches) _
 
--- settled plans have no fault, so a run fails for one of two reasons
-pub fails_run : (before : Stock) (lists : List (List Access)) (jobs : List Job) (counts : List ℕ) (replies : List (List ℕ)) (fault : RunFault) → AreSettledJobs before.rows lists jobs
-    → before.rounds < 2 ^ 64 - 1 → IsRunFault before.rows jobs fault → fault ≢ Memory → replies ≡ replicate (length counts) (error_text (run_name fault)) → AnswersRound before lists counts replies before
-fails_run before lists jobs counts replies (BadPlan t fault) settled room bad found is =
-    absurd (none-some fault (sym (settled_faultless before.rows jobs settled.settled t bad.0) ∙ bad.1))
-fails_run before lists jobs counts replies Memory settled room bad found is = absurd (found refl)
-fails_run before lists jobs counts replies Foreign settled room bad found is = fails_foreign before lists counts replies room is
-fails_run before lists jobs counts replies Unfinished settled room bad found is = fails_unfinished before lists counts replies room is
+-- a run of legal plans fails for one of two reasons, want of memory aside
+pub fails_run : (before : Stock) (lists : List (List Access)) (counts : List ℕ) (replies : List (List ℕ)) (fault : RunFault)
+    → before.rounds < 2 ^ 64 - 1 → IsLegalRunFault fault → fault ≢ Memory → replies ≡ replicate (length counts) (error_text (run_name fault)) → AnswersRound before lists counts replies before
+fails_run before lists counts replies (BadPlan t fault) room bad found is = absurd bad
+fails_run before lists counts replies Memory room bad found is = absurd (found refl)
+fails_run before lists counts replies Foreign room bad found is = fails_foreign before lists counts replies room is
+fails_run before lists counts replies Unfinished room bad found is = fails_unfinished before lists counts replies room is

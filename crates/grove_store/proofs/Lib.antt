@@ -3,9 +3,11 @@ pub mod Fitting
 pub mod Equal
 pub mod Telling
 pub mod Jobs
+pub mod AddedWaits
 pub mod Together
 pub mod Leaving
 pub mod Keeping
 pub mod Lawful
 pub mod RoundsKeep
 pub mod Longest
+pub mod NothingKept

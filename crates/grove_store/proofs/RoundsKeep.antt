@@ -1,5 +1,5 @@
 -- What every lawful round keeps: names, workers, that the store is one, and the count of rounds, which never falls.
-use Rattle.std.proofs.Common.{◌≡◌, ◌⊎◌, ℕ, suc, ◌+◌, ◌-◌, ◌^◌, ◌<◌, ◌≤◌, min, List, [], ◌∷◌, length, get_or, map, Option, Some, None, refl, sym, ◌∙◌, ap, subst, inl, inr, arith}
+use Rattle.std.proofs.Common.{◌≡◌, ◌⊎◌, ℕ, suc, ◌+◌, ◌-◌, ◌^◌, ◌<◌, ◌≤◌, min, List, [], ◌∷◌, length, get_or, Option, Some, None, refl, sym, ◌∙◌, ap, subst, inl, inr, arith}
 use Rattle.std.specs.Prelude.{Result, Ok, Err}
 use Rattle.serde_json.specs.Data.{Data}
 use Rattle.grove_tree.specs.Trees.{Rows}
@@ -9,12 +9,11 @@ use Rattle.grove_core.specs.declared.job.Job.{Job}
 use Rattle.grove_core.specs.declared.event.Event.{Event}
 use Rattle.grove_core.specs.Runs.{deeds, waits_of}
 use Rattle.grove_core.proofs.RunSteps.{deeds_length}
-use Rattle.grove_meter.specs.Waits.{reweighed}
 use Rattle.grove_wire.specs.declared.fault.WireFault.{WireFault}
 use Rattle.grove_wire.specs.Requests.{Asked, Plan, Check, Batch, Weights, Reweigh, request_of}
 use Rattle.grove_store.specs.Stocks.{Stock, IsStock, reweighed_stock}
-use Rattle.grove_store.specs.Alone.{RepliesAlone, AnswersAlone}
-use Rattle.grove_store.specs.Rounds.{lists_in, batches_in, stock_after, RunsRound, FailsRound, AnswersLines, IsLawfulRound, IsLawfulAnswer}
+use Rattle.grove_store.specs.Alone.{RepliesAlone}
+use Rattle.grove_store.specs.Rounds.{lists_in, batches_in, stock_after, RunsRound, FailsRound, AnswersLines, IsLawfulRound}
 use Rattle.grove_store.proofs.Reweighing.{reweighed_keeps}
 use Rattle.grove_store.proofs.Keeping.{waits_few}
 use Rattle.grove_store.proofs.Leaving.{answered_long}

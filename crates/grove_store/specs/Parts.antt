@@ -1,5 +1,5 @@
 -- For the proofs alone, as no public contract reaches it: the parts that an answer is made of.
-use Rattle.std.specs.Prelude.{◌≡◌, ◌⊎◌, ℕ, ◌+◌, ◌-◌, ◌≤◌, ℤ, List, [], ◌∷◌, ◌++◌, length, map, take, drop, All, Option, Some}
+use Rattle.std.specs.Prelude.{◌≡◌, ◌⊎◌, ℕ, ◌+◌, ◌-◌, ◌≤◌, min, ℤ, List, [], ◌∷◌, ◌++◌, length, map, take, drop, get_or, All, Option, Some}
 use Rattle.serde_json.specs.Data.{Data}
 use Rattle.serde_json.specs.Written.{compact_text}
 use Rattle.grove_tree.specs.Trees.{Rows}
@@ -8,7 +8,7 @@ use Rattle.grove_access.specs.declared.reply.Reply.{Reply}
 use Rattle.grove_access.specs.Lists.{nodes_of, AreNodes}
 use Rattle.grove_core.specs.declared.job.Job.{Job}
 use Rattle.grove_core.specs.declared.event.Event.{Event}
-use Rattle.grove_core.specs.Runs.{IsRun, IsFinished, run_records}
+use Rattle.grove_core.specs.Runs.{IsRun, IsFinished, run_records, waits_of}
 use Rattle.grove_core.specs.Orders.{placement_order}
 use Rattle.grove_run.specs.Runs.{places_of}
 use Rattle.grove_wire.specs.Replies.{round_data, changed_data}
@@ -56,6 +56,14 @@ pub record LeavesRound (before : Stock) (jobs : List Job) (counts : List ℕ) (r
   pub told : replies ≡ texts_of (before.rounds + 1) counts (places_of (placement_order before.rows jobs past) (length jobs)) (replies_of jobs before.records past)
   pub recorded : records ≡ run_records jobs before.records past
   pub waited : waits ≡ waits_after jobs past before.waits
+
+-- a node's waits with those of a run, at most 1,000
+abbrev pub waits_at : List Job → List Event → List ℕ → ℕ → ℕ
+waits_at jobs past waits node = min 1000 (get_or waits node 0 + waits_of jobs past node)
+
+-- each node has what it had, or what is new of it
+abbrev pub AreOldOrNew : (ℕ → ℕ) → List ℕ → List ℕ → Type 0
+AreOldOrNew new before after = (node : ℕ) → (get_or after node 0 ≡ get_or before node 0) ⊎ (get_or after node 0 ≡ new node)
 
 -- a round over lists, of which each line has so many
 abbrev pub AnswersRound : Stock → List (List Access) → List ℕ → List (List ℕ) → Stock → Type 0

@@ -13,3 +13,4 @@ mod running;
 mod same;
 mod store;
 mod texts;
+mod waiting;

@@ -1,6 +1,7 @@
 //! A round's run: jobs of the lists with their settled plans, and what a finished run of them leaves.
 ghost use Rattle.std.specs.Prelude.{◌≡◌, ◌≤◌, length, map, sum, zip, All, IfOk};
 ghost use Rattle.grove_access.specs.Lists.{nodes_of, AreNodes};
+ghost use Rattle.grove_build.specs.KeptPlans.{AreSettledFor};
 ghost use Rattle.grove_core.specs.Kept.{past_of};
 ghost use Rattle.grove_core.specs.Runs.{run_records};
 ghost use Rattle.grove_run.specs.Runs.{places_of};
@@ -8,16 +9,15 @@ ghost use Rattle.grove_store.specs.Rounds.{AreSettledJobs, replies_of, waits_aft
 ghost use Rattle.grove_store.specs.Parts.{texts_of};
 
 use crate::texts::round_texts;
+use crate::waiting::waits_after;
 use grove_access::{AccessList, Records, Reply};
-use grove_build::{Planned, plan_batch};
+use grove_build::KeptPlans;
 use grove_core::{Core, Job};
+use grove_plan::Plan;
 use grove_run::Finished;
-use grove_tree::{NoMemory, Node, OpenGate, Tree};
+use grove_tree::{NoMemory, OpenGate, Tree};
 use std::alloc::Global;
 use std::thread::Threads;
-
-/// No node has more waits.
-const MOST_WAITS: u32 = 1000;
 
 /// A job for each list, with its settled plan.
 pub fn settled_jobs<R: Threads + Sync>(
@@ -32,18 +32,34 @@ pub fn settled_jobs<R: Threads + Sync>(
     requires fit { All (λ list. AreNodes tree.now (nodes_of list)) lists.items }
     ensures { IfOk result (λ jobs. AreSettledJobs tree.now lists.items jobs.items) }
 {
-    let plans = plan_batch(rt, alloc, tree, &lists, workers, &OpenGate)?;
-    jobs_of(alloc, lists, plans)
+    let mut plans = KeptPlans::new(alloc);
+    kept_jobs(rt, alloc, tree, &mut plans, lists, workers)
 }
 
-fn jobs_of(alloc: Global, lists: Vec<AccessList>, plans: Vec<Planned>) -> Result<Vec<Job>, NoMemory>
-    ensures { IfOk result (λ jobs. jobs.items ≡ map (λ pair. record { list = pair.0; plan = pair.1.plan }) (zip lists.items plans.items)) }
+/// The same jobs. Only lists for which no plan is kept are planned, and their plans are kept.
+pub fn kept_jobs<R: Threads + Sync>(
+    rt: &R,
+    alloc: Global,
+    tree: &Tree,
+    plans: &mut KeptPlans,
+    lists: Vec<AccessList>,
+    workers: u32,
+) -> Result<Vec<Job>, NoMemory>
+    requires few { length lists.items ≤ 256 }
+    requires fit { All (λ list. AreNodes tree.now (nodes_of list)) lists.items }
+    requires kept { AreSettledFor tree.now plans.old }
+    ensures jobs { IfOk result (λ jobs. AreSettledJobs tree.now lists.items jobs.items) }
+    ensures kept { AreSettledFor tree.now plans.new }
+{
+    let settled = plans.plan_all(rt, alloc, tree, &lists, workers, &OpenGate)?;
+    jobs_of(alloc, lists, settled)
+}
+
+fn jobs_of(alloc: Global, lists: Vec<AccessList>, plans: Vec<Plan>) -> Result<Vec<Job>, NoMemory>
+    ensures { IfOk result (λ jobs. jobs.items ≡ map (λ pair. record { list = pair.0; plan = pair.1 }) (zip lists.items plans.items)) }
 {
     let pairs = lists.into_iter().zip(plans);
-    let jobs = pairs.map(|(list, planned)| Job {
-        list,
-        plan: planned.plan,
-    });
+    let jobs = pairs.map(|(list, plan)| Job { list, plan });
     Ok(jobs.collect(alloc)?)
 }
 
@@ -58,29 +74,42 @@ pub struct Outcome {
 /// What the run leaves of a round of this number, of which each line has so many jobs.
 pub fn outcome_of(
     alloc: Global,
-    finished: &Finished,
+    finished: Finished<'_>,
     round: u64,
     counts: &[usize],
     waits: &[u32],
 ) -> Result<Outcome, NoMemory>
-    requires jobs { sum counts.now ≡ length finished.now.core.jobs }
-    requires waits { length waits.now ≡ length finished.now.core.tree }
+    requires jobs { sum counts.now ≡ length finished.core.jobs }
+    requires waits { length waits.now ≡ length finished.core.tree }
+    requires few { All (λ waits. waits ≤ 1000) waits.now }
     ensures replies { IfOk result (λ outcome. map (λ reply. reply.items) outcome.replies.items ≡ texts_of round counts.now
-        (places_of finished.now.order (length finished.now.core.jobs)) (replies_of finished.now.core.jobs finished.now.core.opening (past_of finished.now.core))) }
-    ensures records { IfOk result (λ outcome. outcome.records ≡ run_records finished.now.core.jobs finished.now.core.opening (past_of finished.now.core)) }
-    ensures waits { IfOk result (λ outcome. outcome.waits.items ≡ waits_after finished.now.core.jobs (past_of finished.now.core) waits.now) }
+        (places_of finished.entry.order (length finished.entry.core.jobs)) (replies_of finished.entry.core.jobs finished.entry.core.opening (past_of finished.entry.core))) }
+    ensures records { IfOk result (λ outcome. outcome.records ≡ run_records finished.entry.core.jobs finished.entry.core.opening (past_of finished.entry.core)) }
+    ensures waits { IfOk result (λ outcome. outcome.waits.items ≡ waits_after finished.entry.core.jobs (past_of finished.entry.core) waits.now) }
 {
-    let places = finished.places(alloc)?;
-    let core = finished.core();
-    let own_replies = replies_of(alloc, core)?;
-    let replies = round_texts(alloc, round, counts, &places, &own_replies)?;
-    let records = core.records().copy(alloc)?;
-    let waits = waits_after(alloc, core, waits)?;
+    let replies = texts_after(alloc, &finished, round, counts)?;
+    let waits = waits_after(alloc, finished.core(), waits)?;
     Ok(Outcome {
         replies,
-        records,
+        records: finished.into_records(),
         waits,
     })
+}
+
+/// What the lines of a round of this number are answered.
+fn texts_after(
+    alloc: Global,
+    finished: &Finished,
+    round: u64,
+    counts: &[usize],
+) -> Result<Vec<Vec<u8>>, NoMemory>
+    requires { sum counts.now ≡ length finished.now.core.jobs }
+    ensures { IfOk result (λ texts. map (λ text. text.items) texts.items ≡ texts_of round counts.now
+        (places_of finished.now.order (length finished.now.core.jobs)) (replies_of finished.now.core.jobs finished.now.core.opening (past_of finished.now.core))) }
+{
+    let places = finished.places(alloc)?;
+    let replies = replies_of(alloc, finished.core())?;
+    round_texts(alloc, round, counts, &places, &replies)
 }
 
 /// The replies of each job.
@@ -93,18 +122,4 @@ pub fn replies_of<'a>(alloc: Global, core: &'a Core) -> Result<Vec<&'a [Reply]>,
         replies.push(core.replies(txn))?;
     }
     Ok(replies)
-}
-
-/// The waits with those of the run.
-fn waits_after(alloc: Global, core: &Core, waits: &[u32]) -> Result<Vec<u32>, NoMemory>
-    requires { length waits.now ≡ length core.now.tree }
-    ensures { IfOk result (λ all. all.items ≡ waits_after core.now.jobs (past_of core.now) waits.now) }
-{
-    let mut all = Vec::with_capacity(alloc, waits.len())?;
-    for number in 0..core.tree().len() {
-        let later = core.waits(Node::new(number));
-        let sum = waits[number as usize].saturating_add(later);
-        all.push(sum.min(MOST_WAITS))?;
-    }
-    Ok(all)
 }

@@ -4,6 +4,7 @@ ghost use Rattle.grove_store.specs.Stocks.{IsStock, opened};
 use crate::NoStore;
 use crate::same::{same_records, same_trees};
 use grove_access::Records;
+use grove_build::KeptPlans;
 use grove_tree::{NoMemory, Tree};
 use std::alloc::Global;
 use std::marker::Model;
@@ -21,16 +22,19 @@ pub struct Store {
     waits: Vec<u32>,
     workers: u32,
     rounds: u64,
+    /// What was planned over the tree since its weights changed last.
+    plans: KeptPlans,
 }
 
 impl Model for Store {
+    ghost use Rattle.grove_build.specs.KeptPlans.{AreSettledFor};
     ghost use Rattle.grove_store.specs.Stocks.{Stock, IsStock};
 
     ghost Value = { Stock };
 
     ghost view = { λ store. record { rows = store.tree; records = store.records; waits = store.waits.items; workers = store.workers; rounds = store.rounds } };
 
-    ghost invariant = { λ store. IsStock (record { rows = store.tree; records = store.records; waits = store.waits.items; workers = store.workers; rounds = store.rounds }) };
+    ghost invariant = { λ store. IsStock (record { rows = store.tree; records = store.records; waits = store.waits.items; workers = store.workers; rounds = store.rounds }) × AreSettledFor store.tree store.plans };
 }
 
 impl Store {
@@ -50,6 +54,7 @@ impl Store {
                 waits,
                 workers,
                 rounds: 0,
+                plans: KeptPlans::new(alloc),
             }),
             Err(_) => Err(NoStore { tree, records }),
         }
@@ -88,6 +93,7 @@ impl Store {
             && self.rounds == other.rounds
     }
 
+    /// A copy, for which no plans are kept yet.
     pub fn copy(&self, alloc: Global) -> Result<Store, NoMemory>
         ensures { IfOk result (λ copy. copy ≡ self.now) }
     {
@@ -100,6 +106,7 @@ impl Store {
             waits,
             workers: self.workers,
             rounds: self.rounds,
+            plans: KeptPlans::new(alloc),
         })
     }
 }

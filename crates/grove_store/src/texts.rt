@@ -2,13 +2,14 @@
 ghost use Rattle.std.specs.Prelude.{◌≡◌, ◌≢◌, ◌⊎◌, ◌≤◌, [], ◌∷◌, length, map, replicate, sum, IfOk, MatchResult};
 ghost use Rattle.serde_json.specs.Written.{compact_text};
 ghost use Rattle.grove_access.specs.Lists.{nodes_of, AreNodes};
+ghost use Rattle.grove_build.specs.KeptPlans.{AreSettledFor};
 ghost use Rattle.grove_wire.specs.Names.{wire_name, proof_name, run_name};
 ghost use Rattle.grove_wire.specs.Replies.{error_text, round_data, weights_of, weights_data, changed_data};
 ghost use Rattle.grove_store.specs.Alone.{TellsPlan, TellsCost, TellsFault};
 ghost use Rattle.grove_store.specs.Parts.{IsTextOf, texts_of};
 
 use grove_access::{AccessList, Reply};
-use grove_build::plan;
+use grove_build::KeptPlans;
 use grove_plan::Plan;
 use grove_proof::{Flow, ProofFault, check};
 use grove_run::RunFault;
@@ -47,12 +48,19 @@ pub fn refusals(alloc: Global, name: &str, lines: usize) -> Result<Vec<Vec<u8>>,
     Ok(texts)
 }
 
-/// The settled plan of the list, with its cost and its flow.
-pub fn plan_text(alloc: Global, tree: &Tree, list: &AccessList) -> Result<Vec<u8>, NoMemory>
-    requires { AreNodes tree.now (nodes_of list.now) }
-    ensures { IfOk result (λ text. IsTextOf (TellsPlan tree.now list.now) text.items) }
+/// The settled plan of the list, with its cost and its flow, from what is kept.
+pub fn plan_text(
+    alloc: Global,
+    tree: &Tree,
+    plans: &mut KeptPlans,
+    list: &AccessList,
+) -> Result<Vec<u8>, NoMemory>
+    requires fits { AreNodes tree.now (nodes_of list.now) }
+    requires kept { AreSettledFor tree.now plans.old }
+    ensures text { IfOk result (λ text. IsTextOf (TellsPlan tree.now list.now) text.items) }
+    ensures kept { AreSettledFor tree.now plans.new }
 {
-    let planned = plan(alloc, tree, list)?;
+    let planned = plans.plan(alloc, tree, list)?;
     let value = planned_value(alloc, tree, planned.cost, &planned.plan, &planned.flow)?;
     Ok(value.to_vec(alloc)?)
 }

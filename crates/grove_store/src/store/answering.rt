@@ -50,7 +50,9 @@ impl Store {
                 let round = round_of(alloc, &self.tree, lists, &lines[1..])?;
                 self.run_round(rt, alloc, round, gate)
             }
-            Ok(Request::Plan(list)) => alone(alloc, plan_text(alloc, &self.tree, &list)),
+            Ok(Request::Plan(list)) => {
+                alone(alloc, plan_text(alloc, &self.tree, &mut self.plans, &list))
+            }
             Ok(Request::Check(list, plan, flow)) => {
                 alone(alloc, check_text(alloc, &self.tree, &list, &plan, &flow))
             }

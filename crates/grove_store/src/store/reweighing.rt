@@ -9,7 +9,8 @@ use std::alloc::Global;
 use std::thread::Threads;
 
 impl Store {
-    /// Gives each node its new weight by its waits, and begins to count waits anew, once the reply is made.
+    /// Gives each node its new weight by its waits, forgets the plans of the old weights, and begins to count waits anew,
+    /// once the reply is made.
     pub(crate) fn reweigh<R: Threads + Sync>(
         &mut self,
         rt: &R,
@@ -22,6 +23,7 @@ impl Store {
         let changed = reweigh(rt, &mut tree, &self.waits, self.workers, &OpenGate);
         let replies = alone(alloc, changed_text(alloc, changed))?;
         self.tree = tree;
+        self.plans.forget();
         self.waits.fill(0);
         Ok(replies)
     }

@@ -1,15 +1,15 @@
 ghost use Rattle.std.specs.Prelude.{◌≡◌, ◌+◌, ◌-◌, ◌^◌, ◌<◌, ◌≤◌, length, map, sum, All, IfOk, IfErr, OnErr};
 ghost use Rattle.grove_access.specs.Lists.{nodes_of, AreNodes};
-ghost use Rattle.grove_core.specs.Openings.{AllFit};
-ghost use Rattle.grove_run.specs.Runs.{IsRunFault};
+ghost use Rattle.grove_core.specs.Runs.{AllLegal};
+ghost use Rattle.grove_run.specs.Runs.{IsLegalRunFault};
 ghost use Rattle.grove_store.specs.Parts.{LeavesRound, AnswersRound};
 
 use crate::Store;
 use crate::round::Round;
-use crate::running::{Outcome, outcome_of, settled_jobs};
+use crate::running::{Outcome, kept_jobs, outcome_of};
 use crate::texts::{refusals, run_refusals};
 use grove_core::Job;
-use grove_run::{RunFault, run_batch};
+use grove_run::{RunFault, run_legal};
 use grove_tree::{Gate, NoMemory};
 use std::alloc::Global;
 use std::sync::Wait;
@@ -34,7 +34,7 @@ impl Store {
         if self.rounds == u64::MAX {
             return refusals(alloc, "rounds", counts.len());
         }
-        let jobs = settled_jobs(rt, alloc, &self.tree, lists, self.workers)?;
+        let jobs = kept_jobs(rt, alloc, &self.tree, &mut self.plans, lists, self.workers)?;
         match self.run(rt, alloc, &jobs, &counts, gate) {
             Ok(outcome) => Ok(self.put(outcome)),
             Err(fault) => run_refusals(alloc, fault, counts.len()),
@@ -50,16 +50,16 @@ impl Store {
         counts: &[usize],
         gate: &G,
     ) -> Result<Outcome, RunFault>
-        requires jobs { AllFit self.now.rows jobs.now }
+        requires legal { AllLegal self.now.rows jobs.now }
         requires few { length jobs.now ≤ 256 }
         requires counts { sum counts.now ≡ length jobs.now }
         requires room { self.now.rounds < 2 ^ 64 - 1 }
         ensures leaves { IfOk result (λ outcome. LeavesRound self.now jobs.now counts.now (map (λ reply. reply.items) outcome.replies.items) outcome.records outcome.waits.items) }
-        ensures fault { IfErr result (λ fault. IsRunFault self.now.rows jobs.now fault) }
+        ensures fault { IfErr result IsLegalRunFault }
     {
         let workers = self.workers as usize;
-        let finished = run_batch(rt, alloc, &self.tree, &self.records, jobs, workers, gate)?;
-        Ok(outcome_of(alloc, &finished, self.rounds + 1, counts, &self.waits)?)
+        let finished = run_legal(rt, alloc, &self.tree, &self.records, jobs, workers, gate)?;
+        Ok(outcome_of(alloc, finished, self.rounds + 1, counts, &self.waits)?)
     }
 
     /// Puts in place what a round leaves, and gives its replies.

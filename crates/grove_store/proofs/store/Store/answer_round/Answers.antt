@@ -1,4 +1,4 @@
-use Rattle.std.proofs.Common.{◌<◌, refl, length, map, sym, ap, subst}
+use Rattle.std.proofs.Common.{◌<◌, refl, length, map, take, sym, ap, subst}
 use Rattle.std.specs.Prelude.{Ok, Err}
 use Rattle.std.proofs.lemmas.List.{length-map, take_rest}
 use Rattle.std.proofs.lemmas.Result.{IfOk-weaker}
@@ -7,6 +7,7 @@ use Rattle.grove_wire.specs.Names.{wire_name}
 use Rattle.grove_wire.specs.Replies.{error_data, weights_data, weights_of, changed_data}
 use Rattle.grove_wire.specs.Requests.{Plan, Check, Weights, Reweigh}
 use Rattle.grove_store.specs.Stocks.{Stock, IsStock, changes}
+use Rattle.grove_store.specs.Rounds.{IsLawfulRound}
 use Rattle.grove_store.proofs.Together.{counts_all}
 use Rattle.grove_store.proofs.Telling.{text_made}
 use Rattle.grove_store.proofs.Lawful.{first_alone, first_kept, first_round, fails_so}
@@ -21,7 +22,7 @@ returns-in_ok-round-in-Ok-Batch-clause-length g c =
     let read = rw c.in-Ok-Batch.field-0-is at c.in-Ok-Batch.ensures.read in
     let some : 0 < length c.args.lines.now = c.requires.count.0 in
     IfOk-weaker c.run_round.result _ _ (λ replies answers. (first_round c.args.self.now c.run_round.new.self c.self.inside.tree c.args.lines.now _ _ c.in-Ok-Batch.lists.items _ _
-    (map (λ reply. reply.items) replies.items) (length replies.items) (subst IsStock c.self.view_is c.self.invariant) (ap (λ (s : Stock). s.rows) c.self.view_is) some (take_rest c.args.lines.now 1)
+    (map (λ reply. reply.items) replies.items) (length replies.items) (subst IsStock c.self.view_is c.self.invariant.0) (ap (λ (s : Stock). s.rows) c.self.view_is) some (take_rest c.args.lines.now 1)
     read fits.0 c.in_ok-round-in-Ok-Batch.ensures answers (sym (length-map replies.items (λ reply. reply.items)))).0) c.run_round.ensures.round
 
 pub returns-in_ok-round-in-Ok-Batch-clause-round : goal.returns-in_ok-round-in-Ok-Batch-clause-round
@@ -30,25 +31,26 @@ returns-in_ok-round-in-Ok-Batch-clause-round g c =
     let read = rw c.in-Ok-Batch.field-0-is at c.in-Ok-Batch.ensures.read in
     let some : 0 < length c.args.lines.now = c.requires.count.0 in
     IfOk-weaker c.run_round.result _ _ (λ replies answers. (first_round c.args.self.now c.run_round.new.self c.self.inside.tree c.args.lines.now _ _ c.in-Ok-Batch.lists.items _ _
-    (map (λ reply. reply.items) replies.items) (length replies.items) (subst IsStock c.self.view_is c.self.invariant) (ap (λ (s : Stock). s.rows) c.self.view_is) some (take_rest c.args.lines.now 1)
+    (map (λ reply. reply.items) replies.items) (length replies.items) (subst IsStock c.self.view_is c.self.invariant.0) (ap (λ (s : Stock). s.rows) c.self.view_is) some (take_rest c.args.lines.now 1)
     read fits.0 c.in_ok-round-in-Ok-Batch.ensures answers (sym (length-map replies.items (λ reply. reply.items)))).1) c.run_round.ensures.round
 
 pub returns-in-Ok-Plan-clause-length : goal.returns-in-Ok-Plan-clause-length
 returns-in-Ok-Plan-clause-length g c =
     let read = rw c.in-Ok-Plan.field-0-is at c.in-Ok-Plan.ensures.read in
     let some : 0 < length c.args.lines.now = c.requires.count.0 in
-    IfOk-weaker c.alone.result _ _ (λ replies one. let made = text_made (λ text. text.items) c.plan_text.result (map (λ reply. reply.items) replies.items) c.plan_text.ensures one in
+    IfOk-weaker c.alone.result _ _ (λ replies one. let made = text_made (λ text. text.items) c.plan_text.result (map (λ reply. reply.items) replies.items) c.plan_text.ensures.text one in
     (first_kept _ c.args.self.now c.args.lines.now _ (Ok (Plan c.in-Ok-Plan.list)) made.1.0 made.0.items
-    (map (λ reply. reply.items) replies.items) (length replies.items) c.self.view_is c.self.invariant some read refl (made.1.1, refl) made.1.2 made.2
+    (map (λ reply. reply.items) replies.items) (length replies.items) c.self.view_is c.self.invariant.0 some read refl (made.1.1, refl) made.1.2 made.2
     (sym (length-map replies.items (λ reply. reply.items)))).0) c.alone.ensures
 
 pub returns-in-Ok-Plan-clause-round : goal.returns-in-Ok-Plan-clause-round
 returns-in-Ok-Plan-clause-round g c =
     let read = rw c.in-Ok-Plan.field-0-is at c.in-Ok-Plan.ensures.read in
     let some : 0 < length c.args.lines.now = c.requires.count.0 in
-    IfOk-weaker c.alone.result _ _ (λ replies one. let made = text_made (λ text. text.items) c.plan_text.result (map (λ reply. reply.items) replies.items) c.plan_text.ensures one in
+    IfOk-weaker c.alone.result _ _ (λ replies one. let made = text_made (λ text. text.items) c.plan_text.result (map (λ reply. reply.items) replies.items) c.plan_text.ensures.text one in
+    subst (λ (after : Stock). IsLawfulRound c.args.self.now (take (length replies.items) (map (λ line. line.now) c.args.lines.now)) (map (λ reply. reply.items) replies.items) after) (sym c.self.view_is)
     (first_kept _ c.args.self.now c.args.lines.now _ (Ok (Plan c.in-Ok-Plan.list)) made.1.0 made.0.items
-    (map (λ reply. reply.items) replies.items) (length replies.items) c.self.view_is c.self.invariant some read refl (made.1.1, refl) made.1.2 made.2
+    (map (λ reply. reply.items) replies.items) (length replies.items) c.self.view_is c.self.invariant.0 some read refl (made.1.1, refl) made.1.2 made.2
     (sym (length-map replies.items (λ reply. reply.items)))).1) c.alone.ensures
 
 pub returns-in-Ok-Check-clause-length : goal.returns-in-Ok-Check-clause-length
@@ -57,7 +59,7 @@ returns-in-Ok-Check-clause-length g c =
     let some : 0 < length c.args.lines.now = c.requires.count.0 in
     IfOk-weaker c.alone-in-Ok-Check.result _ _ (λ replies one. let made = text_made (λ text. text.items) c.check_text.result (map (λ reply. reply.items) replies.items) c.check_text.ensures one in
     (first_kept _ c.args.self.now c.args.lines.now _ (Ok (Check c.in-Ok-Check.list c.in-Ok-Check.plan c.in-Ok-Check.flow)) made.1.0 made.0.items
-    (map (λ reply. reply.items) replies.items) (length replies.items) c.self.view_is c.self.invariant some read refl (made.1.1, refl) made.1.2 made.2
+    (map (λ reply. reply.items) replies.items) (length replies.items) c.self.view_is c.self.invariant.0 some read refl (made.1.1, refl) made.1.2 made.2
     (sym (length-map replies.items (λ reply. reply.items)))).0) c.alone-in-Ok-Check.ensures
 
 pub returns-in-Ok-Check-clause-round : goal.returns-in-Ok-Check-clause-round
@@ -66,7 +68,7 @@ returns-in-Ok-Check-clause-round g c =
     let some : 0 < length c.args.lines.now = c.requires.count.0 in
     IfOk-weaker c.alone-in-Ok-Check.result _ _ (λ replies one. let made = text_made (λ text. text.items) c.check_text.result (map (λ reply. reply.items) replies.items) c.check_text.ensures one in
     (first_kept _ c.args.self.now c.args.lines.now _ (Ok (Check c.in-Ok-Check.list c.in-Ok-Check.plan c.in-Ok-Check.flow)) made.1.0 made.0.items
-    (map (λ reply. reply.items) replies.items) (length replies.items) c.self.view_is c.self.invariant some read refl (made.1.1, refl) made.1.2 made.2
+    (map (λ reply. reply.items) replies.items) (length replies.items) c.self.view_is c.self.invariant.0 some read refl (made.1.1, refl) made.1.2 made.2
     (sym (length-map replies.items (λ reply. reply.items)))).1) c.alone-in-Ok-Check.ensures
 
 pub returns-in-Ok-Weights-clause-length : goal.returns-in-Ok-Weights-clause-length
@@ -75,7 +77,7 @@ returns-in-Ok-Weights-clause-length g c =
     let some : 0 < length c.args.lines.now = c.requires.count.0 in
     IfOk-weaker c.alone-in-Ok-Weights.result _ _ (λ replies one. let made = text_made (λ text. text.items) c.weights_text.result (map (λ reply. reply.items) replies.items) c.weights_text.ensures one in
     (first_kept _ c.args.self.now c.args.lines.now _ (Ok Weights) (weights_data c.deref.result.now (weights_of c.self.inside.tree)) made.0.items
-    (map (λ reply. reply.items) replies.items) (length replies.items) c.self.view_is c.self.invariant some read refl (ap (λ waits. weights_data waits (weights_of c.self.inside.tree)) c.deref.ensures.value, refl) made.1 made.2
+    (map (λ reply. reply.items) replies.items) (length replies.items) c.self.view_is c.self.invariant.0 some read refl (ap (λ waits. weights_data waits (weights_of c.self.inside.tree)) c.deref.ensures.value, refl) made.1 made.2
     (sym (length-map replies.items (λ reply. reply.items)))).0) c.alone-in-Ok-Weights.ensures
 
 pub returns-in-Ok-Weights-clause-round : goal.returns-in-Ok-Weights-clause-round
@@ -84,7 +86,7 @@ returns-in-Ok-Weights-clause-round g c =
     let some : 0 < length c.args.lines.now = c.requires.count.0 in
     IfOk-weaker c.alone-in-Ok-Weights.result _ _ (λ replies one. let made = text_made (λ text. text.items) c.weights_text.result (map (λ reply. reply.items) replies.items) c.weights_text.ensures one in
     (first_kept _ c.args.self.now c.args.lines.now _ (Ok Weights) (weights_data c.deref.result.now (weights_of c.self.inside.tree)) made.0.items
-    (map (λ reply. reply.items) replies.items) (length replies.items) c.self.view_is c.self.invariant some read refl (ap (λ waits. weights_data waits (weights_of c.self.inside.tree)) c.deref.ensures.value, refl) made.1 made.2
+    (map (λ reply. reply.items) replies.items) (length replies.items) c.self.view_is c.self.invariant.0 some read refl (ap (λ waits. weights_data waits (weights_of c.self.inside.tree)) c.deref.ensures.value, refl) made.1 made.2
     (sym (length-map replies.items (λ reply. reply.items)))).1) c.alone-in-Ok-Weights.ensures
 
 pub returns-in-Err-clause-length : goal.returns-in-Err-clause-length
@@ -92,7 +94,7 @@ returns-in-Err-clause-length g c =
     let some : 0 < length c.args.lines.now = c.requires.count.0 in
     IfOk-weaker c.alone-in-Err.result _ _ (λ replies one. let made = text_made (λ text. text.items) c.wire_refusal.result (map (λ reply. reply.items) replies.items) c.wire_refusal.ensures one in
     (first_kept _ c.args.self.now c.args.lines.now _ (Err c.in-Err.fault) (error_data (wire_name c.in-Err.fault)) made.0.items
-    (map (λ reply. reply.items) replies.items) (length replies.items) c.self.view_is c.self.invariant some (fails_so c.in-Err.fault _ made.1.0 c.in-Err.ensures.read) refl (refl, refl) made.1.1 made.2
+    (map (λ reply. reply.items) replies.items) (length replies.items) c.self.view_is c.self.invariant.0 some (fails_so c.in-Err.fault _ made.1.0 c.in-Err.ensures.read) refl (refl, refl) made.1.1 made.2
     (sym (length-map replies.items (λ reply. reply.items)))).0) c.alone-in-Err.ensures
 
 pub returns-in-Err-clause-round : goal.returns-in-Err-clause-round
@@ -100,7 +102,7 @@ returns-in-Err-clause-round g c =
     let some : 0 < length c.args.lines.now = c.requires.count.0 in
     IfOk-weaker c.alone-in-Err.result _ _ (λ replies one. let made = text_made (λ text. text.items) c.wire_refusal.result (map (λ reply. reply.items) replies.items) c.wire_refusal.ensures one in
     (first_kept _ c.args.self.now c.args.lines.now _ (Err c.in-Err.fault) (error_data (wire_name c.in-Err.fault)) made.0.items
-    (map (λ reply. reply.items) replies.items) (length replies.items) c.self.view_is c.self.invariant some (fails_so c.in-Err.fault _ made.1.0 c.in-Err.ensures.read) refl (refl, refl) made.1.1 made.2
+    (map (λ reply. reply.items) replies.items) (length replies.items) c.self.view_is c.self.invariant.0 some (fails_so c.in-Err.fault _ made.1.0 c.in-Err.ensures.read) refl (refl, refl) made.1.1 made.2
     (sym (length-map replies.items (λ reply. reply.items)))).1) c.alone-in-Err.ensures
 
 pub returns-in-Ok-Reweigh-clause-length : goal.returns-in-Ok-Reweigh-clause-length
@@ -109,7 +111,7 @@ returns-in-Ok-Reweigh-clause-length g c =
     let now = c.args.self.now in
     let some : 0 < length c.args.lines.now = c.requires.count.0 in
     IfOk-weaker c.reweigh.result _ _ (λ replies answers. (first_alone now c.reweigh.new.self c.self.inside.tree c.args.lines.now _ (Ok Reweigh) (changed_data (changes now.rows (reweighed now.waits now.rows))) _
-    (map (λ reply. reply.items) replies.items) (length replies.items) (subst IsStock c.self.view_is c.self.invariant)
+    (map (λ reply. reply.items) replies.items) (length replies.items) (subst IsStock c.self.view_is c.self.invariant.0)
     (ap (λ (s : Stock). s.rows) c.self.view_is) some read refl (refl, answers.1) refl answers.0
     (sym (length-map replies.items (λ reply. reply.items)))).0) c.reweigh.ensures.reply
 
@@ -119,6 +121,6 @@ returns-in-Ok-Reweigh-clause-round g c =
     let now = c.args.self.now in
     let some : 0 < length c.args.lines.now = c.requires.count.0 in
     IfOk-weaker c.reweigh.result _ _ (λ replies answers. (first_alone now c.reweigh.new.self c.self.inside.tree c.args.lines.now _ (Ok Reweigh) (changed_data (changes now.rows (reweighed now.waits now.rows))) _
-    (map (λ reply. reply.items) replies.items) (length replies.items) (subst IsStock c.self.view_is c.self.invariant)
+    (map (λ reply. reply.items) replies.items) (length replies.items) (subst IsStock c.self.view_is c.self.invariant.0)
     (ap (λ (s : Stock). s.rows) c.self.view_is) some read refl (refl, answers.1) refl answers.0
     (sym (length-map replies.items (λ reply. reply.items)))).1) c.reweigh.ensures.reply
