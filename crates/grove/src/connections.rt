@@ -2,10 +2,11 @@ ghost use Rattle.std.specs.Prelude.{◌≡◌, ◌<◌, ◌^◌, false};
 
 use crate::seats::Seats;
 use crate::serving::Service;
-use grove_desk::{Desk, desk_session};
+use grove_desk::{Desk, Opening, desk_session};
 use grove_session::{ReaderSource, Sink, Source, WriterSink};
 use std::alloc::AllocGlobal;
-use std::net::TcpStream;
+use std::marker::Brand;
+use std::net::{TcpListener, TcpStream};
 use std::sync::Wait;
 use std::thread;
 use std::thread::Threads;
@@ -13,9 +14,30 @@ use std::thread::Threads;
 /// Serves connections, as many at once as there are seats, until one can't be accepted and the others have ended. A
 /// connection that no thread can be started for is closed.
 pub fn serve<R: Threads + Wait + Sync + AllocGlobal>(rt: &R, service: Service) {
-    let Service { desk, listener } = service;
-    let all_seats = Seats::new();
-    let (desk, seats) = (&desk, &all_seats);
+    serve_as::<Brand, R>(rt, service);
+}
+
+/// Serves connections at a desk over the service's store, which keeps no journal.
+fn serve_as<B: Opening + Send + Sync, R: Threads + Wait + Sync + AllocGlobal>(
+    rt: &R,
+    service: Service,
+)
+    requires store { service.store ≡ B.store }
+    requires kept { B.kept ≡ false }
+{
+    let Service { store, listener } = service;
+    let desk = Desk::<B>::open(rt.alloc(), store, false);
+    let seats = Seats::new();
+    serve_at(rt, &desk, &seats, &listener);
+}
+
+/// Serves the listener's connections at the desk, each in its seat.
+fn serve_at<B: Opening + Send + Sync, R: Threads + Wait + Sync + AllocGlobal>(
+    rt: &R,
+    desk: &Desk<B>,
+    seats: &Seats,
+    listener: &TcpListener,
+) {
     thread::scope(thread::scope_env(), rt, |scope| {
         for _ in rt.forever() {
             seats.take(rt);
@@ -33,13 +55,13 @@ pub fn serve<R: Threads + Wait + Sync + AllocGlobal>(rt: &R, service: Service) {
 }
 
 /// A session over the connection, which leaves its seat then.
-fn serve_connection<R: Threads + Wait + Sync + AllocGlobal>(
+fn serve_connection<B: Opening, R: Threads + Wait + Sync + AllocGlobal>(
     rt: &R,
-    desk: &Desk,
+    desk: &Desk<B>,
     seats: &Seats,
     stream: &TcpStream,
 ) {
-    // A reply and its line feed are written apart; neither is to wait until the other has arrived.
+    // No reply is to wait until the one before it has arrived.
     let _at_once = stream.set_nodelay(true);
     let mut source = ReaderSource::new(stream);
     let mut sink = WriterSink::new(stream);
@@ -48,9 +70,9 @@ fn serve_connection<R: Threads + Wait + Sync + AllocGlobal>(
 }
 
 /// A session at the desk. A fault ends it alone, and nobody is left there to be told of it.
-fn answer_lines<R: Threads + Wait + Sync + AllocGlobal, I: Source, O: Sink>(
+fn answer_lines<B: Opening, R: Threads + Wait + Sync + AllocGlobal, I: Source, O: Sink>(
     rt: &R,
-    desk: &Desk,
+    desk: &Desk<B>,
     source: &mut I,
     sink: &mut O,
 )

@@ -1,4 +1,4 @@
-ghost use Rattle.std.specs.Prelude.{◌≡◌, ◌≤◌, ◌⊎◌, false, Some, IfOk, IfErr, IfSome, IsOkAnd, ⊤};
+ghost use Rattle.std.specs.Prelude.{◌≡◌, ◌≤◌, ◌⊎◌, Some, IfOk, IfErr, IfSome, IsOkAnd, ⊤};
 ghost use Rattle.serde_json.specs.View.{view};
 ghost use Rattle.grove_store.specs.Stocks.{opened};
 ghost use Rattle.grove_wire.specs.Forms.{HasShortArrays};
@@ -12,17 +12,16 @@ ghost use Rattle.grove.specs.Outcomes.{IsServed};
 use crate::answer::{Answer, Stop};
 use crate::refusal::answer_of;
 use grove_answer::{Refusal, or_refuse};
-use grove_desk::Desk;
 use grove_store::{NoStore, Store};
 use grove_wire::read_tree;
 use serde_json::Value;
 use std::alloc::Global;
 use std::net::{Ipv4Addr, Net, TcpListener, TcpStream};
 
-/// A desk, and the port at which sessions at it are asked for.
+/// A store, and the port at which sessions over it are asked for.
 #[derive(Drop)]
 pub struct Service {
-    pub desk: Desk,
+    pub store: Store,
     pub listener: TcpListener,
 }
 
@@ -42,32 +41,31 @@ pub fn serve_document<R: Net<Listener = TcpListener, Stream = TcpStream>>(
     ensures status { IfOk result (λ answer. status_of answer ≤ 1) }
     ensures port { IfOk result (NamesPort (λ number. port ≡ Some number)) }
 {
-    match open_desk(alloc, document, workers) {
-        Ok(desk) => listening(rt, alloc, desk, port),
+    match open_store(alloc, document, workers) {
+        Ok(store) => listening(rt, alloc, store, port),
         Err(refusal) => answer_of(alloc, Err(refusal)),
     }
 }
 
-/// A desk at which a store of the document's tree and records is shared. It keeps no journal.
-fn open_desk(alloc: Global, document: &Value, workers: u32) -> Result<Desk, Refusal>
+/// A store of the document's tree and records.
+fn open_store(alloc: Global, document: &Value, workers: u32) -> Result<Store, Refusal>
     requires short { HasShortArrays (view document.now) }
     requires workers { (1 ≤ workers) × (workers ≤ 16) }
-    ensures opened { IfOk result (λ desk. IsOkAnd (tree_in (view document.now)) (λ stored. desk.opening ≡ opened stored.0 stored.1 workers)) }
-    ensures unkept { IfOk result (λ desk. desk.kept ≡ false) }
+    ensures opened { IfOk result (λ store. IsOkAnd (tree_in (view document.now)) (λ stored. store ≡ opened stored.0 stored.1 workers)) }
     ensures refused { IfErr result (λ refusal. IfSome (refusal_outcome refusal) (ThenSays (tree_in (view document.now)) IsServed)) }
 {
     let (tree, records) = or_refuse(alloc, read_tree(alloc, document))?;
     match Store::open(alloc, tree, records, workers) {
-        Ok(store) => Desk::open(alloc, store, false).map_err(|_| Refusal::Memory),
+        Ok(store) => Ok(store),
         Err(NoStore { .. }) => Err(Refusal::Memory),
     }
 }
 
-/// The desk, listened for at the port, and the line that says so.
+/// The store, listened for at the port, and the line that says so.
 fn listening<R: Net<Listener = TcpListener, Stream = TcpStream>>(
     rt: &R,
     alloc: Global,
-    desk: Desk,
+    store: Store,
     port: Option<u16>,
 ) -> Result<Answer, Stop>
     ensures said { IfOk result (NamesPort (λ number. port ≡ Some number)) }
@@ -80,6 +78,6 @@ fn listening<R: Net<Listener = TcpListener, Stream = TcpStream>>(
     let listener = TcpListener::bind(rt, (Ipv4Addr::LOCALHOST, port))?;
     Ok(Answer::Listen {
         line,
-        service: Service { desk, listener },
+        service: Service { store, listener },
     })
 }

@@ -1,18 +1,13 @@
 -- Jobs of a batch, its lists with their settled plans: why a run of them fails, and what it says.
 use Rattle.std.proofs.Common.{◌≡◌, ◌∙◌, ℕ, ℤ, List, length, inl, inr, refl, sym, ap, IfSome}
 use Rattle.std.proofs.lemmas.List.{length-map}
-use Rattle.std.proofs.lemmas.Option.{none-some}
 use Rattle.grove_tree.specs.Trees.{Rows}
 use Rattle.grove_access.specs.declared.access.Access.{Access}
 use Rattle.grove_access.specs.declared.reply.Reply.{Reply}
-use Rattle.grove_plan.specs.declared.fault.PlanFault.{PlanFault}
 use Rattle.grove_core.specs.declared.job.Job.{Job}
-use Rattle.grove_core.specs.declared.fault.OpenFault.TheVariants as opening
-use Rattle.grove_core.specs.Openings.{IsFirstFault}
 use Rattle.grove_run.specs.declared.fault.RunFault.{RunFault}
 use Rattle.grove_run.specs.declared.fault.RunFault.TheVariants.{BadPlan, Memory, Foreign, Unfinished}
-use Rattle.grove_run.specs.Runs.{IsRunFault}
-use Rattle.grove_store.proofs.Jobs.{settled_faultless}
+use Rattle.grove_run.specs.Runs.{IsLegalRunFault}
 use Rattle.grove_store.specs.Rounds.{AreSettledJobs}
 use Rattle.grove_wire.specs.Texts.{RunFaultFits, run_text}
 use Rattle.grove_answer.specs.declared.refusal.Refusal.{Refusal}
@@ -24,28 +19,21 @@ use Rattle.grove_answer.specs.Says.{IsTold, refusal_outcome}
 pub jobs_long : (tree : Rows) (lists : List (List Access)) (jobs : List Job) → AreSettledJobs tree lists jobs → length jobs ≡ length lists
 jobs_long tree lists jobs settled = sym (length-map jobs (λ (job : Job). job.list)) ∙ ap length settled.over
 
--- no such job has a bad plan
-no_bad_plan : (tree : Rows) (lists : List (List Access)) (jobs : List Job) (t : ℕ) (fault : PlanFault)
-    → AreSettledJobs tree lists jobs → IsFirstFault tree jobs (opening.BadPlan t fault) → ⊥
-no_bad_plan tree lists jobs t fault settled first = none-some fault (sym (settled_faultless tree jobs settled.settled t first.0) ∙ first.1)
-
--- a run's fault, as it can be of such jobs, fits the tree
-pub run_fault_fits : (tree : Rows) (lists : List (List Access)) (jobs : List Job) (fault : RunFault)
-    → AreSettledJobs tree lists jobs → IsRunFault tree jobs fault → RunFaultFits tree fault
-run_fault_fits tree lists jobs (BadPlan t fault) settled first = absurd (no_bad_plan tree lists jobs t fault settled first)
-run_fault_fits tree lists jobs Memory settled first = tt
-run_fault_fits tree lists jobs Foreign settled first = tt
-run_fault_fits tree lists jobs Unfinished settled first = tt
+-- a run's fault, as it can be of legal plans, fits the tree
+pub run_fault_fits : (tree : Rows) (fault : RunFault) → IsLegalRunFault fault → RunFaultFits tree fault
+run_fault_fits tree (BadPlan t fault) legal = absurd legal
+run_fault_fits tree Memory legal = tt
+run_fault_fits tree Foreign legal = tt
+run_fault_fits tree Unfinished legal = tt
 
 -- a refusal tells such a fault
-pub says_run_fault : (tree : Rows) (records : List ℤ) (lists : List (List Access)) (jobs : List Job) (fault : RunFault) (why : Refusal)
-    → AreSettledJobs tree lists jobs → IsRunFault tree jobs fault → IsTold (run_text tree fault) why → (fault ≡ Memory → why ≡ refusal.Memory)
-    → IfSome (refusal_outcome why) (IsRunBatch (tree, records, lists))
-says_run_fault tree records lists jobs fault refusal.Memory settled first told memory = tt
-says_run_fault tree records lists jobs (BadPlan t fault) (refusal.Fault text) settled first told memory = absurd (no_bad_plan tree lists jobs t fault settled first)
-says_run_fault tree records lists jobs Memory (refusal.Fault text) settled first told memory = let same : refusal.Fault text ≡ refusal.Memory = memory refl in absurd (cc)
-says_run_fault tree records lists jobs Foreign (refusal.Fault text) settled first told memory = inl told
-says_run_fault tree records lists jobs Unfinished (refusal.Fault text) settled first told memory = inr told
+pub says_run_fault : (tree : Rows) (records : List ℤ) (lists : List (List Access)) (fault : RunFault) (why : Refusal)
+    → IsLegalRunFault fault → IsTold (run_text tree fault) why → (fault ≡ Memory → why ≡ refusal.Memory) → IfSome (refusal_outcome why) (IsRunBatch (tree, records, lists))
+says_run_fault tree records lists fault refusal.Memory legal told memory = tt
+says_run_fault tree records lists (BadPlan t fault) (refusal.Fault text) legal told memory = absurd legal
+says_run_fault tree records lists Memory (refusal.Fault text) legal told memory = let same : refusal.Fault text ≡ refusal.Memory = memory refl in absurd (cc)
+says_run_fault tree records lists Foreign (refusal.Fault text) legal told memory = inl told
+says_run_fault tree records lists Unfinished (refusal.Fault text) legal told memory = inr told
 
 -- lines of the same parts are the same
 pub same_lines : {order order' : List ℕ} {replies replies' : List (List Reply)} {records records' : List ℤ} {waits waits' : List ℕ}

@@ -5,7 +5,6 @@ ghost use Rattle.grove_access.specs.Lists.{nodes_of, AreNodes};
 ghost use Rattle.grove_core.specs.Kept.{past_of};
 ghost use Rattle.grove_core.specs.Orders.{placement_order};
 ghost use Rattle.grove_core.specs.Runs.{waits_of};
-ghost use Rattle.grove_core.specs.Openings.{AllFit};
 ghost use Rattle.grove_store.specs.Rounds.{AreSettledJobs};
 ghost use Rattle.grove_wire.specs.Forms.{HasShortArrays};
 ghost use Rattle.grove_answer.specs.Says.{Says};
@@ -17,7 +16,7 @@ use crate::texts::{counts_text, lists_text, numbers_of, numbers_text};
 use grove_access::{Records, Reply};
 use grove_base::NoMemory;
 use grove_core::{Core, Job};
-use grove_run::run_batch;
+use grove_run::run_legal;
 use grove_store::{replies_of, settled_jobs};
 use grove_tree::{Node, OpenGate, Tree};
 use serde_json::Value;
@@ -73,12 +72,11 @@ fn run_jobs<R: Threads + Wait + Sync>(
     workers: usize,
 ) -> Result<String, Refusal>
     requires records { length records.now ≡ length tree.now }
-    requires fits { AllFit tree.now jobs.now }
     requires few { length jobs.now ≤ 256 }
     requires settled { AreSettledJobs tree.now (map (λ job. job.list) jobs.now) jobs.now }
     ensures { Says (IsRunBatch (tree.now, records.now, map (λ job. job.list) jobs.now)) result }
 {
-    match run_batch(rt, alloc, tree, records, jobs, workers, &OpenGate) {
+    match run_legal(rt, alloc, tree, records, jobs, workers, &OpenGate) {
         Ok(finished) => Ok(run_lines(alloc, finished.core(), finished.order())?),
         Err(fault) => Err(Refusal::of_run(alloc, tree, &fault)),
     }

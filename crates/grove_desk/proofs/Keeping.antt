@@ -1,6 +1,6 @@
--- A round more: its receipts are a call, and the journal goes on leading from its first store to the last.
-use Rattle.std.proofs.Common.{◌≡◌, ℕ, ◌-◌, ◌^◌, ◌≤◌, min, List, [], ◌∷◌, ◌++◌, length, map, take, Option, Some, None, refl, sym, ap, subst, ◌∙◌, append_assoc, append-nil, inl, inr, arith, length-append}
-use Rattle.std.specs.Prelude.{All, Result, Ok, Err, IfOk, OnErr}
+-- A round more: rounds, noted or not, go on leading from the opening store to the last.
+use Rattle.std.proofs.Common.{◌≡◌, ℕ, ◌-◌, ◌^◌, ◌≤◌, min, List, [], ◌∷◌, ◌++◌, length, map, take, get_or, ◌↔◌, Option, Some, None, refl, sym, ap, subst, ◌∙◌, append_assoc, append-nil, inl, inr, arith, length-append}
+use Rattle.std.specs.Prelude.{All, Bool, true, false, IsSome, Result, Ok, Err, IfOk, OnErr}
 use Rattle.std.specs.Option.{option_map}
 use Rattle.std.proofs.lemmas.Bool.{cases_lt}
 use Rattle.std.proofs.lemmas.List.{length-map, length-take, get_or_append_left, get_or-append_right}
@@ -9,104 +9,144 @@ use Rattle.grove_store.specs.Rounds.{IsLawfulRound}
 use Rattle.grove_tree.specs.Weights.{unweighed}
 use Rattle.grove_store.proofs.RoundsKeep.{round_keeps}
 use Rattle.std.proofs.lemmas.Option.{slice_get-map, slice_get-get_or}
-use Rattle.grove_desk.specs.Receipts.{Entry, AreNumbered, IsAllowed}
-use Rattle.grove_desk.specs.Histories.{Call, IsCall, store_before, Leads, receipts_in}
-use Rattle.grove_desk.specs.Ledgers.{Account, Books, noted_in, next_number, IsAccount, IsKept, IsNoted}
+use Rattle.grove_desk.specs.Receipts.{Names, ReceiptState, AreNumbered, number_at, IsAllowed, IsAnswered}
+use Rattle.grove_desk.specs.Histories.{RoundState, IsRound, store_before, Leads, Led, receipts_in}
+use Rattle.grove_desk.specs.Ledgers.{JournalState, noted_in, next_number, IsJournal, IsKept, IsLedger}
 
 -- a round more at the end has no store before the first of the others
-before_more : (calls : List Call) (call : Call) (last : Stock) → store_before (calls ++ call ∷ []) last ≡ store_before calls call.before
-before_more [] call last = refl
-before_more (first ∷ calls) call last = refl
+before_more : (rounds : List RoundState) (round : RoundState) (last : Stock) → store_before (rounds ++ round ∷ []) last ≡ store_before rounds round.before
+before_more [] round last = refl
+before_more (first ∷ rounds) round last = refl
 
 -- rounds lead on through a round more
-leads_more : (calls : List Call) (call : Call) (last : Stock) → Leads calls call.before → IsCall call.before call.receipts last → Leads (calls ++ call ∷ []) last
-leads_more [] call last leads is = (is, tt)
-leads_more (first ∷ calls) call last leads is =
-    (subst (λ (s : Stock). IsCall first.before first.receipts s) (sym (before_more calls call last)) leads.0, leads_more calls call last leads.1 is)
+leads_more : (rounds : List RoundState) (round : RoundState) (last : Stock) → Leads rounds round.before → IsRound round.before round.receipts last → Leads (rounds ++ round ∷ []) last
+leads_more [] round last leads is = (is, tt)
+leads_more (first ∷ rounds) round last leads is =
+    (subst (λ (s : Stock). IsRound first.before first.receipts s) (sym (before_more rounds round last)) leads.0, leads_more rounds round last leads.1 is)
 
 -- the receipts of a round more stand at the end
-receipts_more : (calls : List Call) (call : Call) → receipts_in (calls ++ call ∷ []) ≡ receipts_in calls ++ call.receipts
-receipts_more [] call = append-nil call.receipts
-receipts_more (first ∷ calls) call = ap (λ (rs : List Entry). first.receipts ++ rs) (receipts_more calls call) ∙ sym (append_assoc first.receipts (receipts_in calls) call.receipts)
+receipts_more : (rounds : List RoundState) (round : RoundState) → receipts_in (rounds ++ round ∷ []) ≡ receipts_in rounds ++ round.receipts
+receipts_more [] round = append-nil round.receipts
+receipts_more (first ∷ rounds) round = ap (λ (rs : List ReceiptState). first.receipts ++ rs) (receipts_more rounds round) ∙ sym (append_assoc first.receipts (receipts_in rounds) round.receipts)
 
 -- numbers go on from one list to the next
-numbered_on : (front back : List Entry) → AreNumbered (Some 0) front → AreNumbered (Some (min (length front) (2 ^ 64 - 1))) back → AreNumbered (Some 0) (front ++ back)
+numbered_on : (front back : List ReceiptState) → AreNumbered (Some 0) front → AreNumbered (Some (min (length front) (2 ^ 64 - 1))) back → AreNumbered (Some 0) (front ++ back)
 numbered_on front back are next place other lt = elim (cases_lt place (length front)) [
-  | inl before ↦ ap (λ (e : Entry). e.number) (get_or_append_left front back other place before) ∙ are place other before
+  | inl before ↦ ap (λ (e : ReceiptState). e.number) (get_or_append_left front back other place before) ∙ are place other before
   | inr after ↦
       let long = length-append front back in
-      ap (λ (e : Entry). e.number) (get_or-append_right front back (length front) place other refl after)
+      ap (λ (e : ReceiptState). e.number) (get_or-append_right front back (length front) place other refl after)
       ∙ next (place - length front) other (omega arith) ∙ omega arith
 ]
 
-account_more : (account : Account) (call : Call) (last : Stock) → IsAccount account call.before → IsCall call.before call.receipts last → AreNumbered (Some account.lines) call.receipts → IsAccount (noted_in call account) last
-account_more account call last is leads numbered = record {
-  leads = leads_more account.calls call last is.leads leads;
-  begins = before_more account.calls call last ∙ is.begins;
+-- a journal with a round more is that of the store after it
+journal_more : (opening : Stock) (journal : JournalState) (round : RoundState) (last : Stock) → IsJournal opening journal round.before → IsRound round.before round.receipts last → AreNumbered (Some journal.lines) round.receipts
+    → IsJournal opening (noted_in round journal) last
+journal_more opening journal round last is leads numbered = record {
+  leads = leads_more journal.rounds round last is.leads leads;
+  begins = before_more journal.rounds round last ∙ is.begins;
   counted =
-      let all = ap length (receipts_more account.calls call) ∙ length-append (receipts_in account.calls) call.receipts in
+      let all = ap length (receipts_more journal.rounds round) ∙ length-append (receipts_in journal.rounds) round.receipts in
       let so_far = is.counted in omega arith;
-  numbered = subst (AreNumbered (Some 0)) (sym (receipts_more account.calls call))
-      (numbered_on (receipts_in account.calls) call.receipts is.numbered (subst (λ (n : ℕ). AreNumbered (Some n) call.receipts) is.counted numbered));
+  numbered = subst (AreNumbered (Some 0)) (sym (receipts_more journal.rounds round))
+      (numbered_on (receipts_in journal.rounds) round.receipts is.numbered (subst (λ (n : ℕ). AreNumbered (Some n) round.receipts) is.counted numbered));
 }
 
--- a journal with a round more is kept for the store after it
-kept_more : (journal : Option Account) (call : Call) (last : Stock) → IsKept journal call.before → IsCall call.before call.receipts last → AreNumbered (next_number journal) call.receipts → IsKept (option_map (noted_in call) journal) last
-kept_more None call last kept leads numbered = tt
-kept_more (Some account) call last kept leads numbered = account_more account call last kept leads numbered
+-- where a journal is kept, it goes on with a round more
+kept_more : (opening : Stock) (journal : Option JournalState) (round : RoundState) (last : Stock) → IsKept opening journal round.before → IsRound round.before round.receipts last → AreNumbered (next_number journal) round.receipts
+    → IsKept opening (option_map (noted_in round) journal) last
+kept_more opening None round last kept leads numbered = tt
+kept_more opening (Some journal) round last kept leads numbered = journal_more opening journal round last kept leads numbered
 
--- receipts that are noted of a lawful round over the first of the lines are a call
-call_of : (before after : Stock) (first : Option ℕ) (lines replies : List (List ℕ)) (rounds : ℕ) (receipts : List Entry) → IsLawfulRound before (take (length replies) lines) replies after → rounds ≡ after.rounds
-    → IsNoted first lines replies rounds receipts → IsCall before receipts after
-call_of before after first lines replies rounds receipts round counted noted = record {
-  round = subst (λ (ls : List (List ℕ)). IsLawfulRound before ls (map (λ (e : Entry). e.reply) receipts) after) (sym noted.asked)
-      (subst (λ (rs : List (List ℕ)). IsLawfulRound before (take (length replies) lines) rs after) (sym noted.replied) round);
-  counted = subst (λ (n : ℕ). All (λ (e : Entry). e.rounds ≡ n) receipts) counted noted.counted;
-}
+-- a journal is there after a round where it was before
+some_more : (round : RoundState) (journal : Option JournalState) (kept : Bool) → IsSome journal ↔ (kept ≡ true) → IsSome (option_map (noted_in round) journal) ↔ (kept ≡ true)
+some_more round None kept some = some
+some_more round (Some journal) kept some = some
+
+-- lawful rounds lead on through one more
+led_more : (opening before after : Stock) (receipts : List ReceiptState) → Led opening before → IsRound before receipts after → Led opening after
+led_more opening before after receipts led round =
+    let it : RoundState = record { before = before; receipts = receipts } in record {
+      rounds = led.rounds ++ it ∷ [];
+      leads = leads_more led.rounds it after led.leads round;
+      begins = before_more led.rounds it after ∙ led.begins;
+    }
+
+-- a ledger that has answered a round, and noted it where it keeps a journal, is one
+ledger_more : (opening : Stock) (kept : Bool) (before after : Stock) (journal noted : Option JournalState) (receipts : List ReceiptState) → IsLedger opening kept before journal → IsRound before receipts after
+    → AreNumbered (next_number journal) receipts → noted ≡ option_map (noted_in (record { before = before; receipts = receipts })) journal → IsLedger opening kept after noted
+ledger_more opening kept before after journal noted receipts is round numbered more =
+    let it : RoundState = record { before = before; receipts = receipts } in
+    subst (λ (j : Option JournalState). IsLedger opening kept after j) (sym more) (record {
+      led = led_more opening before after receipts is.led round;
+      account = kept_more opening journal it after is.account round numbered;
+      keeps = some_more it journal kept is.keeps;
+    })
 
 -- a lawful round has at most as many replies as there are lines
-pub few_replies : {L R : Type 0} (line_of : L → List ℕ) (reply_of : R → List ℕ) (before after : Stock) (lines : List L) (replies : List R) → IsLawfulRound before (take (length replies) (map line_of lines)) (map reply_of replies) after → length replies ≤ length lines
-few_replies line_of reply_of before after lines replies round =
-    let kept = (round_keeps before (take (length replies) (map line_of lines)) (map reply_of replies) after round).1 in
+pub few_replies : {L R : Type 0} (line_of : L → List ℕ) (reply_of : R → List ℕ) (before after : Stock) (texts : List (List ℕ)) (lines : List L) (replies : List R) → texts ≡ map line_of lines
+    → IsLawfulRound before (take (length replies) texts) (map reply_of replies) after → length replies ≤ length lines
+few_replies line_of reply_of before after texts lines replies are round =
+    let kept = (round_keeps before (take (length replies) texts) (map reply_of replies) after round).1 in
     let many = length-map replies reply_of in
-    let all = length-map lines line_of in
-    let cut = length-take (length replies) (map line_of lines) in
+    let all : length texts ≡ length lines = ap length are ∙ length-map lines line_of in
+    let cut = length-take (length replies) texts in
     omega arith
 
--- a round that was answered and noted: the journal is kept for the store after it, and the receipts are a call
-pub answered : {R : Type 0} (reply_of : R → List ℕ) (old before after : Stock) (journal noted_journal : Option Account) (lines : List (List ℕ)) (replies seen : List R) (rounds : ℕ) (receipts : List Entry)
-    → before ≡ old → IsKept journal old → IsLawfulRound old (take (length replies) lines) (map reply_of replies) after → seen ≡ replies → rounds ≡ after.rounds → IsNoted (next_number journal) lines (map reply_of seen) rounds receipts
-    → noted_journal ≡ option_map (noted_in (record { before = before; receipts = receipts })) journal → IsKept noted_journal after × IsCall old receipts after
-answered reply_of old before after journal noted_journal lines replies seen rounds receipts same kept round all counted noted more =
-    let all_noted = subst (λ (rs : List (List ℕ)). IsNoted (next_number journal) lines rs rounds receipts) (ap (map reply_of) all) noted in
-    let over = subst (λ (n : ℕ). IsLawfulRound old (take n lines) (map reply_of replies) after) (sym (length-map replies reply_of)) round in
-    let call = call_of old after (next_number journal) lines (map reply_of replies) rounds receipts over counted all_noted in
-    let it : Call = record { before = before; receipts = receipts } in (
-      subst (λ (j : Option Account). IsKept j after) (sym more)
-          (kept_more journal it after (subst (IsKept journal) (sym same) kept) (subst (λ (s : Stock). IsCall s receipts after) (sym same) call) noted.numbered),
-      call,
-    )
-
--- each receipt of a call is allowed over the names of its store
-pub allowed_by : (before after : Stock) (receipts : List Entry) → IsCall before receipts after → All (IsAllowed (unweighed before.rows)) receipts
-allowed_by before after receipts call place other lt = record {
+-- each receipt of a round is allowed over the names of its store
+allowed_by : (before after : Stock) (receipts : List ReceiptState) → IsRound before receipts after → All (IsAllowed (unweighed before.rows)) receipts
+allowed_by before after receipts round place other lt = record {
   before = before;
   after = after;
-  lines = map (λ (e : Entry). e.line) receipts;
-  replies = map (λ (e : Entry). e.reply) receipts;
+  lines = map (λ (e : ReceiptState). e.line) receipts;
+  replies = map (λ (e : ReceiptState). e.reply) receipts;
   place = place;
   over = refl;
-  round = call.round;
-  asked = slice_get-map (λ (e : Entry). e.line) receipts place ∙ ap (option_map (λ (e : Entry). e.line)) (slice_get-get_or receipts place other lt);
-  replied = slice_get-map (λ (e : Entry). e.reply) receipts place ∙ ap (option_map (λ (e : Entry). e.reply)) (slice_get-get_or receipts place other lt);
-  counted = sym (call.counted place other lt);
+  round = round.round;
+  asked = slice_get-map (λ (e : ReceiptState). e.line) receipts place ∙ ap (option_map (λ (e : ReceiptState). e.line)) (slice_get-get_or receipts place other lt);
+  replied = slice_get-map (λ (e : ReceiptState). e.reply) receipts place ∙ ap (option_map (λ (e : ReceiptState). e.reply)) (slice_get-get_or receipts place other lt);
+  counted = sym (round.counted place other lt);
 }
 
--- a call keeps the names
-names_kept : (before after : Stock) (receipts : List Entry) → IsCall before receipts after → unweighed after.rows ≡ unweighed before.rows
-names_kept before after receipts call = (round_keeps before _ _ after call.round).0.names
+-- rounds keep the names
+names_kept : (rounds : List RoundState) (last : Stock) → Leads rounds last → unweighed last.rows ≡ unweighed (store_before rounds last).rows
+names_kept [] last leads = refl
+names_kept (round ∷ rounds) last leads = names_kept rounds last leads.1 ∙ (round_keeps round.before _ _ (store_before rounds last) leads.0.round).0.names
 
--- whether a call was answered or refused, the names are kept
-pub names_after : {X E : Type 0} (result : Result X E) (receipts_of : X → List Entry) (before after : Books) → IfOk result (λ x. IsCall before.store (receipts_of x) after.store) → OnErr result (after ≡ before) → unweighed after.store.rows ≡ unweighed before.store.rows
-names_after (Ok x) receipts_of before after call same = names_kept before.store after.store (receipts_of x) call
-names_after (Err e) receipts_of before after call same = ap (λ (b : Books). unweighed b.store.rows) same
+-- a store that rounds lead to has the names of the opening store
+led_names : (opening last : Stock) → Led opening last → unweighed last.rows ≡ unweighed opening.rows
+led_names opening last led = names_kept led.rounds last led.leads ∙ ap (λ (s : Stock). unweighed s.rows) led.begins
+
+-- without a journal the receipts have the number 0
+unnumbered : (journal : Option JournalState) (kept : Bool) (receipt : ReceiptState) (place : ℕ) → IsSome journal ↔ (kept ≡ true) → receipt.number ≡ number_at (next_number journal) place → kept ≡ false → receipt.number ≡ 0
+unnumbered None kept receipt place some is plain = is
+unnumbered (Some journal) kept receipt place some is plain = let yes : kept ≡ true = some.0 refl in absurd (cc)
+
+-- a ledger's receipts are answers of its desk
+answered_by : (opening : Stock) (kept : Bool) (before after : Stock) (journal : Option JournalState) (receipts : List ReceiptState) → IsLedger opening kept before journal → IsRound before receipts after → AreNumbered (next_number journal) receipts
+    → All (IsAnswered opening kept) receipts
+answered_by opening kept before after journal receipts is round numbered place other lt =
+    let receipt = get_or receipts place other in record {
+      allowed = subst (λ (names : Names). IsAllowed names receipt) (led_names opening before is.led) (allowed_by before after receipts round place other lt);
+      unnumbered = unnumbered journal kept receipt place is.keeps (numbered place other lt);
+    }
+
+-- whether a round was answered and noted or refused, the ledger is one afterwards
+pub noted_after : {X E : Type 0} (result : Result X E) (receipts_of : X → List ReceiptState) (opening : Stock) (kept : Bool) (before after : Stock) (journal noted : JournalState) → IsLedger opening kept before (Some journal)
+    → IfOk result (λ x. IsRound before (receipts_of x) after) → IfOk result (λ x. AreNumbered (Some journal.lines) (receipts_of x)) → IfOk result (λ x. noted ≡ noted_in (record { before = before; receipts = receipts_of x }) journal)
+    → OnErr result ((noted ≡ journal) × (after ≡ before)) → IsLedger opening kept after (Some noted)
+noted_after (Ok x) receipts_of opening kept before after journal noted is round numbered more same = ledger_more opening kept before after (Some journal) (Some noted) (receipts_of x) is round numbered (ap Some more)
+noted_after (Err e) receipts_of opening kept before after journal noted is round numbered more same =
+    subst (λ (s : Stock). IsLedger opening kept s (Some noted)) (sym same.1) (subst (λ (j : JournalState). IsLedger opening kept before (Some j)) (sym same.0) is)
+
+-- and so is a ledger without a journal
+pub plain_after : {X E : Type 0} (result : Result X E) (receipts_of : X → List ReceiptState) (opening : Stock) (kept : Bool) (before after : Stock) → IsLedger opening kept before None
+    → IfOk result (λ x. IsRound before (receipts_of x) after) → IfOk result (λ x. AreNumbered None (receipts_of x)) → OnErr result (after ≡ before) → IsLedger opening kept after None
+plain_after (Ok x) receipts_of opening kept before after is round numbered same = ledger_more opening kept before after None None (receipts_of x) is round numbered refl
+plain_after (Err e) receipts_of opening kept before after is round numbered same = subst (λ (s : Stock). IsLedger opening kept s None) (sym same) is
+
+-- where a round was answered, its receipts are answers of the desk
+pub answered_where : {X E : Type 0} (result : Result X E) (receipts_of : X → List ReceiptState) (opening : Stock) (kept : Bool) (before after : Stock) (journal : Option JournalState) → IsLedger opening kept before journal
+    → IfOk result (λ x. IsRound before (receipts_of x) after) → IfOk result (λ x. AreNumbered (next_number journal) (receipts_of x)) → IfOk result (λ x. All (IsAnswered opening kept) (receipts_of x))
+answered_where (Ok x) receipts_of opening kept before after journal is round numbered = answered_by opening kept before after journal (receipts_of x) is round numbered
+answered_where (Err e) receipts_of opening kept before after journal is round numbered = tt

@@ -1,3 +1,4 @@
+pub mod Moving
 pub mod Noting
 pub mod Keeping
 pub mod Places

@@ -3,27 +3,27 @@ use Rattle.std.proofs.Common.{◌≡◌, ℕ, ◌+◌, ◌<◌, ◌≤◌, List,
 use Rattle.std.proofs.lemmas.Bool.{cases_lt}
 use Rattle.std.proofs.lemmas.List.{length-map, get_or-map, length_push, length-take-le, take_more, map_push, get_or_append_left, get_or_push}
 use Rattle.std.proofs.lemmas.List.Elements.{All-push}
-use Rattle.grove_desk.specs.Receipts.{Entry, number_at, AreNumbered}
+use Rattle.grove_desk.specs.Receipts.{ReceiptState, number_at, AreNumbered}
 use Rattle.grove_desk.specs.Ledgers.{IsNoted}
 
 -- one more receipt with the next number
-pub numbered_more : (first : Option ℕ) (receipts : List Entry) (receipt : Entry) → AreNumbered first receipts → receipt.number ≡ number_at first (length receipts) → AreNumbered first (receipts ++ receipt ∷ [])
+pub numbered_more : (first : Option ℕ) (receipts : List ReceiptState) (receipt : ReceiptState) → AreNumbered first receipts → receipt.number ≡ number_at first (length receipts) → AreNumbered first (receipts ++ receipt ∷ [])
 numbered_more first receipts receipt are is place other lt = elim (cases_lt place (length receipts)) [
-  | inl before ↦ ap (λ (e : Entry). e.number) (get_or_append_left receipts (receipt ∷ []) other place before) ∙ are place other before
+  | inl before ↦ ap (λ (e : ReceiptState). e.number) (get_or_append_left receipts (receipt ∷ []) other place before) ∙ are place other before
   | inr after ↦
       let more = length_push receipts receipt in
       let here : length receipts ≡ place = omega arith in
-      ap (λ (e : Entry). e.number) (get_or_push receipts receipt other place here) ∙ is ∙ ap (number_at first) here
+      ap (λ (e : ReceiptState). e.number) (get_or_push receipts receipt other place here) ∙ is ∙ ap (number_at first) here
 ]
 
 -- the receipt of the next line is one more
-pub noted_more : {L R : Type 0} (line_of : L → List ℕ) (reply_of : R → List ℕ) (first : Option ℕ) (lines : List L) (replies : List R) (rounds : ℕ) (receipts after : List Entry) (i place number : ℕ) (line reply : List ℕ) (asked : L) (item : R)
+pub noted_more : {L R : Type 0} (line_of : L → List ℕ) (reply_of : R → List ℕ) (first : Option ℕ) (lines : List L) (replies : List R) (rounds : ℕ) (receipts after : List ReceiptState) (i place number : ℕ) (line reply : List ℕ) (asked : L) (item : R)
     → i < length replies → length replies ≤ length lines → length receipts ≡ i → place ≡ length receipts → IsNoted first (map line_of lines) (take i (map reply_of replies)) rounds receipts
     → line ≡ line_of (get_or lines place asked) → reply ≡ reply_of item → item ≡ get_or replies i item → number ≡ number_at first place
     → after ≡ receipts ++ record { number = number; line = line; reply = reply; rounds = rounds } ∷ []
     → (length after ≡ i + 1) × IsNoted first (map line_of lines) (take (i + 1) (map reply_of replies)) rounds after
 noted_more line_of reply_of first lines replies rounds receipts after i place number line reply asked item within fit many here noted is_line is_reply is_item is_number pushed =
-    let receipt : Entry = record { number = number; line = line; reply = reply; rounds = rounds } in
+    let receipt : ReceiptState = record { number = number; line = line; reply = reply; rounds = rounds } in
     let all_replies = length-map replies reply_of in
     let all_lines = length-map lines line_of in
     let so_far : length (take i (map reply_of replies)) ≡ i = length-take-le i (map reply_of replies) (omega arith) in
@@ -33,17 +33,17 @@ noted_more line_of reply_of first lines replies rounds receipts after i place nu
     is_line ∙ ap (λ (n : ℕ). line_of (get_or lines n asked)) at_place ∙ sym (get_or-map line_of lines i asked [] (omega arith)) in
     let next_reply : reply ≡ get_or (map reply_of replies) i [] = is_reply ∙ ap reply_of is_item ∙ sym (get_or-map reply_of replies i item [] within) in
     let more : IsNoted first (map line_of lines) (take (i + 1) (map reply_of replies)) rounds (receipts ++ receipt ∷ []) = record {
-      asked = map_push (λ (e : Entry). e.line) receipts receipt
+      asked = map_push (λ (e : ReceiptState). e.line) receipts receipt
           ∙ ap (λ (ls : List (List ℕ)). ls ++ line ∷ []) (noted.asked ∙ ap (λ (n : ℕ). take n (map line_of lines)) so_far)
           ∙ ap (λ (l : List ℕ). take i (map line_of lines) ++ l ∷ []) next_line
           ∙ sym (ap (λ (n : ℕ). take n (map line_of lines)) with_it ∙ take_more (map line_of lines) i [] (omega arith));
-      replied = map_push (λ (e : Entry). e.reply) receipts receipt
+      replied = map_push (λ (e : ReceiptState). e.reply) receipts receipt
           ∙ ap (λ (rs : List (List ℕ)). rs ++ reply ∷ []) noted.replied
           ∙ ap (λ (r : List ℕ). take i (map reply_of replies) ++ r ∷ []) next_reply
           ∙ sym (take_more (map reply_of replies) i [] (omega arith));
-      counted = All-push (λ (e : Entry). e.rounds ≡ rounds) receipts receipt noted.counted refl;
+      counted = All-push (λ (e : ReceiptState). e.rounds ≡ rounds) receipts receipt noted.counted refl;
       numbered = numbered_more first receipts receipt noted.numbered (is_number ∙ ap (number_at first) here);
     } in (
       ap length pushed ∙ length_push receipts receipt ∙ ap (λ (n : ℕ). n + 1) many,
-      subst (λ (es : List Entry). IsNoted first (map line_of lines) (take (i + 1) (map reply_of replies)) rounds es) (sym pushed) more,
+      subst (λ (es : List ReceiptState). IsNoted first (map line_of lines) (take (i + 1) (map reply_of replies)) rounds es) (sym pushed) more,
     )

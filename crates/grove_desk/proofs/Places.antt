@@ -6,50 +6,50 @@ use Rattle.std.specs.Option.{option_copied}
 use Rattle.std.proofs.lemmas.List.{same_lists, drop_more}
 use Rattle.std.proofs.lemmas.Option.{slice_get_within, slice_get_past, slice_get-get_or, get_or_from_slice_get}
 use Rattle.grove_store.specs.Stocks.{Stock}
-use Rattle.grove_desk.specs.Receipts.{Entry}
-use Rattle.grove_desk.specs.Histories.{Call, receipts_in, StandsIn, Ascend, IsHistory}
-use Rattle.grove_desk.specs.Ledgers.{Account, IsAccount}
+use Rattle.grove_desk.specs.Receipts.{ReceiptState}
+use Rattle.grove_desk.specs.Histories.{RoundState, receipts_in, StandsIn, Ascend, IsHistory}
+use Rattle.grove_desk.specs.Ledgers.{JournalState, IsJournal}
 
 -- ---- the receipt of a number
 
 -- a place in the first of two lists
-front : (xs ys : List Entry) (i : ℕ) → i < length xs → slice_get (xs ++ ys) i ≡ slice_get xs i
+front : (xs ys : List ReceiptState) (i : ℕ) → i < length xs → slice_get (xs ++ ys) i ≡ slice_get xs i
 front [] ys i within = absurd (omega arith)
 front (x ∷ xs) ys zero within = refl
 front (x ∷ xs) ys (suc i) within = front xs ys i (omega arith)
 
 -- a place in the second
-behind : (xs ys : List Entry) (i j : ℕ) → i ≡ length xs + j → slice_get (xs ++ ys) i ≡ slice_get ys j
+behind : (xs ys : List ReceiptState) (i j : ℕ) → i ≡ length xs + j → slice_get (xs ++ ys) i ≡ slice_get ys j
 behind [] ys i j at = ap (slice_get ys) (at ∙ omega arith)
 behind (x ∷ xs) ys zero j at = absurd (omega arith)
 behind (x ∷ xs) ys (suc i) j at = behind xs ys i j (omega arith)
 
 -- what a look-up of a place gives
-pub copied_at : (found : Option (Bor Entry)) (receipts : List Entry) (i : ℕ) → MatchOption found (length receipts ≤ i) (λ receipt. (i < length receipts) × HoldsAt (λ other. receipt.now ≡ other) receipts i) → option_copied found ≡ slice_get receipts i
+pub copied_at : (found : Option (Bor ReceiptState)) (receipts : List ReceiptState) (i : ℕ) → MatchOption found (length receipts ≤ i) (λ receipt. (i < length receipts) × HoldsAt (λ other. receipt.now ≡ other) receipts i) → option_copied found ≡ slice_get receipts i
 copied_at None receipts i past = sym (slice_get_past receipts i past)
 copied_at (Some receipt) receipts i (within, is) = ap Some (is receipt.now) ∙ sym (slice_get-get_or receipts i receipt.now within)
 
 -- what is left of the receipts, at the next round
-rest_here : (calls : List Call) (i : ℕ) (call : Call) → i < length calls → call ≡ get_or calls i call → receipts_in (drop i calls) ≡ call.receipts ++ receipts_in (drop (i + 1) calls)
-rest_here calls i call within is =
-    ap receipts_in (drop_more calls i call within) ∙ ap (λ (c : Call). c.receipts ++ receipts_in (drop (i + 1) calls)) (sym is)
+rest_here : (rounds : List RoundState) (i : ℕ) (round : RoundState) → i < length rounds → round ≡ get_or rounds i round → receipts_in (drop i rounds) ≡ round.receipts ++ receipts_in (drop (i + 1) rounds)
+rest_here rounds i round within is =
+    ap receipts_in (drop_more rounds i round within) ∙ ap (λ (c : RoundState). c.receipts ++ receipts_in (drop (i + 1) rounds)) (sym is)
 
 -- a number within the next round's receipts
-pub found_here : (calls : List Call) (i : ℕ) (call : Call) (rest count : ℕ) → i < length calls → call ≡ get_or calls i call → count ≡ length call.receipts → rest < count
-    → slice_get call.receipts rest ≡ slice_get (receipts_in (drop i calls)) rest
-found_here calls i call rest count within is many here =
-    sym (ap (λ (es : List Entry). slice_get es rest) (rest_here calls i call within is) ∙ front call.receipts (receipts_in (drop (i + 1) calls)) rest (omega arith))
+pub found_here : (rounds : List RoundState) (i : ℕ) (round : RoundState) (rest count : ℕ) → i < length rounds → round ≡ get_or rounds i round → count ≡ length round.receipts → rest < count
+    → slice_get round.receipts rest ≡ slice_get (receipts_in (drop i rounds)) rest
+found_here rounds i round rest count within is many here =
+    sym (ap (λ (es : List ReceiptState). slice_get es rest) (rest_here rounds i round within is) ∙ front round.receipts (receipts_in (drop (i + 1) rounds)) rest (omega arith))
 
 -- a number behind them
-pub found_later : (calls : List Call) (i : ℕ) (call : Call) (rest count : ℕ) → i < length calls → call ≡ get_or calls i call → count ≡ length call.receipts → count ≤ rest
-    → slice_get (receipts_in (drop (i + 1) calls)) (rest - count) ≡ slice_get (receipts_in (drop i calls)) rest
-found_later calls i call rest count within is many later =
-    sym (ap (λ (es : List Entry). slice_get es rest) (rest_here calls i call within is) ∙ behind call.receipts (receipts_in (drop (i + 1) calls)) rest (rest - count) (omega arith))
+pub found_later : (rounds : List RoundState) (i : ℕ) (round : RoundState) (rest count : ℕ) → i < length rounds → round ≡ get_or rounds i round → count ≡ length round.receipts → count ≤ rest
+    → slice_get (receipts_in (drop (i + 1) rounds)) (rest - count) ≡ slice_get (receipts_in (drop i rounds)) rest
+found_later rounds i round rest count within is many later =
+    sym (ap (λ (es : List ReceiptState). slice_get es rest) (rest_here rounds i round within is) ∙ behind round.receipts (receipts_in (drop (i + 1) rounds)) rest (rest - count) (omega arith))
 
 -- ---- as many receipts as there are
 
 -- numbers that rise are as far apart as their places, at least
-gap : (receipts : List Entry) (other : Entry) → Ascend receipts → (k j m : ℕ) → m ≡ k + j → m < length receipts → (get_or receipts k other).number + j ≤ (get_or receipts m other).number
+gap : (receipts : List ReceiptState) (other : ReceiptState) → Ascend receipts → (k j m : ℕ) → m ≡ k + j → m < length receipts → (get_or receipts k other).number + j ≤ (get_or receipts m other).number
 gap receipts other rise k zero m at within =
     let same : (get_or receipts m other).number ≡ (get_or receipts k other).number = ap (λ (n : ℕ). (get_or receipts n other).number) (at ∙ omega arith) in omega arith
 gap receipts other rise k (suc j) m at within =
@@ -59,7 +59,7 @@ gap receipts other rise k (suc j) m at within =
     omega arith
 
 -- rising numbers below their count are the places
-placed : (receipts : List Entry) (other : Entry) → Ascend receipts → ((k : ℕ) → k < length receipts → (get_or receipts k other).number < length receipts) → (k : ℕ) → k < length receipts → (get_or receipts k other).number ≡ k
+placed : (receipts : List ReceiptState) (other : ReceiptState) → Ascend receipts → ((k : ℕ) → k < length receipts → (get_or receipts k other).number < length receipts) → (k : ℕ) → k < length receipts → (get_or receipts k other).number ≡ k
 placed receipts other rise below k within =
     let low = gap receipts other rise 0 k k (omega arith) within in
     let high = gap receipts other rise k (length receipts - (k + 1)) (length receipts - 1) (omega arith) (omega arith) in
@@ -67,19 +67,19 @@ placed receipts other rise below k within =
     omega arith
 
 -- receipts that stand among all, in order, and are as many, are all
-all_of : (receipts all : List Entry) → ((k : ℕ) (other : Entry) → k < length receipts → slice_get all (get_or receipts k other).number ≡ Some (get_or receipts k other)) → Ascend receipts → length receipts ≡ length all → receipts ≡ all
-all_of receipts all stand rise many = same_lists receipts all many (λ (k : ℕ) (other : Entry) (within : k < length receipts).
+all_of : (receipts all : List ReceiptState) → ((k : ℕ) (other : ReceiptState) → k < length receipts → slice_get all (get_or receipts k other).number ≡ Some (get_or receipts k other)) → Ascend receipts → length receipts ≡ length all → receipts ≡ all
+all_of receipts all stand rise many = same_lists receipts all many (λ (k : ℕ) (other : ReceiptState) (within : k < length receipts).
     let below = λ (n : ℕ) (lt : n < length receipts). subst (λ (m : ℕ). (get_or receipts n other).number < m) (sym many) (slice_get_within all (get_or receipts n other).number (get_or receipts n other) (stand n other lt)) in
     let here : (get_or receipts k other).number ≡ k = placed receipts other rise below k within in
     sym (get_or_from_slice_get all k (get_or receipts k other) other (subst (λ (n : ℕ). slice_get all n ≡ Some (get_or receipts k other)) here (stand k other within))))
 
--- an account that begins with the opening store, in which the receipts stand in order, is their history
-pub history_of : (opening last : Stock) (receipts : List Entry) (account : Account) → IsAccount account last → (account.first ≡ opening) × Ascend receipts × All (StandsIn account.calls) receipts → IsHistory opening receipts account.calls last
-history_of opening last receipts account is (begins, rise, stand) = record {
+-- a journal in which the receipts stand in order is their history
+pub history_of : (opening last : Stock) (receipts : List ReceiptState) (journal : JournalState) → IsJournal opening journal last → Ascend receipts × All (StandsIn journal.rounds) receipts → IsHistory opening receipts journal.rounds last
+history_of opening last receipts journal is (rise, stand) = record {
   leads = is.leads;
-  begins = is.begins ∙ begins;
+  begins = is.begins;
   numbered = is.numbered;
   stand = stand;
   once = rise;
-  whole = all_of receipts (receipts_in account.calls) stand rise;
+  whole = all_of receipts (receipts_in journal.rounds) stand rise;
 }

@@ -1,9 +1,25 @@
 -- Threads may share a desk.
-use denote.Param.Send.{IsSend, IsSync, sendable}
-use Rattle.std.proofs.Crossing.{crosses}
+use denote.RattleType.{RattleType}
+use denote.Struct.Declared.{shape}
+use denote.Param.Send.{IsSend, IsSync, AllSend, AllSync, sendable, struct_send, struct_sync, recorded_send, recorded_sync, view_send, view_sync}
+use Rattle.std.proofs.Crossing.{crosses, Vec-send}
 use Rattle.grove_tree.proofs.outline.Outline.TheLaws.TheKnot.{send-Outline, sync-Outline}
 use Rattle.grove_tree.specs.contracts.name.Name as Name
 use Rattle.grove_tree.specs.contracts.outline.Outline as Outline
+use Rattle.grove_desk.specs.declared.opening.Opening as opening
+use Rattle.grove_store.specs.contracts.store.Store as Store
+use Rattle.std.specs.contracts.marker.PhantomData as Phantom
+use Rattle.grove_desk.specs.contracts.journal.Journal as Journal
+use Rattle.std.specs.contracts.vec.Vec as Vec
+use Rattle.std.specs.contracts.alloc.Global as Heap
+use Rattle.std.specs.contracts.impls.GlobalAllocator.TheImpl.{ghosts}
+use Rattle.std.specs.contracts.sync.Mutex as Mutex
+use Rattle.grove_desk.specs.contracts.slot.Slot as Slot
+use Rattle.grove_desk.specs.contracts.ledger.Ledger as Ledger
+use Rattle.grove_desk.specs.contracts.ledger.Ledger.TheInside as Inside
+use Rattle.grove_desk.specs.contracts.board.Board as Board
+use Rattle.grove_desk.specs.contracts.board.Board.TheInside as BoardInside
+use Rattle.grove_desk.specs.contracts.desk.Desk.TheInside as DeskInside
 use Rattle.grove_desk.specs.contracts.desk.Desk as Desk
 
 -- a name goes from one thread to another
@@ -21,6 +37,48 @@ Outline-send = search (sendable, crosses, send-Outline, Name-send) depth 60 fits
 Outline-sync : IsSync Outline.the_row
 Outline-sync = search (sendable, crosses, sync-Outline, Name-sync) depth 60 fits 4000
 
+-- a store goes from one thread to another
+Store-send : IsSend Store.the_row
+Store-send = search (sendable, crosses, Outline-send, Outline-sync) depth 60 fits 4000
+
+Journal-send : IsSend Journal.the_row
+Journal-send = search (sendable, crosses, Store-send) depth 60 fits 4000
+
+Phantom-send : (B : RattleType) → IsSend B → IsSend (Phantom.the_row B)
+Phantom-send B send = search (sendable, crosses, send) depth 60 fits 4000
+
+-- and so does a ledger
+Inside-send : (B : RattleType) (picked : opening.Ghosts B.Denot) → IsSend B → IsSync B → IsSend (Inside.the_row B picked)
+Inside-send B picked send sync =
+    let each : AllSend (shape (Inside.the_type B picked)).fields = search (sendable, crosses, Store-send, Journal-send, Phantom-send, send, sync) depth 60 fits 4000 in
+    recorded_send _ _ _ (Inside.the_type B picked).to_one (struct_send (shape (Inside.the_type B picked)) each)
+
+Ledger-send : (B : RattleType) (picked : opening.Ghosts B.Denot) → IsSend B → IsSync B → IsSend (Ledger.the_row B picked)
+Ledger-send B picked send sync = view_send _ _ _ _ _ (Inside-send B picked send sync)
+
+Slot-send : IsSend Slot.the_row
+Slot-send = search (sendable, crosses) depth 60 fits 4000
+
+Slots-send : IsSend (Vec.the_row Slot.the_row Heap.the_row ghosts)
+Slots-send = Vec-send Slot.the_row Slot-send
+
+-- and what lies behind the lock
+BoardInside-send : (B : RattleType) (picked : opening.Ghosts B.Denot) → IsSend B → IsSync B → IsSend (BoardInside.the_row B picked)
+BoardInside-send B picked send sync =
+    let ledger = Ledger-send B picked send sync in
+    let each : AllSend (shape (BoardInside.the_type B picked)).fields = (search (sendable, crosses, ledger) depth 60 fits 4000, (Slots-send, (search (sendable, crosses), tt))) in
+    recorded_send _ _ _ (BoardInside.the_type B picked).to_one (struct_send (shape (BoardInside.the_type B picked)) each)
+
+Board-send : (B : RattleType) (picked : opening.Ghosts B.Denot) → IsSend B → IsSync B → IsSend (Board.the_row B picked)
+Board-send B picked send sync = view_send _ _ _ _ _ (BoardInside-send B picked send sync)
+
+DeskInside-sync : (B : RattleType) (picked : opening.Ghosts B.Denot) → IsSend B → IsSync B → IsSync (DeskInside.the_row B picked)
+DeskInside-sync B picked send sync =
+    let board = Board-send B picked send sync in
+    let lock : IsSync (Mutex.the_row (Board.the_row B picked)) = search (sendable, crosses, board) depth 60 fits 4000 in
+    let each : AllSync (shape (DeskInside.the_type B picked)).fields = (search (sendable, crosses), (lock, (search (sendable, crosses), tt))) in
+    recorded_sync _ _ _ (DeskInside.the_type B picked).to_one (struct_sync (shape (DeskInside.the_type B picked)) each)
+
 -- each part of a desk may be read by several threads at once, or stands behind its lock
-pub Desk-sync : IsSync Desk.the_row
-Desk-sync = search (sendable, crosses, Outline-send, Outline-sync) depth 60 fits 4000
+pub Desk-sync : (B : RattleType) (picked : opening.Ghosts B.Denot) → IsSend B → IsSync B → IsSync (Desk.the_row B picked)
+Desk-sync B picked send sync = view_sync _ _ _ _ _ (DeskInside-sync B picked send sync)

@@ -1,10 +1,10 @@
 -- A desk and a visit to it, as their callers see them.
 use Rattle.std.specs.Prelude.{◌≡◌, ℕ, ◌≤◌, Bool, List, Option, Some, None}
 use Rattle.grove_store.specs.Stocks.{Stock}
-use Rattle.grove_desk.specs.Receipts.{Names, Entry, Allows}
+use Rattle.grove_desk.specs.Receipts.{Names, ReceiptState, Allows}
 
 -- the store that a desk was opened with, and whether it keeps a journal
-pub record Office : Type 0 where
+pub record DeskState : Type 0 where
   pub opening : Stock
   pub kept : Bool
 
@@ -14,7 +14,7 @@ pub record Visited : Type 0 where
   pub rounds : ℕ
 
 -- the count of rounds of a last receipt, 0 before the first
-abbrev pub rounds_seen : Option Entry → ℕ
+abbrev pub rounds_seen : Option ReceiptState → ℕ
 rounds_seen None = 0
 rounds_seen (Some receipt) = receipt.rounds
 

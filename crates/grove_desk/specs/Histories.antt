@@ -2,47 +2,53 @@
 use Rattle.std.specs.Prelude.{◌≡◌, ℕ, ◌+◌, ◌<◌, List, [], ◌∷◌, ◌++◌, Some, length, map, get_or, slice_get, All}
 use Rattle.grove_store.specs.Stocks.{Stock}
 use Rattle.grove_store.specs.Rounds.{IsLawfulRound}
-use Rattle.grove_desk.specs.Receipts.{Entry, AreNumbered}
+use Rattle.grove_desk.specs.Receipts.{ReceiptState, AreNumbered}
 
 -- a round that was answered: the store before it, and the receipts of its lines in order
-pub record Call : Type 0 where
+pub record RoundState : Type 0 where
   pub before : Stock
-  pub receipts : List Entry
+  pub receipts : List ReceiptState
 
 -- a lawful round over the receipts' lines, with their replies and their count of rounds
-pub record IsCall (before : Stock) (receipts : List Entry) (after : Stock) : Type 0 where
+pub record IsRound (before : Stock) (receipts : List ReceiptState) (after : Stock) : Type 0 where
   pub round : IsLawfulRound before (map (λ receipt. receipt.line) receipts) (map (λ receipt. receipt.reply) receipts) after
   pub counted : All (λ receipt. receipt.rounds ≡ after.rounds) receipts
 
 -- the store before the first of the rounds, which is the last one where there are none
-abbrev pub store_before : List Call → Stock → Stock
+abbrev pub store_before : List RoundState → Stock → Stock
 store_before [] last = last
-store_before (call ∷ calls) last = call.before
+store_before (round ∷ rounds) last = round.before
 
 -- each round leads from its store to that of the next, and the last one to the last store
-abbrev pub Leads : List Call → Stock → Type 0
+abbrev pub Leads : List RoundState → Stock → Type 0
 Leads [] last = Unit {0}
-Leads (call ∷ calls) last = IsCall call.before call.receipts (store_before calls last) × Leads calls last
+Leads (round ∷ rounds) last = IsRound round.before round.receipts (store_before rounds last) × Leads rounds last
+
+-- some lawful rounds lead from an opening store to the last one
+pub record Led (opening last : Stock) : Type 0 where
+  pub rounds : List RoundState
+  pub leads : Leads rounds last
+  pub begins : store_before rounds last ≡ opening
 
 -- the receipts of all rounds, in order
-abbrev pub receipts_in : List Call → List Entry
+abbrev pub receipts_in : List RoundState → List ReceiptState
 receipts_in [] = []
-receipts_in (call ∷ calls) = call.receipts ++ receipts_in calls
+receipts_in (round ∷ rounds) = round.receipts ++ receipts_in rounds
 
 -- the receipt is that of its number
-abbrev pub StandsIn : List Call → Entry → Type 0
-StandsIn calls receipt = slice_get (receipts_in calls) receipt.number ≡ Some receipt
+abbrev pub StandsIn : List RoundState → ReceiptState → Type 0
+StandsIn rounds receipt = slice_get (receipts_in rounds) receipt.number ≡ Some receipt
 
 -- the numbers rise from receipt to receipt
-abbrev pub Ascend : List Entry → Type 0
-Ascend receipts = (place : ℕ) (other : Entry) → place + 1 < length receipts → (get_or receipts place other).number < (get_or receipts (place + 1) other).number
+abbrev pub Ascend : List ReceiptState → Type 0
+Ascend receipts = (place : ℕ) (other : ReceiptState) → place + 1 < length receipts → (get_or receipts place other).number < (get_or receipts (place + 1) other).number
 
 -- what led from an opening store to the last one, and how receipts stand in it: each once, and where they are as many as
 -- there are, they are all of it
-pub record IsHistory (opening : Stock) (receipts : List Entry) (calls : List Call) (last : Stock) : Type 0 where
-  pub leads : Leads calls last
-  pub begins : store_before calls last ≡ opening
-  pub numbered : AreNumbered (Some 0) (receipts_in calls)
-  pub stand : All (StandsIn calls) receipts
+pub record IsHistory (opening : Stock) (receipts : List ReceiptState) (rounds : List RoundState) (last : Stock) : Type 0 where
+  pub leads : Leads rounds last
+  pub begins : store_before rounds last ≡ opening
+  pub numbered : AreNumbered (Some 0) (receipts_in rounds)
+  pub stand : All (StandsIn rounds) receipts
   pub once : Ascend receipts
-  pub whole : length receipts ≡ length (receipts_in calls) → receipts ≡ receipts_in calls
+  pub whole : length receipts ≡ length (receipts_in rounds) → receipts ≡ receipts_in rounds

@@ -1,5 +1,5 @@
 -- Receipts: what a desk tells of a line that it answered.
-use Rattle.std.specs.Prelude.{◌≡◌, ℕ, ◌+◌, ◌-◌, ◌^◌, ◌<◌, ◌≤◌, min, Bool, true, List, Option, Some, None, length, get_or, slice_get, IfSome}
+use Rattle.std.specs.Prelude.{◌≡◌, ℕ, ◌+◌, ◌-◌, ◌^◌, ◌<◌, ◌≤◌, min, Bool, true, false, List, Option, Some, None, length, get_or, slice_get, IfSome}
 use Rattle.grove_tree.specs.Weights.{unweighed}
 use Rattle.grove_store.specs.Stocks.{Stock}
 use Rattle.grove_store.specs.Rounds.{IsLawfulRound}
@@ -9,7 +9,7 @@ abbrev pub Names : Type 0
 Names = List (Option ℕ × List ℕ)
 
 -- a line, its reply, its place among all lines that were answered, and the store's count of rounds afterwards
-pub record Entry : Type 0 where
+pub record ReceiptState : Type 0 where
   pub number : ℕ
   pub line : List ℕ
   pub reply : List ℕ
@@ -28,11 +28,16 @@ pub record Allows (names : Names) (line reply : List ℕ) (rounds : ℕ) : Type 
   pub replied : slice_get replies place ≡ Some reply
   pub counted : after.rounds ≡ rounds
 
-abbrev pub IsAllowed : Names → Entry → Type 0
+abbrev pub IsAllowed : Names → ReceiptState → Type 0
 IsAllowed names receipt = Allows names receipt.line receipt.reply receipt.rounds
 
+-- what a desk with this opening store answers: a receipt that its names allow, with the number 0 where no journal is kept
+pub record IsAnswered (opening : Stock) (kept : Bool) (receipt : ReceiptState) : Type 0 where
+  pub allowed : IsAllowed (unweighed opening.rows) receipt
+  pub unnumbered : kept ≡ false → receipt.number ≡ 0
+
 -- a receipt after one that was seen: its count of rounds isn't lower, and where a journal is kept its number is higher
-pub record Follows (kept : Bool) (seen : Option Entry) (receipt : Entry) : Type 0 where
+pub record Follows (kept : Bool) (seen : Option ReceiptState) (receipt : ReceiptState) : Type 0 where
   pub rounds : IfSome seen (λ earlier. earlier.rounds ≤ receipt.rounds)
   pub number : kept ≡ true → IfSome seen (λ earlier. earlier.number < receipt.number)
 
@@ -42,5 +47,5 @@ number_at None place = 0
 number_at (Some first) place = min (first + place) (2 ^ 64 - 1)
 
 -- the receipts have the numbers from the first one on
-abbrev pub AreNumbered : Option ℕ → List Entry → Type 0
-AreNumbered first receipts = (place : ℕ) (other : Entry) → place < length receipts → (get_or receipts place other).number ≡ number_at first place
+abbrev pub AreNumbered : Option ℕ → List ReceiptState → Type 0
+AreNumbered first receipts = (place : ℕ) (other : ReceiptState) → place < length receipts → (get_or receipts place other).number ≡ number_at first place

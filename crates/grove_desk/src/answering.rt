@@ -1,27 +1,79 @@
-ghost use Rattle.std.specs.Prelude.{◌≡◌, ◌<◌, ◌≤◌, length, All, IfOk};
-ghost use Rattle.grove_tree.specs.Weights.{unweighed};
-ghost use Rattle.grove_desk.specs.Receipts.{IsAllowed};
+ghost use Rattle.std.specs.Prelude.{◌≡◌, ◌<◌, ◌≤◌, [], length, map, take, drop, All, IfOk, OnErr};
+ghost use Rattle.std.specs.Vec.{vec_capacity};
+ghost use Rattle.grove_desk.specs.Receipts.{AreNumbered, number_at};
+ghost use Rattle.grove_desk.specs.Histories.{IsRound};
+ghost use Rattle.grove_desk.specs.Ledgers.{IsNoted};
 
 use crate::Receipt;
-use crate::ledger::Ledger;
 use crate::slot::{Asked, lines_of};
+use grove_store::Store;
 use grove_tree::{Gate, NoMemory};
 use std::alloc::Global;
 use std::sync::Wait;
 use std::thread::Threads;
 
-/// Answers the first lines of a batch. Where memory is refused, nothing has changed.
-pub(crate) fn answer_batch<R: Threads + Wait + Sync, G: Gate + Sync>(
+/// Answers the first of the lines in one round, and gives a receipt for each, numbered from the first number on. The receipts
+/// take these lines; the others stay. All memory is asked for before the store changes.
+pub(crate) fn answer_taken<R: Threads + Wait + Sync, G: Gate + Sync>(
     rt: &R,
     alloc: Global,
-    ledger: &mut Ledger,
-    batch: &[Asked],
+    store: &mut Store,
+    first: Option<u64>,
+    taken: &mut Vec<Asked>,
     gate: &G,
 ) -> Result<Vec<Receipt>, NoMemory>
-    requires { (0 < length batch.now) × (length batch.now ≤ 16) }
-    ensures allowed { IfOk result (λ receipts. All (IsAllowed (unweighed ledger.old.store.rows)) receipts.items) }
-    ensures names { unweighed ledger.new.store.rows ≡ unweighed ledger.old.store.rows }
+    requires { (0 < length taken.old.items) × (length taken.old.items ≤ 16) }
+    ensures lines { IfOk result (λ receipts. map (λ receipt. receipt.line) receipts.items ≡ take (length receipts.items) (map (λ asked. asked.line.bytes.items) taken.old.items)) }
+    ensures round { IfOk result (λ receipts. IsRound store.old receipts.items store.new) }
+    ensures numbered { IfOk result (λ receipts. AreNumbered first receipts.items) }
+    ensures left { IfOk result (λ receipts. drop (length receipts.items) taken.new.items ≡ drop (length receipts.items) taken.old.items) }
+    ensures tickets { map (λ asked. asked.ticket) taken.new.items ≡ map (λ asked. asked.ticket) taken.old.items }
+    ensures room { vec_capacity taken.new ≡ vec_capacity taken.old }
+    ensures err { OnErr result (store.new ≡ store.old) }
 {
-    let lines = lines_of(alloc, batch)?;
-    ledger.answer(rt, alloc, &lines, gate)
+    let receipts = Vec::with_capacity(alloc, taken.len())?;
+    let replies = {
+        let lines = lines_of(alloc, taken)?;
+        store.answer_round(rt, alloc, &lines, gate)?
+    };
+    Ok(receipts_into(alloc, receipts, first, taken, replies, store.rounds()))
+}
+
+/// Moves the first of the lines, one for each reply, and the replies into receipts, for which there is room.
+fn receipts_into(
+    alloc: Global,
+    mut receipts: Vec<Receipt>,
+    first: Option<u64>,
+    taken: &mut Vec<Asked>,
+    replies: Vec<Vec<u8>>,
+    rounds: u64,
+) -> Vec<Receipt>
+    requires empty { receipts.items ≡ [] }
+    requires room { length taken.old.items ≤ vec_capacity receipts }
+    requires few { length replies.items ≤ length taken.old.items }
+    ensures noted { IsNoted first (map (λ asked. asked.line.bytes.items) taken.old.items) (map (λ reply. reply.items) replies.items) rounds result.items }
+    ensures left { drop (length result.items) taken.new.items ≡ drop (length result.items) taken.old.items }
+    ensures tickets { map (λ asked. asked.ticket) taken.new.items ≡ map (λ asked. asked.ticket) taken.old.items }
+    ensures room { vec_capacity taken.new ≡ vec_capacity taken.old }
+{
+    for reply in replies {
+        let place = receipts.len();
+        receipts.push_reserved(Receipt {
+            number: number_of(first, place),
+            line: taken[place].line.take(alloc),
+            reply,
+            rounds,
+        });
+    }
+    receipts
+}
+
+/// The number of a line at a place of its round.
+fn number_of(first: Option<u64>, place: usize) -> u64
+    ensures { result ≡ number_at first place }
+{
+    match first {
+        Some(first) => first.saturating_add(place as u64),
+        None => 0,
+    }
 }

@@ -1,20 +1,19 @@
-ghost use Rattle.std.specs.Prelude.{◌≡◌, ◌<◌, ◌≤◌, ◌↔◌, true, [], length, IfOk, IfErr, IfSome, IsSome};
+ghost use Rattle.std.specs.Prelude.{◌≡◌, ◌<◌, ◌≤◌, false, [], length, IfOk};
 ghost use Rattle.std.specs.Option.{option_copied};
 ghost use Rattle.std.specs.Vec.{vec_capacity};
 ghost use Rattle.grove_session.specs.declared.answers.TheConstants.{LINE_LIMIT};
 ghost use Rattle.grove_tree.specs.Weights.{unweighed};
-ghost use Rattle.grove_desk.specs.Receipts.{IsAllowed, Follows};
+ghost use Rattle.grove_desk.specs.Receipts.{IsAllowed, IsAnswered, Follows};
 
-use crate::answering::answer_batch;
-use crate::board::{Board, MOST_LINES, Turn};
+use crate::board::{Board, MOST_LINES};
 use crate::ledger::Ledger;
 use crate::line::Line;
 use crate::slot::Asked;
-use crate::{DeskFault, Receipt};
+use crate::{DeskFault, Opening, Receipt};
 pub use closing::Closed;
 use grove_session::LINE_LIMIT;
 use grove_store::Store;
-use grove_tree::{Gate, NoMemory, Tree};
+use grove_tree::{Gate, NoMemory};
 use std::alloc::Global;
 use std::marker::Model;
 use std::sync::{Condvar, Mutex, Wait};
@@ -23,43 +22,39 @@ use std::thread::Threads;
 mod closing;
 
 /// A store that many callers share. Each puts a line and waits for its receipt; one of them, whoever finds the store there,
-/// takes it with the first lines that wait, answers them as one round, and puts it back.
+/// takes it with the first lines that wait, answers them as one round, and puts it back. What it was opened with is known by
+/// its type: so no other store gets behind its lock.
 #[derive(Drop)]
-pub struct Desk {
-    opening: Store,
+pub struct Desk<B: Opening> {
     kept: bool,
-    board: Mutex<Board>,
+    board: Mutex<Board<B>>,
     /// Something on the board has moved for which others may wait.
     moved: Condvar,
 }
 
-impl Model for Desk {
-    ghost use Rattle.grove_desk.specs.Desks.{Office};
+impl<B: Opening> Model for Desk<B> {
+    ghost use Rattle.std.specs.Prelude.{◌≡◌};
+    ghost use Rattle.grove_desk.specs.Desks.{DeskState};
 
-    ghost Value = { Office };
+    ghost Value = { DeskState };
 
-    ghost view = { λ desk. record { opening = desk.opening; kept = desk.kept } };
+    ghost view = { λ desk. record { opening = B.store; kept = desk.kept } };
+
+    ghost invariant = { λ desk. desk.kept ≡ B.kept };
 }
 
-impl Desk {
-    /// A desk at which this store is shared, with a journal of every round where `kept` is set. Where memory is refused, the
-    /// store comes back.
-    pub fn open(alloc: Global, store: Store, kept: bool) -> Result<Desk, Store>
-        ensures ok { IfOk result (λ desk. desk ≡ record { opening = store; kept = kept }) }
-        ensures err { IfErr result (λ back. back ≡ store) }
+impl<B: Opening> Desk<B> {
+    /// A desk at which this store is shared, with a journal of every round where `kept` is set. It takes no memory.
+    pub fn open(alloc: Global, store: Store, kept: bool) -> Self
+        requires store { store ≡ B.store }
+        requires kept { kept ≡ B.kept }
+        ensures { result ≡ record { opening = store; kept = kept } }
     {
-        match copies_of(alloc, &store, kept) {
-            Ok((opening, tree, first)) => {
-                let ledger = Ledger::new(alloc, store, first);
-                let board = Board::new(alloc, ledger, tree);
-                Ok(Desk {
-                    opening,
-                    kept,
-                    board: Mutex::new(board),
-                    moved: Condvar::new(),
-                })
-            }
-            Err(NoMemory) => Err(store),
+        let ledger = Ledger::new(alloc, store, kept);
+        Desk {
+            kept,
+            board: Mutex::new(Board::new(alloc, ledger)),
+            moved: Condvar::new(),
         }
     }
 
@@ -79,6 +74,7 @@ impl Desk {
         ensures line { IfOk result (λ receipt. receipt.line ≡ line.now) }
         ensures allowed { IfOk result (IsAllowed (unweighed self.now.opening.rows)) }
         ensures follows { IfOk result (Follows self.now.kept (option_copied seen.entry)) }
+        ensures unnumbered { IfOk result (λ receipt. self.now.kept ≡ false → receipt.number ≡ 0) }
     {
         let receipt = self.receipt(rt, alloc, line, gate)?;
         if receipt.is_of(line) && receipt.follows(seen, self.kept) {
@@ -100,13 +96,13 @@ impl Desk {
         alloc: Global,
         line: &[u8],
         gate: &G,
-    ) -> Result<Receipt, DeskFault>
+    ) -> Result<Receipt, NoMemory>
         requires { length line.now ≤ LINE_LIMIT }
-        ensures { IfOk result (IsAllowed (unweighed self.now.opening.rows)) }
+        ensures { IfOk result (IsAnswered B.store B.kept) }
     {
-        let mut batch = Vec::with_capacity(alloc, MOST_LINES)?;
+        let mut taken = Vec::with_capacity(alloc, MOST_LINES)?;
         let ticket = self.put(rt, Line::new(alloc, line)?)?;
-        self.attend(rt, alloc, ticket, &mut batch, gate)
+        self.attend(rt, alloc, ticket, &mut taken, gate)
     }
 
     /// Waits for what the line of this ticket was answered; answers lines itself whenever it finds the store there.
@@ -115,25 +111,26 @@ impl Desk {
         rt: &R,
         alloc: Global,
         ticket: u64,
-        batch: &mut Vec<Asked>,
+        taken: &mut Vec<Asked>,
         gate: &G,
-    ) -> Result<Receipt, DeskFault>
-        requires { (batch.old.items ≡ []) × (vec_capacity batch.old ≡ 16) }
-        ensures { IfOk result (IsAllowed (unweighed self.now.opening.rows)) }
+    ) -> Result<Receipt, NoMemory>
+        requires { (taken.old.items ≡ []) × (vec_capacity taken.old ≡ 16) }
+        ensures { IfOk result (IsAnswered B.store B.kept) }
     {
         for _ in rt.forever() {
             let mut board = self.board.lock(rt);
+            if let Some(done) = board.collect(ticket) {
+                return done;
+            }
             let full = board.is_full();
-            match board.turn(self.opening.tree(), ticket, batch) {
-                Turn::Foreign => return Err(DeskFault::Foreign),
-                Turn::Done(done) => return Ok(done?),
-                Turn::Wait => {
-                    let _again = self.moved.wait(rt, board);
-                }
-                Turn::Lead(ledger) => {
+            match board.take(taken) {
+                Some(ledger) => {
                     drop(board);
                     self.tell_room(full);
-                    self.lead(rt, alloc, ledger, batch, gate)?;
+                    self.lead(rt, alloc, ledger, taken, gate);
+                }
+                None => {
+                    let _again = self.moved.wait(rt, board);
                 }
             }
         }
@@ -155,59 +152,21 @@ impl Desk {
         board.put(line)
     }
 
-    /// Answers the lines of the batch outside the lock, and puts back the store and what they were answered.
+    /// Answers the lines that were taken outside the lock, and puts back the store and what they were answered.
     fn lead<R: Threads + Wait + Sync, G: Gate + Sync>(
         &self,
         rt: &R,
         alloc: Global,
-        mut ledger: Ledger,
-        batch: &mut Vec<Asked>,
+        mut ledger: Ledger<B>,
+        taken: &mut Vec<Asked>,
         gate: &G,
-    ) -> Result<(), DeskFault>
-        requires over { unweighed ledger.store.rows ≡ unweighed self.now.opening.rows }
-        requires count { (0 < length batch.old.items) × (length batch.old.items ≤ 16) }
-        ensures batch { IfOk result (λ _. batch.new.items ≡ []) }
-        ensures room { vec_capacity batch.new ≡ vec_capacity batch.old }
+    )
+        requires { (0 < length taken.old.items) × (length taken.old.items ≤ 16) }
+        ensures taken { taken.new.items ≡ [] }
+        ensures room { vec_capacity taken.new ≡ vec_capacity taken.old }
     {
-        let answered = answer_batch(rt, alloc, &mut ledger, batch, gate);
-        let back = self
-            .board
-            .lock(rt)
-            .put_back(self.opening.tree(), ledger, batch, answered);
+        let answered = ledger.answer(rt, alloc, taken, gate);
+        self.board.lock(rt).put_back(ledger, taken, answered);
         self.moved.notify_all();
-        if back {
-            Ok(())
-        } else {
-            Err(DeskFault::Foreign)
-        }
-    }
-}
-
-/// What a desk begins with beside its store: a copy of it, its tree, and, where a journal is kept, one more copy.
-fn copies_of(
-    alloc: Global,
-    store: &Store,
-    kept: bool,
-) -> Result<(Store, Tree, Option<Store>), NoMemory>
-    ensures opening { IfOk result (λ copies. copies.0 ≡ store.now) }
-    ensures tree { IfOk result (λ copies. copies.1 ≡ store.now.rows) }
-    ensures first { IfOk result (λ copies. IfSome copies.2 (λ first. first ≡ store.now)) }
-    ensures kept { IfOk result (λ copies. IsSome copies.2 ↔ (kept ≡ true)) }
-{
-    let opening = store.copy(alloc)?;
-    let tree = store.tree().copy(alloc)?;
-    let first = first_of(alloc, store, kept)?;
-    Ok((opening, tree, first))
-}
-
-/// The store that a journal begins with, where one is kept.
-fn first_of(alloc: Global, store: &Store, kept: bool) -> Result<Option<Store>, NoMemory>
-    ensures first { IfOk result (λ first. IfSome first (λ first. first ≡ store.now)) }
-    ensures kept { IfOk result (λ first. IsSome first ↔ (kept ≡ true)) }
-{
-    if kept {
-        Ok(Some(store.copy(alloc)?))
-    } else {
-        Ok(None)
     }
 }

@@ -1,3 +1,7 @@
+ghost use Rattle.std.specs.Prelude.{◌≡◌};
+ghost use Rattle.grove_session.specs.declared.answers.AnswerFault.TheVariants as told;
+ghost use Rattle.grove_desk.specs.declared.fault.DeskFault.TheVariants.{Foreign};
+
 use grove_session::AnswerFault;
 use grove_tree::NoMemory;
 use std::alloc::AllocError;
@@ -6,7 +10,7 @@ use thiserror::Error;
 /// Why a line has no receipt.
 #[derive(Clone, Copy, Debug, PartialEq, Eq, Error)]
 pub enum DeskFault {
-    /// What came back isn't the line's receipt, or isn't of this desk.
+    /// What came back isn't the line's receipt, or doesn't come after the one that was seen.
     #[error("foreign")]
     Foreign,
     /// A growth was refused.
@@ -37,7 +41,9 @@ impl From<NoMemory> for DeskFault {
 }
 
 /// What a session is told of it.
-pub(crate) fn answer_fault(fault: DeskFault) -> AnswerFault {
+pub(crate) fn answer_fault(fault: DeskFault) -> AnswerFault
+    ensures { result ≡ told.Foreign → fault ≡ Foreign }
+{
     match fault {
         DeskFault::Foreign => AnswerFault::Foreign,
         DeskFault::Memory => AnswerFault::Memory,

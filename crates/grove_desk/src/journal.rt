@@ -1,186 +1,122 @@
-ghost use Rattle.std.specs.Prelude.{◌≡◌, [], Some, None, ◌≤◌, ◌↔◌, length, map, All, IsTrue, IfOk, IfErr, OnErr};
-ghost use Rattle.grove_desk.specs.Receipts.{number_at};
-ghost use Rattle.grove_desk.specs.Histories.{StandsIn, Ascend};
-ghost use Rattle.grove_desk.specs.Ledgers.{IsNoted, noted_in, next_number};
-ghost use Rattle.std.specs.Option.{option_map};
+ghost use Rattle.std.specs.Prelude.{◌≡◌, [], Some, ◌<◌, ◌≤◌, ◌↔◌, length, map, take, drop, All, IsTrue, IfOk, IfErr, OnErr};
+ghost use Rattle.std.specs.Vec.{vec_capacity};
+ghost use Rattle.grove_desk.specs.Receipts.{AreNumbered};
+ghost use Rattle.grove_desk.specs.Histories.{StandsIn, Ascend, IsRound};
+ghost use Rattle.grove_desk.specs.Ledgers.{noted_in};
 
 use crate::Receipt;
+use crate::answering::answer_taken;
+use crate::slot::Asked;
 use crate::standing::{ascend, stand};
 use grove_store::Store;
-use grove_tree::NoMemory;
+use grove_tree::{Gate, NoMemory};
 use std::alloc::Global;
 use std::marker::Model;
+use std::sync::Wait;
+use std::thread::Threads;
 
 /// A round that was answered: the store before it, and the receipts of its lines.
 #[derive(Debug, Drop)]
-pub struct Kept {
+pub struct JournalEntry {
     pub before: Store,
     pub receipts: Vec<Receipt>,
 }
 
-impl Model for Kept {
-    ghost use Rattle.grove_desk.specs.Histories.{Call};
+impl Model for JournalEntry {
+    ghost use Rattle.grove_desk.specs.Histories.{RoundState};
 
-    ghost Value = { Call };
+    ghost Value = { RoundState };
 
-    ghost view = { λ kept. record { before = kept.before; receipts = kept.receipts.items } };
+    ghost view = { λ entry. record { before = entry.before; receipts = entry.receipts.items } };
 }
 
-/// The store that a desk was opened with, every round since, and how many lines they had.
+/// Every round since a desk was opened, and how many lines they had.
 #[derive(Drop)]
 pub(crate) struct Journal {
-    first: Store,
-    calls: Vec<Kept>,
+    entries: Vec<JournalEntry>,
     lines: u64,
 }
 
 impl Model for Journal {
-    ghost use Rattle.grove_desk.specs.Ledgers.{Account};
+    ghost use Rattle.grove_desk.specs.Ledgers.{JournalState};
 
-    ghost Value = { Account };
+    ghost Value = { JournalState };
 
-    ghost view = { λ journal. record { first = journal.first; calls = journal.calls.items; lines = journal.lines } };
+    ghost view = { λ journal. record { rounds = journal.entries.items; lines = journal.lines } };
 }
 
 impl Journal {
-    pub(crate) fn new(alloc: Global, first: Store) -> Journal
-        ensures { result ≡ record { first = first; calls = []; lines = 0 } }
+    pub(crate) fn new(alloc: Global) -> Journal
+        ensures { result ≡ record { rounds = []; lines = 0 } }
     {
         Journal {
-            first,
-            calls: Vec::new(alloc),
+            entries: Vec::new(alloc),
             lines: 0,
         }
     }
 
-    /// Does the journal begin with this store, and do the receipts stand in it, each once?
-    pub(crate) fn has(&self, opening: &Store, receipts: &[Receipt]) -> bool
-        ensures { IsTrue result ↔ ((self.now.first ≡ opening.now) × Ascend receipts.now × All (StandsIn self.now.calls) receipts.now) }
+    /// Do the receipts stand in the journal, each once?
+    pub(crate) fn has(&self, receipts: &[Receipt]) -> bool
+        ensures { IsTrue result ↔ (Ascend receipts.now × All (StandsIn self.now.rounds) receipts.now) }
     {
-        self.first.same(opening) && ascend(receipts) && stand(&self.calls, receipts)
+        ascend(receipts) && stand(&self.entries, receipts)
     }
 
     /// The rounds.
-    pub(crate) fn into_calls(self) -> Vec<Kept>
-        ensures { result.items ≡ self.calls }
+    pub(crate) fn into_entries(self) -> Vec<JournalEntry>
+        ensures { result.items ≡ self.rounds }
     {
-        let Journal { calls, .. } = self;
-        calls
+        let Journal { entries, .. } = self;
+        entries
+    }
+
+    /// Answers the first of the lines in one round of the store, and notes it. Where memory is refused, both are as they were:
+    /// a copy of the store is made first, and comes back.
+    pub(crate) fn answer<R: Threads + Wait + Sync, G: Gate + Sync>(
+        &mut self,
+        rt: &R,
+        alloc: Global,
+        store: &mut Store,
+        taken: &mut Vec<Asked>,
+        gate: &G,
+    ) -> Result<Vec<Receipt>, NoMemory>
+        requires { (0 < length taken.old.items) × (length taken.old.items ≤ 16) }
+        ensures lines { IfOk result (λ receipts. map (λ receipt. receipt.line) receipts.items ≡ take (length receipts.items) (map (λ asked. asked.line.bytes.items) taken.old.items)) }
+        ensures round { IfOk result (λ receipts. IsRound store.old receipts.items store.new) }
+        ensures numbered { IfOk result (λ receipts. AreNumbered (Some self.old.lines) receipts.items) }
+        ensures left { IfOk result (λ receipts. drop (length receipts.items) taken.new.items ≡ drop (length receipts.items) taken.old.items) }
+        ensures tickets { map (λ asked. asked.ticket) taken.new.items ≡ map (λ asked. asked.ticket) taken.old.items }
+        ensures room { vec_capacity taken.new ≡ vec_capacity taken.old }
+        ensures journal { IfOk result (λ receipts. self.new ≡ noted_in (record { before = store.old; receipts = receipts.items }) self.old) }
+        ensures err { OnErr result ((self.new ≡ self.old) × (store.new ≡ store.old)) }
+    {
+        let before = store.copy(alloc)?;
+        let receipts = answer_taken(rt, alloc, store, Some(self.lines), taken, gate)?;
+        match self.note(alloc, before, &receipts) {
+            Ok(()) => Ok(receipts),
+            Err(before) => {
+                *store = before;
+                Err(NoMemory)
+            }
+        }
     }
 
     /// Notes a round with the store before it, which comes back where memory is refused.
-    fn note(
-        &mut self,
-        alloc: Global,
-        before: Store,
-        lines: &[&[u8]],
-        replies: &[Vec<u8>],
-        rounds: u64,
-    ) -> Result<Vec<Receipt>, Store>
-        requires { length replies.now ≤ length lines.now }
-        ensures noted { IfOk result (λ receipts. IsNoted (Some self.old.lines) (map (λ line. line.now) lines.now) (map (λ reply. reply.items) replies.now) rounds receipts.items) }
-        ensures journal { IfOk result (λ receipts. self.new ≡ noted_in (record { before = before; receipts = receipts.items }) self.old) }
+    fn note(&mut self, alloc: Global, before: Store, receipts: &[Receipt]) -> Result<(), Store>
+        ensures journal { IfOk result (λ _. self.new ≡ noted_in (record { before = before; receipts = receipts.now }) self.old) }
         ensures back { IfErr result (λ back. back ≡ before) }
         ensures err { OnErr result (self.new ≡ self.old) }
     {
-        let Ok((receipts, copies)) = twice(alloc, self.lines, lines, replies, rounds) else {
+        let Ok(receipts) = copies_of(alloc, receipts) else {
             return Err(before);
         };
-        if self.calls.reserve(1).is_err() {
+        if self.entries.reserve(1).is_err() {
             return Err(before);
         }
         self.lines = self.lines.saturating_add(receipts.len() as u64);
-        self.calls.push_reserved(Kept {
-            before,
-            receipts: copies,
-        });
-        Ok(receipts)
-    }
-}
-
-/// Notes a round, where a journal is kept, and gives the receipts of its lines. The store comes back where memory is refused.
-pub(crate) fn note(
-    alloc: Global,
-    journal: &mut Option<Journal>,
-    before: Store,
-    lines: &[&[u8]],
-    replies: &[Vec<u8>],
-    rounds: u64,
-) -> Result<Vec<Receipt>, Store>
-    requires { length replies.now ≤ length lines.now }
-    ensures noted { IfOk result (λ receipts. IsNoted (next_number journal.old) (map (λ line. line.now) lines.now) (map (λ reply. reply.items) replies.now) rounds receipts.items) }
-    ensures journal { IfOk result (λ receipts. journal.new ≡ option_map (noted_in (record { before = before; receipts = receipts.items })) journal.old) }
-    ensures back { IfErr result (λ back. back ≡ before) }
-    ensures err { OnErr result (journal.new ≡ journal.old) }
-{
-    match journal {
-        Some(journal) => journal.note(alloc, before, lines, replies, rounds),
-        None => pass(alloc, before, lines, replies, rounds),
-    }
-}
-
-/// The receipts of a round that no journal has.
-fn pass(
-    alloc: Global,
-    before: Store,
-    lines: &[&[u8]],
-    replies: &[Vec<u8>],
-    rounds: u64,
-) -> Result<Vec<Receipt>, Store>
-    requires { length replies.now ≤ length lines.now }
-    ensures noted { IfOk result (λ receipts. IsNoted None (map (λ line. line.now) lines.now) (map (λ reply. reply.items) replies.now) rounds receipts.items) }
-    ensures back { IfErr result (λ back. back ≡ before) }
-{
-    match receipts_of(alloc, None, lines, replies, rounds) {
-        Ok(receipts) => Ok(receipts),
-        Err(NoMemory) => Err(before),
-    }
-}
-
-/// The receipts of a round from a number on, and the same once more.
-fn twice(
-    alloc: Global,
-    first: u64,
-    lines: &[&[u8]],
-    replies: &[Vec<u8>],
-    rounds: u64,
-) -> Result<(Vec<Receipt>, Vec<Receipt>), NoMemory>
-    requires { length replies.now ≤ length lines.now }
-    ensures noted { IfOk result (λ both. IsNoted (Some first) (map (λ line. line.now) lines.now) (map (λ reply. reply.items) replies.now) rounds both.0.items) }
-    ensures same { IfOk result (λ both. both.1.items ≡ both.0.items) }
-{
-    let receipts = receipts_of(alloc, Some(first), lines, replies, rounds)?;
-    let copies = copies_of(alloc, &receipts)?;
-    Ok((receipts, copies))
-}
-
-/// The receipts of the first of the lines, one for each reply.
-fn receipts_of(
-    alloc: Global,
-    first: Option<u64>,
-    lines: &[&[u8]],
-    replies: &[Vec<u8>],
-    rounds: u64,
-) -> Result<Vec<Receipt>, NoMemory>
-    requires { length replies.now ≤ length lines.now }
-    ensures { IfOk result (λ receipts. IsNoted first (map (λ line. line.now) lines.now) (map (λ reply. reply.items) replies.now) rounds receipts.items) }
-{
-    let mut receipts = Vec::with_capacity(alloc, replies.len())?;
-    for reply in replies {
-        let place = receipts.len();
-        let number = number_of(first, place);
-        receipts.push(Receipt::new(alloc, number, lines[place], reply, rounds)?)?;
-    }
-    Ok(receipts)
-}
-
-/// The number of a line at a place of its round.
-fn number_of(first: Option<u64>, place: usize) -> u64
-    ensures { result ≡ number_at first place }
-{
-    match first {
-        Some(first) => first.saturating_add(place as u64),
-        None => 0,
+        self.entries
+            .push_reserved(JournalEntry { before, receipts });
+        Ok(())
     }
 }
 

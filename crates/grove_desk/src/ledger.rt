@@ -1,106 +1,87 @@
-ghost use Rattle.std.specs.Prelude.{◌≡◌, [], Some, None, ◌<◌, ◌≤◌, length, map, take, All, IfOk, IfSome, OnErr};
+ghost use Rattle.std.specs.Prelude.{◌≡◌, true, Some, ◌<◌, ◌≤◌, ◌↔◌, length, map, take, drop, All, IfOk, OnErr, IsSome};
 ghost use Rattle.std.specs.Option.{option_map};
-ghost use Rattle.grove_tree.specs.Weights.{unweighed};
-ghost use Rattle.grove_store.specs.Rounds.{IsLawfulRound};
-ghost use Rattle.grove_desk.specs.Histories.{IsCall};
+ghost use Rattle.std.specs.Vec.{vec_capacity};
+ghost use Rattle.grove_desk.specs.Receipts.{IsAnswered};
+ghost use Rattle.grove_desk.specs.Histories.{IsRound, Led};
 ghost use Rattle.grove_desk.specs.Ledgers.{noted_in, IsKept};
 
-use crate::Receipt;
-use crate::journal::{Journal, note};
+use crate::answering::answer_taken;
+use crate::journal::Journal;
+use crate::slot::Asked;
+use crate::{Opening, Receipt};
 use grove_store::Store;
 use grove_tree::{Gate, NoMemory};
 use std::alloc::Global;
-use std::marker::Model;
+use std::marker::{Model, PhantomData};
 use std::sync::Wait;
 use std::thread::Threads;
 
-/// A store and, where one is kept, the journal of all that it answered. They change together.
+/// The store of a desk and, where one is kept, the journal of all that it answered. They change together.
 #[derive(Drop)]
-pub(crate) struct Ledger {
+pub(crate) struct Ledger<B: Opening> {
     store: Store,
     journal: Option<Journal>,
+    of: PhantomData<B>,
 }
 
-impl Model for Ledger {
-    ghost use Rattle.grove_desk.specs.Ledgers.{Books, IsKept};
+impl<B: Opening> Model for Ledger<B> {
+    ghost use Rattle.grove_desk.specs.Ledgers.{LedgerState, IsLedger};
 
-    ghost Value = { Books };
+    ghost Value = { LedgerState };
 
     ghost view = { λ ledger. record { store = ledger.store; journal = ledger.journal } };
 
-    ghost invariant = { λ ledger. IsKept ledger.journal ledger.store };
+    ghost invariant = { λ ledger. IsLedger B.store B.kept ledger.store ledger.journal };
 }
 
-impl Ledger {
-    /// A ledger that has answered nothing. Where a journal is to be kept, it begins with the copy of the store.
-    pub(crate) fn new(alloc: Global, store: Store, copy: Option<Store>) -> Ledger
-        requires { IfSome copy (λ copy. copy ≡ store) }
-        ensures { result ≡ record { store = store; journal = option_map (λ first. record { first = first; calls = []; lines = 0 }) copy } }
+impl<B: Opening> Ledger<B> {
+    /// A ledger that has answered nothing.
+    pub(crate) fn new(alloc: Global, store: Store, kept: bool) -> Self
+        requires store { store ≡ B.store }
+        requires kept { kept ≡ B.kept }
     {
-        let journal = copy.map(|first| Journal::new(alloc, first));
-        Ledger { store, journal }
+        Ledger {
+            store,
+            journal: kept.then(|| Journal::new(alloc)),
+            of: PhantomData,
+        }
     }
 
     pub(crate) fn into_parts(self) -> (Store, Option<Journal>)
-        ensures store { result.0 ≡ self.store }
-        ensures journal { result.1 ≡ self.journal }
-        ensures kept { IsKept result.1 result.0 }
+        ensures led { Led B.store result.0 }
+        ensures kept { IsKept B.store result.1 result.0 }
+        ensures journal { IsSome result.1 ↔ (B.kept ≡ true) }
     {
-        let Ledger { store, journal } = self;
+        let Ledger {
+            store,
+            journal,
+            of: _,
+        } = self;
         (store, journal)
     }
 
-    /// Answers the first of the lines in one round, with a receipt for each, and notes the round. Where memory is refused,
-    /// both are as they were: a copy of the store is made first, and comes back.
+    /// Answers the first of the lines in one round, and notes it where a journal is kept. Each has a receipt, which takes the
+    /// line; the others stay. Where memory is refused, store and journal are as they were.
     pub(crate) fn answer<R: Threads + Wait + Sync, G: Gate + Sync>(
         &mut self,
         rt: &R,
         alloc: Global,
-        lines: &[&[u8]],
+        taken: &mut Vec<Asked>,
         gate: &G,
     ) -> Result<Vec<Receipt>, NoMemory>
-        requires count { (0 < length lines.now) × (length lines.now ≤ 16) }
-        requires limit { All (λ line. length line.now ≤ 1048576) lines.now }
-        ensures lines { IfOk result (λ receipts. map (λ receipt. receipt.line) receipts.items ≡ take (length receipts.items) (map (λ line. line.now) lines.now)) }
-        ensures call { IfOk result (λ receipts. IsCall self.old.store receipts.items self.new.store) }
+        requires { (0 < length taken.old.items) × (length taken.old.items ≤ 16) }
+        ensures lines { IfOk result (λ receipts. map (λ receipt. receipt.line) receipts.items ≡ take (length receipts.items) (map (λ asked. asked.line.bytes.items) taken.old.items)) }
+        ensures round { IfOk result (λ receipts. IsRound self.old.store receipts.items self.new.store) }
         ensures journal { IfOk result (λ receipts. self.new.journal ≡ option_map (noted_in (record { before = self.old.store; receipts = receipts.items })) self.old.journal) }
+        ensures answered { IfOk result (λ receipts. All (IsAnswered B.store B.kept) receipts.items) }
+        ensures left { IfOk result (λ receipts. drop (length receipts.items) taken.new.items ≡ drop (length receipts.items) taken.old.items) }
+        ensures tickets { map (λ asked. asked.ticket) taken.new.items ≡ map (λ asked. asked.ticket) taken.old.items }
+        ensures room { vec_capacity taken.new ≡ vec_capacity taken.old }
         ensures err { OnErr result (self.new ≡ self.old) }
     {
-        let before = self.store.copy(alloc)?;
-        let replies = self.store.answer_round(rt, alloc, lines, gate)?;
-        note_round(
-            alloc,
-            &mut self.store,
-            &mut self.journal,
-            before,
-            lines,
-            &replies,
-        )
-    }
-}
-
-/// Notes the round that the store has just answered. Where memory is refused, the store is the one before it again.
-fn note_round(
-    alloc: Global,
-    store: &mut Store,
-    journal: &mut Option<Journal>,
-    before: Store,
-    lines: &[&[u8]],
-    replies: &[Vec<u8>],
-) -> Result<Vec<Receipt>, NoMemory>
-    requires round { IsLawfulRound before (take (length replies.now) (map (λ line. line.now) lines.now)) (map (λ reply. reply.items) replies.now) store.old }
-    requires kept { IsKept journal.old before }
-    ensures lines { IfOk result (λ receipts. map (λ receipt. receipt.line) receipts.items ≡ take (length receipts.items) (map (λ line. line.now) lines.now)) }
-    ensures call { IfOk result (λ receipts. IsCall before receipts.items store.new) }
-    ensures journal { IfOk result (λ receipts. journal.new ≡ option_map (noted_in (record { before = before; receipts = receipts.items })) journal.old) }
-    ensures kept { IsKept journal.new store.new }
-    ensures err { OnErr result ((journal.new ≡ journal.old) × (store.new ≡ before)) }
-{
-    match note(alloc, journal, before, lines, replies, store.rounds()) {
-        Ok(receipts) => Ok(receipts),
-        Err(before) => {
-            *store = before;
-            Err(NoMemory)
+        match &mut self.journal {
+            Some(journal) => journal.answer(rt, alloc, &mut self.store, taken, gate),
+            None => answer_taken(rt, alloc, &mut self.store, None, taken, gate),
         }
     }
 }

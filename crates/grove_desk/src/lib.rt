@@ -4,7 +4,8 @@
 
 pub use desk::{Closed, Desk};
 pub use fault::DeskFault;
-pub use journal::Kept;
+pub use journal::JournalEntry;
+pub use opening::Opening;
 pub use receipt::Receipt;
 pub use visit::{Visit, desk_session};
 
@@ -15,6 +16,7 @@ mod fault;
 mod journal;
 mod ledger;
 mod line;
+mod opening;
 mod receipt;
 mod slot;
 mod standing;

@@ -4,6 +4,7 @@ ghost use Rattle.grove_session.specs.declared.answers.TheConstants.{LINE_LIMIT};
 use grove_session::LINE_LIMIT;
 use grove_tree::NoMemory;
 use std::alloc::Global;
+use std::mem;
 
 /// A line that was put.
 #[derive(Drop)]
@@ -13,6 +14,7 @@ pub(crate) struct Line {
 }
 
 impl Line {
+    /// A copy of the line: the only one that is made of it, which its receipt takes.
     pub(crate) fn new(alloc: Global, line: &[u8]) -> Result<Line, NoMemory>
         requires { length line.now ≤ LINE_LIMIT }
         ensures { IfOk result (λ copy. copy.bytes.items ≡ line.now) }
@@ -27,5 +29,12 @@ impl Line {
         ensures in_limit { length result.now ≤ LINE_LIMIT }
     {
         &self.bytes
+    }
+
+    /// Moves the bytes out.
+    pub(crate) fn take(&mut self, alloc: Global) -> Vec<u8>
+        ensures { result.items ≡ self.old.bytes.items }
+    {
+        mem::replace(&mut self.bytes, Vec::new(alloc))
     }
 }

@@ -20,9 +20,9 @@ pub struct Receipt {
 }
 
 impl Model for Receipt {
-    ghost use Rattle.grove_desk.specs.Receipts.{Entry};
+    ghost use Rattle.grove_desk.specs.Receipts.{ReceiptState};
 
-    ghost Value = { Entry };
+    ghost Value = { ReceiptState };
 
     ghost view = { λ receipt. record { number = receipt.number; line = receipt.line.items; reply = receipt.reply.items; rounds = receipt.rounds } };
 }

@@ -2,7 +2,7 @@ ghost use Rattle.std.specs.Prelude.{◌≡◌, ◌↔◌, All, IsTrue, slice_get
 ghost use Rattle.std.specs.Option.{option_copied};
 ghost use Rattle.grove_desk.specs.Histories.{StandsIn, Ascend, receipts_in};
 
-use crate::{Kept, Receipt};
+use crate::{JournalEntry, Receipt};
 
 /// Do the numbers rise from receipt to receipt?
 pub(crate) fn ascend(receipts: &[Receipt]) -> bool
@@ -19,11 +19,11 @@ pub(crate) fn ascend(receipts: &[Receipt]) -> bool
 }
 
 /// Is each receipt that of its number?
-pub(crate) fn stand(calls: &[Kept], receipts: &[Receipt]) -> bool
-    ensures { IsTrue result ↔ All (StandsIn calls.now) receipts.now }
+pub(crate) fn stand(rounds: &[JournalEntry], receipts: &[Receipt]) -> bool
+    ensures { IsTrue result ↔ All (StandsIn rounds.now) receipts.now }
 {
     for receipt in receipts {
-        if !stands_in(calls, receipt) {
+        if !stands_in(rounds, receipt) {
             return false;
         }
     }
@@ -31,24 +31,24 @@ pub(crate) fn stand(calls: &[Kept], receipts: &[Receipt]) -> bool
 }
 
 /// Is the receipt that of its number?
-fn stands_in(calls: &[Kept], receipt: &Receipt) -> bool
-    ensures { IsTrue result ↔ StandsIn calls.now receipt.now }
+fn stands_in(rounds: &[JournalEntry], receipt: &Receipt) -> bool
+    ensures { IsTrue result ↔ StandsIn rounds.now receipt.now }
 {
-    match receipt_at(calls, receipt.number) {
+    match receipt_at(rounds, receipt.number) {
         Some(found) => found.same(receipt),
         None => false,
     }
 }
 
 /// The receipt of a number.
-fn receipt_at(calls: &[Kept], number: u64) -> Option<&Receipt>
-    ensures { option_copied result ≡ slice_get (receipts_in calls.now) number }
+fn receipt_at(rounds: &[JournalEntry], number: u64) -> Option<&Receipt>
+    ensures { option_copied result ≡ slice_get (receipts_in rounds.now) number }
 {
     let mut rest = number;
-    for call in calls {
-        let count = call.receipts.len() as u64;
+    for round in rounds {
+        let count = round.receipts.len() as u64;
         if rest < count {
-            return call.receipts.get(rest as usize);
+            return round.receipts.get(rest as usize);
         }
         rest -= count;
     }

@@ -6,7 +6,7 @@ ghost use Rattle.grove_tree.specs.Weights.{unweighed};
 ghost use Rattle.grove_desk.specs.Desks.{Visited, IsShared};
 
 use crate::fault::answer_fault;
-use crate::{Desk, Receipt};
+use crate::{Desk, Opening, Receipt};
 use grove_session::{AnswerFault, Answers, SessionFault, Sink, Source, session};
 use grove_tree::OpenGate;
 use std::alloc::{AllocGlobal, Global};
@@ -16,13 +16,13 @@ use std::thread::Threads;
 
 /// A visitor of a desk, whose lines are answered there one after the other.
 #[derive(Drop)]
-pub struct Visit<'a> {
-    desk: &'a Desk,
+pub struct Visit<'a, B: Opening> {
+    desk: &'a Desk<B>,
     /// What the last line was answered.
     seen: Option<Receipt>,
 }
 
-impl<'a> Model for Visit<'a> {
+impl<'a, B: Opening> Model for Visit<'a, B> {
     ghost use Rattle.grove_tree.specs.Weights.{unweighed};
     ghost use Rattle.grove_desk.specs.Desks.{Visited, rounds_seen};
 
@@ -31,16 +31,16 @@ impl<'a> Model for Visit<'a> {
     ghost view = { λ visit. record { names = unweighed visit.desk.now.opening.rows; rounds = rounds_seen visit.seen } };
 }
 
-impl<'a> Visit<'a> {
+impl<'a, B: Opening> Visit<'a, B> {
     /// A visitor who has seen nothing yet.
-    pub fn new(desk: &'a Desk) -> Visit<'a>
+    pub fn new(desk: &'a Desk<B>) -> Self
         ensures { result ≡ record { names = unweighed desk.entry.now.opening.rows; rounds = 0 } }
     {
         Visit { desk, seen: None }
     }
 }
 
-impl<'a, R: Threads + Wait + Sync + AllocGlobal> Answers<R> for Visit<'a> {
+impl<'a, B: Opening, R: Threads + Wait + Sync + AllocGlobal> Answers<R> for Visit<'a, B> {
     ghost use Rattle.std.specs.Prelude.{true};
     ghost use Rattle.std.specs.Thread.{IsSync};
     ghost use Rattle.grove_desk.specs.Desks.{IsShared};
@@ -91,9 +91,9 @@ fn without_reply(alloc: Global, receipt: Receipt) -> (Receipt, Vec<u8>)
 /// Answers the lines of the source at the desk, one after the other, each with its reply and a line feed, and gives their
 /// number. Between two of them others may have changed the store. After `Foreign` the replies of the lines before went out
 /// whole, and the line may have had its effect.
-pub fn desk_session<R: Threads + Wait + Sync + AllocGlobal, I: Source, O: Sink>(
+pub fn desk_session<B: Opening, R: Threads + Wait + Sync + AllocGlobal, I: Source, O: Sink>(
     rt: &R,
-    desk: &Desk,
+    desk: &Desk<B>,
     source: &mut I,
     sink: &mut O,
 ) -> Result<u64, SessionFault>

@@ -1,9 +1,12 @@
-use crate::fixtures::two_leaves;
+ghost use Rattle.std.specs.Prelude.{◌≡◌, true, false};
+
+use crate::fixtures::{A, two_leaves};
 use grove_access::Records;
-use grove_desk::{Closed, Desk, Receipt};
+use grove_desk::{Closed, Desk, Opening, Receipt};
 use grove_store::Store;
-use grove_tree::OpenGate;
+use grove_tree::{Node, OpenGate};
 use std::alloc::Global;
+use std::marker::Brand;
 use std::process::Abort;
 use std::sync::Wait;
 use std::thread;
@@ -18,26 +21,21 @@ const FIRST_REPLY: &[u8] = b"{\"places\":[0],\"replies\":[[11]],\"round\":1}";
 
 const SECOND_REPLY: &[u8] = b"{\"places\":[0],\"replies\":[[12]],\"round\":2}";
 
-/// A desk over a root and two leaves with records 0, 10 and 20, with a journal.
-pub fn kept_desk(rt: &impl Abort, alloc: Global, workers: u32) -> Desk {
-    open_desk(rt, alloc, workers, true)
-}
-
-fn open_desk(rt: &impl Abort, alloc: Global, workers: u32, kept: bool) -> Desk {
+/// A store over a root and two leaves with records 0, 10 and 20.
+pub fn small_store(rt: &impl Abort, alloc: Global, workers: u32) -> Store {
     let tree = two_leaves(rt, alloc);
     let records = Records::new(alloc, &[0, 10, 20]).expect(rt, "room for records");
     assert!(rt; records.fits(&tree));
     assert!(rt; 1 <= workers && workers <= 16);
     let store = Store::open(alloc, tree, records, workers).ok();
-    let desk = Desk::open(alloc, store.expect(rt, "a store"), kept).ok();
-    desk.expect(rt, "a desk")
+    store.expect(rt, "a store")
 }
 
 /// The receipt of a batch that adds 1 to `/a`.
-fn add<R: Abort + Threads + Wait + Sync>(
+fn add<B: Opening, R: Abort + Threads + Wait + Sync>(
     rt: &R,
     alloc: Global,
-    desk: &Desk,
+    desk: &Desk<B>,
     seen: Option<&Receipt>,
 ) -> Receipt {
     desk.answer(rt, alloc, seen, ADD, &OpenGate)
@@ -45,7 +43,7 @@ fn add<R: Abort + Threads + Wait + Sync>(
 }
 
 /// Adds 1 to `/a` fifty times, each time with the last receipt in hand.
-fn add_fifty<R: Abort + Threads + Wait + Sync>(rt: &R, alloc: Global, desk: &Desk) {
+fn add_fifty<B: Opening, R: Abort + Threads + Wait + Sync>(rt: &R, alloc: Global, desk: &Desk<B>) {
     let mut seen = None;
     for _ in 0..50 {
         seen = Some(add(rt, alloc, desk, seen.as_ref()));
@@ -53,7 +51,11 @@ fn add_fifty<R: Abort + Threads + Wait + Sync>(rt: &R, alloc: Global, desk: &Des
 }
 
 /// Adds 1 to `/a` fifty times in each of eight threads.
-fn eight_add_fifty<R: Abort + Threads + Wait + Sync>(rt: &R, alloc: Global, desk: &Desk) {
+fn eight_add_fifty<B: Opening + Send + Sync, R: Abort + Threads + Wait + Sync>(
+    rt: &R,
+    alloc: Global,
+    desk: &Desk<B>,
+) {
     thread::scope(thread::scope_env(), rt, |scope| {
         for _ in 0..8 {
             if scope.spawn(move || add_fifty(rt, alloc, desk)).is_err() {
@@ -65,15 +67,35 @@ fn eight_add_fifty<R: Abort + Threads + Wait + Sync>(rt: &R, alloc: Global, desk
 
 #[test]
 fn eight_callers_of_fifty_batches_leave_a_record_400_higher(rt: HostRuntime) {
-    let alloc = rt.alloc();
-    let desk = open_desk(&rt, alloc, 1, false);
-    eight_add_fifty(&rt, alloc, &desk);
-    is_400_higher(&rt, alloc, &desk);
-    assert_eq!(rt; desk.waiting(&rt), 0);
+    let store = small_store(&rt, rt.alloc(), 1);
+    eight_callers::<Brand, HostRuntime>(&rt, rt.alloc(), store);
+}
+
+/// Eight callers at a desk without a journal, whose store is the last one's.
+fn eight_callers<B: Opening + Send + Sync, R: Abort + Threads + Wait + Sync>(
+    rt: &R,
+    alloc: Global,
+    store: Store,
+)
+    requires store { store ≡ B.store }
+    requires kept { B.kept ≡ false }
+{
+    let desk = Desk::<B>::open(alloc, store, false);
+    eight_add_fifty(rt, alloc, &desk);
+    is_400_higher(rt, alloc, &desk);
+    assert_eq!(rt; desk.waiting(rt), 0);
+    let closed = close(rt, alloc, desk, &[]);
+    assert!(rt; closed.journal.is_empty());
+    assert!(rt; closed.store.records().len() == 3);
+    assert!(rt; closed.store.records().get(Node::new(A)) == 410);
 }
 
 /// The record of `/a`, which was 10, is 410 after at most 401 rounds.
-fn is_400_higher<R: Abort + Threads + Wait + Sync>(rt: &R, alloc: Global, desk: &Desk) {
+fn is_400_higher<B: Opening, R: Abort + Threads + Wait + Sync>(
+    rt: &R,
+    alloc: Global,
+    desk: &Desk<B>,
+) {
     let looked = desk
         .answer(rt, alloc, None, GET, &OpenGate)
         .expect(rt, "a receipt");
@@ -87,23 +109,41 @@ fn is_400_higher<R: Abort + Threads + Wait + Sync>(rt: &R, alloc: Global, desk: 
 
 #[test]
 fn lines_of_one_caller_are_rounds_of_their_own_and_the_journal_has_them(rt: HostRuntime) {
-    let alloc = rt.alloc();
-    let desk = kept_desk(&rt, alloc, 1);
-    let first = add(&rt, alloc, &desk, None);
-    let second = add(&rt, alloc, &desk, Some(&first));
+    let store = small_store(&rt, rt.alloc(), 1);
+    two_rounds::<Brand, HostRuntime>(&rt, rt.alloc(), store);
+}
+
+/// Two lines of one caller at a desk with a journal, which is then closed.
+fn two_rounds<B: Opening, R: Abort + Threads + Wait + Sync>(rt: &R, alloc: Global, store: Store)
+    requires store { store ≡ B.store }
+    requires kept { B.kept ≡ true }
+{
+    let desk = Desk::<B>::open(alloc, store, true);
+    let first = add(rt, alloc, &desk, None);
+    let second = add(rt, alloc, &desk, Some(&first));
     assert!(rt; first.reply.as_slice() == FIRST_REPLY);
     assert!(rt; second.reply.as_slice() == SECOND_REPLY);
     assert!(rt; first.number == 0 && second.number == 1);
-    close_after_two_rounds(&rt, alloc, desk, &[first, second]);
+    close_after_two_rounds(rt, alloc, desk, &[first, second]);
 }
 
 /// Closes the desk, at which each of two lines had a round of its own.
-fn close_after_two_rounds(rt: &impl Abort, alloc: Global, desk: Desk, receipts: &[Receipt]) {
+fn close_after_two_rounds<B: Opening>(
+    rt: &impl Abort,
+    alloc: Global,
+    desk: Desk<B>,
+    receipts: &[Receipt],
+) {
     let closed = close(rt, alloc, desk, receipts);
     has_rounds_of(rt, &closed, [1, 1]);
 }
 
-pub fn close(rt: &impl Abort, alloc: Global, desk: Desk, receipts: &[Receipt]) -> Closed {
+pub fn close<B: Opening>(
+    rt: &impl Abort,
+    alloc: Global,
+    desk: Desk<B>,
+    receipts: &[Receipt],
+) -> Closed {
     let closed = desk.close(alloc, receipts).ok();
     closed.expect(rt, "a desk that closes")
 }
@@ -116,17 +156,28 @@ pub fn has_rounds_of(rt: &impl Abort, closed: &Closed, lines: [usize; 2]) {
         journal
             .iter()
             .zip(lines)
-            .all(|(kept, lines)| kept.receipts.len() == lines)
+            .all(|(entry, lines)| entry.receipts.len() == lines)
     );
 }
 
 #[test]
 fn a_desk_does_not_close_on_receipts_in_another_order(rt: HostRuntime) {
-    let alloc = rt.alloc();
-    let desk = kept_desk(&rt, alloc, 1);
-    let first = add(&rt, alloc, &desk, None);
-    let second = add(&rt, alloc, &desk, Some(&first));
+    let store = small_store(&rt, rt.alloc(), 1);
+    closing_is_refused::<Brand, HostRuntime>(&rt, rt.alloc(), store);
+}
+
+fn closing_is_refused<B: Opening, R: Abort + Threads + Wait + Sync>(
+    rt: &R,
+    alloc: Global,
+    store: Store,
+)
+    requires store { store ≡ B.store }
+    requires kept { B.kept ≡ true }
+{
+    let desk = Desk::<B>::open(alloc, store, true);
+    let first = add(rt, alloc, &desk, None);
+    let second = add(rt, alloc, &desk, Some(&first));
     let refused = desk.close(alloc, &[second, first]).err();
-    let store = refused.flatten().expect(&rt, "the store comes back");
+    let store = refused.flatten().expect(rt, "the store comes back");
     assert!(rt; store.rounds() == 2);
 }

@@ -1,10 +1,14 @@
+ghost use Rattle.std.specs.Prelude.{◌≡◌, false};
+ghost use Rattle.std.specs.Thread.{IsSend, IsSync};
+
 use crate::fixtures::leaves_below;
 use grove_access::Records;
-use grove_desk::{Desk, desk_session};
+use grove_desk::{Desk, Opening, desk_session};
 use grove_session::{ReaderSource, SessionFault, WriterSink, session};
 use grove_store::Store;
 use std::alloc::AllocGlobal;
 use std::io::{self, BufRead, BufReader, Write};
+use std::marker::Brand;
 use std::net::{Ipv4Addr, Net, Shutdown, SocketAddr, TcpListener, TcpStream};
 use std::process::Abort;
 use std::sync::Wait;
@@ -86,18 +90,10 @@ const SUMS: [&str; 3] = [
     "{\"places\":[0],\"replies\":[[13]],\"round\":3}\n",
 ];
 
-/// A desk over such a store.
-fn open_desk<R: AllocGlobal + Abort>(rt: &R) -> Desk {
-    match Desk::open(rt.alloc(), open_store(rt), false) {
-        Ok(desk) => desk,
-        Err(_) => panic!(rt; "no room for a desk"),
-    }
-}
-
 /// Answers the next connection's lines at the desk.
-fn serve_at<R: AllocGlobal + Abort + Threads + Wait + Sync>(
+fn serve_at<B: Opening, R: AllocGlobal + Abort + Threads + Wait + Sync>(
     rt: &R,
-    desk: &Desk,
+    desk: &Desk<B>,
     listener: &TcpListener,
 ) -> Result<u64, SessionFault> {
     let (stream, _address) = listener.accept().expect(rt, "a connection");
@@ -135,10 +131,52 @@ fn ask_in_turn<R: AllocGlobal + Abort + Net<Stream = TcpStream>>(
 fn a_second_client_is_answered_while_the_first_stays(rt: HostRuntime) {
     let listener = TcpListener::bind(&rt, (Ipv4Addr::LOCALHOST, 0)).expect(&rt, "a free port");
     let address = listener.local_addr().expect(&rt, "its address");
-    let desk = open_desk(&rt);
-    let serve_one = || serve_at(&rt, &desk, &listener);
-    let serve_two = || join(&rt, || serve_at(&rt, &desk, &listener), serve_one);
-    let (answered, replies) = join(&rt, serve_two, || ask_in_turn(&rt, address));
+    let store = open_store(&rt);
+    serve_two_clients::<Brand, HostRuntime>(&rt, store, &listener, address);
+}
+
+/// How a session ended.
+type Ended = Result<u64, SessionFault>;
+
+/// Answers the lines of two connections at once.
+fn serve_both<B: Opening + Send + Sync, R: AllocGlobal + Abort + Threads + Wait + Sync>(
+    rt: &R,
+    desk: &Desk<B>,
+    listener: &TcpListener,
+) -> (Ended, Ended)
+    requires shared { IsSync R.row × IsSend B.row × IsSync B.row }
+{
+    let serve_one = move || serve_at(rt, desk, listener);
+    join(rt, move || serve_at(rt, desk, listener), serve_one)
+}
+
+/// Answers two clients that ask in turn; what came of both sides.
+fn serve_and_ask<
+    B: Opening + Send + Sync,
+    R: AllocGlobal + Abort + Net<Stream = TcpStream> + Threads + Wait + Sync,
+>(
+    rt: &R,
+    desk: &Desk<B>,
+    listener: &TcpListener,
+    address: SocketAddr,
+) -> ((Ended, Ended), [String; 3])
+    requires shared { IsSync R.row × IsSend B.row × IsSync B.row }
+{
+    let serve = move || -> (Ended, Ended)
+        requires { IsSync R.row × IsSend B.row × IsSync B.row }
+    { serve_both(rt, desk, listener) };
+    join(rt, serve, move || ask_in_turn(rt, address))
+}
+
+fn serve_two_clients<
+    B: Opening + Send + Sync,
+    R: AllocGlobal + Abort + Net<Stream = TcpStream> + Threads + Wait + Sync,
+>(rt: &R, store: Store, listener: &TcpListener, address: SocketAddr)
+    requires store { store ≡ B.store }
+    requires kept { B.kept ≡ false }
+{
+    let desk = Desk::<B>::open(rt.alloc(), store, false);
+    let (answered, replies) = serve_and_ask(rt, &desk, listener, address);
     assert!(rt; answered == (Ok(2), Ok(1)) || answered == (Ok(1), Ok(2)));
     let [first, second, third] = &replies;
     assert!(rt; [first.as_str(), second.as_str(), third.as_str()] == SUMS);

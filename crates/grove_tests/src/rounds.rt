@@ -1,9 +1,14 @@
-use crate::desks::{close, has_rounds_of, kept_desk};
+ghost use Rattle.std.specs.Prelude.{◌≡◌, true};
+ghost use Rattle.std.specs.Thread.{IsSend, IsSync};
+
+use crate::desks::{close, has_rounds_of, small_store};
 use crate::fixtures::{A, B};
 use grove_access::Records;
-use grove_desk::{Desk, Receipt};
+use grove_desk::{Desk, Opening, Receipt};
+use grove_store::Store;
 use grove_tree::{Gate, Node, OpenGate};
 use std::alloc::Global;
+use std::marker::Brand;
 use std::process::Abort;
 use std::sync::Wait;
 use std::sync::atomic::{AtomicBool, Ordering};
@@ -66,7 +71,7 @@ impl Gate for Hold {
 }
 
 /// Lets the round go once two lines wait for the next one, and looks on until it is over.
-fn let_go<R: Wait>(rt: &R, desk: &Desk, hold: &Hold) {
+fn let_go<B: Opening, R: Wait>(rt: &R, desk: &Desk<B>, hold: &Hold) {
     for _ in 0..MOST_LOOKS {
         if desk.waiting(rt) == 2 {
             hold.may_go.store(true, Ordering::SeqCst);
@@ -79,10 +84,10 @@ fn let_go<R: Wait>(rt: &R, desk: &Desk, hold: &Hold) {
 }
 
 /// Asks for a round that is held.
-fn get_held<R: Abort + Threads + Wait + Sync>(
+fn get_held<B: Opening, R: Abort + Threads + Wait + Sync>(
     rt: &R,
     alloc: Global,
-    desk: &Desk,
+    desk: &Desk<B>,
     hold: &Hold,
 ) -> Receipt {
     let answered = desk.answer(rt, alloc, None, GET, hold);
@@ -91,10 +96,10 @@ fn get_held<R: Abort + Threads + Wait + Sync>(
 }
 
 /// Asks once the round is held.
-fn add_beside<R: Abort + Threads + Wait + Sync>(
+fn add_beside<B: Opening, R: Abort + Threads + Wait + Sync>(
     rt: &R,
     alloc: Global,
-    desk: &Desk,
+    desk: &Desk<B>,
     hold: &Hold,
 ) -> Receipt {
     assert!(rt; waits_for(&hold.is_held));
@@ -118,7 +123,12 @@ fn by_number(first: Receipt, one: Receipt, other: Receipt) -> [Receipt; 3] {
 }
 
 /// Closes the desk, at which one line had a round of its own and two lines shared the next.
-fn close_after_two_rounds(rt: &impl Abort, alloc: Global, desk: Desk, receipts: &[Receipt]) {
+fn close_after_two_rounds<B: Opening>(
+    rt: &impl Abort,
+    alloc: Global,
+    desk: Desk<B>,
+    receipts: &[Receipt],
+) {
     let closed = close(rt, alloc, desk, receipts);
     has_rounds_of(rt, &closed, [1, 2]);
     are_10_and_22(rt, closed.store.records());
@@ -132,17 +142,70 @@ fn are_10_and_22(rt: &impl Abort, records: &Records) {
 
 #[test]
 fn lines_that_wait_for_a_round_share_the_next(rt: HostRuntime) {
-    let alloc = rt.alloc();
-    let desk = kept_desk(&rt, alloc, 2);
+    let store = small_store(&rt, rt.alloc(), 2);
+    two_share_the_next::<Brand, HostRuntime>(&rt, rt.alloc(), store);
+}
+
+/// Three callers at a desk with a journal, of whom two wait while the first one's round is held.
+fn two_share_the_next<B: Opening + Send + Sync, R: Abort + Threads + Wait + Sync>(
+    rt: &R,
+    alloc: Global,
+    store: Store,
+)
+    requires store { store ≡ B.store }
+    requires kept { B.kept ≡ true }
+{
+    let desk = Desk::<B>::open(alloc, store, true);
     let hold = Hold::new();
-    let add = || add_beside(&rt, alloc, &desk, &hold);
-    let two_adds = || join(&rt, || add_beside(&rt, alloc, &desk, &hold), add);
-    let get = || get_held(&rt, alloc, &desk, &hold);
-    let watched = || join(&rt, || let_go(&rt, &desk, &hold), get);
-    let ((one, other), ((), first)) = join(&rt, two_adds, watched);
+    let ((one, other), first) = answers_of_three(rt, alloc, &desk, &hold);
     assert!(rt; !hold.gave_up.load(Ordering::SeqCst));
     assert!(rt; first.reply.as_slice() == FIRST_ROUND);
     assert!(rt; are_shared(&one, &other));
     let receipts = by_number(first, one, other);
-    close_after_two_rounds(&rt, alloc, desk, &receipts);
+    close_after_two_rounds(rt, alloc, desk, &receipts);
+}
+
+/// Two ask once the round is held.
+fn add_twice_beside<B: Opening + Send + Sync, R: Abort + Threads + Wait + Sync>(
+    rt: &R,
+    alloc: Global,
+    desk: &Desk<B>,
+    hold: &Hold,
+) -> (Receipt, Receipt)
+    requires shared { IsSync R.row × IsSend B.row × IsSync B.row }
+{
+    let add = move || add_beside(rt, alloc, desk, hold);
+    join(rt, move || add_beside(rt, alloc, desk, hold), add)
+}
+
+/// Asks for a round that is held, and lets it go.
+fn get_watched<B: Opening + Send + Sync, R: Abort + Threads + Wait + Sync>(
+    rt: &R,
+    alloc: Global,
+    desk: &Desk<B>,
+    hold: &Hold,
+) -> Receipt
+    requires shared { IsSync R.row × IsSend B.row × IsSync B.row }
+{
+    let get = move || get_held(rt, alloc, desk, hold);
+    let ((), receipt) = join(rt, move || let_go(rt, desk, hold), get);
+    receipt
+}
+
+/// The receipts of the two that wait, and of the one whose round is held.
+fn answers_of_three<B: Opening + Send + Sync, R: Abort + Threads + Wait + Sync>(
+    rt: &R,
+    alloc: Global,
+    desk: &Desk<B>,
+    hold: &Hold,
+) -> ((Receipt, Receipt), Receipt)
+    requires shared { IsSync R.row × IsSend B.row × IsSync B.row }
+{
+    let two_adds = move || -> (Receipt, Receipt)
+        requires { IsSync R.row × IsSend B.row × IsSync B.row }
+    { add_twice_beside(rt, alloc, desk, hold) };
+    let watched = move || -> Receipt
+        requires { IsSync R.row × IsSend B.row × IsSync B.row }
+    { get_watched(rt, alloc, desk, hold) };
+    join(rt, two_adds, watched)
 }

@@ -1,30 +1,39 @@
+ghost use Rattle.std.specs.Prelude.{◌≡◌, true};
+
 use crate::again::telling::say_memory;
 use crate::again::values::store_below;
 use anyhow::{Result, bail, ensure};
-use grove_desk::{Closed, Desk, DeskFault, Receipt};
+use grove_desk::{Closed, Desk, DeskFault, Opening, Receipt};
 use grove_session::LINE_LIMIT;
 use grove_store::Store;
 use grove_tree::OpenGate;
 use std::alloc::AllocGlobal;
+use std::marker::Brand;
 use std::sync::Wait;
 use std::thread::Threads;
 
 /// Three batches at a desk with a journal, which is then closed.
 pub fn answer_lines<R: AllocGlobal + Print + Threads + Wait + Sync>(rt: &R) -> Result<()> {
-    let desk = open(rt, store_below(rt.alloc(), 1)?)?;
-    answer_at(rt, desk)
+    answer_over::<Brand, R>(rt, store_below(rt.alloc(), 1)?)
 }
 
-fn answer_at<R: AllocGlobal + Print + Threads + Wait + Sync>(rt: &R, desk: Desk) -> Result<()> {
+fn answer_over<B: Opening, R: AllocGlobal + Print + Threads + Wait + Sync>(
+    rt: &R,
+    store: Store,
+) -> Result<()>
+    requires store { store ≡ B.store }
+    requires kept { B.kept ≡ true }
+{
+    let desk = Desk::<B>::open(rt.alloc(), store, true);
     println!(rt; "waiting {}", desk.waiting(rt))?;
     let receipts = receipts_for(rt, &desk)?;
     let closed = close(rt, desk, &receipts)?;
     tell_closed(rt, &closed)
 }
 
-fn receipts_for<R: AllocGlobal + Print + Threads + Wait + Sync>(
+fn receipts_for<B: Opening, R: AllocGlobal + Print + Threads + Wait + Sync>(
     rt: &R,
-    desk: &Desk,
+    desk: &Desk<B>,
 ) -> Result<Vec<Receipt>> {
     let lines = [
         br#"{"batch":[[["get","/a"]]]}"#.as_slice(),
@@ -38,24 +47,9 @@ fn receipts_for<R: AllocGlobal + Print + Threads + Wait + Sync>(
     Ok(receipts)
 }
 
-fn open<R: AllocGlobal + Print + Threads + Wait + Sync>(rt: &R, store: Store) -> Result<Desk> {
-    match Desk::open(rt.alloc(), store, true) {
-        Ok(desk) => Ok(desk),
-        Err(back) => open_again(rt, back),
-    }
-}
-
-fn open_again<R: AllocGlobal + Print>(rt: &R, store: Store) -> Result<Desk> {
-    say_memory(rt)?;
-    match Desk::open(rt.alloc(), store, true) {
-        Ok(desk) => Ok(desk),
-        Err(_) => bail!("memory once more"),
-    }
-}
-
-fn receipt_for<R: AllocGlobal + Print + Threads + Wait + Sync>(
+fn receipt_for<B: Opening, R: AllocGlobal + Print + Threads + Wait + Sync>(
     rt: &R,
-    desk: &Desk,
+    desk: &Desk<B>,
     line: &[u8],
 ) -> Result<Receipt> {
     let receipt = answered(rt, desk, line)?;
@@ -63,9 +57,9 @@ fn receipt_for<R: AllocGlobal + Print + Threads + Wait + Sync>(
     Ok(receipt)
 }
 
-fn answered<R: AllocGlobal + Print + Threads + Wait + Sync>(
+fn answered<B: Opening, R: AllocGlobal + Print + Threads + Wait + Sync>(
     rt: &R,
-    desk: &Desk,
+    desk: &Desk<B>,
     line: &[u8],
 ) -> Result<Receipt> {
     ensure!(line.len() <= LINE_LIMIT, "the line is too long");
@@ -87,9 +81,9 @@ fn tell_receipt<R: Print>(rt: &R, receipt: &Receipt) -> Result<()> {
     Ok(())
 }
 
-fn close<R: AllocGlobal + Print + Threads + Wait + Sync>(
+fn close<B: Opening, R: AllocGlobal + Print + Threads + Wait + Sync>(
     rt: &R,
-    desk: Desk,
+    desk: Desk<B>,
     receipts: &[Receipt],
 ) -> Result<Closed> {
     match desk.close(rt.alloc(), receipts) {

@@ -1,11 +1,14 @@
+ghost use Rattle.std.specs.Prelude.{◌≡◌, false};
+
 use crate::again::telling::say_memory;
 use crate::again::values::{LINES, store_below};
-use anyhow::{Result, bail};
-use grove_desk::{Desk, desk_session};
+use anyhow::Result;
+use grove_desk::{Desk, Opening, desk_session};
 use grove_session::{BytesSource, SessionFault, WriterSink, session};
 use grove_store::Store;
 use std::alloc::AllocGlobal;
 use std::io;
+use std::marker::Brand;
 use std::sync::Wait;
 use std::thread::Threads;
 
@@ -55,20 +58,24 @@ pub fn talk_to_desk<R: AllocGlobal + Print + Threads + Wait + Sync>(rt: &R) -> R
 fn talk_at_fresh<R: AllocGlobal + Print + Threads + Wait + Sync>(
     rt: &R,
 ) -> Result<Result<u64, SessionFault>> {
-    let desk = desk_of(rt)?;
-    Ok(talk_at(rt, &desk))
+    let store = store_below(rt.alloc(), 5)?;
+    Ok(talk_over::<Brand, R>(rt, store))
 }
 
-fn desk_of<R: AllocGlobal + Print + Threads + Wait + Sync>(rt: &R) -> Result<Desk> {
-    match Desk::open(rt.alloc(), store_below(rt.alloc(), 5)?, false) {
-        Ok(desk) => Ok(desk),
-        Err(_) => bail!("memory"),
-    }
-}
-
-fn talk_at<R: AllocGlobal + Print + Threads + Wait + Sync>(
+fn talk_over<B: Opening, R: AllocGlobal + Print + Threads + Wait + Sync>(
     rt: &R,
-    desk: &Desk,
+    store: Store,
+) -> Result<u64, SessionFault>
+    requires store { store ≡ B.store }
+    requires kept { B.kept ≡ false }
+{
+    let desk = Desk::<B>::open(rt.alloc(), store, false);
+    talk_at(rt, &desk)
+}
+
+fn talk_at<B: Opening, R: AllocGlobal + Print + Threads + Wait + Sync>(
+    rt: &R,
+    desk: &Desk<B>,
 ) -> Result<u64, SessionFault> {
     let mut source = BytesSource::new(LINES.as_bytes());
     let mut sink = WriterSink::new(io::writer(rt));

@@ -1,10 +1,10 @@
-ghost use Rattle.std.specs.Prelude.{◌≡◌, true, false, [], Some, IfOk, IfErr, OnErr};
-ghost use Rattle.grove_desk.specs.Histories.{IsHistory};
-ghost use Rattle.grove_desk.specs.Ledgers.{IsAccount};
+ghost use Rattle.std.specs.Prelude.{◌≡◌, true, false, [], None, Some, IfOk, IfErr, IfSome, OnErr};
+ghost use Rattle.grove_store.specs.Stocks.{Stock};
+ghost use Rattle.grove_desk.specs.Histories.{IsHistory, Led};
+ghost use Rattle.grove_desk.specs.Ledgers.{IsJournal};
 
-use crate::journal::{Journal, Kept};
-use crate::ledger::Ledger;
-use crate::{Desk, Receipt};
+use crate::journal::{Journal, JournalEntry};
+use crate::{Desk, Opening, Receipt};
 use grove_store::Store;
 use std::alloc::Global;
 
@@ -12,69 +12,47 @@ use std::alloc::Global;
 #[derive(Drop)]
 pub struct Closed {
     pub store: Store,
-    pub journal: Vec<Kept>,
+    pub journal: Vec<JournalEntry>,
 }
 
-impl Desk {
-    /// Closes the desk. Where a journal was kept, it is refused, with the store, unless the journal begins with the store that the
-    /// desk was opened with, and the receipts stand in it: their numbers rise, and each is the journal's of its number. `None`
-    /// is answered where the store isn't there, which never comes: a call that takes it out puts it back. It takes no memory.
+impl<B: Opening> Desk<B> {
+    /// Closes the desk. Where a journal was kept, it is refused, with the store, unless the receipts stand in the journal: their
+    /// numbers rise, and each is the journal's of its number. `None` is answered where the store isn't there, which never
+    /// comes: a call that takes it out puts it back. It takes no memory.
     pub fn close(self, alloc: Global, receipts: &[Receipt]) -> Result<Closed, Option<Store>>
         ensures kept { IfOk result (λ closed. self.kept ≡ true → IsHistory self.opening receipts.now closed.journal.items closed.store) }
         ensures plain { IfOk result (λ closed. self.kept ≡ false → closed.journal.items ≡ []) }
+        ensures led { IfOk result (λ closed. Led self.opening closed.store) }
+        ensures back { IfErr result (λ back. IfSome back (Led self.opening)) }
+        ensures gone { IfErr result (λ back. self.kept ≡ false → back ≡ None) }
     {
-        let Desk {
-            opening,
-            kept,
-            board,
-            moved: _,
-        } = self;
-        match board.into_inner().into_ledger() {
-            Some(ledger) if kept => audited(&opening, ledger, receipts),
-            Some(ledger) => Ok(plain(alloc, ledger)),
-            None => Err(None),
+        let Desk { board, .. } = self;
+        let Some(ledger) = board.into_inner().into_ledger() else {
+            return Err(None);
+        };
+        let (store, journal) = ledger.into_parts();
+        match journal {
+            Some(journal) => settled(store, journal, receipts),
+            None => Ok(Closed {
+                store,
+                journal: Vec::new(alloc),
+            }),
         }
     }
 }
 
-/// What a ledger without a journal leaves.
-fn plain(alloc: Global, ledger: Ledger) -> Closed
-    ensures { result.journal.items ≡ [] }
-{
-    let (store, _) = ledger.into_parts();
-    Closed {
-        store,
-        journal: Vec::new(alloc),
-    }
-}
-
-/// The store and the journal of a ledger that keeps one, where they pass.
-fn audited(opening: &Store, ledger: Ledger, receipts: &[Receipt]) -> Result<Closed, Option<Store>>
-    ensures { IfOk result (λ closed. IsHistory opening.now receipts.now closed.journal.items closed.store) }
-{
-    match ledger.into_parts() {
-        (store, Some(journal)) => settled(opening, store, journal, receipts),
-        (store, None) => Err(Some(store)),
-    }
-}
-
-/// The store and its journal, where that begins with the opening store and the receipts stand in it, each once.
-fn settled(
-    opening: &Store,
-    store: Store,
-    journal: Journal,
-    receipts: &[Receipt],
-) -> Result<Closed, Option<Store>>
-    requires { IsAccount journal store }
-    ensures ok { IfOk result (λ closed. IsHistory opening.now receipts.now closed.journal.items closed.store) }
+/// The store and its journal, where the receipts stand in it, each once.
+fn settled(store: Store, journal: Journal, receipts: &[Receipt]) -> Result<Closed, Option<Store>>
+    ensures history { (opening : Stock) → IsJournal opening journal store → IfOk result (λ closed. IsHistory opening receipts.now closed.journal.items closed.store) }
+    ensures store { IfOk result (λ closed. closed.store ≡ store) }
     ensures back { IfErr result (λ back. back ≡ Some store) }
-    ensures refused { OnErr result (IsHistory opening.now receipts.now journal.calls store → ⊥) }
+    ensures refused { (opening : Stock) → OnErr result (IsHistory opening receipts.now journal.rounds store → ⊥) }
 {
-    if !journal.has(opening, receipts) {
+    if !journal.has(receipts) {
         return Err(Some(store));
     }
     Ok(Closed {
         store,
-        journal: journal.into_calls(),
+        journal: journal.into_entries(),
     })
 }

@@ -1,13 +1,16 @@
 use Rattle.std.proofs.Common.{map}
 use Rattle.grove_core.specs.declared.job.Job.{Job}
+use Rattle.grove_store.proofs.Jobs.{settled_legal}
 use Rattle.grove_answer.proofs.Batches.{run_fault_fits, says_run_fault}
 use Rattle.grove_answer.proofs.running.run_jobs.Goals as goal
 
+pub run_legal-requires-clause-legal : goal.run_legal-requires-clause-legal
+run_legal-requires-clause-legal g c κs live = settled_legal c.args.tree.now (map (λ (job : Job). job.list) c.args.jobs.now) c.args.jobs.now c.requires.settled
+
 pub of_run-requires : goal.of_run-requires
-of_run-requires g c =
-    run_fault_fits c.args.tree.now (map (λ (job : Job). job.list) c.args.jobs.now) c.args.jobs.now c.in-Err.fault c.requires.settled c.in-Err.ensures.fault
+of_run-requires g c = run_fault_fits c.args.tree.now c.in-Err.fault c.in-Err.ensures.fault
 
 pub returns-in-Err : goal.returns-in-Err
 returns-in-Err g c =
-    says_run_fault c.args.tree.now c.args.records.now (map (λ (job : Job). job.list) c.args.jobs.now) c.args.jobs.now c.in-Err.fault c.of_run.result
-    c.requires.settled c.in-Err.ensures.fault c.of_run.ensures.told c.of_run.ensures.memory
+    says_run_fault c.args.tree.now c.args.records.now (map (λ (job : Job). job.list) c.args.jobs.now) c.in-Err.fault c.of_run.result
+    c.in-Err.ensures.fault c.of_run.ensures.told c.of_run.ensures.memory

@@ -1,16 +1,10 @@
 use Rattle.std.proofs.Common.{arith, ◌≡◌, ◌≤◌, ◌∙◌, ap, length, map, refl, sym, subst}
 use Rattle.grove_core.specs.declared.job.Job.{Job}
-use Rattle.grove_store.proofs.Jobs.{settled_fit}
 use Rattle.grove_store.specs.Rounds.{AreSettledJobs}
 use Rattle.grove_answer.proofs.Batches.{jobs_long}
 use Rattle.grove_answer.specs.Outcomes.{IsRunBatch}
 use Rattle.grove_answer.specs.Says.{Says}
 use Rattle.grove_answer.proofs.running.run_lists.Goals as goal
-
-pub run_jobs-requires-clause-fits : goal.run_jobs-requires-clause-fits
-run_jobs-requires-clause-fits g c κs live =
-    settled_fit c.args.batch.tree c.args.batch.lists.items c.deref.result.now
-    (subst (AreSettledJobs c.args.batch.tree c.args.batch.lists.items) (sym c.deref.ensures.value) c.in_ok-jobs.ensures) c.requires.fits
 
 pub run_jobs-requires-clause-few : goal.run_jobs-requires-clause-few
 run_jobs-requires-clause-few g c κs live =

@@ -4,4 +4,4 @@ use Rattle.grove_desk.proofs.desk.Desk.attend.Given as goal
 
 abbrev pub invariant-loop : goal.invariant-loop
 invariant-loop g l =
-    (goal.iterator-loop g).can_next l.iterator' × (goal.iterator-loop g).is_finite l.iterator' × (l.batch.items ≡ []) × (vec_capacity l.batch ≡ 16)
+    (goal.iterator-loop g).can_next l.iterator' × (goal.iterator-loop g).is_finite l.iterator' × (l.taken.items ≡ []) × (vec_capacity l.taken ≡ 16)

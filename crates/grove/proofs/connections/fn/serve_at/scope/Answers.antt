@@ -1,0 +1,8 @@
+use denote.Param.Send.{sendable}
+use Rattle.std.proofs.Crossing.{crosses}
+use Rattle.grove_desk.proofs.Sharing.{Desk-sync}
+use Rattle.grove.proofs.Sharing.{Seats-sync, stream-send}
+use Rattle.grove.proofs.connections.fn.serve_at.scope.Goals as goal
+
+pub spawn-requires-send-F : goal.spawn-requires-send-F
+spawn-requires-send-F g c κs within = search (sendable, crosses, c.requires, Desk-sync, Seats-sync, stream-send) depth 60 fits 4000
