@@ -66,7 +66,7 @@ CALLS = {
         )
     ],
     "desk": [
-        Call("Desk::open", [b"waiting 0"]),
+        Call("Desk::open", [b"waiting 0"], takes_memory=False),
         *[Call(f"Desk::answer, line {number}", [receipt]) for number, receipt in enumerate(RECEIPTS)],
         Call("Desk::close", [b"calls 3 rounds 3"], takes_memory=False),
     ],

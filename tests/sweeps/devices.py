@@ -3,8 +3,11 @@
 from __future__ import annotations
 
 import os
+import resource
 import select
 import shutil
+import signal
+import tempfile
 import threading
 from dataclasses import replace
 from functools import partial
@@ -21,6 +24,7 @@ SILENT = Ran(3, b"", b"")
 def tries(program: str, room: str) -> list[Try]:
     fixed = [
         Try("standard output", partial(failing_output, program)),
+        Try("standard output that takes some bytes", partial(cut_output, program)),
         Try("standard error while there is an answer", partial(unused_errors, program)),
         Try("standard error while there is something to tell", partial(failing_errors, program)),
         Try("standard output and standard error", partial(failing_both, program)),
@@ -47,6 +51,29 @@ def failing_output(program: str, tally: Tally) -> None:
         with unread() as pipe:
             ran = run(program, *asked.words, text=asked.text, stdout=pipe)
             tally.compare(f"{asked.name}, a pipe that nobody reads", ran, DEVICE)
+
+
+def cut_output(program: str, tally: Tally) -> None:
+    """A file that takes so many bytes and no more: it holds just the first part of the whole answer."""
+    for asked in examples():
+        whole = asked.output or b""
+        for most in sorted({*range(min(8, len(whole))), len(whole) // 2, len(whole) - 1}):
+            tally.note(f"{asked.name}, {most} bytes", cut_after(program, asked, most, whole))
+
+
+def cut_after(program: str, asked: Asked, most: int, whole: bytes) -> str | None:
+    with tempfile.TemporaryFile() as file:
+        ran = run(program, *asked.words, text=asked.text, stdout=file, preexec_fn=partial(limit_files, most))
+        file.seek(0)
+        came = Ran(ran.status, file.read(), ran.err)
+    wanted = Ran(3, whole[:most], b"device\n")
+    return None if came == wanted else f"wanted {wanted}; came {came}"
+
+
+def limit_files(most: int) -> None:
+    """Lets no file of this process grow beyond so many bytes; a write that would is cut, and the next one fails."""
+    signal.signal(signal.SIGXFSZ, signal.SIG_IGN)
+    resource.setrlimit(resource.RLIMIT_FSIZE, (most, most))
 
 
 def unused_errors(program: str, tally: Tally) -> None:

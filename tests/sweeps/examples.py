@@ -1,12 +1,14 @@
 """The documents of examples/ and those refused in each way: named and on standard input, the output that is right. The
-session of examples/, by its client."""
+session of examples/, by its client; each call of that client, and how it ends where the server is lost."""
 
 from __future__ import annotations
 
+import socket
 import sys
+import threading
 from functools import partial
 
-from server import Serving
+from server import HOST, Serving, free_port
 
 from sweeps.documents import EXAMPLES, Asked, certified_examples, examples, refused, too_many
 from sweeps.program import Ran, Tally, Try, run
@@ -17,7 +19,11 @@ TRIED = "answers compared with those that are right"
 def tries(program: str, room: str) -> list[Try]:
     documents = examples() + certified_examples() + refused() + [too_many()]
     parts = [Try(asked.name, partial(compare, program, f"{room}/{at}", asked)) for at, asked in enumerate(documents)]
-    return parts + [Try("a session", partial(ask_lines, program))]
+    return parts + [
+        Try("a session", partial(ask_lines, program)),
+        Try("the client's calls", partial(call_client, program)),
+        Try("a client without a server", lose_server),
+    ]
 
 
 def compare(program: str, file: str, asked: Asked, tally: Tally) -> None:
@@ -30,5 +36,59 @@ def compare(program: str, file: str, asked: Asked, tally: Tally) -> None:
 def ask_lines(program: str, tally: Tally) -> None:
     lines, replies = ((EXAMPLES / f"orders.{kind}").read_bytes() for kind in ("lines", "replies"))
     with Serving(program, (EXAMPLES / "orders.json").read_bytes(), workers=4) as server:
-        client = run(sys.executable, str(EXAMPLES / "client.py"), str(server.port), text=lines)
-        tally.compare("by client.py", client, Ran(0, replies, b""))
+        tally.compare("by client.py", run_client(server.port, lines), Ran(1, replies, b""))
+        fine = b'{"batch":[]}\n'
+        tally.compare("no refusal", run_client(server.port, fine), Ran(0, b'{"places":[],"replies":[],"round":3}\n', b""))
+
+
+def run_client(port: int, lines: bytes) -> Ran:
+    return run(sys.executable, str(EXAMPLES / "client.py"), str(port), text=lines)
+
+
+def call_client(program: str, tally: Tally) -> None:
+    """What each method of the client gives, of the tree of two leaves; the answers are those of docs/SESSIONS.md."""
+    sys.path.insert(0, str(EXAMPLES))
+    from client import Plan, Refused, Round, Store
+
+    def equal(what: str, came: object, wanted: object) -> None:
+        tally.note(what, None if came == wanted else f"wanted {wanted}; came {came}")
+
+    def refusal(asked: list) -> str:
+        try:
+            return str(store.plan(asked))
+        except Refused as refused:
+            return f"refused {refused}"
+
+    leaf = [["get", "/a"]]
+    plan = Plan(1, [["lock", "/a"], ["access", 0], ["unlock", "/a"]], [{"above": 0, "first": 1, "held": 0, "last": 1, "node": "/a", "own": 0}])
+    with Serving(program, (EXAMPLES / "two-leaves.json").read_bytes()) as server, Store(server.port) as store:
+        equal("batch", store.batch([["add", "/a", 1], ["get", "/a"]]), Round([0], [[11, 11]], 1))
+        equal("plan", store.plan(leaf), plan)
+        equal("check", store.check(leaf, plan), 1)
+        equal("weights", store.weights(), ([5, 1, 1], [0, 0, 0]))
+        equal("reweigh", store.reweigh(), 1)
+        equal("a refusal", refusal([["get", "/c"]]), "refused no-path")
+
+
+def lose_server(tally: Tally) -> None:
+    """Nobody listens; a server that reads a line and closes; words that name no port."""
+    tally.note("no server", lost(run_client(free_port(), b"{}\n")))
+    with socket.create_server((HOST, 0)) as listener:
+        closing = threading.Thread(target=read_and_close, args=[listener])
+        closing.start()
+        tally.note("a server that closes", lost(run_client(listener.getsockname()[1], b"{}\n{}\n")))
+        closing.join()
+    words = run(sys.executable, str(EXAMPLES / "client.py"), "here")
+    tally.compare("no port", words, Ran(2, b"", b"usage: client.py PORT < LINES\n"))
+
+
+def read_and_close(listener: socket.socket) -> None:
+    connection, _ = listener.accept()
+    with connection:
+        connection.recv(1)
+
+
+def lost(ran: Ran) -> str | None:
+    """Status 3, no output, and one line that says why."""
+    told = ran.err.startswith(b"client.py: ") and ran.err.count(b"\n") == 1
+    return None if ran.status == 3 and not ran.out and told else f"came {ran}"
