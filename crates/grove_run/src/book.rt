@@ -4,7 +4,7 @@ ghost use Rattle.grove_plan.specs.declared.step.Step.{Step as PlanStep};
 ghost use Rattle.grove_core.specs.Runs.{next_step, AllLegal, MayHappen};
 ghost use Rattle.grove_core.specs.Kept.{past_of};
 ghost use Rattle.grove_core.specs.Carried.{IsOf};
-ghost use Rattle.grove_run.specs.Books.{after_event, marked, core_taken, step_after, HasNoStep, IsForeign, IsBlockedAt, Moved, IsDone};
+ghost use Rattle.grove_run.specs.Books.{after_event, marked, core_taken, step_after, HasNoStep, IsForeign, IsBlockedAt, IsSameBatch, Moved, IsDone};
 
 use crate::{BookStep, CarryStep};
 use grove_access::Carry;
@@ -12,6 +12,8 @@ use grove_core::{Core, Event, StepFault};
 use grove_plan::Step;
 use grove_tree::Node;
 use std::marker::Model;
+
+mod carrying_on;
 
 /// A core, and how many of its jobs are claimed: the jobs below that number.
 #[derive(Drop)]
@@ -139,38 +141,37 @@ fn has_no_step(carry: &Carry, step: Step) -> bool
     }
 }
 
-// Does the step that a job stands before.
+// Does the step that a job stands before. Foreign where the carry doesn't fit it, which of the core it does; the step of a
+// lock or an unlock may be done then.
 fn do_step(core: &mut Core, carry: &mut Carry, step: Step) -> CarryStep
-    requires of { IsOf core.old carry.old }
     requires settled { carry.old.entries ≡ [] }
     requires next { next_step core.old.jobs (past_of core.old) carry.old.txn ≡ Some step }
-    requires room { HasNoStep carry.old (Some step) → ⊥ }
-    ensures done { IsDone core.old carry.old step result core.new carry.new }
-    ensures stays { IsOf core.new carry.new }
+    ensures done { (result ≡ CarryStep.Foreign → ⊥) → IsDone core.old carry.old step result core.new carry.new }
+    ensures fits { IsOf core.old carry.old → (HasNoStep carry.old (Some step) → ⊥) → result ≡ CarryStep.Foreign → ⊥ }
+    ensures stays { (result ≡ CarryStep.Foreign → ⊥) → IsOf core.old carry.old → IsOf core.new carry.new }
+    ensures same { IsSameBatch core.old core.new }
 {
     let _ = core.jobs();
     let _ = carry.txn();
     match step {
         Step::Lock(node) => lock(core, carry, node),
         Step::Unlock(node) => unlock(core, carry, node),
-        Step::Access(_) => unreachable!(),
+        Step::Access(_) => CarryStep::Foreign,
     }
 }
 
 fn lock(core: &mut Core, carry: &mut Carry, node: Node) -> CarryStep
     requires legal { AllLegal core.old.tree core.old.jobs }
-    requires of { IsOf core.old carry.old }
     requires next { next_step core.old.jobs (past_of core.old) carry.old.txn ≡ Some (Step.Lock node) }
-    requires room { length carry.old.known ≡ carry.old.most_nodes → ⊥ }
-    ensures { IsDone core.old carry.old (Step.Lock node) result core.new carry.new }
+    ensures done { (result ≡ CarryStep.Foreign → ⊥) → IsDone core.old carry.old (Step.Lock node) result core.new carry.new }
+    ensures fits { IsOf core.old carry.old → (length carry.old.known ≡ carry.old.most_nodes → ⊥) → result ≡ CarryStep.Foreign → ⊥ }
+    ensures same { IsSameBatch core.old core.new }
 {
     let txn = carry.txn();
     let value = core.value(node);
     match core.step(Event::Take(txn)) {
-        Ok(()) => {
-            let _ = carry.put(node, value);
-            CarryStep::Stepped
-        }
+        Ok(()) if carry.put(node, value) => CarryStep::Stepped,
+        Ok(()) => CarryStep::Foreign,
         Err(_) => {
             mark(core, txn);
             CarryStep::Blocked
@@ -180,14 +181,17 @@ fn lock(core: &mut Core, carry: &mut Carry, node: Node) -> CarryStep
 
 fn unlock(core: &mut Core, carry: &mut Carry, node: Node) -> CarryStep
     requires legal { AllLegal core.old.tree core.old.jobs }
-    requires of { IsOf core.old carry.old }
     requires settled { carry.old.entries ≡ [] }
     requires next { next_step core.old.jobs (past_of core.old) carry.old.txn ≡ Some (Step.Unlock node) }
-    ensures { IsDone core.old carry.old (Step.Unlock node) result core.new carry.new }
+    ensures done { (result ≡ CarryStep.Foreign → ⊥) → IsDone core.old carry.old (Step.Unlock node) result core.new carry.new }
+    ensures fits { IsOf core.old carry.old → result ≡ CarryStep.Foreign → ⊥ }
+    ensures same { IsSameBatch core.old core.new }
 {
     let _ = core.step(Event::Take(carry.txn()));
-    let _ = carry.give(node);
-    CarryStep::Stepped
+    match carry.give(node) {
+        Some(_) => CarryStep::Stepped,
+        None => CarryStep::Foreign,
+    }
 }
 
 // Marks the lock at which a job is blocked, where it has no mark.

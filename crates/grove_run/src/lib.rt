@@ -14,5 +14,6 @@ mod carries;
 mod fault;
 mod finished;
 mod register;
+mod sleepers;
 mod steps;
 mod working;

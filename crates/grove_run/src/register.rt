@@ -1,8 +1,10 @@
 ghost use Rattle.grove_run.specs.Runs.{IsCoreOf};
 
+use crate::sleepers::{Sleepers, Wake};
 use crate::{Book, CarryStep};
 use grove_access::Carry;
 use grove_core::Core;
+use grove_tree::Node;
 use std::marker::{Brand, Model, PhantomData};
 
 /// Which batch it is: a tree, jobs and records. Each run picks them.
@@ -36,6 +38,7 @@ pub struct Register<'a, B: Batch> {
     carries: Vec<Option<Carry>>,
     /// Some worker can't go on: its carry wasn't of its job.
     foreign: bool,
+    sleepers: Sleepers,
     of: PhantomData<B>,
 }
 
@@ -58,6 +61,7 @@ impl<'a, B: Batch> Register<'a, B> {
             book,
             carries,
             foreign: false,
+            sleepers: Sleepers::new(),
             of: PhantomData,
         }
     }
@@ -78,7 +82,22 @@ impl<'a, B: Batch> Register<'a, B> {
 
     /// Does the step of a carry.
     pub fn carry_step(&mut self, carry: &mut Carry) -> CarryStep {
-        self.book.carry_step(carry)
+        self.book.carry_on(carry)
+    }
+
+    /// A worker falls asleep until the node is let go.
+    pub fn fall_asleep(&mut self, node: Node) {
+        self.sleepers.enter(node);
+    }
+
+    /// A worker that slept for the node is awake.
+    pub fn wake_up(&mut self, node: Node) {
+        self.sleepers.leave(node);
+    }
+
+    /// Whom to wake when the node is let go.
+    pub fn whom_to_wake(&self, node: Node) -> Wake {
+        self.sleepers.wake(node)
     }
 
     /// Can some worker not go on?
@@ -99,6 +118,7 @@ impl<'a, B: Batch> Register<'a, B> {
             book,
             carries: _,
             foreign: _,
+            sleepers: _,
             of: _,
         } = self;
         book.into_core()

@@ -74,7 +74,7 @@ fn do_job<'a, B: Batch, R: Wait, G: Gate>(
                 let _ = carry.apply(&job.list, access);
                 true
             }
-            Step::Lock(node) => pass(rt, register, bells, carry, node),
+            Step::Lock(node) => take_hold(rt, register, bells, carry, node),
             Step::Unlock(node) => let_go(rt, register, bells, carry, node),
         };
         if !done {
@@ -84,7 +84,7 @@ fn do_job<'a, B: Batch, R: Wait, G: Gate>(
     true
 }
 
-// Lets a node go, and wakes those that may wait for it. False where this worker or another can't go on.
+// Lets a node go, and wakes who sleeps for it, if somebody does. False where this worker can't go on.
 fn let_go<'a, B: Batch, R: Wait>(
     rt: &R,
     register: &Mutex<Register<'a, B>>,
@@ -92,13 +92,20 @@ fn let_go<'a, B: Batch, R: Wait>(
     carry: &mut Carry,
     node: Node,
 ) -> bool {
-    let passed = pass(rt, register, bells, carry, node);
-    bells.of(node).notify_all();
-    passed
+    let mut guard = register.lock(rt);
+    if guard.carry_step(carry) != CarryStep::Stepped {
+        guard.set_foreign();
+        bells.ring_all();
+        return false;
+    }
+    let whom = guard.whom_to_wake(node);
+    drop(guard);
+    bells.ring(node, whom);
+    true
 }
 
-// Does the lock or unlock that a job stands before, once it can be done. False where this worker or another can't go on.
-fn pass<'a, B: Batch, R: Wait>(
+// Does the lock that a job stands before, once it can be done. False where this worker or another can't go on.
+fn take_hold<'a, B: Batch, R: Wait>(
     rt: &R,
     register: &Mutex<Register<'a, B>>,
     bells: &Bells,
@@ -110,7 +117,11 @@ fn pass<'a, B: Batch, R: Wait>(
         match guard.carry_step(carry) {
             CarryStep::Stepped => return true,
             CarryStep::Blocked if guard.is_foreign() => return false,
-            CarryStep::Blocked => guard = bells.of(node).wait(rt, guard),
+            CarryStep::Blocked => {
+                guard.fall_asleep(node);
+                guard = bells.of(node).wait(rt, guard);
+                guard.wake_up(node);
+            }
             CarryStep::Ended | CarryStep::Foreign => {
                 guard.set_foreign();
                 bells.ring_all();

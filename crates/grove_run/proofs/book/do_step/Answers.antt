@@ -5,11 +5,11 @@ use Rattle.grove_run.proofs.Staying.{done_stays}
 use Rattle.grove_run.proofs.book.do_step.Goals as goal
 
 pub returns-in-Lock-clause-stays : goal.returns-in-Lock-clause-stays
-returns-in-Lock-clause-stays c =
+returns-in-Lock-clause-stays c = λ fits of.
     done_stays c.args.core.now c.lock.new.core c.args.carry.now c.lock.new.carry (Lock c.in-Lock.node) c.lock.result c.jobs.ensures.legal c.jobs.ensures.opened c.txn.ensures.sound.apart
-    c.requires.of c.requires.settled (c.requires.next ∙ ap (λ (s : Step). Some s) c.in-Lock.is) c.lock.ensures
+    of c.requires.settled (c.requires.next ∙ ap (λ (s : Step). Some s) c.in-Lock.is) (c.lock.ensures.done fits)
 
 pub returns-in-Unlock-clause-stays : goal.returns-in-Unlock-clause-stays
-returns-in-Unlock-clause-stays c =
+returns-in-Unlock-clause-stays c = λ fits of.
     done_stays c.args.core.now c.unlock.new.core c.args.carry.now c.unlock.new.carry (Unlock c.in-Unlock.node) c.unlock.result c.jobs.ensures.legal c.jobs.ensures.opened c.txn.ensures.sound.apart
-    c.requires.of c.requires.settled (c.requires.next ∙ ap (λ (s : Step). Some s) c.in-Unlock.is) c.unlock.ensures
+    of c.requires.settled (c.requires.next ∙ ap (λ (s : Step). Some s) c.in-Unlock.is) (c.unlock.ensures.done fits)
