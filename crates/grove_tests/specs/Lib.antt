@@ -1,1 +1,0 @@
--- The tests define nothing of their own; what their threads share is shown in proofs/Sharing.antt.
