@@ -11,3 +11,4 @@ pub mod Lawful
 pub mod RoundsKeep
 pub mod Longest
 pub mod NothingKept
+pub mod Feedless

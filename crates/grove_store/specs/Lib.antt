@@ -3,3 +3,4 @@ pub mod Alone
 pub mod Rounds
 pub mod Parts
 pub mod Longest
+pub mod Texts

@@ -1,4 +1,5 @@
 use Rattle.grove_store.proofs.Longest.{rounds_fit, rounds_are_longest, others_are_alone, rounds_are_within}
+use Rattle.grove_store.proofs.Feedless.{replies_are_feedless}
 use Rattle.grove_store.proofs.laws.round_laws.Goals as goal
 
 pub returns-clause-fit : goal.returns-clause-fit
@@ -12,3 +13,6 @@ returns-clause-alone c = others_are_alone
 
 pub returns-clause-within : goal.returns-clause-within
 returns-clause-within c = rounds_are_within
+
+pub returns-clause-feedless : goal.returns-clause-feedless
+returns-clause-feedless c = replies_are_feedless
