@@ -1,8 +1,8 @@
--- The port that clap finds is the number that its text writes.
+-- The port that clap finds is the number that its text writes. It and the workers are those of the command.
 use Rattle.std.proofs.Common.{◌≡◌, ℕ, codes, List, Option, Some, None, Result, Ok, IfSome, IsSomeAnd, option_map, refl, subst}
 use Rattle.std.specs.Str.Parse.{digits_value, without_leading_plus}
 use Rattle.clap.specs.Words.{ReadsOne, Row, Text, one_of}
-use Rattle.grove_words.specs.CommandLines.{IsPortIn}
+use Rattle.grove_words.specs.CommandLines.{IsPortIn, AreWorkers, AreWorkersIn}
 
 -- the number that a text writes
 abbrev Writes : Option Text → ℕ → Type 0
@@ -23,3 +23,11 @@ port_among None rows port at writes = absurd (cc)
 port_among (Some (word, below)) rows port at writes =
     let same : rows ≡ below = cc in
     subst (λ r. IfSome port (Writes (one_of (codes "port") r))) same writes
+
+-- and so are the workers among them
+pub workers_among : (found : Option (Text × List Row)) (rows : List Row) (workers : ℕ) → Some rows ≡ option_map (λ f. f.1) found
+    → AreWorkers (one_of (codes "workers") rows) workers → AreWorkersIn found workers
+workers_among None rows workers at are = absurd (cc)
+workers_among (Some (word, below)) rows workers at are =
+    let same : rows ≡ below = cc in
+    subst (λ r. AreWorkers (one_of (codes "workers") r) workers) same are

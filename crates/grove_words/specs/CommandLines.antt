@@ -1,8 +1,8 @@
 -- The words of a command line: which order they are, and how clap is to read them.
-use Rattle.std.specs.Prelude.{◌≡◌, ◌≢◌, ℕ, pos, codes, Bool, true, false, ◌||◌, List, [], ◌∷◌, Option, None, Some, is_some, option_map, option_and_then, slice_get, IsSomeAnd, ◌⊎◌, if◌then◌else◌}
+use Rattle.std.specs.Prelude.{◌≡◌, ◌≢◌, ◌≤◌, ℕ, pos, codes, Bool, true, false, ◌||◌, List, [], ◌∷◌, Option, None, Some, is_some, option_map, option_and_then, slice_get, IsSomeAnd, ◌⊎◌, if◌then◌else◌}
 use Rattle.std.specs.Borrow.{Bor}
 use Rattle.std.specs.Str.{bytes_eq, chars}
-use Rattle.std.specs.Str.Parse.{digits_value, without_leading_plus}
+use Rattle.std.specs.Str.Parse.{IsNumeral, digits_value, without_leading_plus}
 use Rattle.clap.specs.Lexer.{long_of, short_of}
 use Rattle.clap.specs.Words.{App, IsAmong, Row, Rule, fault_of, first_of, new_app, new_rule, one_of, subcommand_of, with_rule, with_subcommand}
 use Rattle.clap.specs.declared.builder.value_parser.ValueParser.TheVariants.{Signed}
@@ -135,6 +135,19 @@ NameDevice words = (order : Order) × AskFor words order × ((order.document ≢
 -- this is the number that clap finds for a port, among a command's rows
 abbrev pub IsPortIn : Option (List ℕ × List Row) → ℕ → Type 0
 IsPortIn found port = IsSomeAnd (option_and_then (λ rows. one_of (codes "port") rows.1) found) (λ text. digits_value 10 (without_leading_plus text) ≡ port)
+
+-- the text writes this number
+abbrev pub Writes : List ℕ → ℕ → Type 0
+Writes text number = IsNumeral 10 (without_leading_plus text) × (digits_value 10 (without_leading_plus text) ≡ number)
+
+-- so many workers are asked for by a text: the number from 1 to 16 that it writes, and 4 where there is none
+abbrev pub AreWorkers : Option (List ℕ) → ℕ → Type 0
+AreWorkers None workers = workers ≡ 4
+AreWorkers (Some text) workers = (number : ℕ) → Writes text number → 1 ≤ number → number ≤ 16 → workers ≡ number
+
+-- by the text that clap finds for them, among a command's rows
+abbrev pub AreWorkersIn : Option (List ℕ × List Row) → ℕ → Type 0
+AreWorkersIn found workers = AreWorkers (option_and_then (λ rows. one_of (codes "workers") rows.1) found) workers
 
 -- the words ask to serve at this port
 abbrev pub AskToServe : List (List ℕ) → ℕ → Type 0

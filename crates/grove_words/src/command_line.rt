@@ -1,7 +1,7 @@
 ghost use Rattle.std.specs.Prelude.{◌≡◌, ◌≤◌, ℕ, List, false, codes, map, Some, None, IfOk, IfErr, IfSome, IsErrAnd, string_bytes};
 ghost use Rattle.clap.specs.declared.builder.command.Command.{out-Command};
-ghost use Rattle.clap.specs.Words.{App, HasKind, Row, app_of, fault_of, first_of, rule_of, new_rule, subcommand_of, subcommand_rows_of, with_subcommand};
-ghost use Rattle.grove_words.specs.CommandLines.{batch_command, command_named, document_command, grove_command, no_command, port_command, port_rule, tree_rule, workers_rule, AreWrong, AskFor, AskToServe, AskToShow, IsPortIn, text_of};
+ghost use Rattle.clap.specs.Words.{App, HasKind, Row, app_of, fault_of, first_of, found_of, one_text, rule_of, new_rule, subcommand_of, subcommand_rows_of, with_subcommand};
+ghost use Rattle.grove_words.specs.CommandLines.{batch_command, command_named, document_command, grove_command, no_command, port_command, port_rule, tree_rule, workers_rule, AreWorkers, AreWorkersIn, AreWrong, AskFor, AskToServe, AskToShow, IsPortIn, text_of};
 ghost use Rattle.grove_words.specs.NoOrders.{HasText, TellsShown, TellsWrong};
 
 use crate::no_order::{NoOrder, no_order};
@@ -21,6 +21,7 @@ const MOST_WORKERS: u32 = 16;
 pub fn order_of<'a>(alloc: Global, words: &'a [String]) -> Result<Order<'a>, NoOrder>
     ensures asked { IfOk result (AskFor (map string_bytes words.now)) }
     ensures workers { IfOk result (λ order. (1 ≤ order.workers) × (order.workers ≤ 16)) }
+    ensures given { IfOk result (λ order. AreWorkersIn (subcommand_of grove_command (map string_bytes words.now)) order.workers) }
     ensures port { IfOk result (λ order. order.command ≡ Command.Serve → IfSome order.port (AskToServe (map string_bytes words.now))) }
     ensures taken { (order : Order) → AskFor (map string_bytes words.now) order → IfErr result (λ why. why ≡ NoOrder.Memory) }
     ensures wrong { AreWrong (map string_bytes words.now) → IsErrAnd result TellsWrong }
@@ -37,6 +38,7 @@ pub fn order_of<'a>(alloc: Global, words: &'a [String]) -> Result<Order<'a>, NoO
 fn order_among<'a>(alloc: Global, words: &'a [String]) -> Result<Order<'a>, Error>
     ensures asked { IfOk result (AskFor (map string_bytes words.now)) }
     ensures workers { IfOk result (λ order. (1 ≤ order.workers) × (order.workers ≤ 16)) }
+    ensures given { IfOk result (λ order. AreWorkersIn (subcommand_of grove_command (map string_bytes words.now)) order.workers) }
     ensures port { IfOk result (λ order. IfSome order.port (IsPortIn (subcommand_of grove_command (map string_bytes words.now)))) }
     ensures refused { IfErr result (HasKind (fault_of grove_command (map string_bytes words.now))) }
 {
@@ -51,6 +53,7 @@ fn order_in<'a>(matches: &ArgMatches<'a>) -> Order<'a>
     ensures document { (word : List ℕ) (rows : List Row) → subcommand_rows_of matches.now ≡ Some (word, rows)
         → text_of result.document ≡ first_of (codes "DOC") rows }
     ensures workers { (1 ≤ result.workers) × (result.workers ≤ 16) }
+    ensures given { AreWorkersIn (subcommand_rows_of matches.now) result.workers }
     ensures port { IfSome result.port (IsPortIn (subcommand_rows_of matches.now)) }
 {
     match matches.subcommand() {
@@ -71,7 +74,8 @@ fn order_in<'a>(matches: &ArgMatches<'a>) -> Order<'a>
 
 /// The number of workers, for a command that has one. Clap lets none but those from 1 to 16 through.
 fn workers_in(given: &ArgMatches<'_>) -> u32
-    ensures { (1 ≤ result) × (result ≤ 16) }
+    ensures within { (1 ≤ result) × (result ≤ 16) }
+    ensures given { AreWorkers (one_text (found_of given.now) (codes "workers")) result }
 {
     let workers = given.get_one::<u32>("workers").unwrap_or(FEW_WORKERS);
     workers.max(1).min(MOST_WORKERS)

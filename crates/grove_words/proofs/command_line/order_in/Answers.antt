@@ -1,9 +1,10 @@
-use Rattle.std.proofs.Common.{◌≡◌, ◌∙◌, ap, sym, codes, Some, option_map}
+use Rattle.std.proofs.Common.{◌≡◌, ◌∙◌, ap, sym, subst, codes, Some, option_map}
 use Rattle.clap.specs.Words.{found_of, first_of, one_of, subcommand_rows_of}
 use Rattle.clap.specs.Walk.{rows_of}
 use Rattle.clap.proofs.WalkLemmas.{first_value-rows, one_text-rows}
 use Rattle.std.specs.contracts.prelude.U16FromStr.TheImpl.{ghosts}
-use Rattle.grove_words.proofs.Ports.{port_read, port_among}
+use Rattle.grove_words.specs.CommandLines.{AreWorkers}
+use Rattle.grove_words.proofs.Ports.{port_read, port_among, workers_among}
 use Rattle.grove_words.proofs.command_line.order_in.Goals as goal
 
 pub returns-in-Some-clause-document : goal.returns-in-Some-clause-document
@@ -19,3 +20,9 @@ returns-in-Some-clause-port c =
     (λ none. c.get_one.ensures.none (one_text-rows (found_of c.in-Some.given.now) (codes "port") ∙ none))
     (λ text is. c.get_one.ensures.value text (one_text-rows (found_of c.in-Some.given.now) (codes "port") ∙ is))
     (λ text number reads. sym reads.0.1))
+
+pub returns-in-Some-clause-given : goal.returns-in-Some-clause-given
+returns-in-Some-clause-given c =
+    let rows = rows_of (found_of c.in-Some.given.now) in
+    workers_among (subcommand_rows_of c.args.matches.now) rows c.workers_in.result c.in-Some.ensures.rows
+    (subst (λ text. AreWorkers text c.workers_in.result) (one_text-rows (found_of c.in-Some.given.now) (codes "workers")) c.workers_in.ensures.given)
