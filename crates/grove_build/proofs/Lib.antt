@@ -22,6 +22,8 @@ pub mod Answered
 pub mod Inserted
 pub mod TargetLists
 pub mod Batched
+pub mod Unlike
+pub mod InOrder
 pub mod Sorted
 pub mod Reaching
 pub mod Pushes

@@ -2,7 +2,7 @@ ghost use Rattle.std.specs.Prelude.{◌≡◌, ◌+◌, ◌<◌, ◌≤◌, ◌/
 ghost use Rattle.std.specs.List.{AllZip};
 ghost use Rattle.std.specs.Thread.{IsSync};
 ghost use Rattle.grove_access.specs.Lists.{nodes_of, AreNodes};
-ghost use Rattle.grove_build.specs.Batches.{IsPlanned};
+ghost use Rattle.grove_build.specs.Batches.{IsPlanned, ArePlannedAlike};
 
 use crate::planning::{Planned, plan};
 use crate::targets::{distinct_of, each_of};
@@ -28,6 +28,7 @@ pub fn plan_batch<R: Threads + Sync, G: Gate + Sync>(
     requires workers { (1 ≤ workers) × (workers ≤ 16) }
     requires fit { All (λ list. AreNodes tree.now (nodes_of list)) lists.now }
     ensures planned { IfOk result (λ all. AllZip (IsPlanned tree.now) lists.now all.items) }
+    ensures alike { IfOk result (λ all. ArePlannedAlike lists.now all.items) }
     ensures empty { length lists.now ≡ 0 → IsOk result }
 {
     if lists.is_empty() {

@@ -5,6 +5,7 @@ use Rattle.grove_base.proofs.Lists.{map_length}
 use Rattle.grove_build.specs.Batches.{IsPlanned}
 use Rattle.grove_build.proofs.Batched.{AllZip-mapped}
 use Rattle.grove_build.proofs.Sorted.{places_within, planned_all, parts_fit, each_fit}
+use Rattle.grove_build.proofs.InOrder.{each_alike, copies_alike}
 use Rattle.grove_build.proofs.batch.plan_batch.Goals as goal
 
 pub plan_parts-requires-clause-room : goal.plan_parts-requires-clause-room
@@ -26,17 +27,17 @@ returns-then-len-lists-clause-planned g c =
     c.plan_parts.ensures
 
 pub plan_parts-requires-2-clause-room : goal.plan_parts-requires-2-clause-room
-plan_parts-requires-2-clause-room g c κs within = let few = c.in_ok-distinct.ensures.few in rw c.deref-2.ensures.value (omega arith)
+plan_parts-requires-2-clause-room g c κs within = let few = c.in_ok-distinct.ensures.stand.few in rw c.deref-2.ensures.value (omega arith)
 
 pub plan_parts-requires-2-clause-fit : goal.plan_parts-requires-2-clause-fit
-plan_parts-requires-2-clause-fit g c κs within = rw c.deref-2.ensures.value (parts_fit c.args.tree.now c.in_ok-distinct.distinct.lists.items _ _ c.in_ok-distinct.ensures c.requires.fit)
+plan_parts-requires-2-clause-fit g c κs within = rw c.deref-2.ensures.value (parts_fit c.args.tree.now c.in_ok-distinct.distinct.lists.items _ _ c.in_ok-distinct.ensures.stand c.requires.fit)
 
 pub copies_of-requires : goal.copies_of-requires
 copies_of-requires g c =
     rw (c.deref-4.ensures.value, c.deref-3.ensures.value)
     (places_within c.args.tree.now c.in_ok-distinct.distinct.lists.items c.in_ok-distinct.distinct.places.items
     c.args.lists.now c.in_ok-plans.plans.items
-    c.in_ok-distinct.ensures (rw c.deref-2.ensures.value at c.in_ok-plans.ensures))
+    c.in_ok-distinct.ensures.stand (rw c.deref-2.ensures.value at c.in_ok-plans.ensures))
 
 pub returns-clause-planned : goal.returns-clause-planned
 returns-clause-planned g c =
@@ -44,6 +45,20 @@ returns-clause-planned g c =
     (λ all copied.
     planned_all c.args.tree.now c.in_ok-distinct.distinct.lists.items c.in_ok-distinct.distinct.places.items
     c.args.lists.now c.in_ok-plans.plans.items all.items
-    c.in_ok-distinct.ensures (rw c.deref-2.ensures.value at c.in_ok-plans.ensures)
+    c.in_ok-distinct.ensures.stand (rw c.deref-2.ensures.value at c.in_ok-plans.ensures)
     (rw (c.deref-4.ensures.value, c.deref-3.ensures.value) at copied))
+    c.copies_of.ensures
+
+pub returns-then-len-lists-clause-alike : goal.returns-then-len-lists-clause-alike
+returns-then-len-lists-clause-alike g c =
+    IfOk-weaker c.plan_parts.result _ _
+    (λ all planned. each_alike c.in_ok-distinct.distinct.lists.items c.in_ok-distinct.distinct.places.items c.args.lists.now c.in_ok-distinct.ensures (omega arith) all.items)
+    c.plan_parts.ensures
+
+pub returns-clause-alike : goal.returns-clause-alike
+returns-clause-alike g c =
+    IfOk-weaker c.copies_of.result _ _
+    (λ all copied.
+    copies_alike c.in_ok-distinct.distinct.lists.items c.in_ok-distinct.distinct.places.items c.args.lists.now c.in_ok-distinct.ensures
+    c.in_ok-plans.plans.items all.items (rw (c.deref-4.ensures.value, c.deref-3.ensures.value) at copied))
     c.copies_of.ensures
