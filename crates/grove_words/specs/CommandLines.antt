@@ -149,6 +149,10 @@ AreWorkers (Some text) workers = (number : ℕ) → Writes text number → 1 ≤
 abbrev pub AreWorkersIn : Option (List ℕ × List Row) → ℕ → Type 0
 AreWorkersIn found workers = AreWorkers (option_and_then (λ rows. one_of (codes "workers") rows.1) found) workers
 
+-- the words ask for so many workers
+abbrev pub AskForWorkers : List (List ℕ) → ℕ → Type 0
+AskForWorkers words workers = AreWorkersIn (subcommand_of grove_command words) workers
+
 -- the words ask to serve at this port
 abbrev pub AskToServe : List (List ℕ) → ℕ → Type 0
 AskToServe words port = (order : Order) × AskFor words order × (order.command ≡ Serve) × IsPortIn (subcommand_of grove_command words) port

@@ -1,7 +1,7 @@
 ghost use Rattle.std.specs.Prelude.{◌≡◌, ◌≤◌, ℕ, List, false, codes, map, Some, None, IfOk, IfErr, IfSome, IsErrAnd, string_bytes};
 ghost use Rattle.clap.specs.declared.builder.command.Command.{out-Command};
 ghost use Rattle.clap.specs.Words.{App, HasKind, Row, app_of, fault_of, first_of, found_of, one_text, rule_of, new_rule, subcommand_of, subcommand_rows_of, with_subcommand};
-ghost use Rattle.grove_words.specs.CommandLines.{batch_command, command_named, document_command, grove_command, no_command, port_command, port_rule, tree_rule, workers_rule, AreWorkers, AreWorkersIn, AreWrong, AskFor, AskToServe, AskToShow, IsPortIn, text_of};
+ghost use Rattle.grove_words.specs.CommandLines.{batch_command, command_named, document_command, grove_command, no_command, port_command, port_rule, tree_rule, workers_rule, AreWorkers, AreWorkersIn, AreWrong, AskFor, AskForWorkers, AskToServe, AskToShow, IsPortIn, text_of};
 ghost use Rattle.grove_words.specs.NoOrders.{HasText, TellsShown, TellsWrong};
 
 use crate::no_order::{NoOrder, no_order};
@@ -21,7 +21,7 @@ const MOST_WORKERS: u32 = 16;
 pub fn order_of<'a>(alloc: Global, words: &'a [String]) -> Result<Order<'a>, NoOrder>
     ensures asked { IfOk result (AskFor (map string_bytes words.now)) }
     ensures workers { IfOk result (λ order. (1 ≤ order.workers) × (order.workers ≤ 16)) }
-    ensures given { IfOk result (λ order. AreWorkersIn (subcommand_of grove_command (map string_bytes words.now)) order.workers) }
+    ensures given { IfOk result (λ order. AskForWorkers (map string_bytes words.now) order.workers) }
     ensures port { IfOk result (λ order. order.command ≡ Command.Serve → IfSome order.port (AskToServe (map string_bytes words.now))) }
     ensures taken { (order : Order) → AskFor (map string_bytes words.now) order → IfErr result (λ why. why ≡ NoOrder.Memory) }
     ensures wrong { AreWrong (map string_bytes words.now) → IsErrAnd result TellsWrong }
