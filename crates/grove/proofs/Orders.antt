@@ -36,3 +36,9 @@ found_port words found (Refused text) asks _ = tt
 found_port words found (Usage text) asks _ = tt
 found_port words found (Listen line service) asks (port, (serves, at), said) =
     (port, subst (λ p. IfSome p (AskToServe words)) at (asks serves), said)
+
+-- what the order that was found says of some bytes, the one that was asked for says
+pub read_of_asked : (words : List (List ℕ)) (order found : Order) (answer : Result Answer Stop) → AskFor words order → AskFor words found
+    → IfOk answer (λ a. (bytes : List ℕ) × AnswersBy (IsOutcome found.command bytes) a) → IfOk answer (λ a. (bytes : List ℕ) × AnswersBy (IsOutcome order.command bytes) a)
+read_of_asked words order found answer asks finds says =
+    subst (λ (command : Command). IfOk answer (λ a. (bytes : List ℕ) × AnswersBy (IsOutcome command bytes) a)) (same_command words found order finds asks) says

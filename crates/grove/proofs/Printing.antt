@@ -1,5 +1,5 @@
 -- What is read, said and printed for a whole input.
-use Rattle.std.proofs.Common.{rules, ◌≡◌, ℕ, ◌+◌, ◌<◌, ◌≤◌, nat_lt, true, List, ◌++◌, length, Option, Some, None, IfSome, IfOk, IfErr, IsOkAnd, Result, Ok, Err, ◌⊎◌, sym, ap, ◌∙◌, subst, inl, inr, arith, length-append, append-nil}
+use Rattle.std.proofs.Common.{rules, ◌≡◌, ℕ, ◌+◌, ◌<◌, ◌≤◌, nat_lt, true, List, [], ◌++◌, length, Option, Some, None, IfSome, IfOk, IfErr, IsOkAnd, Result, Ok, Err, ◌⊎◌, sym, ap, ◌∙◌, subst, inl, inr, arith, length-append, append-nil}
 use Rattle.std.proofs.lemmas.Bool.{cases_lt, cond-true}
 use Rattle.std.proofs.lemmas.Result.{IfOk-weaker}
 use Rattle.std.specs.Io.KnownBytes.{Appends, Consumes, IsAtEnd, Keeps}
@@ -61,6 +61,15 @@ prints_input Said None answer status old new Also says done = tt
 prints_input Said (Some document) (Ok a) status old new Also (outcome, may, is) done =
     λ h. (outcome, may, (done h).0 ∙ is.0, subst (λ bytes. Appends old new bytes) is.1 (done h).1)
 prints_input Said (Some document) (Err why) status old new Also says done = λ h. absurd (done h)
+
+-- what is said of some bytes is printed, else nothing is
+pub prints_read : (command : Command) (answer : Result Answer Stop) (status : ℕ) (old new : Option (List ℕ)) (Also : Answer → Type 0)
+    → IfOk answer (λ a. (bytes : List ℕ) × AnswersBy (IsOutcome command bytes) a)
+    → (status ≤ 2 → IsOkAnd answer (λ a. (status ≡ status_of a) × Appends old new (printed a) × Also a))
+    → (bytes : List ℕ) × Prints (IsOutcome command bytes) status old new
+prints_read command (Ok a) status old new Also (bytes, (outcome, may, is)) done =
+    (bytes, λ h. (outcome, may, (done h).0 ∙ is.0, subst (λ text. Appends old new text) is.1 (done h).1))
+prints_read command (Err why) status old new Also says done = ([], λ h. absurd (done h))
 
 -- an answer that is no usage fault doesn't end as one
 pub not_usage : (answer : Result Answer Stop) (status : ℕ) (old new : Option (List ℕ)) (Also : Answer → Type 0) → IfOk answer (λ a. status_of a ≤ 1)

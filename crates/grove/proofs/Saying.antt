@@ -6,8 +6,9 @@ use Rattle.grove_tree.specs.Trees.{Rows}
 use Rattle.grove_wire.specs.declared.fault.WireFault.{WireFault}
 use Rattle.grove_wire.specs.declared.fault.WireFault.TheVariants as wire
 use Rattle.grove_wire.specs.Outcomes.{Fails}
-use Rattle.grove_wire.specs.Reading.{document_of}
+use Rattle.grove_wire.specs.Reading.{document_of, tree_in}
 use Rattle.grove_wire.specs.Texts.{wire_text}
+use Rattle.grove_store.specs.Stocks.{Stock, opened}
 use Rattle.grove_words.specs.declared.order.Command.{Command}
 use Rattle.grove_answer.specs.declared.refusal.Refusal.{Refusal}
 use Rattle.grove_answer.specs.declared.refusal.Refusal.TheVariants.{Fault, Memory}
@@ -16,7 +17,7 @@ use Rattle.grove_answer.specs.Says.{outcome_of, refusal_outcome, IsTold, Says}
 use Rattle.grove.specs.declared.answer.Answer.{Answer}
 use Rattle.grove.specs.declared.answer.Answer.TheVariants.{Done, Refused, Usage, Listen}
 use Rattle.grove.specs.declared.answer.Stop.{Stop}
-use Rattle.grove.specs.Answers.{AnswersBy, IsAnswerTo, IsListen, NamesPort}
+use Rattle.grove.specs.Answers.{AnswersBy, IsAnswerTo, IsListen, IsOpenedBy, IsOpenedFrom, NamesPort, ServesStore}
 use Rattle.grove.specs.Endings.{listening_line}
 use Rattle.grove.specs.Outcomes.{IsOutcome, IsServed, MaySay}
 
@@ -76,3 +77,39 @@ says_unread command bytes fault (Fault text) answer fails told memory is =
     not_both is = cc
 says_unread command bytes fault Memory (Ok a) fails told memory is = absurd is
 says_unread command bytes fault Memory (Err why) fails told memory is = tt
+
+-- what holds of a store that is served holds of it by a weaker word too
+pub serves_weaker : (P Q : Stock → Type 0) → ((store : Stock) → P store → Q store) → (answer : Answer) → ServesStore P answer → ServesStore Q answer
+serves_weaker P Q weaker (Done text) serves = tt
+serves_weaker P Q weaker (Refused text) serves = tt
+serves_weaker P Q weaker (Usage text) serves = tt
+serves_weaker P Q weaker (Listen line service) serves = weaker service.store serves
+
+-- an answer that doesn't listen serves no store
+pub serves_nothing : (P : Stock → Type 0) (answer : Result Answer Stop) → IfOk answer (λ a. ¬ IsListen a) → IfOk answer (ServesStore P)
+serves_nothing P (Ok (Done text)) other = tt
+serves_nothing P (Ok (Refused text)) other = tt
+serves_nothing P (Ok (Usage text)) other = tt
+serves_nothing P (Ok (Listen line service)) other = absurd (other tt)
+serves_nothing P (Err why) other = tt
+
+-- the store that a document opens is the one that its bytes open
+pub opened_by_bytes : (bytes : List ℕ) (document : Data) (workers : ℕ) (answer : Result Answer Stop) → document_of bytes ≡ Ok document
+    → IfOk answer (ServesStore (IsOpenedFrom document workers)) → IfOk answer (ServesStore (IsOpenedBy bytes workers))
+opened_by_bytes bytes document workers answer read serves =
+    IfOk-weaker answer _ _ (λ a it. serves_weaker (IsOpenedFrom document workers) (IsOpenedBy bytes workers)
+    (λ store is. subst (λ (r : Result Data WireFault). IsOkAnd r (λ d. IsOpenedFrom d workers store)) (sym read) is) a it) serves
+
+workers_stored : (found : Result (Rows × List ℤ) WireFault) (workers : ℕ) (store : Stock) → IsOkAnd found (λ stored. store ≡ opened stored.0 stored.1 workers) → store.workers ≡ workers
+workers_stored (Ok stored) workers store is = ap (λ (s : Stock). s.workers) is
+workers_stored (Err fault) workers store is = absurd is
+
+workers_opened : (found : Result Data WireFault) (workers : ℕ) (store : Stock) → IsOkAnd found (λ document. IsOpenedFrom document workers store) → store.workers ≡ workers
+workers_opened (Ok document) workers store is = workers_stored (tree_in document) workers store is
+workers_opened (Err fault) workers store is = absurd is
+
+-- the store that bytes open has the workers that it was given
+pub serves_workers : (bytes : List ℕ) (workers : ℕ) (answer : Result Answer Stop) → IfOk answer (ServesStore (IsOpenedBy bytes workers))
+    → IfOk answer (ServesStore (λ store. store.workers ≡ workers))
+serves_workers bytes workers answer serves =
+    IfOk-weaker answer _ _ (λ a it. serves_weaker (IsOpenedBy bytes workers) (λ store. store.workers ≡ workers) (λ store is. workers_opened (document_of bytes) workers store is) a it) serves

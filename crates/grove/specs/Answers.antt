@@ -1,7 +1,10 @@
 -- For the proofs alone: the answers that are made of what may be said.
-use Rattle.std.specs.Prelude.{◌≡◌, ◌≢◌, ℕ, List, [], string_bytes}
+use Rattle.std.specs.Prelude.{◌≡◌, ◌≢◌, ℕ, List, [], string_bytes, IsOkAnd}
+use Rattle.serde_json.specs.Data.{Data}
 use Rattle.grove_session.specs.declared.fault.ReadFault.{ReadFault}
 use Rattle.grove_session.specs.declared.fault.ReadFault.TheVariants as read
+use Rattle.grove_store.specs.Stocks.{Stock, opened}
+use Rattle.grove_wire.specs.Reading.{document_of, tree_in}
 use Rattle.grove_answer.specs.Outcomes.{Outcome}
 use Rattle.grove.specs.declared.answer.Answer.{Answer}
 use Rattle.grove.specs.declared.answer.Answer.TheVariants.{Done, Refused, Usage, Listen}
@@ -57,6 +60,21 @@ NamesPort IsPort (Done text) = Unit {0}
 NamesPort IsPort (Refused text) = Unit {0}
 NamesPort IsPort (Usage text) = Unit {0}
 NamesPort IsPort (Listen line service) = (port : ℕ) × IsPort port × (string_bytes line ≡ listening_line port)
+
+-- an answer that says so serves such a store
+abbrev pub ServesStore : (Stock → Type 0) → Answer → Type 0
+ServesStore IsStore (Done text) = Unit {0}
+ServesStore IsStore (Refused text) = Unit {0}
+ServesStore IsStore (Usage text) = Unit {0}
+ServesStore IsStore (Listen line service) = IsStore service.store
+
+-- the store of a document's tree and records, with so many workers, which has answered nothing yet
+abbrev pub IsOpenedFrom : Data → ℕ → Stock → Type 0
+IsOpenedFrom document workers store = IsOkAnd (tree_in document) (λ stored. store ≡ opened stored.0 stored.1 workers)
+
+-- the same of bytes
+abbrev pub IsOpenedBy : List ℕ → ℕ → Stock → Type 0
+IsOpenedBy bytes workers store = IsOkAnd (document_of bytes) (λ document. IsOpenedFrom document workers store)
 
 -- why a document isn't read is why the command stops
 abbrev pub stop_of : ReadFault → Stop

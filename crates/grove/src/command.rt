@@ -1,9 +1,9 @@
-ghost use Rattle.std.specs.Prelude.{◌≡◌, ◌≢◌, ◌≤◌, ◌⊎◌, length, map, true, false, [], None, Some, IfOk, IfErr, IfSome, OnOk, string_bytes, ⊤};
+ghost use Rattle.std.specs.Prelude.{◌≡◌, ◌≢◌, ◌≤◌, ◌⊎◌, ℕ, List, length, map, true, false, [], None, Some, IfOk, IfErr, IfSome, OnOk, string_bytes, ⊤};
 ghost use Rattle.serde_json.specs.View.{view};
 ghost use Rattle.grove_wire.specs.Forms.{HasShortArrays};
 ghost use Rattle.std.specs.Io.KnownBytes.{Consumes, IsAtEnd, Keeps};
-ghost use Rattle.grove.specs.Answers.{status_of, AnswersBy, HasText, IsListen, IsRefusalLine, NamesPort};
-ghost use Rattle.grove_words.specs.CommandLines.{AreWrong, AskFor, AskToServe, AskToShow, NameDevice};
+ghost use Rattle.grove.specs.Answers.{status_of, AnswersBy, HasText, IsListen, IsOpenedBy, IsOpenedFrom, IsRefusalLine, NamesPort, ServesStore};
+ghost use Rattle.grove_words.specs.CommandLines.{AreWrong, AskFor, AskForWorkers, AskToServe, AskToShow, NameDevice};
 ghost use Rattle.grove_words.specs.NoOrders.{HasText as IsToldText, TellsShown, TellsWrong};
 ghost use Rattle.grove.specs.Endings.{Blames, SaysListening, SaysRefusal, SaysSomething, SaysWhy};
 ghost use Rattle.grove.specs.Outcomes.{IsOutcome, MaySay, Prints};
@@ -39,6 +39,8 @@ pub fn run_command<
 >(rt: &R, words: &[String], input: &mut I, out: &mut O, err: &mut E) -> u8
     ensures answered { (order : Order) → AskFor (map string_bytes words.now) order → order.document ≡ None
         → IfSome (I.remaining input.old) (λ document. Prints (IsOutcome order.command document) result (O.contents out.old) (O.contents out.new)) }
+    ensures read { (order : Order) → AskFor (map string_bytes words.now) order
+        → (bytes : List ℕ) × Prints (IsOutcome order.command bytes) result (O.contents out.old) (O.contents out.new) }
     ensures status { result ≤ 3 }
     ensures refused { result ≡ 1 → SaysRefusal (O.contents out.old) (O.contents out.new) }
     ensures wrong { AreWrong (map string_bytes words.now) → (result ≡ 2) ⊎ (result ≡ 3) }
@@ -83,6 +85,8 @@ fn answer<
 >(rt: &R, words: &[String], input: &mut I) -> Result<Answer, Stop>
     ensures said { (order : Order) → AskFor (map string_bytes words.now) order → order.document ≡ None → IfOk result (λ answer.
         IfSome (I.remaining input.old) (λ document. AnswersBy (IsOutcome order.command document) answer)) }
+    ensures read { (order : Order) → AskFor (map string_bytes words.now) order → IfOk result (λ answer. (bytes : List ℕ) × AnswersBy (IsOutcome order.command bytes) answer) }
+    ensures workers { IfOk result (ServesStore (λ store. AskForWorkers (map string_bytes words.now) store.workers)) }
     ensures refused { IfOk result IsRefusalLine }
     ensures wrong { AreWrong (map string_bytes words.now) → IfOk result (λ answer. status_of answer ≡ 2) }
     ensures shown { AskToShow (map string_bytes words.now) → IfOk result (λ answer. (status_of answer ≡ 0) × HasText answer) }
@@ -116,6 +120,8 @@ fn order_answer<
     requires { (1 ≤ order.workers) × (order.workers ≤ 16) }
     ensures said { order.entry.document ≡ None → IfOk result (λ answer.
         IfSome (I.remaining input.old) (λ document. AnswersBy (IsOutcome order.entry.command document) answer)) }
+    ensures read { IfOk result (λ answer. (bytes : List ℕ) × AnswersBy (IsOutcome order.entry.command bytes) answer) }
+    ensures workers { IfOk result (ServesStore (λ store. store.workers ≡ order.entry.workers)) }
     ensures refused { IfOk result IsRefusalLine }
     ensures status { IfOk result (λ answer. status_of answer ≤ 1) }
     ensures served { order.entry.command ≡ Command.Serve → IfOk result (λ answer. (status_of answer ≡ 1) ⊎ IsListen answer) }
@@ -125,9 +131,25 @@ fn order_answer<
     ensures blamed { IfErr result (Blames ((I.has_failed input.new ≡ true) ⊎ ((order.entry.document ≢ None) ⊎ (order.entry.command ≡ Command.Serve)))
         (I.has_failed input.new ≡ I.has_failed input.old)) }
 {
-    let alloc = rt.alloc();
     let bytes = document_bytes(rt, order.document, input)?;
-    match read_document(alloc, &bytes) {
+    bytes_answer(rt, order, &bytes)
+}
+
+/// What an order says of the bytes of its document, whoever gave them.
+fn bytes_answer<
+    R: AllocGlobal + Net<Listener = TcpListener, Stream = TcpStream> + Threads + Wait + Sync,
+>(rt: &R, order: Order<'_>, bytes: &[u8]) -> Result<Answer, Stop>
+    requires { (1 ≤ order.workers) × (order.workers ≤ 16) }
+    ensures said { IfOk result (AnswersBy (IsOutcome order.entry.command bytes.now)) }
+    ensures opened { IfOk result (ServesStore (IsOpenedBy bytes.now order.entry.workers)) }
+    ensures refused { IfOk result IsRefusalLine }
+    ensures status { IfOk result (λ answer. status_of answer ≤ 1) }
+    ensures served { order.entry.command ≡ Command.Serve → IfOk result (λ answer. (status_of answer ≡ 1) ⊎ IsListen answer) }
+    ensures port { IfOk result (NamesPort (λ port. (order.entry.command ≡ Command.Serve) × (order.entry.port ≡ Some port))) }
+    ensures blamed { IfErr result (Blames (order.entry.command ≡ Command.Serve) ⊤) }
+{
+    let alloc = rt.alloc();
+    match read_document(alloc, bytes) {
         Ok(document) => document_answer(rt, order, &document),
         Err(fault) => answer_of(alloc, Err(Refusal::of_wire(alloc, &fault))),
     }
@@ -140,6 +162,7 @@ fn document_answer<
     requires short { HasShortArrays (view document.now) }
     requires workers { (1 ≤ order.workers) × (order.workers ≤ 16) }
     ensures said { IfOk result (AnswersBy (MaySay order.entry.command (view document.now))) }
+    ensures opened { IfOk result (ServesStore (IsOpenedFrom (view document.now) order.entry.workers)) }
     ensures refused { IfOk result IsRefusalLine }
     ensures status { IfOk result (λ answer. status_of answer ≤ 1) }
     ensures served { order.entry.command ≡ Command.Serve → IfOk result (λ answer. (status_of answer ≡ 1) ⊎ IsListen answer) }

@@ -5,7 +5,7 @@ ghost use Rattle.grove_wire.specs.Forms.{HasShortArrays};
 ghost use Rattle.grove_wire.specs.Reading.{tree_in};
 ghost use Rattle.grove_answer.specs.Outcomes.{ThenSays};
 ghost use Rattle.grove_answer.specs.Says.{refusal_outcome};
-ghost use Rattle.grove.specs.Answers.{status_of, AnswersBy, IsListen, IsRefusalLine, NamesPort};
+ghost use Rattle.grove.specs.Answers.{status_of, AnswersBy, IsListen, IsOpenedFrom, IsRefusalLine, NamesPort, ServesStore};
 ghost use Rattle.grove.specs.Endings.{Blames};
 ghost use Rattle.grove.specs.Outcomes.{IsServed};
 
@@ -40,6 +40,7 @@ pub fn serve_document<R: Net<Listener = TcpListener, Stream = TcpStream>>(
     ensures served { IfOk result (λ answer. (status_of answer ≡ 1) ⊎ IsListen answer) }
     ensures status { IfOk result (λ answer. status_of answer ≤ 1) }
     ensures port { IfOk result (NamesPort (λ number. port ≡ Some number)) }
+    ensures opened { IfOk result (ServesStore (IsOpenedFrom (view document.now) workers)) }
 {
     match open_store(alloc, document, workers) {
         Ok(store) => listening(rt, alloc, store, port),
@@ -70,6 +71,7 @@ fn listening<R: Net<Listener = TcpListener, Stream = TcpStream>>(
 ) -> Result<Answer, Stop>
     ensures said { IfOk result (NamesPort (λ number. port ≡ Some number)) }
     ensures listens { IfOk result IsListen }
+    ensures kept { IfOk result (ServesStore (λ served. served ≡ store)) }
 {
     let Some(port) = port else {
         return Err(Stop::Device);

@@ -1,8 +1,10 @@
-use Rattle.std.proofs.Common.{◌≡◌, Err}
+use Rattle.std.proofs.Common.{◌≡◌, Err, map, string_bytes, subst, sym}
 use Rattle.std.proofs.lemmas.Result.{IfErr-weaker, IfOk-weaker}
 use Rattle.grove_words.proofs.Orders.{same_name, serves_found}
+use Rattle.grove_words.specs.CommandLines.{AskForWorkers}
 use Rattle.grove.specs.declared.answer.Stop.TheVariants.{Memory}
-use Rattle.grove.proofs.Orders.{blames_named, found_port, said_of_asked}
+use Rattle.grove.proofs.Orders.{blames_named, found_port, read_of_asked, said_of_asked}
+use Rattle.grove.proofs.Saying.{serves_nothing, serves_weaker}
 use Rattle.grove.proofs.command.answer.Goals as goal
 
 pub returns-in-Ok-clause-said : goal.returns-in-Ok-clause-said
@@ -38,3 +40,20 @@ returns-in-Err-clause-served g c order asks serves =
 pub returns-in-Ok-clause-blamed : goal.returns-in-Ok-clause-blamed
 returns-in-Ok-clause-blamed g c =
     IfErr-weaker c.order_answer.result _ _ (λ stop. blames_named _ _ _ c.in-Ok.order stop c.in-Ok.ensures.asked) c.order_answer.ensures.blamed
+
+pub returns-in-Ok-clause-read : goal.returns-in-Ok-clause-read
+returns-in-Ok-clause-read g c order asks = read_of_asked _ order c.in-Ok.order c.order_answer.result asks c.in-Ok.ensures.asked c.order_answer.ensures.read
+
+pub returns-in-Err-clause-read : goal.returns-in-Err-clause-read
+returns-in-Err-clause-read g c order asks =
+    let stopped : c.words_answer.result ≡ Err Memory = c.words_answer.ensures.memory (c.in-Err.ensures.taken order asks) in
+    rw stopped tt
+
+pub returns-in-Ok-clause-workers : goal.returns-in-Ok-clause-workers
+returns-in-Ok-clause-workers g c =
+    let AreGiven = AskForWorkers (map string_bytes c.args.words.now) in
+    IfOk-weaker c.order_answer.result _ _ (λ answer serves. serves_weaker _ (λ store. AreGiven store.workers) (λ store same. subst AreGiven (sym same) c.in-Ok.ensures.given) answer serves)
+    c.order_answer.ensures.workers
+
+pub returns-in-Err-clause-workers : goal.returns-in-Err-clause-workers
+returns-in-Err-clause-workers g c = serves_nothing _ c.words_answer.result c.words_answer.ensures.unlistened

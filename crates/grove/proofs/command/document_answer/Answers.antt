@@ -1,7 +1,7 @@
 use Rattle.serde_json.specs.View.{view}
 use Rattle.grove_words.specs.declared.order.Command.TheVariants.{Judge, Check, Plan, Run}
 use Rattle.grove.specs.Outcomes.{MaySay}
-use Rattle.grove.proofs.Saying.{answer_says, names_no_port}
+use Rattle.grove.proofs.Saying.{answer_says, names_no_port, serves_nothing}
 use Rattle.grove.proofs.command.document_answer.Goals as goal
 
 pub returns-in-Judge-clause-said : goal.returns-in-Judge-clause-said
@@ -31,3 +31,15 @@ returns-in-Run-clause-said g c =
 
 pub returns-in-Run-clause-port : goal.returns-in-Run-clause-port
 returns-in-Run-clause-port g c = names_no_port _ c.answer_of-in-Run.result c.answer_of-in-Run.ensures.unlistened
+
+pub returns-in-Judge-clause-opened : goal.returns-in-Judge-clause-opened
+returns-in-Judge-clause-opened g c = serves_nothing _ c.answer_of.result c.answer_of.ensures.unlistened
+
+pub returns-in-Check-clause-opened : goal.returns-in-Check-clause-opened
+returns-in-Check-clause-opened g c = serves_nothing _ c.answer_of-in-Check.result c.answer_of-in-Check.ensures.unlistened
+
+pub returns-in-Plan-clause-opened : goal.returns-in-Plan-clause-opened
+returns-in-Plan-clause-opened g c = serves_nothing _ c.answer_of-in-Plan.result c.answer_of-in-Plan.ensures.unlistened
+
+pub returns-in-Run-clause-opened : goal.returns-in-Run-clause-opened
+returns-in-Run-clause-opened g c = serves_nothing _ c.answer_of-in-Run.result c.answer_of-in-Run.ensures.unlistened

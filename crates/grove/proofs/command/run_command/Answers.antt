@@ -1,5 +1,5 @@
 use Rattle.grove.specs.Outcomes.{IsOutcome}
-use Rattle.grove.proofs.Printing.{blames_device, prints_input, prints_port, not_usage}
+use Rattle.grove.proofs.Printing.{blames_device, prints_input, prints_port, prints_read, not_usage}
 use Rattle.grove.proofs.command.run_command.Goals as goal
 
 pub returns-clause-answered : goal.returns-clause-answered
@@ -15,3 +15,6 @@ returns-clause-unprinted g c three sound = prints_port _ c.answer.result _ _ c.a
 pub returns-clause-blamed : goal.returns-clause-blamed
 returns-clause-blamed g c three sound =
     blames_device _ c.answer.result _ _ _ _ _ _ c.answer.ensures.blamed c.answer.ensures.port (c.end.ensures.blamed three sound)
+
+pub returns-clause-read : goal.returns-clause-read
+returns-clause-read g c order asks = prints_read order.command c.answer.result _ _ _ _ (c.answer.ensures.read order asks) c.end.ensures.answered
