@@ -13,10 +13,15 @@ from dataclasses import replace
 from functools import partial
 
 from sweeps.documents import EXAMPLES, Asked, certified_examples, examples, helped, wrong_words
+from sweeps.growths import is_told
 from sweeps.program import DEVICE, Ran, Tally, Try, run
+from sweeps.served_devices import failing, library_in
 
 TRIED = "runs with a device that is closed, full, of another kind, or in pieces"
 NOBODY = 65534
+# How many bytes go in or out at once where each read or write fails, and more of these than any run has.
+PIECE = 40
+MOST_CALLS = 20_000
 # Where standard error fails too, nothing can be said.
 SILENT = Ran(3, b"", b"")
 
@@ -25,6 +30,8 @@ def tries(program: str, room: str) -> list[Try]:
     fixed = [
         Try("standard output", partial(failing_output, program)),
         Try("standard output that takes some bytes", partial(cut_output, program)),
+        Try("each write of standard output", partial(fail_each, program, library_in(room), "output")),
+        Try("each read of standard input", partial(fail_each, program, library_in(room), "input")),
         Try("standard error while there is an answer", partial(unused_errors, program)),
         Try("standard error while there is something to tell", partial(failing_errors, program)),
         Try("standard output and standard error", partial(failing_both, program)),
@@ -68,6 +75,21 @@ def cut_after(program: str, asked: Asked, most: int, whole: bytes) -> str | None
         came = Ran(ran.status, file.read(), ran.err)
     wanted = Ran(3, whole[:most], b"device\n")
     return None if came == wanted else f"wanted {wanted}; came {came}"
+
+
+def fail_each(program: str, library: str, kind: str, tally: Tally) -> None:
+    """One write, or one read, of some bytes fails, and those after it would not: nothing more goes out."""
+    for asked in examples():
+        for number in range(1, MOST_CALLS):
+            with failing(library, kind, number, {f"{kind.upper()}_AT_MOST": str(PIECE)}) as (how, ends):
+                ran = run(program, *asked.words, text=asked.text, **how)
+                if not is_told(ends):
+                    tally.blame(f"{asked.name}, no {kind} failed", asked.fault(ran))
+                    break
+            out = (asked.output or b"")[: PIECE * (number - 1)] if kind == "output" else b""
+            tally.compare(f"{asked.name}, {kind} {number}", ran, Ran(3, out, b"device\n"))
+        else:
+            tally.blame(asked.name, f"there is still more {kind}")
 
 
 def limit_files(most: int) -> None:

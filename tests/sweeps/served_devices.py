@@ -26,6 +26,7 @@ RIGHT = REPLIES.splitlines(keepends=True)
 MOST_CALLS = 20_000
 # Each part has every call of so many.
 PARTS = 4
+BYTE_BY_BYTE = {"READ_AT_MOST": "1", "WRITE_AT_MOST": "1"}
 
 
 def tries(program: str, room: str) -> list[Try]:
@@ -81,11 +82,11 @@ def due(kind: str, number: int) -> tuple[bytes, int]:
 
 
 @contextmanager
-def failing(library: str, kind: str, number: int) -> Iterator[tuple[dict, int]]:
-    """How to start a server of which one call fails, and the pipe on which that is told."""
+def failing(library: str, kind: str, number: int, pieces: dict = BYTE_BY_BYTE) -> Iterator[tuple[dict, int]]:
+    """How to start a program of which one call fails, and the pipe on which that is told."""
     ends, tell = os.pipe()
-    pieces = {"LD_PRELOAD": library, "READ_AT_MOST": "1", "WRITE_AT_MOST": "1"}
-    surroundings = {**os.environ, **pieces, f"FAILED_{kind.upper()}": str(number), "FAILED_TELL": str(tell)}
+    calls = {"LD_PRELOAD": library, **pieces, f"FAILED_{kind.upper()}": str(number), "FAILED_TELL": str(tell)}
+    surroundings = {**os.environ, **calls}
     try:
         os.set_blocking(ends, False)
         yield {"env": surroundings, "pass_fds": (tell,)}, ends

@@ -1,0 +1,86 @@
+"""How many threads the program starts, and how many of them are there at once: as many as it was told workers."""
+
+from __future__ import annotations
+
+import contextlib
+import json
+import os
+import subprocess
+from functools import partial
+from pathlib import Path
+from typing import Callable, Iterator
+
+from server import Serving
+
+from sweeps.program import Tally, Try, run, short
+
+TRIED = "batches by some number of workers, with their threads counted"
+WORKERS = (1, 2, 3, 4, 16)
+# No two lists have the same nodes in the same order, so each is planned by itself.
+LISTS = [[["get", f"/n{first}"], ["get", f"/n{second}"]] for first in range(16) for second in range(16)]
+ROOT = {"parent": None, "name": "", "weight": 1}
+NODES = [ROOT] + [{"parent": 0, "name": f"n{number}", "weight": 1} for number in range(16)]
+DOCUMENT = json.dumps({"nodes": NODES, "lists": LISTS}).encode()
+BATCH = json.dumps({"batch": LISTS}).encode() + b"\n"
+
+
+def tries(program: str, room: str) -> list[Try]:
+    library = library_in(room)
+    asked = {"run": run_batch, "serve": serve_batch}
+    return [Try(f"{name} by {workers}", partial(call, program, library, workers)) for name, call in asked.items() for workers in WORKERS]
+
+
+def library_in(room: str) -> str:
+    """Compiles what counts threads, to be preloaded."""
+    library = f"{room}/count_threads.so"
+    source = Path(__file__).with_name("count_threads.c")
+    words = ["cc", "-O1", "-shared", "-fPIC", "-o", library, source, "-ldl"]
+    subprocess.run(words, check=True, stdin=subprocess.DEVNULL)
+    return library
+
+
+def run_batch(program: str, library: str, workers: int, tally: Tally) -> None:
+    with counting(library) as (how, told):
+        ran = run(program, "run", "--workers", str(workers), text=DOCUMENT, **how)
+        well = ran.status == 0 and ran.out.startswith(b"order [")
+        tally.note("run", fault_of(told(), workers, 0) if well else f"came {ran}")
+
+
+def serve_batch(program: str, library: str, workers: int, tally: Tally) -> None:
+    """The connection has a thread of its own, which is one of the workers."""
+    with counting(library) as (how, told):
+        with Serving(program, DOCUMENT, workers, **how) as server:
+            reply = server.talk(BATCH)
+        well = reply.startswith(b'{"places":[')
+        tally.note("serve", fault_of(told(), workers, 1) if well else f"came {short(reply)}")
+
+
+def fault_of(told: bytes, workers: int, others: int) -> str | None:
+    """Lists are planned by so many, the caller among them, and then run by two of them at least. Two halves are
+    planned at once, then halves of these, so that as many threads are started as there are further workers."""
+    here = [told[: at + 1].count(b"+") - told[: at + 1].count(b"-") for at in range(len(told))]
+    most, started = max(here, default=0), told.count(b"+") - others
+    fewest, further = (workers if workers > 1 else 0), workers - 1
+    if most > further + others:
+        return f"{most} threads at once beside the first"
+    return None if fewest <= started <= 2 * further else f"{started} threads were started"
+
+
+@contextlib.contextmanager
+def counting(library: str) -> Iterator[tuple[dict, Callable[[], bytes]]]:
+    """How to start a program whose threads are counted, and a call that gives what was told of them so far."""
+    ends, tell = os.pipe()
+    surroundings = {**os.environ, "LD_PRELOAD": library, "THREADS_TELL": str(tell)}
+    try:
+        os.set_blocking(ends, False)
+        yield {"env": surroundings, "pass_fds": (tell,)}, partial(read_all, ends)
+    finally:
+        os.close(ends)
+        os.close(tell)
+
+
+def read_all(ends: int) -> bytes:
+    try:
+        return os.read(ends, 1 << 16)
+    except BlockingIOError:
+        return b""
