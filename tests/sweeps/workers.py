@@ -17,7 +17,7 @@ from sweeps.program import Tally, Try, run, short
 TRIED = "batches by some number of workers, with their threads counted"
 WORKERS = (1, 2, 3, 4, 16)
 # No two lists have the same nodes in the same order, so each is planned by itself.
-LISTS = [[["get", f"/n{first}"], ["get", f"/n{second}"]] for first in range(16) for second in range(16)]
+LISTS = [[["get", f"/n{node}"] for node in [first, second] * 12] for first in range(16) for second in range(16)]
 ROOT = {"parent": None, "name": "", "weight": 1}
 NODES = [ROOT] + [{"parent": 0, "name": f"n{number}", "weight": 1} for number in range(16)]
 DOCUMENT = json.dumps({"nodes": NODES, "lists": LISTS}).encode()
