@@ -1,4 +1,4 @@
-use crate::fixtures::{A, B, ROOT, access, leaves_below, lock, unlock};
+use crate::fixtures::{A, B, ROOT, access, leaves_below, lock, read, unlock};
 use crate::meeting::Meeting;
 use crate::roll::Roll;
 use crate::scripts::alone;
@@ -12,13 +12,6 @@ use std::thread::Threads;
 
 /// A list's accesses, and the steps and the cost of its plan below a root that weighs 5.
 type Worked<'a> = (&'a [Access], &'a [Step], u64);
-
-fn read(node: u32, length: u32) -> Access {
-    Access {
-        length,
-        ..access(node, Op::Get)
-    }
-}
 
 fn lists_of(rt: &impl Abort, alloc: Global, tree: &Tree, batch: &[Worked]) -> Vec<AccessList> {
     let mut lists = Vec::new(alloc);
@@ -97,6 +90,8 @@ fn any_number_of_workers_plans_each_list_once(rt: HostRuntime) {
     ];
     for workers in [1, 2, 3, 16] {
         let roll = Roll::new();
+        plans(&rt, rt.alloc(), &[], workers, &roll);
+        assert!(rt; roll.has_nobody());
         plans(&rt, rt.alloc(), &batch, workers, &roll);
         assert!(rt; roll.has_each_once(), "{workers} workers");
     }

@@ -127,6 +127,27 @@ fn two_rounds<B: Opening, R: Abort + Threads + Wait + Sync>(rt: &R, alloc: Globa
     close_after_two_rounds(rt, alloc, desk, &[first, second]);
 }
 
+#[test]
+fn a_journal_is_whole_though_no_receipt_is_handed_in(rt: HostRuntime) {
+    let store = small_store(&rt, rt.alloc(), 1);
+    without_receipts::<Brand, HostRuntime>(&rt, rt.alloc(), store);
+}
+
+/// Two lines of one caller at a desk with a journal, which is then closed without their receipts.
+fn without_receipts<B: Opening, R: Abort + Threads + Wait + Sync>(
+    rt: &R,
+    alloc: Global,
+    store: Store,
+)
+    requires store { store ≡ B.store }
+    requires kept { B.kept ≡ true }
+{
+    let desk = Desk::<B>::open(alloc, store, true);
+    let _first = add(rt, alloc, &desk, None);
+    let _second = add(rt, alloc, &desk, None);
+    close_after_two_rounds(rt, alloc, desk, &[]);
+}
+
 /// Closes the desk, at which each of two lines had a round of its own.
 fn close_after_two_rounds<B: Opening>(
     rt: &impl Abort,
@@ -135,7 +156,7 @@ fn close_after_two_rounds<B: Opening>(
     receipts: &[Receipt],
 ) {
     let closed = close(rt, alloc, desk, receipts);
-    has_rounds_of(rt, &closed, [1, 1]);
+    has_calls_of(rt, &closed, 2, &[1, 1]);
 }
 
 pub fn close<B: Opening>(
@@ -148,15 +169,15 @@ pub fn close<B: Opening>(
     closed.expect(rt, "a desk that closes")
 }
 
-/// There were two rounds, of so many lines each.
-pub fn has_rounds_of(rt: &impl Abort, closed: &Closed, lines: [usize; 2]) {
+/// There were so many rounds, and calls of so many lines each.
+pub fn has_calls_of(rt: &impl Abort, closed: &Closed, rounds: u64, lines: &[usize]) {
     let Closed { store, journal } = closed;
-    assert!(rt; store.rounds() == 2 && journal.len() == 2);
+    assert!(rt; store.rounds() == rounds && journal.len() == lines.len());
     assert!(rt;
         journal
             .iter()
             .zip(lines)
-            .all(|(entry, lines)| entry.receipts.len() == lines)
+            .all(|(entry, lines)| entry.receipts.len() == *lines)
     );
 }
 

@@ -47,15 +47,12 @@ pub fn access(node: u32, op: Op) -> Access {
     }
 }
 
-/// Accesses that read these nodes.
-pub fn gets(rt: &impl Abort, alloc: Global, nodes: &[u32]) -> Vec<Access> {
-    let mut accesses = Vec::new(alloc);
-    for node in nodes {
-        accesses
-            .push(access(*node, Op::Get))
-            .expect(rt, "room for an access");
+/// A read that takes so many slots.
+pub fn read(node: u32, length: u32) -> Access {
+    Access {
+        length,
+        ..access(node, Op::Get)
     }
-    accesses
 }
 
 pub fn lock(node: u32) -> Step {

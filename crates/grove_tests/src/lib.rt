@@ -4,7 +4,13 @@
 #[cfg(test)]
 mod batches;
 #[cfg(test)]
+mod bells;
+#[cfg(test)]
 mod carries;
+#[cfg(test)]
+mod crowd;
+#[cfg(test)]
+mod cues;
 #[cfg(test)]
 mod desks;
 #[cfg(test)]
@@ -13,6 +19,12 @@ mod devices;
 mod fixtures;
 #[cfg(test)]
 mod flows;
+#[cfg(test)]
+mod full_boards;
+#[cfg(test)]
+mod hold;
+#[cfg(test)]
+mod leftovers;
 #[cfg(test)]
 mod lists;
 #[cfg(test)]
@@ -31,6 +43,8 @@ mod scripts;
 mod sessions;
 #[cfg(test)]
 mod spans;
+#[cfg(test)]
+mod stores;
 #[cfg(test)]
 mod weights;
 #[cfg(test)]

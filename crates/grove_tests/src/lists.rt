@@ -1,20 +1,23 @@
-use crate::fixtures::{gets, lock, two_leaves, unlock};
-use grove_access::{AccessList, ListFault};
+use crate::fixtures::{lock, read, two_leaves, unlock};
+use grove_access::{Access, AccessList, ListFault};
 use grove_plan::{Plan, Step};
 use grove_tree::Node;
 
 #[test]
-fn a_list_is_short_and_names_nodes_of_the_tree(rt: HostRuntime) {
-    let alloc = rt.alloc();
-    let tree = two_leaves(&rt, alloc);
-    let cases: [(&[u32], Option<ListFault>); 4] = [
-        (&[1; 64], None),
-        (&[1; 65], Some(ListFault::TooLong)),
-        (&[3; 65], Some(ListFault::TooLong)),
-        (&[0, 3], Some(ListFault::NoNode(1))),
+fn a_list_is_short_and_its_accesses_fit(rt: HostRuntime) {
+    let tree = two_leaves(&rt, rt.alloc());
+    let cases: [(&[Access], Option<ListFault>); 8] = [
+        (&[read(1, 1); 64], None),
+        (&[read(1, 1); 65], Some(ListFault::TooLong)),
+        (&[read(3, 1); 65], Some(ListFault::TooLong)),
+        (&[read(0, 1), read(3, 1)], Some(ListFault::NoNode(1))),
+        (&[read(0, 0), read(3, 1)], Some(ListFault::NoNode(1))),
+        (&[read(1, 1), read(2, 0)], Some(ListFault::BadLength(1))),
+        (&[read(1, 1), read(2, 1000)], None),
+        (&[read(1, 1), read(2, 1001)], Some(ListFault::BadLength(1))),
     ];
-    for (nodes, fault) in cases {
-        let list = AccessList::new(alloc, &tree, &gets(&rt, alloc, nodes));
+    for (accesses, fault) in cases {
+        let list = AccessList::new(rt.alloc(), &tree, accesses);
         assert!(rt; list.err() == fault);
     }
 }

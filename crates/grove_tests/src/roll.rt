@@ -24,11 +24,20 @@ impl Roll {
 
     /// Did each part come once, and nothing else?
     pub fn has_each_once(&self) -> bool {
-        let once = self
-            .parts
+        self.has_each(1)
+    }
+
+    /// Did nothing come?
+    pub fn has_nobody(&self) -> bool {
+        self.has_each(0)
+    }
+
+    fn has_each(&self, times: u64) -> bool {
+        let parts = &self.parts;
+        let each = parts
             .iter()
-            .all(|calls| calls.load(Ordering::SeqCst) == 1);
-        once && self.others.load(Ordering::SeqCst) == 0
+            .all(|calls| calls.load(Ordering::SeqCst) == times);
+        each && self.others.load(Ordering::SeqCst) == 0
     }
 }
 

@@ -1,22 +1,18 @@
 ghost use Rattle.std.specs.Prelude.{◌≡◌, true};
 ghost use Rattle.std.specs.Thread.{IsSend, IsSync};
 
-use crate::desks::{close, has_rounds_of, small_store};
+use crate::desks::{close, has_calls_of, small_store};
 use crate::fixtures::{A, B};
+use crate::hold::{Hold, MOST_LOOKS, get_held};
 use grove_access::Records;
 use grove_desk::{Desk, Opening, Receipt};
 use grove_store::Store;
-use grove_tree::{Gate, Node, OpenGate};
+use grove_tree::{Node, OpenGate};
 use std::alloc::Global;
 use std::marker::Brand;
 use std::process::Abort;
 use std::sync::Wait;
-use std::sync::atomic::{AtomicBool, Ordering};
 use std::thread::{Threads, join, yield_now};
-
-const MOST_LOOKS: u32 = 20_000_000;
-
-const GET: &[u8] = b"{\"batch\":[[[\"get\",\"/a\"]]]}";
 
 const ADD: &[u8] = b"{\"batch\":[[[\"add\",\"/b\",1]]]}";
 
@@ -28,71 +24,17 @@ const SHARED_ROUND: [&[u8]; 2] = [
     b"{\"places\":[1],\"replies\":[[22]],\"round\":2}",
 ];
 
-/// Looks until the flag is up, or often enough.
-fn waits_for(flag: &AtomicBool) -> bool {
-    for _ in 0..MOST_LOOKS {
-        if flag.load(Ordering::SeqCst) {
-            return true;
-        }
-        yield_now();
-    }
-    false
-}
-
-/// A gate that holds a round at its first step until it is let go.
-#[derive(Drop)]
-struct Hold {
-    is_held: AtomicBool,
-    may_go: AtomicBool,
-    gave_up: AtomicBool,
-    is_over: AtomicBool,
-}
-
-impl Hold {
-    fn new() -> Self {
-        Hold {
-            is_held: AtomicBool::new(false),
-            may_go: AtomicBool::new(false),
-            gave_up: AtomicBool::new(false),
-            is_over: AtomicBool::new(false),
-        }
-    }
-}
-
-impl Gate for Hold {
-    fn at(&self, txn: u32, step: u32) {
-        if (txn, step) == (0, 0) {
-            self.is_held.store(true, Ordering::SeqCst);
-            if !waits_for(&self.may_go) {
-                self.gave_up.store(true, Ordering::SeqCst);
-            }
-        }
-    }
-}
-
 /// Lets the round go once two lines wait for the next one, and looks on until it is over.
 fn let_go<B: Opening, R: Wait>(rt: &R, desk: &Desk<B>, hold: &Hold) {
     for _ in 0..MOST_LOOKS {
         if desk.waiting(rt) == 2 {
-            hold.may_go.store(true, Ordering::SeqCst);
+            hold.let_go();
         }
-        if hold.is_over.load(Ordering::SeqCst) {
+        if hold.is_over() {
             return;
         }
         yield_now();
     }
-}
-
-/// Asks for a round that is held.
-fn get_held<B: Opening, R: Abort + Threads + Wait + Sync>(
-    rt: &R,
-    alloc: Global,
-    desk: &Desk<B>,
-    hold: &Hold,
-) -> Receipt {
-    let answered = desk.answer(rt, alloc, None, GET, hold);
-    hold.is_over.store(true, Ordering::SeqCst);
-    answered.expect(rt, "a receipt")
 }
 
 /// Asks once the round is held.
@@ -102,7 +44,7 @@ fn add_beside<B: Opening, R: Abort + Threads + Wait + Sync>(
     desk: &Desk<B>,
     hold: &Hold,
 ) -> Receipt {
-    assert!(rt; waits_for(&hold.is_held));
+    assert!(rt; hold.is_reached());
     desk.answer(rt, alloc, None, ADD, &OpenGate)
         .expect(rt, "a receipt")
 }
@@ -130,7 +72,7 @@ fn close_after_two_rounds<B: Opening>(
     receipts: &[Receipt],
 ) {
     let closed = close(rt, alloc, desk, receipts);
-    has_rounds_of(rt, &closed, [1, 2]);
+    has_calls_of(rt, &closed, 2, &[1, 2]);
     are_10_and_22(rt, closed.store.records());
 }
 
@@ -158,7 +100,7 @@ fn two_share_the_next<B: Opening + Send + Sync, R: Abort + Threads + Wait + Sync
     let desk = Desk::<B>::open(alloc, store, true);
     let hold = Hold::new();
     let ((one, other), first) = answers_of_three(rt, alloc, &desk, &hold);
-    assert!(rt; !hold.gave_up.load(Ordering::SeqCst));
+    assert!(rt; !hold.gave_up());
     assert!(rt; first.reply.as_slice() == FIRST_ROUND);
     assert!(rt; are_shared(&one, &other));
     let receipts = by_number(first, one, other);

@@ -1,4 +1,4 @@
-use crate::fixtures::{lock, unlock};
+use crate::fixtures::{lock, read, unlock};
 use grove_access::{Access, AccessList, Records};
 use grove_core::{Core, Job, OpenFault, all_fit};
 use grove_plan::{Plan, Step};
@@ -26,6 +26,15 @@ pub fn job_of(rt: &impl Abort, alloc: Global, tree: &Tree, script: &Script) -> J
         list,
         plan: Plan::new(steps),
     }
+}
+
+/// A job that reads a node, which alone is held.
+pub fn reads(rt: &impl Abort, alloc: Global, tree: &Tree, node: u32) -> Job {
+    let script = Script {
+        accesses: &[read(node, 1)],
+        steps: &alone(node),
+    };
+    job_of(rt, alloc, tree, &script)
 }
 
 pub fn open<'a>(

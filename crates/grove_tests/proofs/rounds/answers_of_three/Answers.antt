@@ -1,7 +1,7 @@
 use denote.Param.Send.{IsSync, sendable}
 use Rattle.std.proofs.Crossing.{crosses}
 use Rattle.grove_desk.proofs.Sharing.{Desk-sync}
-use Rattle.grove_tests.specs.contracts.rounds.Hold as Hold
+use Rattle.grove_tests.specs.contracts.hold.Hold as Hold
 use Rattle.grove_tests.proofs.rounds.answers_of_three.Goals as goal
 
 -- threads may share a gate that holds a round
