@@ -75,11 +75,6 @@ no_step_settled carry (Some (Access i)) h = h
 pub lock_not_out : (core : State) (carry : Carried) (v : ℕ) → AllLegal core.tree core.jobs → IsOf core carry → next_step core.jobs (past_of core) carry.txn ≡ Some (Lock v) → known_at carry.known v ≡ None
 lock_not_out core carry v legal of next = none_found (known_at carry.known v) (of.out v ∙ free_before core.tree core.jobs (past_of core) carry.txn v legal next)
 
--- a record that was read is put into the carry
-pub put_read : (carry new : Carried) (v : ℕ) (value read : ℤ) → new ≡ record carry { known = carry.known ++ record { node = v; value = value } ∷ [] } → value ≡ read
-    → new ≡ record carry { known = carry.known ++ record { node = v; value = read } ∷ [] }
-put_read carry new v value read put is = put ∙ ap (λ (x : ℤ). record carry { known = carry.known ++ record { node = v; value = x } ∷ [] }) is
-
 -- the step after the entries, as it is read
 pub step_read : (core : State) (carry : Carried) (t n : ℕ) (found : Option Step) → t ≡ carry.txn → n ≡ length carry.entries
     → found ≡ slice_get (plan_of core.jobs t) (steps_done (past_of core) t + n) → found ≡ step_after core carry

@@ -74,14 +74,6 @@ lock_within rows jobs legal t lt place node steps step same read is =
 abbrev pub HaveAdded : (ℕ → ℕ) → List Job → ℕ → List ℕ → Type 0
 HaveAdded new jobs count waits = (t place node : ℕ) → t < count → slice_get (plan_of jobs t) place ≡ Some (Lock node) → get_or waits node 0 ≡ new node
 
--- one job more
-pub all_more : (new : ℕ → ℕ) (jobs : List Job) (count : ℕ) (before after : List ℕ) → AreOldOrNew new before after
-    → ((place node : ℕ) → slice_get (plan_of jobs count) place ≡ Some (Lock node) → get_or after node 0 ≡ new node) → HaveAdded new jobs count before → HaveAdded new jobs (count + 1) after
-all_more new jobs count before after kept here so_far t place node lt at = elim (cases_eq t count) [
-  | inl same ↦ here place node (ap (λ (n : ℕ). slice_get (plan_of jobs n) place) (sym same) ∙ at)
-  | inr other ↦ new_stays new before after node kept (so_far t place node (omega arith) at)
-]
-
 -- what comes of the loops: where no waits are more than 1,000
 module _ (jobs : List Job) (past : List Event) (waits : List ℕ) (few : All (λ n. n ≤ 1000) waits) where
   -- the new waits of a node, as they are read

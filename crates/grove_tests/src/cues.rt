@@ -1,8 +1,7 @@
+use crate::hold::MOST_LOOKS;
 use grove_tree::Gate;
 use std::sync::atomic::{AtomicBool, AtomicU64, Ordering};
 use std::thread::yield_now;
-
-const MOST_LOOKS: u32 = 20_000_000;
 
 /// Who comes at one place waits there until someone has come to another, and then looks on so many times more.
 #[derive(Drop)]

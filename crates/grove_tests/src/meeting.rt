@@ -1,7 +1,6 @@
+use crate::hold::MOST_LOOKS;
 use grove_tree::Gate;
 use std::sync::atomic::{AtomicBool, AtomicU64, Ordering};
-
-const MOST_LOOKS: u32 = 20_000_000;
 
 /// A gate at which two of those that come wait for each other, so that two threads must be at work at once.
 #[derive(Drop)]
