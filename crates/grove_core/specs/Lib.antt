@@ -6,6 +6,7 @@ pub mod Laws
 pub mod Owners
 pub mod Kept
 pub mod Openings
+pub mod Replays
 pub mod Carried
 pub mod CarriedTests
 pub mod Starts

@@ -66,3 +66,20 @@ pub enum StepFault {
     #[error("marked")]
     Marked,
 }
+
+/// Why a history is no finished run of the jobs: the first reason in this order, want of memory aside.
+#[derive(Clone, Copy, Debug, PartialEq, Eq, Error)]
+pub enum ReplayFault {
+    /// The plan of this job has this fault, and no plan of a lower job has one.
+    #[error("job {0} {1}")]
+    BadPlan(u32, PlanFault),
+    /// The event of this number, counted from 0, may not happen, and those before it may.
+    #[error("event {0} {1}")]
+    BadEvent(u32, StepFault),
+    /// All events may happen, and after them this is the lowest job that isn't at the end of its plan.
+    #[error("unfinished {0}")]
+    Unfinished(u32),
+    /// A growth was refused.
+    #[error("memory")]
+    Memory,
+}

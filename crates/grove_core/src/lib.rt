@@ -2,7 +2,7 @@
 #![tactic(auto)]
 
 pub use event::Event;
-pub use fault::{OpenFault, StepFault};
+pub use fault::{OpenFault, ReplayFault, StepFault};
 pub use fitting::all_fit;
 pub use job::Job;
 pub use laws::run_laws;

@@ -6,6 +6,7 @@ ghost use Rattle.grove_core.specs.Orders.{first_lock, lock_time, earlier};
 ghost use Rattle.grove_core.specs.Depths.{first_depth};
 ghost use Rattle.grove_core.specs.Laws.{CanGoOn};
 ghost use Rattle.grove_core.specs.Openings.{AllFit, IsFirstFault};
+ghost use Rattle.grove_core.specs.Replays.{IsFirstUnfinished};
 ghost use Rattle.grove_core.specs.Kept.{past_of};
 
 use crate::following::{is_owner, step_at};
@@ -21,6 +22,7 @@ use std::alloc::Global;
 use std::marker::Model;
 
 mod carrying;
+mod replaying;
 
 /// Jobs over the records of a tree, and what has happened to them so far.
 #[derive(Drop)]
@@ -247,12 +249,20 @@ impl<'a> Core<'a> {
         ensures finished { IsTrue result ↔ IsFinished self.now.jobs (past_of self.now) }
         ensures going { result ≡ false → CanGoOn self.now.jobs (past_of self.now) }
     {
+        self.first_unfinished().is_none()
+    }
+
+    /// The lowest job that isn't at the end of its plan.
+    pub(crate) fn first_unfinished(&self) -> Option<u32>
+        ensures finished { MatchOption result (IsFinished self.now.jobs (past_of self.now)) (IsFirstUnfinished self.now.jobs (past_of self.now)) }
+        ensures going { IfSome result (λ txn. CanGoOn self.now.jobs (past_of self.now)) }
+    {
         for txn in 0..self.jobs.len() {
             if self.progress[txn].steps_done < self.jobs[txn].plan.steps().len() {
-                return false;
+                return Some(txn as u32);
             }
         }
-        true
+        None
     }
 
     /// The node that a job locks first.

@@ -1,9 +1,8 @@
 use Rattle.std.proofs.Common.{◌≡◌, ◌<◌, ◌≤◌, length, reverse, sym, ◌∙◌, ap, arith, below_more}
-use Rattle.std.proofs.lemmas.Bool.{false≢true}
 use Rattle.grove_core.specs.declared.job.Job.{Job}
 use Rattle.grove_core.specs.Runs.{steps_done, plan_of}
 use Rattle.grove_core.proofs.NeverStalls.{runs_go_on, steps_within}
-use Rattle.grove_core.proofs.machine.Core.is_finished.Goals as goal
+use Rattle.grove_core.proofs.machine.Core.first_unfinished.Goals as goal
 use Rattle.grove_core.proofs.CoreReads.{end_seen}
 
 pub returns-then-index-steps-clause-finished : goal.returns-then-index-steps-clause-finished
@@ -13,11 +12,7 @@ returns-then-index-steps-clause-finished c =
     let here : c.index.result.now.steps_done ≡ steps_done (reverse c.self.inside.history.items) c.loop-txn.txn = seen.0 in
     let size : length c.steps.result.now ≡ length (plan_of c.self.inside.jobs.now c.loop-txn.txn) = seen.1 in
     let less : steps_done (reverse c.self.inside.history.items) c.loop-txn.txn < length (plan_of c.self.inside.jobs.now c.loop-txn.txn) = omega arith in
-    rw (← c.self.view_is) (
-      λ e. absurd (false≢true e),
-      λ finished.
-          let e : steps_done (reverse c.self.inside.history.items) c.loop-txn.txn ≡ length (plan_of c.self.inside.jobs.now c.loop-txn.txn) = finished c.loop-txn.txn in_jobs in absurd (omega arith),
-    )
+    rw (← c.self.view_is) (record { job = in_jobs; unfinished = less; first = c.loop-txn.invariant })
 
 pub returns-then-index-steps-clause-going : goal.returns-then-index-steps-clause-going
 returns-then-index-steps-clause-going c =
@@ -26,7 +21,7 @@ returns-then-index-steps-clause-going c =
     let here : c.index.result.now.steps_done ≡ steps_done (reverse c.self.inside.history.items) c.loop-txn.txn = seen.0 in
     let size : length c.steps.result.now ≡ length (plan_of c.self.inside.jobs.now c.loop-txn.txn) = seen.1 in
     let less : steps_done (reverse c.self.inside.history.items) c.loop-txn.txn < length (plan_of c.self.inside.jobs.now c.loop-txn.txn) = omega arith in
-    rw (← c.self.view_is) (λ e. runs_go_on c.self.inside.tree.now c.self.invariant.0.tree c.self.inside.jobs.now c.self.invariant.0.legal (reverse c.self.inside.history.items) c.self.invariant.0.run c.loop-txn.txn less)
+    rw (← c.self.view_is) (runs_go_on c.self.inside.tree.now c.self.invariant.0.tree c.self.inside.jobs.now c.self.invariant.0.legal (reverse c.self.inside.history.items) c.self.invariant.0.run c.loop-txn.txn less)
 
 pub loop-txn-preserved : goal.loop-txn-preserved
 loop-txn-preserved c =
