@@ -15,6 +15,8 @@ pub mod NeverStalls
 pub mod NoCircles
 pub mod MutualExclusion
 pub mod Refusals
+pub mod Replaying
+pub mod ReplayFaults
 pub mod RunBounds
 pub mod RunSteps
 pub mod CoreSteps

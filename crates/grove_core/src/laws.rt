@@ -1,8 +1,10 @@
 ghost use Rattle.grove_core.specs.Laws.{RunsAreSerial, RunsGoOn, NoCircles, RefusedMayNot, RefusedForOne, FirstFaultIsOne};
+ghost use Rattle.grove_core.specs.Replays.{ReplayFaultIsOne, FinishedIsFaultless};
 
 /// What holds of every run, said of the definitions alone: a finished run is serial by the placement order, which has
 /// each job once; in an unfinished one some job's next step may be done; no jobs wait for each other in a circle; an event
-/// that is refused may not happen, and is refused for one reason; and jobs that aren't opened have one first fault.
+/// that is refused may not happen, and is refused for one reason; jobs that aren't opened have one first fault; and events
+/// that are replayed have one first fault, and none where they are a finished run.
 pub fn run_laws()
     ensures serial { RunsAreSerial }
     ensures going { RunsGoOn }
@@ -10,4 +12,6 @@ pub fn run_laws()
     ensures refused { RefusedMayNot }
     ensures reason { RefusedForOne }
     ensures opening { FirstFaultIsOne }
+    ensures replayed { ReplayFaultIsOne }
+    ensures faultless { FinishedIsFaultless }
 {}
