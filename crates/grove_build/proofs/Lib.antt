@@ -30,3 +30,6 @@ pub mod Pushes
 pub mod Keeping
 pub mod Missing
 pub mod Popped
+pub mod CutPlans
+pub mod CutTrees
+pub mod CutFlows

@@ -6,3 +6,4 @@ pub mod Batches
 pub mod Reaches
 pub mod KeptPlans
 pub mod Keeping
+pub mod CutTrees

@@ -1,8 +1,19 @@
 ghost use Rattle.grove_build.specs.Settled.{SettledOnce, SettledIsAccepted};
+ghost use Rattle.grove_build.specs.CutTrees.{CutsKeepLegal, CutsKeepCost, CutsKeepCertificates, CutsAreTrees};
 
 /// What holds of settled plans, said of the definitions alone: at most one plan is settled for a list, and with the flow
 /// that `plan` gives, `check` accepts it or wants memory.
 pub fn settled_laws()
     ensures once { SettledOnce }
     ensures accepted { SettledIsAccepted }
+{}
+
+/// What holds of plans over a tree that is cut down to some of its nodes and all that is above them, said of the
+/// definitions alone: a plan over the cut tree, with the origins of its nodes, is legal over the whole one where it is so
+/// over the cut one, and costs the same.
+pub fn cut_laws()
+    ensures legal { CutsKeepLegal }
+    ensures cost { CutsKeepCost }
+    ensures certified { CutsKeepCertificates }
+    ensures tree { CutsAreTrees }
 {}

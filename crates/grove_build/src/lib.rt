@@ -3,7 +3,7 @@
 
 pub use batch::plan_batch;
 pub use kept_plans::KeptPlans;
-pub use laws::settled_laws;
+pub use laws::{cut_laws, settled_laws};
 pub use planning::{Planned, plan, plan_watched};
 pub use watch::{Layer, Watch};
 

@@ -1,0 +1,16 @@
+use Rattle.grove_build.proofs.CutPlans.{cuts_keep_legal, cuts_keep_cost}
+use Rattle.grove_build.proofs.CutTrees.{cuts_are_trees}
+use Rattle.grove_build.proofs.CutFlows.{cuts_keep_certificates}
+use Rattle.grove_build.proofs.laws.cut_laws.Goals as goal
+
+pub returns-clause-legal : goal.returns-clause-legal
+returns-clause-legal c = cuts_keep_legal
+
+pub returns-clause-cost : goal.returns-clause-cost
+returns-clause-cost c = cuts_keep_cost
+
+pub returns-clause-certified : goal.returns-clause-certified
+returns-clause-certified c = cuts_keep_certificates
+
+pub returns-clause-tree : goal.returns-clause-tree
+returns-clause-tree c = cuts_are_trees
