@@ -33,3 +33,4 @@ pub mod Popped
 pub mod CutPlans
 pub mod CutTrees
 pub mod CutFlows
+pub mod CutLeast

@@ -1,6 +1,6 @@
 -- The plan laid out from the greatest numbers that fit and are tight along a flow that balances is the settled plan,
 -- and the flow certifies its cost.
-use Rattle.std.proofs.Common.{◌≡◌, ℕ, zero, suc, ◌+◌, ◌<◌, ◌≤◌, Bool, true, false, List, length, Some, refl, sym, ◌∙◌, ap, subst, inl, inr, arith}
+use Rattle.std.proofs.Common.{◌≡◌, ℕ, zero, suc, ◌+◌, ◌<◌, ◌≤◌, Bool, true, false, List, [], length, Some, refl, sym, ◌∙◌, ap, subst, inl, inr, arith}
 use Rattle.std.specs.List.{slice_get}
 use Rattle.std.proofs.lemmas.Option.{same_Some, slice_get_within}
 use Rattle.std.proofs.lemmas.Bool.{cases_Bool}
@@ -45,6 +45,30 @@ passing_rise zero test = omega arith
 passing_rise (suc n) test = rises_append itself 0 n (suc n) (passing_below n test) (alone (test n) n)
     (passing_rise n test) (alone_rises (test n) n)
 
+-- the slots of a legal plan fit
+pub slots_fit : (rows : Rows) (nodes : List ℕ) (plan : List Step) → IsTree rows → IsLegal rows nodes plan
+    → Fits rows nodes (first_lock_slot plan) (first_release_slot plan)
+slots_fit rows nodes plan tree legal =
+    let both = legal_meets_five rows nodes [] plan tree legal in
+    let order : KeepsOrder rows nodes plan = keeps_order rows nodes plan tree legal in
+    record {
+      above = order.above;
+      held = order.held;
+      first = order.first;
+      last = order.last;
+      own = order.own;
+      top = λ v sv.
+          let u = (both.1 v sv).1 in
+          let lt : u.0 < length plan = slice_get_within plan u.0 _ u.1 in
+          let a : first_release_slot plan v ≡ accesses_before plan u.0 = u.2 in
+          let b : accesses_before plan u.0 ≤ accesses_before plan (length plan) =
+          count_mono u.0 (length plan) (λ k. is_access (slice_get plan k)) (omega arith) in
+          let c : length (accesses_of plan) ≡ accesses_before plan (length plan) = accesses_length plan in
+          let d : length (accesses_of plan) ≡ length (numbers_below (length nodes)) = ap length legal.performs.in_order in
+          let e : length (numbers_below (length nodes)) ≡ length nodes = numbers_length (length nodes) in
+          omega arith;
+    }
+
 module _ (rows : Rows) (nodes lengths : List ℕ) (is_tree : IsTree rows) (are_nodes : AreNodes rows nodes)
     (are_lengths : AreLengths lengths) (paired : length lengths ≡ length nodes) where
   abbrev span : List ℕ
@@ -55,29 +79,6 @@ module _ (rows : Rows) (nodes lengths : List ℕ) (is_tree : IsTree rows) (are_n
 
   abbrev n : ℕ
   n = length rows
-
-  -- the slots of a legal plan fit
-  pub slots_fit : (plan : List Step) → IsLegal rows nodes plan → Fits rows nodes (first_lock_slot plan) (first_release_slot plan)
-  slots_fit plan legal =
-      let both = legal_meets_five rows nodes lengths plan is_tree legal in
-      let order : KeepsOrder rows nodes plan = keeps_order rows nodes plan is_tree legal in
-      record {
-        above = order.above;
-        held = order.held;
-        first = order.first;
-        last = order.last;
-        own = order.own;
-        top = λ v sv.
-            let u = (both.1 v sv).1 in
-            let lt : u.0 < length plan = slice_get_within plan u.0 _ u.1 in
-            let a : first_release_slot plan v ≡ accesses_before plan u.0 = u.2 in
-            let b : accesses_before plan u.0 ≤ accesses_before plan (length plan) =
-            count_mono u.0 (length plan) (λ k. is_access (slice_get plan k)) (omega arith) in
-            let c : length (accesses_of plan) ≡ accesses_before plan (length plan) = accesses_length plan in
-            let d : length (accesses_of plan) ≡ length (numbers_below m) = ap length legal.performs.in_order in
-            let e : length (numbers_below m) ≡ m = numbers_length m in
-            omega arith;
-      }
 
   module _ (flow : List FlowRow) (lock release : ℕ → ℕ) (balances : Balances rows nodes flow)
       (small : AllRows is_small flow) (places : ArePlaces rows nodes flow lock release) where
@@ -178,7 +179,7 @@ module _ (rows : Rows) (nodes lengths : List ℕ) (is_tree : IsTree rows) (are_n
         let a : cost rows lengths other ≤ cost rows lengths plan = o.least plan legal in
         let b : gains nodes lengths flow ≡ cost rows lengths plan + losses nodes lengths flow = certificate.value in
         let t = cheap_is_tight rows nodes lengths flow other is_tree are_nodes balances o.legal (omega arith) in
-        let fits : Fits rows nodes (first_lock_slot other) (first_release_slot other) = slots_fit other o.legal in
+        let fits : Fits rows nodes (first_lock_slot other) (first_release_slot other) = slots_fit rows nodes other is_tree o.legal in
         let low : (v : ℕ) → IsForcedByTree rows nodes v → first_lock_slot other v ≤ m = λ v sv.
         let own : first_lock_slot other v ≤ first_release_slot other v = fits.own v sv in
         let top : first_release_slot other v ≤ m = fits.top v sv in omega arith in
@@ -207,13 +208,13 @@ module _ (rows : Rows) (nodes lengths : List ℕ) (is_tree : IsTree rows) (are_n
       lock_latest = λ other o v f.
           let sv : IsForcedByTree rows nodes v = (forced_is_by_tree rows nodes v is_tree are_nodes).0 f in
           let a : first_lock_slot other v ≤ lock v =
-          places.lock_greatest (first_lock_slot other) (first_release_slot other) (slots_fit other o.legal)
+          places.lock_greatest (first_lock_slot other) (first_release_slot other) (slots_fit rows nodes other is_tree o.legal)
           (other_tight other o) v sv in
           let b : first_lock_slot plan v ≡ lock v = lock_is v sv in omega arith;
       release_latest = λ other o v f.
           let sv : IsForcedByTree rows nodes v = (forced_is_by_tree rows nodes v is_tree are_nodes).0 f in
           let a : first_release_slot other v ≤ release v =
-          places.release_greatest (first_lock_slot other) (first_release_slot other) (slots_fit other o.legal)
+          places.release_greatest (first_lock_slot other) (first_release_slot other) (slots_fit rows nodes other is_tree o.legal)
           (other_tight other o) v sv in
           let b : first_release_slot plan v ≡ release v = release_is v sv in omega arith;
       list = span;

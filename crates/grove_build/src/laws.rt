@@ -1,5 +1,5 @@
 ghost use Rattle.grove_build.specs.Settled.{SettledOnce, SettledIsAccepted};
-ghost use Rattle.grove_build.specs.CutTrees.{CutsKeepLegal, CutsKeepCost, CutsKeepCertificates, CutsAreTrees};
+ghost use Rattle.grove_build.specs.CutTrees.{CutsKeepLegal, CutsKeepCost, CutsKeepLeast, CutsKeepCertificates, CutsAreTrees};
 
 /// What holds of settled plans, said of the definitions alone: at most one plan is settled for a list, and with the flow
 /// that `plan` gives, `check` accepts it or wants memory.
@@ -14,6 +14,7 @@ pub fn settled_laws()
 pub fn cut_laws()
     ensures legal { CutsKeepLegal }
     ensures cost { CutsKeepCost }
+    ensures least { CutsKeepLeast }
     ensures certified { CutsKeepCertificates }
     ensures tree { CutsAreTrees }
 {}
