@@ -8,44 +8,54 @@ use Rattle.grove_wire.specs.declared.fault.WireFault.{WireFault}
 use Rattle.grove_wire.specs.declared.fault.WireFault.TheVariants.{Limit}
 use Rattle.grove_wire.specs.declared.place.Part.TheVariants.{Whole}
 use Rattle.grove_wire.specs.Places.{whole_of}
-use Rattle.grove_wire.specs.Reading.{document_of}
+use Rattle.grove_wire.specs.Reading.{document_of, document_within, history_of}
 use Rattle.grove.specs.declared.answer.Answer.{Answer}
 use Rattle.grove.specs.declared.answer.Answer.TheVariants.{Done, Refused, Usage, Listen}
 use Rattle.grove.specs.declared.answer.Stop.{Stop}
 use Rattle.grove.specs.declared.answer.Stop.TheVariants.{Device, Memory}
 use Rattle.grove_words.specs.declared.order.Command.{Command}
+use Rattle.grove_words.specs.declared.order.Command.TheVariants.{Judge, Check, Plan, Run, Audit, Serve}
 use Rattle.grove_words.specs.CommandLines.{AskToServe, NameDevice}
 use Rattle.grove_answer.specs.Outcomes.{Outcome, ThenSays}
-use Rattle.grove.specs.Answers.{status_of, printed, AnswersBy, IsListen, NamesPort}
+use Rattle.grove.specs.Answers.{most_bytes, status_of, printed, AnswersBy, IsListen, NamesPort}
 use Rattle.grove.specs.Endings.{Blames, SaysListening, SaysWhy}
-use Rattle.grove.specs.Outcomes.{MaySay, IsOutcome, Prints}
+use Rattle.grove.specs.Outcomes.{document_for, MaySay, IsOutcome, Prints}
 
-over_limit : (bytes : List ℕ) → 4194304 < length bytes → document_of bytes ≡ Err (Limit (whole_of Whole))
-unfolding document_of
-over_limit bytes h = let over : nat_lt 4194304 (length bytes) ≡ true = search rules in cond-true (nat_lt 4194304 (length bytes)) _ _ over
+over_limit : (most : ℕ) (bytes : List ℕ) → most < length bytes → document_within most bytes ≡ Err (Limit (whole_of Whole))
+over_limit most bytes h = let over : nat_lt most (length bytes) ≡ true = search rules in cond-true (nat_lt most (length bytes)) _ _ over
+
+-- more bytes than a command takes are over its limit
+over_most : (command : Command) (bytes : List ℕ) → most_bytes command < length bytes → document_for command bytes ≡ Err (Limit (whole_of Whole))
+unfolding document_of history_of
+over_most Judge bytes h = over_limit 4194304 bytes h
+over_most Check bytes h = over_limit 4194304 bytes h
+over_most Plan bytes h = over_limit 4194304 bytes h
+over_most Run bytes h = over_limit 4194304 bytes h
+over_most Audit bytes h = over_limit 67108864 bytes h
+over_most Serve bytes h = over_limit 4194304 bytes h
 
 -- too many bytes are read as the first of them that are too many
-same_document : (front rest : List ℕ) → 4194304 < length front → document_of (front ++ rest) ≡ document_of front
-same_document front rest h =
+same_document : (command : Command) (front rest : List ℕ) → most_bytes command < length front → document_for command (front ++ rest) ≡ document_for command front
+same_document command front rest h =
     let more : length (front ++ rest) ≡ length front + length rest = length-append front rest in
-    over_limit (front ++ rest) (rw more (omega arith)) ∙ sym (over_limit front h)
+    over_most command (front ++ rest) (rw more (omega arith)) ∙ sym (over_most command front h)
 
 -- what is said of the bytes that were read is said of the whole input
 says_of_input : (command : Command) (known later : Option (List ℕ)) (bytes : List ℕ) (answer : Answer)
-    → Consumes known later bytes → (length bytes ≤ 4194304 → IsAtEnd later) → AnswersBy (IsOutcome command bytes) answer
+    → Consumes known later bytes → (length bytes ≤ most_bytes command → IsAtEnd later) → AnswersBy (IsOutcome command bytes) answer
     → IfSome known (λ document. AnswersBy (IsOutcome command document) answer)
 says_of_input command None later bytes answer read end says = tt
 says_of_input command (Some document) None bytes answer read end says = absurd read
 says_of_input command (Some document) (Some rest) bytes answer read end says =
     let P : Result Data WireFault → Type 0 = λ r. AnswersBy (ThenSays r (MaySay command)) answer in
-    elim (cases_lt 4194304 (length bytes)) [
-      | inl over ↦ subst P (sym (ap document_of read ∙ same_document bytes rest over)) says
-      | inr within ↦ subst P (sym (ap document_of (read ∙ ap (λ xs. bytes ++ xs) (end within) ∙ append-nil bytes))) says
+    elim (cases_lt (most_bytes command) (length bytes)) [
+      | inl over ↦ subst P (sym (ap (document_for command) read ∙ same_document command bytes rest over)) says
+      | inr within ↦ subst P (sym (ap (document_for command) (read ∙ ap (λ xs. bytes ++ xs) (end within) ∙ append-nil bytes))) says
     ]
 
 -- an answer of the bytes that were read is one of the whole input
 pub answers_input : (command : Command) (known later : Option (List ℕ)) (bytes read : List ℕ) (answer : Result Answer Stop)
-    → Consumes known later read → (length read ≤ 4194304 → IsAtEnd later) → bytes ≡ read
+    → Consumes known later read → (length read ≤ most_bytes command → IsAtEnd later) → bytes ≡ read
     → IfOk answer (AnswersBy (IsOutcome command bytes)) → IfOk answer (λ a. IfSome known (λ document. AnswersBy (IsOutcome command document) a))
 answers_input command known later bytes read answer consumed end same says =
     let Q : List ℕ → Type 0 = λ b. IfOk answer (AnswersBy (IsOutcome command b)) in

@@ -6,7 +6,7 @@ use Rattle.grove_tree.specs.Trees.{Rows}
 use Rattle.grove_wire.specs.declared.fault.WireFault.{WireFault}
 use Rattle.grove_wire.specs.declared.fault.WireFault.TheVariants as wire
 use Rattle.grove_wire.specs.Outcomes.{Fails}
-use Rattle.grove_wire.specs.Reading.{document_of, tree_in}
+use Rattle.grove_wire.specs.Reading.{tree_in}
 use Rattle.grove_wire.specs.Texts.{wire_text}
 use Rattle.grove_store.specs.Stocks.{Stock, opened}
 use Rattle.grove_words.specs.declared.order.Command.{Command}
@@ -19,7 +19,7 @@ use Rattle.grove.specs.declared.answer.Answer.TheVariants.{Done, Refused, Usage,
 use Rattle.grove.specs.declared.answer.Stop.{Stop}
 use Rattle.grove.specs.Answers.{AnswersBy, IsAnswerTo, IsListen, IsOpenedBy, IsOpenedFrom, NamesPort, ServesStore}
 use Rattle.grove.specs.Endings.{listening_line}
-use Rattle.grove.specs.Outcomes.{IsOutcome, IsServed, MaySay}
+use Rattle.grove.specs.Outcomes.{document_for, IsOutcome, IsServed, MaySay}
 
 -- the answer that the calls' result makes is that of what it says
 pub answer_says : {Z : Type 0} (MaySay : Outcome → Type 0) (result : Result (String Z) Refusal) (answer : Result Answer Stop)
@@ -48,7 +48,7 @@ names_no_port IsPort (Ok (Listen line service)) other = absurd (other tt)
 names_no_port IsPort (Err why) other = tt
 
 -- what a command says of a document it says of the bytes that are read as it
-pub says_document : (command : Command) (bytes : List ℕ) (document : Data) (answer : Result Answer Stop) → document_of bytes ≡ Ok document
+pub says_document : (command : Command) (bytes : List ℕ) (document : Data) (answer : Result Answer Stop) → document_for command bytes ≡ Ok document
     → IfOk answer (AnswersBy (MaySay command document)) → IfOk answer (AnswersBy (IsOutcome command bytes))
 says_document command bytes document answer read says =
     subst (λ (r : Result Data WireFault). IfOk answer (AnswersBy (ThenSays r (MaySay command)))) (sym read) says
@@ -64,13 +64,13 @@ unread (wire.Tree fault) read is other = is
 unread wire.Memory read is other = absurd (other refl)
 
 -- what is said of bytes that aren't read as a document
-pub says_unread : (command : Command) (bytes : List ℕ) (fault : WireFault) (refusal : Refusal) (answer : Result Answer Stop) → Fails fault (document_of bytes)
+pub says_unread : (command : Command) (bytes : List ℕ) (fault : WireFault) (refusal : Refusal) (answer : Result Answer Stop) → Fails fault (document_for command bytes)
     → IsTold (wire_text fault) refusal → (fault ≡ wire.Memory → refusal ≡ Memory) → IfOk answer (λ a. IsSomeAnd (refusal_outcome refusal) (IsAnswerTo a))
     → IfOk answer (AnswersBy (IsOutcome command bytes))
 says_unread command bytes fault (Fault text) answer fails told memory is =
     let other : fault ≢ wire.Memory = λ here. not_both (memory here) in
     let says : IsOutcome command bytes (Err (string_bytes text)) =
-    subst (λ (r : Result Data WireFault). ThenSays r (MaySay command) (Err (string_bytes text))) (sym (unread fault (document_of bytes) fails other)) (ap Err told) in
+    subst (λ (r : Result Data WireFault). ThenSays r (MaySay command) (Err (string_bytes text))) (sym (unread fault (document_for command bytes) fails other)) (ap Err told) in
     IfOk-weaker answer _ _ (λ a it. (Err (string_bytes text), says, it)) is
   where
     not_both : Fault text ≡ Memory → ⊥
@@ -94,10 +94,10 @@ serves_nothing P (Ok (Listen line service)) other = absurd (other tt)
 serves_nothing P (Err why) other = tt
 
 -- the store that a document opens is the one that its bytes open
-pub opened_by_bytes : (bytes : List ℕ) (document : Data) (workers : ℕ) (answer : Result Answer Stop) → document_of bytes ≡ Ok document
-    → IfOk answer (ServesStore (IsOpenedFrom document workers)) → IfOk answer (ServesStore (IsOpenedBy bytes workers))
-opened_by_bytes bytes document workers answer read serves =
-    IfOk-weaker answer _ _ (λ a it. serves_weaker (IsOpenedFrom document workers) (IsOpenedBy bytes workers)
+pub opened_by_bytes : (command : Command) (bytes : List ℕ) (document : Data) (workers : ℕ) (answer : Result Answer Stop) → document_for command bytes ≡ Ok document
+    → IfOk answer (ServesStore (IsOpenedFrom document workers)) → IfOk answer (ServesStore (IsOpenedBy command bytes workers))
+opened_by_bytes command bytes document workers answer read serves =
+    IfOk-weaker answer _ _ (λ a it. serves_weaker (IsOpenedFrom document workers) (IsOpenedBy command bytes workers)
     (λ store is. subst (λ (r : Result Data WireFault). IsOkAnd r (λ d. IsOpenedFrom d workers store)) (sym read) is) a it) serves
 
 workers_stored : (found : Result (Rows × List ℤ) WireFault) (workers : ℕ) (store : Stock) → IsOkAnd found (λ stored. store ≡ opened stored.0 stored.1 workers) → store.workers ≡ workers
@@ -109,7 +109,7 @@ workers_opened (Ok document) workers store is = workers_stored (tree_in document
 workers_opened (Err fault) workers store is = absurd is
 
 -- the store that bytes open has the workers that it was given
-pub serves_workers : (bytes : List ℕ) (workers : ℕ) (answer : Result Answer Stop) → IfOk answer (ServesStore (IsOpenedBy bytes workers))
+pub serves_workers : (command : Command) (bytes : List ℕ) (workers : ℕ) (answer : Result Answer Stop) → IfOk answer (ServesStore (IsOpenedBy command bytes workers))
     → IfOk answer (ServesStore (λ store. store.workers ≡ workers))
-serves_workers bytes workers answer serves =
-    IfOk-weaker answer _ _ (λ a it. serves_weaker (IsOpenedBy bytes workers) (λ store. store.workers ≡ workers) (λ store is. workers_opened (document_of bytes) workers store is) a it) serves
+serves_workers command bytes workers answer serves =
+    IfOk-weaker answer _ _ (λ a it. serves_weaker (IsOpenedBy command bytes workers) (λ store. store.workers ≡ workers) (λ store is. workers_opened (document_for command bytes) workers store is) a it) serves

@@ -4,14 +4,16 @@ use Rattle.serde_json.specs.Data.{Data}
 use Rattle.grove_session.specs.declared.fault.ReadFault.{ReadFault}
 use Rattle.grove_session.specs.declared.fault.ReadFault.TheVariants as read
 use Rattle.grove_store.specs.Stocks.{Stock, opened}
-use Rattle.grove_wire.specs.Reading.{document_of, tree_in}
+use Rattle.grove_wire.specs.Reading.{tree_in}
+use Rattle.grove_words.specs.declared.order.Command.{Command}
+use Rattle.grove_words.specs.declared.order.Command.TheVariants.{Judge, Check, Plan, Run, Audit, Serve}
 use Rattle.grove_answer.specs.Outcomes.{Outcome}
 use Rattle.grove.specs.declared.answer.Answer.{Answer}
 use Rattle.grove.specs.declared.answer.Answer.TheVariants.{Done, Refused, Usage, Listen}
 use Rattle.grove.specs.declared.answer.Stop.{Stop}
 use Rattle.grove.specs.declared.answer.Stop.TheVariants as stop
 use Rattle.grove.specs.Endings.{listening_line, refusal_line}
-use Rattle.grove.specs.Outcomes.{outcome_status, outcome_text}
+use Rattle.grove.specs.Outcomes.{document_for, outcome_status, outcome_text}
 
 -- the status that an answer has, once it is printed
 abbrev pub status_of : Answer → ℕ
@@ -72,9 +74,9 @@ ServesStore IsStore (Listen line service) = IsStore service.store
 abbrev pub IsOpenedFrom : Data → ℕ → Stock → Type 0
 IsOpenedFrom document workers store = IsOkAnd (tree_in document) (λ stored. store ≡ opened stored.0 stored.1 workers)
 
--- the same of bytes
-abbrev pub IsOpenedBy : List ℕ → ℕ → Stock → Type 0
-IsOpenedBy bytes workers store = IsOkAnd (document_of bytes) (λ document. IsOpenedFrom document workers store)
+-- the same of the bytes that a command is for
+abbrev pub IsOpenedBy : Command → List ℕ → ℕ → Stock → Type 0
+IsOpenedBy command bytes workers store = IsOkAnd (document_for command bytes) (λ document. IsOpenedFrom document workers store)
 
 -- why a document isn't read is why the command stops
 abbrev pub stop_of : ReadFault → Stop
@@ -88,3 +90,12 @@ IsAnswerTo answer outcome = (status_of answer ≡ outcome_status outcome) × (pr
 -- an answer is that of an outcome that may be said
 abbrev pub AnswersBy : (Outcome → Type 0) → Answer → Type 0
 AnswersBy MaySay answer = (outcome : Outcome) × MaySay outcome × IsAnswerTo answer outcome
+
+-- how many bytes a command's document has at most
+abbrev pub most_bytes : Command → ℕ
+most_bytes Judge = 4194304
+most_bytes Check = 4194304
+most_bytes Plan = 4194304
+most_bytes Run = 4194304
+most_bytes Audit = 67108864
+most_bytes Serve = 4194304

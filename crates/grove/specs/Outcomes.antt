@@ -1,12 +1,13 @@
 -- What each command may say of bytes, and what the program prints of it.
-use Rattle.std.specs.Prelude.{◌≡◌, ℕ, ◌≤◌, ℤ, List, Option, Ok, Err}
+use Rattle.std.specs.Prelude.{◌≡◌, ℕ, ◌≤◌, ℤ, List, Option, Result, Ok, Err}
 use Rattle.std.specs.Io.KnownBytes.{Appends}
 use Rattle.serde_json.specs.Data.{Data}
 use Rattle.grove_tree.specs.Trees.{Rows}
-use Rattle.grove_wire.specs.Reading.{document_of, tree_in}
+use Rattle.grove_wire.specs.declared.fault.WireFault.{WireFault}
+use Rattle.grove_wire.specs.Reading.{document_of, history_of, tree_in}
 use Rattle.grove_words.specs.declared.order.Command.{Command}
-use Rattle.grove_words.specs.declared.order.Command.TheVariants.{Judge, Check, Plan, Run, Serve}
-use Rattle.grove_answer.specs.Outcomes.{Outcome, ThenSays, task_in, trial_in, claim_in, batch_in, IsJudged, IsChecked, IsPlanned, IsRunBatch}
+use Rattle.grove_words.specs.declared.order.Command.TheVariants.{Judge, Check, Plan, Run, Audit, Serve}
+use Rattle.grove_answer.specs.Outcomes.{Outcome, ThenSays, task_in, trial_in, claim_in, batch_in, history_in, IsJudged, IsChecked, IsPlanned, IsRunBatch, IsAudited}
 use Rattle.grove.specs.Endings.{listening_line, refusal_line}
 
 -- ---- serve: the port that is listened on
@@ -21,10 +22,20 @@ MaySay Judge document = ThenSays (trial_in document) IsJudged
 MaySay Check document = ThenSays (claim_in document) IsChecked
 MaySay Plan document = ThenSays (task_in document) IsPlanned
 MaySay Run document = ThenSays (batch_in document) IsRunBatch
+MaySay Audit document = ThenSays (history_in document) IsAudited
 MaySay Serve document = ThenSays (tree_in document) IsServed
 
+-- the document that bytes are for a command; an audit's may be longer
+abbrev pub document_for : Command → List ℕ → Result Data WireFault
+document_for Judge bytes = document_of bytes
+document_for Check bytes = document_of bytes
+document_for Plan bytes = document_of bytes
+document_for Run bytes = document_of bytes
+document_for Audit bytes = history_of bytes
+document_for Serve bytes = document_of bytes
+
 abbrev pub IsOutcome : Command → List ℕ → Outcome → Type 0
-IsOutcome command bytes = ThenSays (document_of bytes) (MaySay command)
+IsOutcome command bytes = ThenSays (document_for command bytes) (MaySay command)
 
 -- ---- what is printed
 

@@ -1,19 +1,22 @@
 ghost use Rattle.std.specs.Prelude.{◌≡◌, ◌≢◌, ◌≤◌, ◌⊎◌, ℕ, List, length, map, true, false, [], None, Some, IfOk, IfErr, IfSome, OnOk, string_bytes, ⊤};
 ghost use Rattle.serde_json.specs.View.{view};
-ghost use Rattle.grove_wire.specs.Forms.{HasShortArrays};
+ghost use Rattle.grove_wire.specs.Forms.{AreArraysShort, HasShortArrays};
+ghost use Rattle.grove_wire.specs.Outcomes.{Gives};
 ghost use Rattle.std.specs.Io.KnownBytes.{Consumes, IsAtEnd, Keeps};
-ghost use Rattle.grove.specs.Answers.{status_of, AnswersBy, HasText, IsListen, IsOpenedBy, IsOpenedFrom, IsRefusalLine, NamesPort, ServesStore};
+ghost use Rattle.grove.specs.Answers.{most_bytes, status_of, AnswersBy, HasText, IsListen, IsOpenedBy, IsOpenedFrom, IsRefusalLine, NamesPort, ServesStore};
 ghost use Rattle.grove_words.specs.CommandLines.{AreWrong, AskFor, AskForWorkers, AskToServe, AskToShow, NameDevice};
 ghost use Rattle.grove_words.specs.NoOrders.{HasText as IsToldText, TellsShown, TellsWrong};
 ghost use Rattle.grove.specs.Endings.{Blames, SaysListening, SaysRefusal, SaysSomething, SaysWhy};
-ghost use Rattle.grove.specs.Outcomes.{IsOutcome, MaySay, Prints};
+ghost use Rattle.grove.specs.Outcomes.{document_for, IsOutcome, MaySay, Prints};
 
 use crate::answer::{Answer, Stop, end};
 use crate::refusal::answer_of;
 use crate::serving::serve_document;
-use grove_answer::{Refusal, check_document, judge_document, plan_document, run_document};
+use grove_answer::{
+    Refusal, audit_document, check_document, judge_document, plan_document, run_document,
+};
 use grove_session::{ReaderSource, Sink, Source, read_whole};
-use grove_wire::{MOST_BYTES, read_document};
+use grove_wire::{MOST_BYTES, MOST_HISTORY_BYTES, WireFault, read_document, read_history};
 use grove_words::{Command, NoOrder, Order, not_text, order_of};
 use serde_json::Value;
 use std::alloc::Global;
@@ -131,7 +134,8 @@ fn order_answer<
     ensures blamed { IfErr result (Blames ((I.has_failed input.new ≡ true) ⊎ ((order.entry.document ≢ None) ⊎ (order.entry.command ≡ Command.Serve)))
         (I.has_failed input.new ≡ I.has_failed input.old)) }
 {
-    let bytes = document_bytes(rt, order.document, input)?;
+    let most = most_bytes(order.command);
+    let bytes = document_bytes(rt, order.document, most, input)?;
     bytes_answer(rt, order, &bytes)
 }
 
@@ -141,7 +145,7 @@ fn bytes_answer<
 >(rt: &R, order: Order<'_>, bytes: &[u8]) -> Result<Answer, Stop>
     requires { (1 ≤ order.workers) × (order.workers ≤ 16) }
     ensures said { IfOk result (AnswersBy (IsOutcome order.entry.command bytes.now)) }
-    ensures opened { IfOk result (ServesStore (IsOpenedBy bytes.now order.entry.workers)) }
+    ensures opened { IfOk result (ServesStore (IsOpenedBy order.entry.command bytes.now order.entry.workers)) }
     ensures refused { IfOk result IsRefusalLine }
     ensures status { IfOk result (λ answer. status_of answer ≤ 1) }
     ensures served { order.entry.command ≡ Command.Serve → IfOk result (λ answer. (status_of answer ≡ 1) ⊎ IsListen answer) }
@@ -149,9 +153,36 @@ fn bytes_answer<
     ensures blamed { IfErr result (Blames (order.entry.command ≡ Command.Serve) ⊤) }
 {
     let alloc = rt.alloc();
-    match read_document(alloc, bytes) {
+    match read_for(alloc, order.command, bytes) {
         Ok(document) => document_answer(rt, order, &document),
         Err(fault) => answer_of(alloc, Err(Refusal::of_wire(alloc, &fault))),
+    }
+}
+
+/// How many bytes a command's document has at most.
+fn most_bytes(command: Command) -> usize
+    ensures most { result ≡ most_bytes command }
+    ensures few { result ≤ 67108864 }
+{
+    match command {
+        Command::Audit => MOST_HISTORY_BYTES,
+        Command::Judge | Command::Check | Command::Plan | Command::Run | Command::Serve => {
+            MOST_BYTES
+        }
+    }
+}
+
+/// The document that the bytes are for a command.
+fn read_for(alloc: Global, command: Command, bytes: &[u8]) -> Result<Value, WireFault>
+    ensures read { Gives (λ document. view document) result (document_for command bytes.now) }
+    ensures short { IfOk result (λ document. HasShortArrays (view document)) }
+    ensures all_short { IfOk result (λ document. AreArraysShort (view document)) }
+{
+    match command {
+        Command::Audit => read_history(alloc, bytes),
+        Command::Judge | Command::Check | Command::Plan | Command::Run | Command::Serve => {
+            read_document(alloc, bytes)
+        }
     }
 }
 
@@ -160,6 +191,7 @@ fn document_answer<
     R: AllocGlobal + Net<Listener = TcpListener, Stream = TcpStream> + Threads + Wait + Sync,
 >(rt: &R, order: Order<'_>, document: &Value) -> Result<Answer, Stop>
     requires short { HasShortArrays (view document.now) }
+    requires all_short { AreArraysShort (view document.now) }
     requires workers { (1 ≤ order.workers) × (order.workers ≤ 16) }
     ensures said { IfOk result (AnswersBy (MaySay order.entry.command (view document.now))) }
     ensures opened { IfOk result (ServesStore (IsOpenedFrom (view document.now) order.entry.workers)) }
@@ -175,6 +207,7 @@ fn document_answer<
         Command::Check => answer_of(alloc, check_document(alloc, document)),
         Command::Plan => answer_of(alloc, plan_document(alloc, document)),
         Command::Run => answer_of(alloc, run_document(rt, alloc, document, order.workers)),
+        Command::Audit => answer_of(alloc, audit_document(alloc, document)),
         Command::Serve => serve_document(rt, alloc, document, order.workers, order.port),
     }
 }
@@ -182,10 +215,12 @@ fn document_answer<
 fn document_bytes<R: Files + AllocGlobal, I: Source>(
     rt: &R,
     name: Option<&str>,
+    most: usize,
     input: &mut I,
 ) -> Result<Vec<u8>, Stop>
+    requires { most ≤ 67108864 }
     ensures input { name.entry ≡ None → IfOk result (λ bytes. Consumes (I.remaining input.old) (I.remaining input.new) bytes.items) }
-    ensures end { name.entry ≡ None → IfOk result (λ bytes. length bytes.items ≤ 4194304 → IsAtEnd (I.remaining input.new)) }
+    ensures end { name.entry ≡ None → IfOk result (λ bytes. length bytes.items ≤ most → IsAtEnd (I.remaining input.new)) }
     ensures apart { name.entry ≢ None → input.new ≡ input.old }
     ensures sound { OnOk result (I.has_failed input.new ≡ I.has_failed input.old) }
     ensures blamed { IfErr result (Blames ((I.has_failed input.new ≡ true) ⊎ (name.entry ≢ None))
@@ -194,9 +229,9 @@ fn document_bytes<R: Files + AllocGlobal, I: Source>(
     match name {
         Some(name) => {
             let mut file = ReaderSource::new(fs::open(rt, name)?);
-            Ok(read_whole(rt.alloc(), &mut file, MOST_BYTES)?)
+            Ok(read_whole(rt.alloc(), &mut file, most)?)
         }
-        None => Ok(read_whole(rt.alloc(), input, MOST_BYTES)?),
+        None => Ok(read_whole(rt.alloc(), input, most)?),
     }
 }
 

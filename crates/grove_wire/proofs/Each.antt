@@ -1,7 +1,9 @@
 -- Items read in turn, by a loop that has read some of them.
-use Rattle.std.proofs.Common.{◌≡◌, ℕ, suc, ◌+◌, ◌<◌, ◌≤◌, List, [], ◌∷◌, ◌++◌, length, drop, get_or, refl, ap, sym, ◌∙◌, add-one, append_assoc, append-nil, drop-cons}
+use Rattle.std.proofs.Common.{◌≡◌, ℕ, zero, suc, ◌+◌, ◌<◌, ◌≤◌, List, [], ◌∷◌, ◌++◌, length, drop, get_or, refl, ap, sym, ◌∙◌, add-one, append_assoc, append-nil, drop-cons, arith}
 use Rattle.std.specs.Prelude.{Result, Ok, Err, IsErrAnd, map}
+use Rattle.std.specs.List.{All}
 use Rattle.std.proofs.lemmas.List.{drop_all}
+use Rattle.std.proofs.lemmas.List.Elements.{All-head, All-tail}
 use Rattle.serde_json.specs.Data.{Data}
 use Rattle.serde_json.specs.View.{view}
 use Rattle.serde_json.specs.declared.value.Value.{Value}
@@ -51,6 +53,12 @@ with_front-none (Err fault) = refl
 -- what is left of values begins with the value at the place
 drop_turn : (values : List Value) (at : ℕ) (value : Value) → at < length values → value ≡ get_or values at value → drop at values ≡ value ∷ drop (suc at) values
 drop_turn values at value within is = drop-cons values at value within ∙ ap (λ (v : Value). v ∷ drop (suc at) values) (sym is)
+
+-- what all values have, the value at the place has
+pub all_turn : (P : Data → Type 0) (values : List Value) (at : ℕ) (value : Value) → All P (map view values) → at < length values → value ≡ get_or values at value → P (view value)
+all_turn P [] at value all within is = absurd (omega arith)
+all_turn P (v ∷ values) zero value all within is = rw is (All-head P (view v) (map view values) all)
+all_turn P (v ∷ values) (suc at) value all within is = all_turn P values at value (All-tail P (view v) (map view values) all) (omega arith) is
 
 module _ {A : Type 0} (read : ℕ → Data → Result A WireFault) (values : List Value) (at : ℕ) where
   -- what is left of the values, read

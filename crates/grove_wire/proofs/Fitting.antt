@@ -1,6 +1,6 @@
 -- What a reading answers is within its limits and of the tree; and no reading is want of memory.
 use Rattle.std.proofs.Common.{◌≡◌, ℕ, zero, suc, ◌<◌, ◌≤◌, Bool, true, false, cond, List, [], ◌∷◌, length, Option, Some, None, IfSome, refl, ap, subst, ◌∙◌, arith, Vec, Global, bytes_eq, codes}
-use Rattle.std.specs.Prelude.{Result, Ok, Err, IfOk, nat_lt, slice_get}
+use Rattle.std.specs.Prelude.{Result, Ok, Err, IfOk, is_some, nat_lt, slice_get}
 use Rattle.std.specs.List.{All, find}
 use Rattle.std.specs.Option.{option_or}
 use Rattle.std.proofs.lemmas.Bool.{le-ltb, ltb-false, leb-true, and_parts}
@@ -8,13 +8,15 @@ use Rattle.std.proofs.lemmas.Option.{same_Some}
 use Rattle.std.proofs.lemmas.List.Elements.{All-nil, All-cons, All-head, All-tail, All-weaker}
 use Rattle.std.proofs.lemmas.List.Folds.{find-append}
 use Rattle.serde_json.specs.Data.{Data}
-use Rattle.serde_json.specs.Find.{get, as_str}
+use Rattle.serde_json.specs.Find.{get, as_object, as_str}
 use Rattle.grove_base.specs.Numbers.{numbers_below}
 use Rattle.grove_tree.specs.Trees.{Rows}
 use Rattle.grove_tree.specs.Paths.{path_of, node_at}
 use Rattle.grove_access.specs.declared.access.Access.{Access}
 use Rattle.grove_access.specs.Lists.{nodes_of, lengths_of, is_length, AreNodes, AreLengths, AreListed}
 use Rattle.grove_plan.specs.declared.step.Step.TheVariants as step
+use Rattle.grove_core.specs.declared.job.Job.{Job}
+use Rattle.grove_core.specs.Openings.{AllFit}
 use Rattle.grove_proof.specs.declared.flow.FlowRow.{FlowRow}
 use Rattle.grove_wire.specs.declared.fault.WireFault.{WireFault}
 use Rattle.grove_wire.specs.declared.fault.WireFault.TheVariants.{BadJson, Shape, NoPath, BadLength, Limit, Tree, Memory}
@@ -25,7 +27,8 @@ use Rattle.grove_wire.specs.declared.versions.Version.{Version}
 use Rattle.grove_wire.specs.Outcomes.{◌>>=◌, or_fault, each_from, Gives}
 use Rattle.grove_wire.specs.Places.{whole_of, item_of, item_on, part_word}
 use Rattle.grove_wire.specs.Forms.{as_list, as_short, items_of, version_of, access_form, flow_form, is_word}
-use Rattle.grove_wire.specs.Reading.{node_on, length_on, access_at, access_in, list_of, list_in, list_on, nth_list, lists_of, version_in, items_in, path_at, step_of, step_on, step_at, step_in, plan_in, flow_row, flow_row_at, flow_row_in, flow_in}
+use Rattle.grove_wire.specs.Histories.{object_at, job_at, jobs_of}
+use Rattle.grove_wire.specs.Reading.{node_on, length_on, access_at, access_in, list_of, list_in, list_on, nth_list, lists_of, version_in, items_at, items_in, path_at, step_of, step_on, step_at, step_in, steps_of, plan_in, flow_row, flow_row_at, flow_row_in, flow_in}
 use Rattle.grove_wire.specs.Writing.{StepFits, PlanFits, FlowFits}
 
 -- a reading answers what has a property, or a fault other than want of memory
@@ -243,12 +246,53 @@ all_at P [] all place x at = absurd (cc)
 all_at P (y ∷ xs) all zero x at = subst P (same_Some y x at) (All-head P y xs all)
 all_at P (y ∷ xs) all (suc place) x at = all_at P xs (All-tail P y xs all) place x at
 
+-- the steps of a plan that stands at a place
+pub steps_read : (rows : Rows) (place : Place) (ds : List Data) → Reads (PlanFits rows) (steps_of rows place ds)
+steps_read rows place ds =
+    weaker_reads (λ plan. (length plan ≡ length ds) × All (StepFits rows) plan) (PlanFits rows) (each_from (step_in rows place) 0 ds) (λ plan here. all_at (StepFits rows) plan here.1)
+    (each_reads (StepFits rows) (step_in rows place) (λ at d. step_reads rows (item_on place at) d) 0 ds)
+
 pub plan_reads : (rows : Rows) (d : Data) → Reads (PlanFits rows) (plan_in rows d)
 unfolding plan_in
 plan_reads rows d =
-    then_reads (λ ds. Unit {0}) (PlanFits rows) (items_in part.Plan d) _ (items_read part.Plan d) (λ ds told.
-    weaker_reads (λ plan. (length plan ≡ length ds) × All (StepFits rows) plan) (PlanFits rows) (each_from (step_in rows) 0 ds) (λ plan here. all_at (StepFits rows) plan here.1)
-    (each_reads (StepFits rows) (step_in rows) (λ at d. step_reads rows (item_of part.Plan at) d) 0 ds))
+    then_reads (λ ds. Unit {0}) (PlanFits rows) (items_in part.Plan d) _ (items_read part.Plan d) (λ ds told. steps_read rows (whole_of part.Plan) ds)
+
+-- ---- jobs
+
+-- a job whose list is a list of the tree
+abbrev JobFits : Rows → Job → Type 0
+JobFits rows job = AreListed rows job.list
+
+job_reads : (rows : Rows) (version : Version) (at : ℕ) (d : Data) → Reads (JobFits rows) (job_at rows version at d)
+unfolding job_at
+job_reads rows version at d =
+    then_reads (λ object. Unit {0}) (JobFits rows) (object_at (item_of part.Jobs at) d) _ (either_reads (λ object. Unit {0}) (is_some (as_object d)) _ _ tt tt) (λ object told.
+    then_reads (λ ds. Unit {0}) (JobFits rows) (items_at (item_of part.JobList at) (codes "list") object) _ (any_reads _ (items_of (codes "list") object) tt) (λ accesses told.
+    then_reads (AreListed rows) (JobFits rows) (list_of rows version (item_of part.JobList at) accesses) _ (list_reads rows version (item_of part.JobList at) accesses) (λ list listed.
+    then_reads (λ ds. Unit {0}) (JobFits rows) (items_at (item_of part.JobPlan at) (codes "plan") object) _ (any_reads _ (items_of (codes "plan") object) tt) (λ steps told.
+    then_reads (PlanFits rows) (JobFits rows) (steps_of rows (item_of part.JobPlan at) steps) _ (steps_read rows (item_of part.JobPlan at) steps) (λ plan fits. listed)))))
+
+jobs_read : (rows : Rows) (version : Version) (ds : List Data) → Reads (λ jobs. (length jobs ≤ 256) × All (JobFits rows) jobs) (jobs_of rows version ds)
+jobs_read rows version ds = few_reads (JobFits rows) 256 (whole_of part.Jobs) (job_at rows version) ds (nat_lt 256 (length ds)) (ltb-false 256 (length ds)) (job_reads rows version)
+
+-- so each job by its number
+all_fit : (rows : Rows) (jobs : List Job) → All (JobFits rows) jobs → AllFit rows jobs
+all_fit rows [] all t within = absurd (omega arith)
+all_fit rows (job ∷ jobs) all zero within = (All-head (JobFits rows) job jobs all).1
+all_fit rows (job ∷ jobs) all (suc t) within = all_fit rows jobs (All-tail (JobFits rows) job jobs all) t (omega arith)
+
+-- what a call gives for them are so few jobs with lists of the tree
+pub jobs_few : (rows : Rows) (version : Version) (ds : List Data) (result : Result (Vec Job Global) WireFault) → Gives (λ jobs. jobs.items) result (jobs_of rows version ds)
+    → IfOk result (λ jobs. length jobs.items ≤ 256)
+jobs_few rows version ds result gives =
+    given_reads (λ jobs. jobs.items) (λ jobs. length jobs ≤ 256) result (jobs_of rows version ds) gives
+    (weaker_reads (λ jobs. (length jobs ≤ 256) × All (JobFits rows) jobs) (λ jobs. length jobs ≤ 256) (jobs_of rows version ds) (λ jobs here. here.0) (jobs_read rows version ds))
+
+pub jobs_fit : (rows : Rows) (version : Version) (ds : List Data) (result : Result (Vec Job Global) WireFault) → Gives (λ jobs. jobs.items) result (jobs_of rows version ds)
+    → IfOk result (λ jobs. AllFit rows jobs.items)
+jobs_fit rows version ds result gives =
+    given_reads (λ jobs. jobs.items) (AllFit rows) result (jobs_of rows version ds) gives
+    (weaker_reads (λ jobs. (length jobs ≤ 256) × All (JobFits rows) jobs) (AllFit rows) (jobs_of rows version ds) (λ jobs here. all_fit rows jobs here.1) (jobs_read rows version ds))
 
 -- ---- flows
 

@@ -1,9 +1,13 @@
 -- The forms of rows, accesses and flow rows, as JSON values.
 use Rattle.std.specs.Prelude.{◌≡◌, ℕ, ◌≤◌, length, ◌^◌, ◌==◌, nat_lt, Bool, false, codes, bytes_eq, ℤ, pos, List, [], ◌∷◌, Option, Some, None, is_some, is_none, option_map, option_and_then, unwrap_or, if◌then◌else◌}
-use Rattle.serde_json.specs.Data.{Data, Items, no_items, item}
+use Rattle.serde_json.specs.Data.{Data, null, boolean, number, string, array, object, Items, no_items, item, Members, no_members, member}
 use Rattle.serde_json.specs.Find.{get, as_null, as_number, as_str, as_array, as_i64, as_u64}
 use Rattle.grove_tree.specs.Trees.{NodeRow}
 use Rattle.grove_access.specs.declared.access.Op.{Op}
+use Rattle.grove_access.specs.declared.reply.Reply.{Reply}
+use Rattle.grove_access.specs.declared.reply.Reply.TheVariants.{Value, Done, Range, Short}
+use Rattle.grove_core.specs.declared.event.Event.{Event}
+use Rattle.grove_core.specs.declared.event.Event.TheVariants as event
 use Rattle.grove_wire.specs.declared.versions.Version.{Version}
 use Rattle.grove_wire.specs.declared.versions.Version.TheVariants.{First, Second}
 use Rattle.grove_access.specs.declared.access.Op.TheVariants.{Get, Set, Add, Take}
@@ -24,9 +28,30 @@ items_of name d = option_and_then as_list (get name d)
 pub record HasArraysWithin (n : ℕ) (d : Data) : Type 0 where
   pub within : (name : List ℕ) (ds : List Data) → items_of name d ≡ Some ds → length ds ≤ n
 
--- and at most as many as a document has bytes at most
+-- and at most as many as the longest document has bytes
 abbrev pub HasShortArrays : Data → Type 0
-HasShortArrays d = HasArraysWithin 4194304 d
+HasShortArrays d = HasArraysWithin 67108864 d
+
+-- each array in a value, however deep it lies, has at most n items
+abbrev mutual
+  pub AllArraysWithin : ℕ → Data → Type 0
+  AllArraysWithin n null = Unit {0}
+  AllArraysWithin n (boolean b) = Unit {0}
+  AllArraysWithin n (number m) = Unit {0}
+  AllArraysWithin n (string s) = Unit {0}
+  AllArraysWithin n (array ds) = (length (list_items ds) ≤ n) × ItemsWithin n ds
+  AllArraysWithin n (object ms) = MembersWithin n ms
+
+  pub ItemsWithin : ℕ → Items → Type 0
+  ItemsWithin n no_items = Unit {0}
+  ItemsWithin n (item d ds) = AllArraysWithin n d × ItemsWithin n ds
+
+  pub MembersWithin : ℕ → Members → Type 0
+  MembersWithin n no_members = Unit {0}
+  MembersWithin n (member name d ms) = AllArraysWithin n d × MembersWithin n ms
+
+abbrev pub AreArraysShort : Data → Type 0
+AreArraysShort d = AllArraysWithin 67108864 d
 
 -- a signed number of 64 bits
 abbrev pub as_signed : Data → Option ℤ
@@ -159,3 +184,29 @@ flow_form d =
     (amount_of (codes "held") d))
     (amount_of (codes "above") d))
     (option_and_then as_str (get (codes "node") d))
+
+-- ---- events: a word and the number of a job
+
+abbrev pub event_named : Data → ℕ → Option Event
+event_named word job =
+    if is_word (codes "take") word then Some (event.Take job)
+    else if is_word (codes "mark") word then Some (event.Mark job)
+    else None
+
+abbrev pub event_of : List Data → Option Event
+event_of [] = None
+event_of (word ∷ []) = None
+event_of (word ∷ job ∷ []) = option_and_then (event_named word) (as_short job)
+event_of (word ∷ job ∷ other ∷ others) = None
+
+unfoldable pub event_form : Data → Option Event
+event_form d = option_and_then event_of (as_list d)
+
+-- ---- replies: a number, or a word
+
+abbrev pub reply_form : Data → Option Reply
+reply_form d =
+    if is_word (codes "ok") d then Some Done
+    else if is_word (codes "range") d then Some Range
+    else if is_word (codes "short") d then Some Short
+    else option_map Value (as_signed d)

@@ -2,6 +2,7 @@ pub mod Outcomes
 pub mod Places
 pub mod Forms
 pub mod Reading
+pub mod Histories
 pub mod Writing
 pub mod Texts
 pub mod Requests

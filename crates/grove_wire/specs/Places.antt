@@ -12,7 +12,7 @@ whole_of part = record { part = part; at = None; item = None }
 abbrev pub item_of : Part → ℕ → Place
 item_of part at = record { part = part; at = Some at; item = None }
 
--- an item of a part, or an access of a list in `lists`
+-- an item of a part, or an item of an item
 abbrev pub item_within : Part → Option ℕ → ℕ → Place
 item_within part None at = item_of part at
 item_within part (Some list) at = record { part = part; at = Some list; item = Some at }
@@ -21,7 +21,7 @@ item_within part (Some list) at = record { part = part; at = Some list; item = S
 abbrev pub item_on : Place → ℕ → Place
 item_on place at = item_within place.part place.at at
 
--- the word of a part, which is also the name of the member where it stands
+-- the word of a part; for a part that is a member of the document it is the name of that member
 abbrev pub part_word : Part → List ℕ
 part_word part.Whole = codes "whole"
 part_word part.Nodes = codes "nodes"
@@ -29,3 +29,10 @@ part_word part.List = codes "list"
 part_word part.Lists = codes "lists"
 part_word part.Plan = codes "plan"
 part_word part.Flow = codes "flow"
+part_word part.Jobs = codes "jobs"
+part_word part.JobList = codes "job-list"
+part_word part.JobPlan = codes "job-plan"
+part_word part.Events = codes "events"
+part_word part.Standing = codes "standing"
+part_word part.StandingRecords = codes "standing-records"
+part_word part.StandingReplies = codes "standing-replies"

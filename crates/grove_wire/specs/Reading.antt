@@ -37,14 +37,26 @@ version_in d = or_fault (Shape (whole_of part.Whole)) (version_of (get (codes "v
 abbrev pub versioned : Data → Result Data WireFault
 versioned d = version_in d >>= λ version. Ok d
 
-unfoldable pub document_of : List ℕ → Result Data WireFault
-document_of bytes =
-    if nat_lt 4194304 (length bytes) then Err (Limit (whole_of part.Whole))
+-- of at most so many bytes
+abbrev pub document_within : ℕ → List ℕ → Result Data WireFault
+document_within most bytes =
+    if nat_lt most (length bytes) then Err (Limit (whole_of part.Whole))
     else ((or_fault BadJson (value_of bytes) >>= object_of) >>= versioned)
+
+unfoldable pub document_of : List ℕ → Result Data WireFault
+document_of bytes = document_within 4194304 bytes
+
+-- a document with a history may be longer
+unfoldable pub history_of : List ℕ → Result Data WireFault
+history_of bytes = document_within 67108864 bytes
+
+-- the items of a member of an object, which stands at a place
+abbrev pub items_at : Place → List ℕ → Data → Result (List Data) WireFault
+items_at place name d = or_fault (Shape place) (items_of name d)
 
 -- the items of a part of the document
 unfoldable pub items_in : Part → Data → Result (List Data) WireFault
-items_in part d = or_fault (Shape (whole_of part)) (items_of (part_word part) d)
+items_in part d = items_at (whole_of part) (part_word part) d
 
 -- ---- the tree: each row's form, then the rules of trees
 
@@ -143,11 +155,14 @@ step_on tree place (word ∷ operand ∷ other ∷ others) = Err (Shape place)
 unfoldable pub step_at : Rows → Place → Data → Result Step WireFault
 step_at tree place d = or_fault (Shape place) (as_list d) >>= step_on tree place
 
-abbrev pub step_in : Rows → ℕ → Data → Result Step WireFault
-step_in tree at d = step_at tree (item_of part.Plan at) d
+abbrev pub step_in : Rows → Place → ℕ → Data → Result Step WireFault
+step_in tree place at d = step_at tree (item_on place at) d
+
+abbrev pub steps_of : Rows → Place → List Data → Result (List Step) WireFault
+steps_of tree place ds = each_from (step_in tree place) 0 ds
 
 unfoldable pub plan_in : Rows → Data → Result (List Step) WireFault
-plan_in tree d = items_in part.Plan d >>= each_from (step_in tree) 0
+plan_in tree d = items_in part.Plan d >>= steps_of tree (whole_of part.Plan)
 
 -- ---- a flow: its rows, each of its form and then with a path of the tree
 

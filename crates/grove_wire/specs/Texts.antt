@@ -9,6 +9,10 @@ use Rattle.grove_plan.specs.declared.fault.PlanFault.{PlanFault}
 use Rattle.grove_plan.specs.declared.fault.PlanFault.TheVariants as plan
 use Rattle.grove_proof.specs.declared.fault.ProofFault.{ProofFault}
 use Rattle.grove_proof.specs.declared.fault.ProofFault.TheVariants as proof
+use Rattle.grove_core.specs.declared.fault.ReplayFault.{ReplayFault}
+use Rattle.grove_core.specs.declared.fault.ReplayFault.TheVariants as replay
+use Rattle.grove_core.specs.declared.fault.StepFault.{StepFault}
+use Rattle.grove_core.specs.declared.fault.StepFault.TheVariants as event
 use Rattle.grove_run.specs.declared.fault.RunFault.{RunFault}
 use Rattle.grove_run.specs.declared.fault.RunFault.TheVariants as run
 use Rattle.grove_wire.specs.declared.fault.WireFault.{WireFault}
@@ -108,3 +112,24 @@ run_text rows (run.BadPlan job fault) = plan_text rows fault
 run_text rows run.Memory = codes "memory"
 run_text rows run.Foreign = codes "foreign"
 run_text rows run.Unfinished = codes "unfinished"
+
+-- ---- faults of histories
+
+abbrev pub event_text : StepFault → List ℕ
+event_text event.NoTxn = codes "no-job"
+event_text event.Ended = codes "ended"
+event_text (event.Blocked holder) = codes "blocked " ++ decimal holder
+event_text event.NotBlocked = codes "not-blocked"
+event_text event.Marked = codes "marked"
+
+abbrev pub ReplayFaultFits : Rows → ReplayFault → Type 0
+ReplayFaultFits rows (replay.BadPlan job fault) = FaultFits rows fault
+ReplayFaultFits rows (replay.BadEvent at fault) = Unit {0}
+ReplayFaultFits rows (replay.Unfinished job) = Unit {0}
+ReplayFaultFits rows replay.Memory = Unit {0}
+
+abbrev pub replay_text : Rows → ReplayFault → List ℕ
+replay_text rows (replay.BadPlan job fault) = codes "job " ++ decimal job ++ codes " " ++ plan_text rows fault
+replay_text rows (replay.BadEvent at fault) = codes "event " ++ decimal at ++ codes " " ++ event_text fault
+replay_text rows (replay.Unfinished job) = codes "unfinished " ++ decimal job
+replay_text rows replay.Memory = codes "memory"

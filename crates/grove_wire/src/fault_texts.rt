@@ -103,7 +103,7 @@ pub fn run_fault_text(alloc: Global, tree: &Tree, fault: &RunFault) -> Result<St
     }
 }
 
-fn word_text(alloc: Global, word: &str) -> Result<String, NoMemory>
+pub(crate) fn word_text(alloc: Global, word: &str) -> Result<String, NoMemory>
     ensures { IfOk result (λ text. string_bytes text ≡ word.now) }
 {
     Ok(String::from_str(alloc, word)?)
@@ -116,7 +116,12 @@ fn placed_text(alloc: Global, word: &str, place: Place) -> Result<String, NoMemo
 }
 
 /// A word and a number, and what is said of it.
-fn numbered_text(alloc: Global, word: &str, number: u32, said: &str) -> Result<String, NoMemory>
+pub(crate) fn numbered_text(
+    alloc: Global,
+    word: &str,
+    number: u32,
+    said: &str,
+) -> Result<String, NoMemory>
     ensures { IfOk result (λ text. string_bytes text ≡ word.now ++ codes " " ++ decimal number ++ said.now) }
 {
     Ok(format!(in alloc; "{word} {number}{said}")?)

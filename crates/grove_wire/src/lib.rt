@@ -1,37 +1,45 @@
 //! JSON documents and requests, read and written, and the texts of faults.
 #![tactic(auto)]
 
-pub use document::{MOST_BYTES, read_document};
+pub use document::{MOST_BYTES, MOST_HISTORY_BYTES, read_document, read_history};
+pub use events::{MOST_EVENTS, read_events};
 pub use fault::WireFault;
 pub use fault_names::{plan_fault_name, proof_fault_name, run_fault_name, wire_fault_name};
 pub use fault_texts::{plan_fault_text, proof_fault_text, run_fault_text, wire_fault_text};
 pub use flows::read_flow;
+pub use jobs::{MOST_JOBS, read_jobs};
 pub use lists::{MOST_LISTS, read_list, read_lists};
 pub use nodes::read_tree;
 pub use place::{Part, Place};
 pub use plan_values::{flow_value, plan_value};
 pub use plans::read_plan;
+pub use replay_texts::replay_fault_text;
 pub use replies::{numbers_value, replies_value};
 pub use reply_values::{
     changed_value, cost_value, counts_value, error_value, lists_value, planned_value, round_value,
     weights_value,
 };
 pub use request::{Request, read_request, request_laws};
+pub use standing::{Standing, read_standing};
 
 mod accesses;
 mod document;
+mod events;
 mod fault;
 mod fault_names;
 mod fault_texts;
 mod flows;
 mod forms;
+mod jobs;
 mod lists;
 mod nodes;
 mod paths;
 mod place;
 mod plan_values;
 mod plans;
+mod replay_texts;
 mod replies;
 mod reply_values;
 mod request;
+mod standing;
 mod versions;

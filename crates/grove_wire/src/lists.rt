@@ -48,7 +48,7 @@ pub fn read_lists(
 }
 
 /// The values as a list of accesses that stands at the place.
-fn list_of(
+pub(crate) fn list_of(
     alloc: Global,
     tree: &Tree,
     version: Version,

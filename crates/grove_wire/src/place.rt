@@ -12,10 +12,21 @@ pub enum Part {
     Lists,
     Plan,
     Flow,
+    Jobs,
+    /// The `list` of a job.
+    JobList,
+    /// The `plan` of a job.
+    JobPlan,
+    Events,
+    Standing,
+    /// The `records` of `standing`.
+    StandingRecords,
+    /// The `replies` of `standing`.
+    StandingReplies,
 }
 
 impl Part {
-    /// The part's word, which is also the name of the member where it stands.
+    /// The part's word; for a part that is a member of the document it is the name of that member.
     pub(crate) fn word(self) -> &'static str
         ensures { result.now ≡ part_word self }
     {
@@ -26,6 +37,13 @@ impl Part {
             Part::Lists => "lists",
             Part::Plan => "plan",
             Part::Flow => "flow",
+            Part::Jobs => "jobs",
+            Part::JobList => "job-list",
+            Part::JobPlan => "job-plan",
+            Part::Events => "events",
+            Part::Standing => "standing",
+            Part::StandingRecords => "standing-records",
+            Part::StandingReplies => "standing-replies",
         }
     }
 }
@@ -34,9 +52,11 @@ impl Part {
 #[derive(Clone, Copy, Debug, PartialEq, Eq)]
 pub struct Place {
     pub part: Part,
-    /// The row, access, step or list within the part, counted from 0; absent where the part as a whole is at fault.
+    /// The row, access, step, list, job, event or record within the part, counted from 0; absent where the part as a whole
+    /// is at fault.
     pub at: Option<u32>,
-    /// The access within a list of `lists`; absent elsewhere.
+    /// The access within a list of `lists` or of a job, the step within the plan of a job, or the reply to a job; absent
+    /// elsewhere.
     pub item: Option<u32>,
 }
 
@@ -63,7 +83,7 @@ impl Place {
         }
     }
 
-    /// One item of what stands at this place, where that is a part or a list of `lists`.
+    /// One item of what stands at this place, where that is a part or an item of one.
     pub(crate) fn within(self, at: u32) -> Place
         ensures { result ≡ item_on self at }
     {

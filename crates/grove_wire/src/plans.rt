@@ -1,8 +1,8 @@
 ghost use Rattle.std.specs.Prelude.{◌≡◌, ◌<◌, ◌^◌, map, IfOk, length, vec_len};
 ghost use Rattle.serde_json.specs.View.{view};
 ghost use Rattle.grove_wire.specs.Forms.{HasShortArrays};
-ghost use Rattle.grove_wire.specs.Outcomes.{Gives, each_from};
-ghost use Rattle.grove_wire.specs.Reading.{path_at, step_of, step_at, step_in, plan_in};
+ghost use Rattle.grove_wire.specs.Outcomes.{Gives};
+ghost use Rattle.grove_wire.specs.Reading.{path_at, step_of, step_at, steps_of, plan_in};
 
 use crate::document::items_in;
 use crate::forms::{is_word, list_items, short_number};
@@ -21,18 +21,36 @@ pub fn read_plan(alloc: Global, tree: &Tree, document: &Value) -> Result<Plan, W
     ensures { Gives (λ plan. plan) result (plan_in tree.now (view document.now)) }
 {
     let items = items_in(document, Part::Plan)?;
-    let steps = read_steps(alloc, tree, items)?;
+    plan_of(alloc, tree, Place::whole(Part::Plan), items)
+}
+
+/// The values as a plan that stands at the place.
+pub(crate) fn plan_of(
+    alloc: Global,
+    tree: &Tree,
+    place: Place,
+    items: &[Value],
+) -> Result<Plan, WireFault>
+    requires { length items.now < 2 ^ 32 }
+    ensures { Gives (λ plan. plan) result (steps_of tree.now place (map view items.now)) }
+{
+    let steps = read_steps(alloc, tree, place, items)?;
     Ok(Plan::new(steps))
 }
 
-fn read_steps(alloc: Global, tree: &Tree, items: &[Value]) -> Result<Vec<Step>, WireFault>
+fn read_steps(
+    alloc: Global,
+    tree: &Tree,
+    place: Place,
+    items: &[Value],
+) -> Result<Vec<Step>, WireFault>
     requires { length items.now < 2 ^ 32 }
-    ensures read { Gives (λ steps. steps.items) result (each_from (step_in tree.now) 0 (map view items.now)) }
+    ensures read { Gives (λ steps. steps.items) result (steps_of tree.now place (map view items.now)) }
     ensures few { IfOk result (λ steps. vec_len steps < 2 ^ 32) }
 {
     let mut steps = Vec::new(alloc);
     for (at, item) in items.iter().enumerate() {
-        let step = step_at(tree, Place::item(Part::Plan, at as u32), item)?;
+        let step = step_at(tree, place.within(at as u32), item)?;
         steps.push(step)?;
     }
     Ok(steps)

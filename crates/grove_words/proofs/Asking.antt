@@ -13,7 +13,7 @@ use Rattle.grove_words.specs.CommandLines.{command_named, grove_command, hyphens
 use Rattle.grove_words.proofs.Words.{IsFaulty, or_faulty, or_later, not_none, top_rules, leaf_rules, batch_rules, port_rules, top_long, top_short, IsOption, option_refused, HasNoFlag, no_flag, no_bundle, differs, Kind, hyphens_kind, option_kind, plain_kind, kind_of}
 use Rattle.grove_words.proofs.Documents.{document_in, leaf, batch_leaf, port_leaf, leaf_fault, Reads, leaf_reads}
 use Rattle.grove_words.specs.declared.order.Command.{Command}
-use Rattle.grove_words.specs.declared.order.Command.TheVariants.{Judge, Check, Plan, Run, Serve}
+use Rattle.grove_words.specs.declared.order.Command.TheVariants.{Judge, Check, Plan, Run, Audit, Serve}
 use Rattle.grove_words.specs.declared.order.Order.{Order}
 
 -- clap's statements hold of this command line
@@ -72,6 +72,7 @@ is_one_of Judge = record { met = refl; turns = refl; enters = λ rest. refl; fai
 is_one_of Check = record { met = refl; turns = refl; enters = λ rest. refl; fails = λ rest. refl; named = refl }
 is_one_of Plan = record { met = refl; turns = refl; enters = λ rest. refl; fails = λ rest. refl; named = refl }
 is_one_of Run = record { met = refl; turns = refl; enters = λ rest. refl; fails = λ rest. refl; named = refl }
+is_one_of Audit = record { met = refl; turns = refl; enters = λ rest. refl; fails = λ rest. refl; named = refl }
 is_one_of Serve = record { met = refl; turns = refl; enters = λ rest. refl; fails = λ rest. refl; named = refl }
 
 module _ (command : Command) (rest : List Text) where
@@ -115,9 +116,10 @@ which word =
     by_word (codes "check") word (a_command Check) (λ check.
     by_word (codes "plan") word (a_command Plan) (λ plan.
     by_word (codes "run") word (a_command Run) (λ run.
+    by_word (codes "audit") word (a_command Audit) (λ audit.
     by_word (codes "serve") word (a_command Serve) (λ serve.
     by_word (codes "help") word a_help (λ help.
-    neither (rw (judge, check, plan, run, serve, help) refl)))))))
+    neither (rw (judge, check, plan, run, audit, serve, help) refl))))))))
 
 -- a word that is no command
 
@@ -185,6 +187,7 @@ names_document Check rest taken found is = document_reads Check rest refl refl t
 names_document Plan rest taken found is = document_reads Plan rest refl refl taken found is
 names_document Run rest taken found is =
     (taken, rows_after batch_rules [] rest, rows_are Run rest, sym (is.document (word_of Run) (rows_after batch_rules [] rest) (rows_are Run rest)))
+names_document Audit rest taken found is = document_reads Audit rest refl refl taken found is
 names_document Serve rest taken found is =
     (taken, rows_after port_rules [] rest, rows_are Serve rest, sym (is.document (word_of Serve) (rows_after port_rules [] rest) (rows_are Serve rest)))
 

@@ -8,7 +8,7 @@ use Rattle.clap.specs.Words.{App, IsAmong, Row, Rule, fault_of, first_of, new_ap
 use Rattle.clap.specs.declared.builder.value_parser.ValueParser.TheVariants.{Signed}
 use Rattle.clap.specs.declared.error.kind.ErrorKind.TheVariants.{DisplayHelp, DisplayVersion}
 use Rattle.grove_words.specs.declared.order.Command.{Command}
-use Rattle.grove_words.specs.declared.order.Command.TheVariants.{Judge, Check, Plan, Run, Serve}
+use Rattle.grove_words.specs.declared.order.Command.TheVariants.{Judge, Check, Plan, Run, Audit, Serve}
 use Rattle.grove_words.specs.declared.order.Order.{Order}
 
 -- ---- commands and documents
@@ -19,6 +19,7 @@ word_of Judge = codes "judge"
 word_of Check = codes "check"
 word_of Plan = codes "plan"
 word_of Run = codes "run"
+word_of Audit = codes "audit"
 word_of Serve = codes "serve"
 
 -- the command that a word names; any other word is taken for `judge`
@@ -27,6 +28,7 @@ command_named word =
     if bytes_eq word (codes "check") then Check
     else if bytes_eq word (codes "plan") then Plan
     else if bytes_eq word (codes "run") then Run
+    else if bytes_eq word (codes "audit") then Audit
     else if bytes_eq word (codes "serve") then Serve
     else Judge
 
@@ -101,8 +103,11 @@ port_command name = with_rule (with_rule (with_rule (new_app name) tree_rule) po
 
 abbrev pub grove_command : App
 grove_command =
-    with_subcommand (with_subcommand (with_command (with_command (with_command no_command (codes "judge")) (codes "check")) (codes "plan"))
-    (batch_command (codes "run")).top) (port_command (codes "serve")).top
+    with_subcommand
+    (with_command
+    (with_subcommand (with_command (with_command (with_command no_command (codes "judge")) (codes "check")) (codes "plan")) (batch_command (codes "run")).top)
+    (codes "audit"))
+    (port_command (codes "serve")).top
 
 -- ---- the words that are an order
 
@@ -121,6 +126,7 @@ AreFor Judge words document = AreCommand (word_of Judge) words document
 AreFor Check words document = AreCommand (word_of Check) words document
 AreFor Plan words document = AreCommand (word_of Plan) words document
 AreFor Run words document = AreTakenFor (word_of Run) words document
+AreFor Audit words document = AreCommand (word_of Audit) words document
 AreFor Serve words document = AreTakenFor (word_of Serve) words document
 
 -- the words ask for an order; with no command, standard input is to be judged

@@ -89,6 +89,7 @@ fn command_named(word: &str) -> Command
         "check" => Command::Check,
         "plan" => Command::Plan,
         "run" => Command::Run,
+        "audit" => Command::Audit,
         "serve" => Command::Serve,
         _judge => Command::Judge,
     }
@@ -102,7 +103,8 @@ pub fn command_line<'a>(alloc: Global) -> Result<clap::Command<'a>, AllocError>
     let checks = add(judges, check(alloc));
     let plans = add(checks, plan(alloc));
     let runs = add(plans, run(alloc));
-    add(runs, serve(alloc))
+    let audits = add(runs, audit(alloc));
+    add(audits, serve(alloc))
 }
 
 /// The program with one more command, where there was memory for both.
@@ -162,6 +164,14 @@ fn run<'a>(alloc: Global) -> Result<clap::Command<'a>, AllocError>
     let about =
         "Run a batch of lists at once: their serial order, the replies, the records and the waits";
     on_document(alloc, "run", about)?.arg(workers(alloc))
+}
+
+fn audit<'a>(alloc: Global) -> Result<clap::Command<'a>, AllocError>
+    ensures app { IfOk result (λ command. app_of command ≡ document_command (codes "audit")) }
+    ensures local { IfOk result (λ command. (out-Command command).has_globals ≡ false) }
+{
+    let about = "Audit a history: what the run of its events gives, if they are a finished run";
+    on_document(alloc, "audit", about)
 }
 
 /// A command that serves a document's tree at a port, and may be told how many workers there are.

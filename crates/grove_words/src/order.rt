@@ -18,5 +18,6 @@ pub enum Command {
     Check,
     Plan,
     Run,
+    Audit,
     Serve,
 }

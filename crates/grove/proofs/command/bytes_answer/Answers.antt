@@ -8,7 +8,7 @@ returns-in-Ok-clause-said g c =
 
 pub returns-in-Ok-clause-opened : goal.returns-in-Ok-clause-opened
 returns-in-Ok-clause-opened g c =
-    opened_by_bytes c.args.bytes.now (view c.in-Ok.document) c.args.order.workers c.document_answer.result c.in-Ok.ensures.read c.document_answer.ensures.opened
+    opened_by_bytes c.args.order.command c.args.bytes.now (view c.in-Ok.document) c.args.order.workers c.document_answer.result c.in-Ok.ensures.read c.document_answer.ensures.opened
 
 pub returns-in-Err-clause-said : goal.returns-in-Err-clause-said
 returns-in-Err-clause-said g c =

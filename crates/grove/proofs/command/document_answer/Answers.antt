@@ -1,5 +1,5 @@
 use Rattle.serde_json.specs.View.{view}
-use Rattle.grove_words.specs.declared.order.Command.TheVariants.{Judge, Check, Plan, Run}
+use Rattle.grove_words.specs.declared.order.Command.TheVariants.{Judge, Check, Plan, Run, Audit}
 use Rattle.grove.specs.Outcomes.{MaySay}
 use Rattle.grove.proofs.Saying.{answer_says, names_no_port, serves_nothing}
 use Rattle.grove.proofs.command.document_answer.Goals as goal
@@ -43,3 +43,13 @@ returns-in-Plan-clause-opened g c = serves_nothing _ c.answer_of-in-Plan.result 
 
 pub returns-in-Run-clause-opened : goal.returns-in-Run-clause-opened
 returns-in-Run-clause-opened g c = serves_nothing _ c.answer_of-in-Run.result c.answer_of-in-Run.ensures.unlistened
+
+pub returns-in-Audit-clause-said : goal.returns-in-Audit-clause-said
+returns-in-Audit-clause-said g c =
+    rw c.in-Audit.is (answer_says (MaySay Audit (view c.args.document.now)) c.audit_document.result c.answer_of-in-Audit.result c.audit_document.ensures c.answer_of-in-Audit.ensures.said)
+
+pub returns-in-Audit-clause-port : goal.returns-in-Audit-clause-port
+returns-in-Audit-clause-port g c = names_no_port _ c.answer_of-in-Audit.result c.answer_of-in-Audit.ensures.unlistened
+
+pub returns-in-Audit-clause-opened : goal.returns-in-Audit-clause-opened
+returns-in-Audit-clause-opened g c = serves_nothing _ c.answer_of-in-Audit.result c.answer_of-in-Audit.ensures.unlistened

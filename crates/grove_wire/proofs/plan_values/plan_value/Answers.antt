@@ -1,3 +1,5 @@
+use Rattle.grove_wire.specs.declared.place.Part.TheVariants.{Plan}
+use Rattle.grove_wire.specs.Places.{whole_of}
 use Rattle.grove_wire.specs.Reading.{step_in, plan_in, items_in}
 use Rattle.grove_wire.specs.Writing.{step_data}
 use Rattle.grove_wire.proofs.Written.{written_more, reads_more, written_all, reads_all, member_items}
@@ -10,7 +12,7 @@ loop-step-preserved c =
     let is = rw c.steps-step-items.ensures.steps at c.step-item.is in
     record {
       value = rw c.in_ok-push.ensures.items (written_more _ c.in_ok-step_value.field-0 _ _ _ within is (step_data tree) c.loop-step.invariant.value c.in_ok-step_value.ensures.value);
-      reads_back = rw c.in_ok-push.ensures.items (reads_more _ c.in_ok-step_value.field-0 _ _ _ within is (step_in tree) c.loop-step.invariant.reads_back (λ place. c.in_ok-step_value.ensures.reads_back _));
+      reads_back = rw c.in_ok-push.ensures.items (reads_more _ c.in_ok-step_value.field-0 _ _ _ within is (step_in tree (whole_of Plan)) c.loop-step.invariant.reads_back (λ place. c.in_ok-step_value.ensures.reads_back _));
     }
 
 pub returns-clause-value : goal.returns-clause-value
@@ -22,4 +24,4 @@ pub returns-clause-reads_back : goal.returns-clause-reads_back
 unfolding plan_in items_in
 returns-clause-reads_back c document is =
     let beyond = rw c.steps-step-items.ensures.steps at c.loop-step-test.false in
-    rw (member_items _ document c.loop-step.items is) (reads_all c.loop-step.items _ _ (step_in c.args.tree.now) beyond c.loop-step.invariant.reads_back)
+    rw (member_items _ document c.loop-step.items is) (reads_all c.loop-step.items _ _ (step_in c.args.tree.now (whole_of Plan)) beyond c.loop-step.invariant.reads_back)

@@ -9,4 +9,5 @@ returns c =
     let plans = c.add-plans.ensures (with_command (with_command no_command (codes "judge")) (codes "check")) (document_command (codes "plan")) checks c.plan.ensures.app in
     let runs = c.add-runs.ensures (with_command (with_command (with_command no_command (codes "judge")) (codes "check")) (codes "plan"))
     (batch_command (codes "run")) plans c.run.ensures.app in
-    c.add.ensures _ (port_command (codes "serve")) runs c.serve.ensures.app
+    let audits = c.add-audits.ensures _ (document_command (codes "audit")) runs c.audit.ensures.app in
+    c.add.ensures _ (port_command (codes "serve")) audits c.serve.ensures.app

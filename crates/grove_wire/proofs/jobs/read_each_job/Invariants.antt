@@ -1,0 +1,11 @@
+use Rattle.std.proofs.Common.{◌≡◌}
+use Rattle.std.specs.Prelude.{map}
+use Rattle.serde_json.specs.View.{view}
+use Rattle.grove_wire.specs.Outcomes.{each_from}
+use Rattle.grove_wire.specs.Histories.{job_at}
+use Rattle.grove_wire.proofs.Each.{with_front, rest_read}
+use Rattle.grove_wire.proofs.jobs.read_each_job.Given as goal
+
+-- what is read so far, and then what is left, is what the whole reads as
+abbrev pub invariant-loop-at : goal.invariant-loop-at
+invariant-loop-at l = with_front l.jobs.items (rest_read (job_at l.tree l.version) l.items l.at) ≡ each_from (job_at l.tree l.version) 0 (map view l.items)

@@ -1,0 +1,11 @@
+use Rattle.std.proofs.Common.{◌≡◌}
+use Rattle.std.specs.Prelude.{map}
+use Rattle.serde_json.specs.View.{view}
+use Rattle.grove_wire.specs.Outcomes.{each_from}
+use Rattle.grove_wire.specs.Histories.{record_at}
+use Rattle.grove_wire.proofs.Each.{with_front, rest_read}
+use Rattle.grove_wire.proofs.standing.read_records.Given as goal
+
+-- what is read so far, and then what is left, is what the whole reads as
+abbrev pub invariant-loop-at : goal.invariant-loop-at
+invariant-loop-at l = with_front l.records.items (rest_read record_at l.items l.at) ≡ each_from record_at 0 (map view l.items)

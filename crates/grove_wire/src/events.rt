@@ -1,0 +1,72 @@
+ghost use Rattle.std.specs.Prelude.{◌≡◌, ◌≤◌, map, IfOk, length};
+ghost use Rattle.serde_json.specs.View.{view};
+ghost use Rattle.grove_wire.specs.Forms.{event_named, event_of, event_form};
+ghost use Rattle.grove_wire.specs.Outcomes.{Gives, each_from};
+ghost use Rattle.grove_wire.specs.Histories.{event_at, events_of, events_in};
+
+use crate::document::items_in;
+use crate::forms::{is_word, list_items, short_number};
+use crate::{Part, Place, WireFault};
+use grove_core::Event;
+use serde_json::Value;
+use std::alloc::Global;
+
+/// No document has more events.
+pub const MOST_EVENTS: usize = 1_048_576;
+
+/// The document's `events`. More than 1,048,576 are `Limit`; then they are read in order.
+#[tactic(auto, unfolding(crate::specs::Histories::events_in))]
+pub fn read_events(alloc: Global, document: &Value) -> Result<Vec<Event>, WireFault>
+    ensures read { Gives (λ events. events.items) result (events_in (view document.now)) }
+    ensures few { IfOk result (λ events. length events.items ≤ 1048576) }
+{
+    let items = items_in(document, Part::Events)?;
+    if items.len() > MOST_EVENTS {
+        return Err(WireFault::Limit(Place::whole(Part::Events)));
+    }
+    read_each_event(alloc, items)
+}
+
+/// The events, of which there are few enough.
+fn read_each_event(alloc: Global, items: &[Value]) -> Result<Vec<Event>, WireFault>
+    requires { length items.now ≤ 1048576 }
+    ensures read { Gives (λ events. events.items) result (each_from event_at 0 (map view items.now)) }
+    ensures few { IfOk result (λ events. length events.items ≤ 1048576) }
+{
+    let mut events = Vec::new(alloc);
+    for (at, item) in items.iter().enumerate() {
+        let event = event_at(at as u32, item)?;
+        events.push(event)?;
+    }
+    Ok(events)
+}
+
+fn event_at(at: u32, value: &Value) -> Result<Event, WireFault>
+    ensures { result ≡ event_at at (view value.now) }
+{
+    event_form(value).ok_or(WireFault::Shape(Place::item(Part::Events, at)))
+}
+
+/// What stands in a value that is an event.
+#[tactic(auto, unfolding(crate::specs::Forms::event_form))]
+fn event_form(value: &Value) -> Option<Event>
+    ensures { result ≡ event_form (view value.now) }
+{
+    match list_items(value)? {
+        [word, job] => event_named(word, short_number(job)?),
+        _ => None,
+    }
+}
+
+/// What a word says of the job.
+fn event_named(word: &Value, job: u32) -> Option<Event>
+    ensures { result ≡ event_named (view word.now) job }
+{
+    if is_word(word, "take") {
+        Some(Event::Take(job))
+    } else if is_word(word, "mark") {
+        Some(Event::Mark(job))
+    } else {
+        None
+    }
+}

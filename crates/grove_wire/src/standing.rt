@@ -1,0 +1,127 @@
+ghost use Rattle.std.specs.Prelude.{◌≡◌, ◌<◌, ◌^◌, map, option_map, IfOk, length};
+ghost use Rattle.std.specs.List.{All};
+ghost use Rattle.serde_json.specs.View.{view};
+ghost use Rattle.grove_wire.specs.Forms.{reply_form, AreArraysShort};
+ghost use Rattle.grove_wire.specs.Outcomes.{Gives, each_from};
+ghost use Rattle.grove_wire.specs.Histories.{record_at, reply_at, reply_in, replies_at, replies_on, standing_at, standing_of, standing_in};
+
+use crate::document::items_at;
+use crate::forms::{is_word, list_items};
+use crate::{Part, Place, WireFault};
+use grove_access::Reply;
+use serde_json::Value;
+use std::alloc::Global;
+
+/// What is said to stand after the last event of a history.
+#[derive(Debug, Drop)]
+pub struct Standing {
+    /// The records, by the numbers of the nodes.
+    pub records: Vec<i64>,
+    /// The replies to each job, by its number.
+    pub replies: Vec<Vec<Reply>>,
+}
+
+/// The document's `standing`, if it has one: its `records`, and then its `replies`.
+#[tactic(auto, using(crate::proofs::Lengths::member_within), unfolding(crate::specs::Histories::standing_in))]
+pub fn read_standing(alloc: Global, document: &Value) -> Result<Option<Standing>, WireFault>
+    requires { AreArraysShort (view document.now) }
+    ensures { Gives (λ standing. option_map standing_of standing) result (standing_in (view document.now)) }
+{
+    match document.get("standing") {
+        Some(value) => Ok(Some(standing_at(alloc, value)?)),
+        None => Ok(None),
+    }
+}
+
+#[tactic(auto, unfolding(crate::specs::Histories::standing_at))]
+fn standing_at(alloc: Global, value: &Value) -> Result<Standing, WireFault>
+    requires { AreArraysShort (view value.now) }
+    ensures { Gives standing_of result (standing_at (view value.now)) }
+{
+    if !value.is_object() {
+        return Err(WireFault::Shape(Place::whole(Part::Standing)));
+    }
+    let numbers = items_at(Place::whole(Part::StandingRecords), "records", value)?;
+    let records = read_records(alloc, numbers)?;
+    let lists = items_at(Place::whole(Part::StandingReplies), "replies", value)?;
+    let replies = read_each_replies(alloc, lists)?;
+    Ok(Standing { records, replies })
+}
+
+fn read_records(alloc: Global, items: &[Value]) -> Result<Vec<i64>, WireFault>
+    requires { length items.now < 2 ^ 32 }
+    ensures { Gives (λ records. records.items) result (each_from record_at 0 (map view items.now)) }
+{
+    let mut records = Vec::new(alloc);
+    for (at, item) in items.iter().enumerate() {
+        let record = record_at(at as u32, item)?;
+        records.push(record)?;
+    }
+    Ok(records)
+}
+
+fn record_at(at: u32, value: &Value) -> Result<i64, WireFault>
+    ensures { result ≡ record_at at (view value.now) }
+{
+    let place = Place::item(Part::StandingRecords, at);
+    value.as_i64().ok_or(WireFault::Shape(place))
+}
+
+/// The replies to each job.
+fn read_each_replies(alloc: Global, items: &[Value]) -> Result<Vec<Vec<Reply>>, WireFault>
+    requires few { length items.now < 2 ^ 32 }
+    requires short { All AreArraysShort (map view items.now) }
+    ensures { Gives (λ all. map (λ replies. replies.items) all.items) result (each_from replies_at 0 (map view items.now)) }
+{
+    let mut all = Vec::new(alloc);
+    for (at, item) in items.iter().enumerate() {
+        let replies = replies_on(alloc, Place::item(Part::StandingReplies, at as u32), item)?;
+        all.push(replies)?;
+    }
+    Ok(all)
+}
+
+/// A value as the replies to one job, which stand at the place.
+#[tactic(auto, using(crate::proofs::Lengths::list_within), unfolding(crate::specs::Histories::replies_on))]
+fn replies_on(alloc: Global, place: Place, value: &Value) -> Result<Vec<Reply>, WireFault>
+    requires { AreArraysShort (view value.now) }
+    ensures { Gives (λ replies. replies.items) result (replies_on place (view value.now)) }
+{
+    match list_items(value) {
+        Some(items) => read_replies(alloc, place, items),
+        None => Err(WireFault::Shape(place)),
+    }
+}
+
+fn read_replies(alloc: Global, place: Place, items: &[Value]) -> Result<Vec<Reply>, WireFault>
+    requires { length items.now < 2 ^ 32 }
+    ensures { Gives (λ replies. replies.items) result (each_from (reply_in place) 0 (map view items.now)) }
+{
+    let mut replies = Vec::new(alloc);
+    for (at, item) in items.iter().enumerate() {
+        let reply = reply_at(place.within(at as u32), item)?;
+        replies.push(reply)?;
+    }
+    Ok(replies)
+}
+
+fn reply_at(place: Place, value: &Value) -> Result<Reply, WireFault>
+    ensures { result ≡ reply_at place (view value.now) }
+{
+    reply_form(value).ok_or(WireFault::Shape(place))
+}
+
+/// What stands in a value that is a reply.
+fn reply_form(value: &Value) -> Option<Reply>
+    ensures { result ≡ reply_form (view value.now) }
+{
+    if is_word(value, "ok") {
+        Some(Reply::Done)
+    } else if is_word(value, "range") {
+        Some(Reply::Range)
+    } else if is_word(value, "short") {
+        Some(Reply::Short)
+    } else {
+        Some(Reply::Value(value.as_i64()?))
+    }
+}
