@@ -1,5 +1,5 @@
 -- What each command says of a document: its lines, or the text of the first fault.
-use Rattle.std.specs.Prelude.{◌≡◌, ◌≢◌, ◌⊎◌, ℕ, ℤ, codes, decimal, List, ◌++◌, length, map, Option, Some, None, Result, Ok, Err}
+use Rattle.std.specs.Prelude.{◌≡◌, ◌≢◌, ◌⊎◌, ℕ, ◌<◌, ℤ, codes, decimal, List, ◌++◌, length, map, reverse, slice_get, Option, Some, None, Result, Ok, Err}
 use Rattle.serde_json.specs.Data.{Data}
 use Rattle.serde_json.specs.Written.{compact_text}
 use Rattle.grove_base.specs.Numbers.{numbers_below}
@@ -20,15 +20,19 @@ use Rattle.grove_proof.specs.Faults.{IsFault}
 use Rattle.grove_build.specs.Settled.{IsSettled}
 use Rattle.grove_core.specs.declared.job.Job.{Job}
 use Rattle.grove_core.specs.declared.event.Event.{Event}
-use Rattle.grove_core.specs.Runs.{IsRun, IsFinished, run_records, waits_of}
+use Rattle.grove_core.specs.declared.fault.ReplayFault.{ReplayFault}
+use Rattle.grove_core.specs.declared.fault.ReplayFault.TheVariants as replay
+use Rattle.grove_core.specs.Runs.{AllLegal, IsRun, IsFinished, run_records, waits_of}
 use Rattle.grove_core.specs.Orders.{placement_order}
 use Rattle.grove_core.specs.Laws.{IsEachOnce, IsSerialBy}
+use Rattle.grove_core.specs.Replays.{IsReplayFault}
 use Rattle.grove_wire.specs.declared.fault.WireFault.{WireFault}
 use Rattle.grove_wire.specs.Outcomes.{◌>>=◌}
 use Rattle.grove_wire.specs.Reading.{tree_in, list_in, lists_in, plan_in, flow_in}
 use Rattle.grove_wire.specs.Writing.{replies_data, numbers_data, plan_data, flow_data}
 use Rattle.grove_wire.specs.Replies.{counts_data, lists_data}
-use Rattle.grove_wire.specs.Texts.{wire_text, plan_text, proof_text}
+use Rattle.grove_wire.specs.Histories.{Standing, jobs_in, events_in, standing_in}
+use Rattle.grove_wire.specs.Texts.{wire_text, plan_text, proof_text, replay_text}
 use Rattle.grove_store.specs.Rounds.{AreSettledJobs, replies_of}
 use Rattle.grove_answer.specs.declared.reading.Task.{Task}
 
@@ -41,7 +45,7 @@ abbrev pub ThenSays : {A : Type 0} → Result A WireFault → (A → Outcome →
 ThenSays (Ok x) MaySay outcome = MaySay x outcome
 ThenSays (Err fault) MaySay outcome = outcome ≡ Err (wire_text fault)
 
--- ---- what is read of a document: a tree with records and a list; then a plan; then a flow; or a tree with records and lists
+-- ---- what is read of a document: a tree with records and a list; then a plan; then a flow; or a tree with records, and lists or a history
 
 unfoldable pub task_in : Data → Result Task WireFault
 task_in document = do
@@ -66,6 +70,22 @@ batch_in document = do
   stored ← tree_in document
   lists ← lists_in stored.0 document
   Ok (stored.0, stored.1, lists)
+
+-- jobs over a tree with records, the events of their run, and what is said to stand after them
+pub record History : Type 0 where
+  pub tree : Rows
+  pub records : List ℤ
+  pub jobs : List Job
+  pub events : List Event
+  pub standing : Option Standing
+
+unfoldable pub history_in : Data → Result History WireFault
+history_in document = do
+  stored ← tree_in document
+  jobs ← jobs_in stored.0 document
+  events ← events_in document
+  standing ← standing_in document
+  Ok (record { tree = stored.0; records = stored.1; jobs = jobs; events = events; standing = standing })
 
 -- ---- judge: a legal plan's cost, and what its list does when it is done alone
 
@@ -131,3 +151,41 @@ IsRunBatch (tree, records, lists) (Ok lines) = (jobs : List Job) × (past : List
     × IsEachOnce (placement_order tree jobs past) (length jobs) × IsSerialBy (placement_order tree jobs past) jobs records past
     × (lines ≡ run_lines tree jobs records past)
 IsRunBatch (tree, records, lists) (Err text) = (text ≡ codes "foreign") ⊎ (text ≡ codes "unfinished")
+
+-- ---- audit: events that are a finished run of jobs, by any legal plans, and what they leave
+
+-- the events from the latest back
+abbrev pub past_in : History → List Event
+past_in history = reverse history.events
+
+-- the events are a finished run, and so the same as the lists done whole, one after the other
+pub record IsFinishedHistory (history : History) : Type 0 where
+  pub legal : AllLegal history.tree history.jobs
+  pub run : IsRun history.jobs (past_in history)
+  pub finished : IsFinished history.jobs (past_in history)
+  pub once : IsEachOnce (placement_order history.tree history.jobs (past_in history)) (length history.jobs)
+  pub serial : IsSerialBy (placement_order history.tree history.jobs (past_in history)) history.jobs history.records (past_in history)
+
+-- the first place at which two lists differ
+abbrev pub DifferFirstAt : {A : Type 0} → List A → List A → ℕ → Type 0
+DifferFirstAt xs ys at = (slice_get xs at ≢ slice_get ys at) × ((i : ℕ) → i < at → slice_get xs i ≡ slice_get ys i)
+
+-- what is said to stand is what the run left
+abbrev pub Stands : Option Standing → List ℤ → List (List Reply) → Type 0
+Stands None records replies = Unit {0}
+Stands (Some said) records replies = (said.0 ≡ records) × (said.1 ≡ replies)
+
+-- the first difference of what is said to stand, records before replies
+abbrev pub IsMisstated : Option Standing → List ℤ → List (List Reply) → List ℕ → Type 0
+IsMisstated None records replies text = ⊥
+IsMisstated (Some said) records replies text =
+    ((node : ℕ) × DifferFirstAt said.0 records node × (text ≡ codes "standing records " ++ decimal node))
+    ⊎ ((said.0 ≡ records) × ((job : ℕ) × DifferFirstAt said.1 replies job × (text ≡ codes "standing replies " ++ decimal job)))
+
+abbrev pub IsAudited : History → Outcome → Type 0
+IsAudited history (Ok lines) = IsFinishedHistory history
+    × Stands history.standing (run_records history.jobs history.records (past_in history)) (replies_of history.jobs history.records (past_in history))
+    × (lines ≡ run_lines history.tree history.jobs history.records (past_in history))
+IsAudited history (Err text) =
+    ((fault : ReplayFault) × (fault ≢ replay.Memory) × IsReplayFault history.tree history.jobs history.events fault × (text ≡ replay_text history.tree fault))
+    ⊎ (IsFinishedHistory history × IsMisstated history.standing (run_records history.jobs history.records (past_in history)) (replies_of history.jobs history.records (past_in history)) text)

@@ -28,3 +28,8 @@ IsTold said Memory = Unit {0}
 -- a task's records are those of its tree's nodes, and so are the nodes of its list
 abbrev pub IsFitting : Task → Type 0
 IsFitting task = (length task.records ≡ length task.tree) × AreNodes task.tree (nodes_of task.list)
+
+-- a refusal has a text that may be said, or is for want of memory
+abbrev pub TellsSome : (List ℕ → Type 0) → Refusal → Type 0
+TellsSome MayTell (Fault text) = MayTell (string_bytes text)
+TellsSome MayTell Memory = Unit {0}

@@ -1,16 +1,19 @@
 //! What a command says of a document: just what the definitions say, or the refusal.
 #![tactic(auto)]
 
+pub use auditing::audit_document;
 pub use checking::check_document;
 pub use judging::judge_document;
 pub use planning::plan_document;
 pub use refusal::{Refusal, or_refuse};
 pub use running::run_document;
 
+mod auditing;
 mod checking;
 mod judging;
 mod planning;
 mod reading;
 mod refusal;
 mod running;
+mod standing;
 mod texts;

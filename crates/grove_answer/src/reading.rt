@@ -1,16 +1,22 @@
-ghost use Rattle.std.specs.Prelude.{◌≡◌, ◌≤◌, length, IfOk, All};
+ghost use Rattle.std.specs.Prelude.{◌≡◌, ◌≤◌, length, option_map, IfOk, All};
 ghost use Rattle.serde_json.specs.View.{view};
 ghost use Rattle.grove_access.specs.Lists.{nodes_of, AreNodes};
-ghost use Rattle.grove_wire.specs.Forms.{HasShortArrays};
+ghost use Rattle.grove_core.specs.Openings.{AllFit};
+ghost use Rattle.grove_wire.specs.Forms.{AreArraysShort, HasShortArrays};
+ghost use Rattle.grove_wire.specs.Histories.{standing_of};
 ghost use Rattle.grove_wire.specs.Outcomes.{Gives};
 ghost use Rattle.grove_answer.specs.Says.{IsFitting};
-ghost use Rattle.grove_answer.specs.Outcomes.{task_in, trial_in, claim_in, batch_in};
+ghost use Rattle.grove_answer.specs.Outcomes.{task_in, trial_in, claim_in, batch_in, history_in};
 
 use grove_access::{AccessList, Records};
+use grove_core::{Event, Job};
 use grove_plan::Plan;
 use grove_proof::Flow;
 use grove_tree::Tree;
-use grove_wire::{WireFault, read_flow, read_list, read_lists, read_plan, read_tree};
+use grove_wire::{
+    Standing, WireFault, read_events, read_flow, read_jobs, read_list, read_lists, read_plan,
+    read_standing, read_tree,
+};
 use serde_json::Value;
 use std::alloc::Global;
 
@@ -85,5 +91,45 @@ pub fn read_batch(alloc: Global, document: &Value) -> Result<Batch, WireFault>
         tree,
         records,
         lists,
+    })
+}
+
+/// Jobs over a tree with its records, the events of their run, and what is said to stand after them.
+#[derive(Drop)]
+pub struct History {
+    pub tree: Tree,
+    pub records: Records,
+    pub jobs: Vec<Job>,
+    pub events: Vec<Event>,
+    pub standing: Option<Standing>,
+}
+
+/// The document's tree, jobs and events, and what is said to stand, if anything.
+#[tactic(auto, unfolding(crate::specs::Outcomes::history_in))]
+pub fn read_history(alloc: Global, document: &Value) -> Result<History, WireFault>
+    requires short { HasShortArrays (view document.now) }
+    requires all_short { AreArraysShort (view document.now) }
+    ensures read { Gives (λ history. record {
+      tree = history.tree;
+      records = history.records;
+      jobs = history.jobs.items;
+      events = history.events.items;
+      standing = option_map standing_of history.standing;
+    }) result (history_in (view document.now)) }
+    ensures records { IfOk result (λ history. length history.records ≡ length history.tree) }
+    ensures fits { IfOk result (λ history. AllFit history.tree history.jobs.items) }
+    ensures few { IfOk result (λ history. length history.jobs.items ≤ 256) }
+    ensures short { IfOk result (λ history. length history.events.items ≤ 1048576) }
+{
+    let (tree, records) = read_tree(alloc, document)?;
+    let jobs = read_jobs(alloc, &tree, document)?;
+    let events = read_events(alloc, document)?;
+    let standing = read_standing(alloc, document)?;
+    Ok(History {
+        tree,
+        records,
+        jobs,
+        events,
+        standing,
     })
 }

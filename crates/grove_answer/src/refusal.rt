@@ -1,13 +1,17 @@
 ghost use Rattle.std.specs.Prelude.{◌≡◌, ℕ, List, IfOk, IfErr, IsErrAnd, Ok, string_bytes};
-ghost use Rattle.grove_wire.specs.Texts.{FaultFits, ProofFaultFits, RunFaultFits, wire_text, plan_text, proof_text, run_text};
+ghost use Rattle.grove_wire.specs.Texts.{FaultFits, ProofFaultFits, ReplayFaultFits, RunFaultFits, wire_text, plan_text, proof_text, replay_text, run_text};
 ghost use Rattle.grove_answer.specs.Says.{IsTold};
 
 use grove_base::NoMemory;
+use grove_core::ReplayFault;
 use grove_plan::PlanFault;
 use grove_proof::ProofFault;
 use grove_run::RunFault;
 use grove_tree::Tree;
-use grove_wire::{WireFault, plan_fault_text, proof_fault_text, run_fault_text, wire_fault_text};
+use grove_wire::{
+    WireFault, plan_fault_text, proof_fault_text, replay_fault_text, run_fault_text,
+    wire_fault_text,
+};
 use std::alloc::{AllocError, AllocFailed, Global};
 
 /// Why the calls of a command have no result.
@@ -64,6 +68,18 @@ impl Refusal {
         match fault {
             RunFault::Memory => Refusal::Memory,
             fault => of_text(run_fault_text(alloc, tree, fault)),
+        }
+    }
+
+    /// What the fault of a history has to say.
+    pub fn of_replay(alloc: Global, tree: &Tree, fault: &ReplayFault) -> Refusal
+        requires { ReplayFaultFits tree.now fault.now }
+        ensures told { IsTold (replay_text tree.now fault.now) result }
+        ensures memory { fault.now ≡ ReplayFault.Memory → result ≡ Refusal.Memory }
+    {
+        match fault {
+            ReplayFault::Memory => Refusal::Memory,
+            fault => of_text(replay_fault_text(alloc, tree, fault)),
         }
     }
 }

@@ -83,7 +83,7 @@ fn run_jobs<R: Threads + Wait + Sync>(
 }
 
 /// The lines of a finished run, with the order by which it is serial.
-fn run_lines(alloc: Global, core: &Core<'_>, order: &[u32]) -> Result<String, NoMemory>
+pub(crate) fn run_lines(alloc: Global, core: &Core<'_>, order: &[u32]) -> Result<String, NoMemory>
     requires { order.now ≡ placement_order core.now.tree core.now.jobs (past_of core.now) }
     ensures { IfOk result (λ lines. string_bytes lines ≡ run_lines core.now.tree core.now.jobs core.now.opening (past_of core.now)) }
 {

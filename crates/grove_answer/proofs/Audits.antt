@@ -1,0 +1,52 @@
+-- What an audit says: of a finished run, and why there is none.
+use Rattle.std.proofs.Common.{◌≡◌, ◌≢◌, ℕ, ℤ, List, reverse, Option, Some, IfSome, inl, inr, refl}
+use Rattle.grove_tree.specs.Trees.{Rows, IsTree}
+use Rattle.grove_access.specs.declared.reply.Reply.{Reply}
+use Rattle.grove_access.specs.Lists.{nodes_of}
+use Rattle.grove_plan.specs.declared.fault.PlanFault.TheVariants as plan
+use Rattle.grove_core.specs.declared.job.Job.{Job}
+use Rattle.grove_core.specs.declared.event.Event.{Event}
+use Rattle.grove_core.specs.declared.fault.ReplayFault.{ReplayFault}
+use Rattle.grove_core.specs.declared.fault.ReplayFault.TheVariants.{BadPlan, BadEvent, Unfinished, Memory}
+use Rattle.grove_core.specs.Runs.{list_of, plan_of, AllLegal, IsRun, IsFinished, run_records}
+use Rattle.grove_core.specs.Replays.{IsReplayFault}
+use Rattle.grove_core.proofs.SerialRuns.{runs_are_serial}
+use Rattle.grove_store.specs.Rounds.{replies_of}
+use Rattle.grove_wire.specs.Histories.{Standing}
+use Rattle.grove_wire.specs.Texts.{ReplayFaultFits, replay_text}
+use Rattle.grove_answer.specs.declared.refusal.Refusal.{Refusal}
+use Rattle.grove_answer.specs.declared.refusal.Refusal.TheVariants as refusal
+use Rattle.grove_answer.specs.Outcomes.{History, IsAudited, IsFinishedHistory, IsMisstated, past_in}
+use Rattle.grove_answer.specs.Says.{IsTold, TellsSome, refusal_outcome}
+use Rattle.grove_answer.proofs.Faults.{fault_fits}
+
+-- what a history is refused for fits the tree
+pub replay_fault_fits : (rows : Rows) (jobs : List Job) (events : List Event) (fault : ReplayFault) → IsReplayFault rows jobs events fault → ReplayFaultFits rows fault
+replay_fault_fits rows jobs events (BadPlan t fault) is = fault_fits rows (nodes_of (list_of jobs t)) (plan_of jobs t) fault (λ other. is.1)
+replay_fault_fits rows jobs events (BadEvent at fault) is = tt
+replay_fault_fits rows jobs events (Unfinished t) is = tt
+replay_fault_fits rows jobs events Memory is = tt
+
+-- a finished run is the same as the lists done one after the other
+pub finished_history : (rows : Rows) (records : List ℤ) (jobs : List Job) (events : List Event) (standing : Option Standing) → IsTree rows → AllLegal rows jobs
+    → IsRun jobs (reverse events) → IsFinished jobs (reverse events)
+    → IsFinishedHistory record { tree = rows; records = records; jobs = jobs; events = events; standing = standing }
+finished_history rows records jobs events standing tree legal run finished =
+    let serial = runs_are_serial rows tree jobs legal records (reverse events) run finished in
+    record { legal = legal; run = run; finished = finished; once = serial.0; serial = serial.1 }
+
+-- a refusal tells what is amiss with what is said to stand
+pub says_misstated : (history : History) (why : Refusal) → IsFinishedHistory history
+    → TellsSome (IsMisstated history.standing (run_records history.jobs history.records (past_in history)) (replies_of history.jobs history.records (past_in history))) why
+    → IfSome (refusal_outcome why) (IsAudited history)
+says_misstated history (refusal.Fault text) finished tells = inr (finished, tells)
+says_misstated history refusal.Memory finished tells = tt
+
+-- a refusal tells what is amiss with the events
+pub says_replay_fault : (history : History) (fault : ReplayFault) (why : Refusal) → IsReplayFault history.tree history.jobs history.events fault
+    → IsTold (replay_text history.tree fault) why → (fault ≡ Memory → why ≡ refusal.Memory) → IfSome (refusal_outcome why) (IsAudited history)
+says_replay_fault history fault refusal.Memory is told memory = tt
+says_replay_fault history (BadPlan t f) (refusal.Fault text) is told memory = inl (BadPlan t f, (λ e. absurd (cc)), is, told)
+says_replay_fault history (BadEvent at f) (refusal.Fault text) is told memory = inl (BadEvent at f, (λ e. absurd (cc)), is, told)
+says_replay_fault history (Unfinished t) (refusal.Fault text) is told memory = inl (Unfinished t, (λ e. absurd (cc)), is, told)
+says_replay_fault history Memory (refusal.Fault text) is told memory = let same : refusal.Fault text ≡ refusal.Memory = memory refl in absurd (cc)

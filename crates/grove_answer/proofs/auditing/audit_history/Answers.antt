@@ -1,0 +1,18 @@
+use Rattle.std.proofs.Common.{List, option_map, sym, subst}
+use Rattle.grove_core.specs.declared.job.Job.{Job}
+use Rattle.grove_core.specs.declared.event.Event.{Event}
+use Rattle.grove_core.specs.Kept.{State}
+use Rattle.grove_wire.specs.Histories.{standing_of}
+use Rattle.grove_answer.specs.Says.{Says}
+use Rattle.grove_answer.specs.Outcomes.{IsAudited}
+use Rattle.grove_answer.proofs.Audits.{replay_fault_fits, says_replay_fault}
+use Rattle.grove_answer.proofs.auditing.audit_history.Goals as goal
+
+pub of_replay-requires : goal.of_replay-requires
+of_replay-requires c = replay_fault_fits c.args.history.now.tree c.deref.result.now c.deref-2.result.now c.in-Err.fault c.in-Err.ensures.fault
+
+pub returns-in-Ok : goal.returns-in-Ok
+returns-in-Ok c =
+    rw (← c.deref.ensures.value, ← c.deref-2.ensures.value)
+    (subst (λ (core : State). Says (IsAudited record { tree = core.tree; records = core.opening; jobs = core.jobs; events = core.history; standing = option_map standing_of c.args.history.now.standing }) c.finished_lines.result)
+    c.in-Ok.ensures.replayed c.finished_lines.ensures)

@@ -1,0 +1,48 @@
+use Rattle.std.proofs.Common.{◌≡◌, ◌≤◌, ◌∙◌, List, Some, ap, sym, subst, length, map, arith}
+use Rattle.std.proofs.lemmas.List.{length-map}
+use Rattle.grove_base.specs.Numbers.{numbers_below}
+use Rattle.grove_base.proofs.Counting.{numbers_length}
+use Rattle.grove_access.specs.declared.reply.Reply.{Reply}
+use Rattle.grove_core.specs.Kept.{past_of}
+use Rattle.grove_core.specs.Runs.{deeds, run_records, run_replies}
+use Rattle.grove_core.proofs.RunSteps.{deeds_length}
+use Rattle.grove_store.specs.Rounds.{replies_of}
+use Rattle.grove_wire.specs.Histories.{standing_of}
+use Rattle.grove_answer.specs.Says.{TellsSome}
+use Rattle.grove_answer.specs.Outcomes.{IsMisstated}
+use Rattle.grove_answer.proofs.Audits.{finished_history, says_misstated}
+use Rattle.grove_answer.proofs.auditing.finished_lines.Goals as goal
+
+pub numbers_of-requires : goal.numbers_of-requires
+numbers_of-requires c =
+    ap length c.records.ensures ∙ deeds_length (deeds c.args.core.now.jobs (past_of c.args.core.now)) c.args.core.now.opening
+    ∙ c.jobs-jobs.ensures.opened ∙ sym (ap length c.tree-tree.ensures)
+
+pub stand-requires-clause-records : goal.stand-requires-clause-records
+stand-requires-clause-records c =
+    let few : length c.tree-tree.result.now ≤ 4096 = c.len-nodes.ensures.limits.few in
+    let long : length c.deref.result.now ≡ length c.tree-tree.result.now =
+    ap length (c.deref.ensures.value ∙ c.in_ok-records.ensures ∙ c.records.ensures) ∙ deeds_length (deeds c.args.core.now.jobs (past_of c.args.core.now)) c.args.core.now.opening
+    ∙ c.jobs-jobs.ensures.opened ∙ sym (ap length c.tree-tree.ensures) in
+    omega arith
+
+pub stand-requires-clause-replies : goal.stand-requires-clause-replies
+stand-requires-clause-replies c =
+    let few : length c.args.core.now.jobs ≤ 256 = c.jobs-jobs.ensures.few in
+    let long : length c.deref-in-Some.result.now ≡ length c.args.core.now.jobs =
+    ap length c.deref-in-Some.ensures.value ∙ sym (length-map c.in_ok-replies.replies.items (λ list. list.now)) ∙ ap length c.in_ok-replies.ensures
+    ∙ length-map (numbers_below (length c.args.core.now.jobs)) (run_replies c.args.core.now.jobs c.args.core.now.opening (past_of c.args.core.now))
+    ∙ numbers_length (length c.args.core.now.jobs) in
+    omega arith
+
+pub returns-in-Err : goal.returns-in-Err
+returns-in-Err c =
+    let core = c.args.core.now in
+    let records : c.deref.result.now ≡ run_records c.args.core.now.jobs c.args.core.now.opening (past_of c.args.core.now) =
+    c.deref.ensures.value ∙ c.in_ok-records.ensures ∙ c.records.ensures in
+    let replies : map (λ list. list.now) c.deref-in-Some.result.now ≡ replies_of c.args.core.now.jobs c.args.core.now.opening (past_of c.args.core.now) =
+    ap (map (λ list. list.now)) c.deref-in-Some.ensures.value ∙ c.in_ok-replies.ensures in
+    rw c.in-Some.is (says_misstated record { tree = core.tree; records = core.opening; jobs = core.jobs; events = core.history; standing = Some (standing_of c.in-Some.said) } c.in-Err.why
+    (finished_history core.tree core.opening core.jobs core.history (Some (standing_of c.in-Some.said)) c.jobs-jobs.ensures.tree c.jobs-jobs.ensures.legal c.jobs-jobs.ensures.run c.requires)
+    (subst (λ (left : List (List Reply)). TellsSome (IsMisstated (Some (standing_of c.in-Some.said)) (run_records core.jobs core.opening (past_of core)) left) c.in-Err.why) replies
+    (subst (λ stood. TellsSome (IsMisstated (Some (standing_of c.in-Some.said)) stood (map (λ list. list.now) c.deref-in-Some.result.now)) c.in-Err.why) records c.in-Err.ensures.misstated)))

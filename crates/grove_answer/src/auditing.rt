@@ -1,0 +1,109 @@
+ghost use Rattle.std.specs.Prelude.{◌≡◌, ◌≤◌, ◌<◌, ◌^◌, length, map, option_map, Some, OnOk, IfErr};
+ghost use Rattle.serde_json.specs.View.{view};
+ghost use Rattle.grove_core.specs.Kept.{past_of};
+ghost use Rattle.grove_core.specs.Runs.{IsFinished};
+ghost use Rattle.grove_core.specs.Openings.{AllFit};
+ghost use Rattle.grove_wire.specs.Forms.{AreArraysShort, HasShortArrays};
+ghost use Rattle.grove_wire.specs.Histories.{standing_of};
+ghost use Rattle.grove_answer.specs.Says.{Says, TellsSome};
+ghost use Rattle.grove_answer.specs.Outcomes.{ThenSays, history_in, IsAudited, IsMisstated, Stands};
+
+use crate::reading::{History, read_history};
+use crate::refusal::{Refusal, or_refuse};
+use crate::running::run_lines;
+use crate::standing::{other_record, other_replies};
+use crate::texts::numbers_of;
+use grove_access::Reply;
+use grove_core::{Core, serial_order};
+use grove_store::replies_of;
+use grove_wire::Standing;
+use serde_json::Value;
+use std::alloc::Global;
+
+/// The lines of the run that a document's events are, as `run` prints them, where it is a finished one and left what is
+/// said to stand.
+pub fn audit_document(alloc: Global, document: &Value) -> Result<String, Refusal>
+    requires short { HasShortArrays (view document.now) }
+    requires all_short { AreArraysShort (view document.now) }
+    ensures { Says (ThenSays (history_in (view document.now)) IsAudited) result }
+{
+    let history = or_refuse(alloc, read_history(alloc, document))?;
+    audit_history(alloc, &history)
+}
+
+fn audit_history(alloc: Global, history: &History) -> Result<String, Refusal>
+    requires records { length history.now.records ≡ length history.now.tree }
+    requires fits { AllFit history.now.tree history.now.jobs.items }
+    requires few { length history.now.jobs.items ≤ 256 }
+    requires short { length history.now.events.items ≤ 1048576 }
+    ensures { Says (IsAudited (record {
+      tree = history.now.tree;
+      records = history.now.records;
+      jobs = history.now.jobs.items;
+      events = history.now.events.items;
+      standing = option_map standing_of history.now.standing;
+    })) result }
+{
+    let History {
+        tree,
+        records,
+        jobs,
+        events,
+        standing,
+    } = history;
+    match Core::replay(alloc, tree, records, jobs, events) {
+        Ok(core) => finished_lines(alloc, &core, standing),
+        Err(fault) => Err(Refusal::of_replay(alloc, tree, &fault)),
+    }
+}
+
+/// The lines of the finished run, where it left what is said to stand.
+fn finished_lines(
+    alloc: Global,
+    core: &Core<'_>,
+    standing: &Option<Standing>,
+) -> Result<String, Refusal>
+    requires { IsFinished core.now.jobs (past_of core.now) }
+    ensures { Says (IsAudited (record {
+      tree = core.now.tree;
+      records = core.now.opening;
+      jobs = core.now.jobs;
+      events = core.now.history;
+      standing = option_map standing_of standing.now;
+    })) result }
+{
+    // That there is a record for each node is told with the jobs, and that nodes are few with their number.
+    let _jobs = core.jobs();
+    let tree = core.tree();
+    let _nodes = tree.len();
+    let replies = replies_of(alloc, core)?;
+    if let Some(said) = standing {
+        let records = numbers_of(alloc, tree, core.records())?;
+        if let Err(why) = stand(alloc, said, &records, &replies) {
+            return Err(why);
+        }
+    }
+    let order = serial_order(alloc, core)?;
+    Ok(run_lines(alloc, core, &order)?)
+}
+
+/// Refuses what is said to stand where it isn't what a run left.
+fn stand(
+    alloc: Global,
+    said: &Standing,
+    records: &[i64],
+    replies: &[&[Reply]],
+) -> Result<(), Refusal>
+    requires records { length records.now < 2 ^ 32 }
+    requires replies { length replies.now < 2 ^ 32 }
+    ensures stands { OnOk result (Stands (Some (standing_of said.now)) records.now (map (λ list. list.now) replies.now)) }
+    ensures misstated { IfErr result (TellsSome (IsMisstated (Some (standing_of said.now)) records.now (map (λ list. list.now) replies.now))) }
+{
+    if let Some(node) = other_record(&said.records, records) {
+        return Err(Refusal::Fault(format!(in alloc; "standing records {node}")?));
+    }
+    if let Some(job) = other_replies(&said.replies, replies) {
+        return Err(Refusal::Fault(format!(in alloc; "standing replies {job}")?));
+    }
+    Ok(())
+}
