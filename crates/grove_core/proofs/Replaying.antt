@@ -18,11 +18,10 @@ pub followed : (opened before after : State) (events : List Event) (at : ℕ) (e
     → MayHappen before.jobs (past_of before) event → IsRun opened.jobs (past_after events at)
     → (after ≡ record opened { history = take (at + 1) events }) × IsRun opened.jobs (past_after events (at + 1))
 followed opened before after events at event there was added may run =
-    let one : at + 1 ≡ suc at = add-one at in
-    (
+    let one : at + 1 ≡ suc at = add-one at in (
       added ∙ ap (λ (core : State). record core { history = core.history ++ event ∷ [] }) was
-      ∙ ap (λ (history : List Event). record opened { history = history }) (sym (take_next events at event there))
-      ∙ ap (λ (n : ℕ). record opened { history = take n events }) (sym one),
+          ∙ ap (λ (history : List Event). record opened { history = history }) (sym (take_next events at event there))
+          ∙ ap (λ (n : ℕ). record opened { history = take n events }) (sym one),
       subst (λ (n : ℕ). IsRun opened.jobs (past_after events n)) (sym one)
-      (subst (IsRun opened.jobs) (sym (past_next events at event there)) (subst (λ (core : State). MayHappen core.jobs (past_of core) event) was may, run)),
+          (subst (IsRun opened.jobs) (sym (past_next events at event there)) (subst (λ (core : State). MayHappen core.jobs (past_of core) event) was may, run)),
     )
