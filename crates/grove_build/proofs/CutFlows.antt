@@ -19,7 +19,7 @@ use Rattle.grove_build.proofs.CutPlans.{any_same, same_origin, origin_eqb, origi
 use Rattle.grove_build.proofs.CutTrees.{above_at_origin, above_cut, cut_is_tree}
 
 -- the least number, and the last one, that passes tests that agree
-least_alike : (n : ℕ) (f g : ℕ → Bool) → ((k : ℕ) → f k ≡ g k) → least_below n f ≡ least_below n g
+pub least_alike : (n : ℕ) (f g : ℕ → Bool) → ((k : ℕ) → f k ≡ g k) → least_below n f ≡ least_below n g
 least_alike zero f g h = refl
 least_alike (suc n) f g h = ap₂ (λ (b : Bool) (k : ℕ). cond b k n) (any_same n f g h) (least_alike n f g h)
 
@@ -39,7 +39,7 @@ nodes_mapped origin [] = refl
 nodes_mapped origin (row ∷ flow) = ap (λ (l : List ℕ). origin row.node ∷ l) (nodes_mapped origin flow)
 
 module _ (whole cut : Rows) (origin : ℕ → ℕ) (is : IsCut whole cut origin) where
-  is_at_origin : (v : ℕ) (o : Option ℕ) → is_at (origin v) (option_map origin o) ≡ is_at v o
+  pub is_at_origin : (v : ℕ) (o : Option ℕ) → is_at (origin v) (option_map origin o) ≡ is_at v o
   is_at_origin v None = refl
   is_at_origin v (Some w) = origin_eqb origin is.rises w v
 

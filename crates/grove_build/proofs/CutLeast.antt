@@ -1,15 +1,14 @@
 -- A plan over a cut of a tree is least exactly where it is so over the whole tree: from each legal plan over the whole one is laid out over the cut
 -- with the same slots, which costs no more.
-use Rattle.std.proofs.Common.{◌≡◌, ℕ, zero, suc, ◌+◌, ◌*◌, ◌<◌, ◌≤◌, Bool, true, false, List, [], ◌∷◌, length, map, Some, refl, sym, ◌∙◌, ap, subst, inl, inr, arith, le_trans, mul-le-mul_left}
-use Rattle.std.specs.List.{slice_get}
+use Rattle.std.proofs.Common.{◌≡◌, ℕ, zero, suc, ◌+◌, ◌*◌, ◌<◌, ◌≤◌, List, length, map, refl, sym, ◌∙◌, ap, subst, inl, inr, arith, le_trans, mul-le-mul_left}
 use Rattle.std.specs.Option.{option_map}
 use Rattle.std.proofs.lemmas.Bool.{cases_Bool, cases_eq}
 use Rattle.grove_base.specs.Numbers.{sum_below}
-use Rattle.grove_base.proofs.Counting.{sum_le, sum_term}
+use Rattle.grove_base.proofs.Counting.{sum_le}
 use Rattle.grove_base.proofs.Lists.{get_map, map_length}
-use Rattle.grove_tree.specs.Trees.{Rows, parent_of, weight_of, IsTree}
+use Rattle.grove_tree.specs.Trees.{Rows, weight_of, IsTree}
 use Rattle.grove_tree.proofs.Above.{parent_lt, above_le}
-use Rattle.grove_access.specs.Lists.{AreNodes, AreLengths}
+use Rattle.grove_access.specs.Lists.{AreNodes}
 use Rattle.grove_access.specs.Slots.{slots_before}
 use Rattle.grove_access.specs.Forced.{IsForcedByTree, is_forced, forced_nodes}
 use Rattle.grove_access.proofs.ForcedByTree.{forced_listed, listed_forced, accessed_is_forced, forced_step, forced_got}

@@ -34,3 +34,4 @@ pub mod CutPlans
 pub mod CutTrees
 pub mod CutFlows
 pub mod CutLeast
+pub mod CutSettled
