@@ -1,5 +1,5 @@
 //! Whole devices: all that a source has, and all of some bytes into a sink.
-ghost use Rattle.std.specs.Prelude.{◌≡◌, ◌+◌, ◌<◌, ◌≤◌, ◌||◌, true, length, take, IfOk, IfErr, OnOk, is_err};
+ghost use Rattle.std.specs.Prelude.{◌≡◌, ℕ, ◌+◌, ◌<◌, ◌≤◌, ◌||◌, true, length, take, IfOk, IfErr, OnOk, OnErr, is_err};
 ghost use Rattle.std.specs.Io.KnownBytes.{Appends, Consumes, IsAtEnd};
 
 use crate::{DeviceFault, ReadFault, Sink, Source};
@@ -32,9 +32,10 @@ pub fn read_whole<S: Source>(
     Ok(bytes)
 }
 
-/// Writes all of the bytes.
+/// Writes all of the bytes, and nothing more once the sink has failed.
 pub fn write_whole<S: Sink>(sink: &mut S, bytes: &[u8]) -> Result<(), DeviceFault>
     ensures bytes { OnOk result (Appends (S.contents sink.old) (S.contents sink.new) bytes.now) }
+    ensures cut { OnErr result ((count : ℕ) × (count < length bytes.now) × Appends (S.contents sink.old) (S.contents sink.new) (take count bytes.now)) }
     ensures failed { S.has_failed sink.new ≡ (S.has_failed sink.old || is_err result) }
 {
     match write_until_cut(sink, bytes) {
