@@ -6,7 +6,7 @@ ghost use Rattle.grove_access.specs.Lists.{nodes_of, lengths_of, AreNodes};
 ghost use Rattle.grove_build.specs.Batches.{IsPlanned};
 ghost use Rattle.grove_build.specs.Settled.{IsSettled};
 ghost use Rattle.grove_build.specs.KeptPlans.{AreSettledFor};
-ghost use Rattle.grove_build.specs.Keeping.{AreOf};
+ghost use Rattle.grove_build.specs.Keeping.{AreMissing};
 
 use crate::batch::{copy_of, plan_parts};
 use crate::kept_plans::{KeptPlans, MOST_KEPT};
@@ -50,7 +50,7 @@ impl KeptPlans {
         alloc: Global,
         lists: &'a [AccessList],
     ) -> Result<Vec<&'a AccessList>, NoMemory>
-        ensures missing { IfOk result (λ missing. AreOf lists.now missing.items) }
+        ensures missing { IfOk result (λ missing. AreMissing self.new lists.now missing.items) }
         ensures settled { (rows : Rows) → AreSettledFor rows self.old → AreSettledFor rows self.new }
     {
         let missing = self.missing(alloc, lists)?;
@@ -67,7 +67,7 @@ impl KeptPlans {
         alloc: Global,
         lists: &'a [AccessList],
     ) -> Result<Vec<&'a AccessList>, NoMemory>
-        ensures { IfOk result (λ missing. AreOf lists.now missing.items) }
+        ensures { IfOk result (λ missing. AreMissing self.now lists.now missing.items) }
     {
         let mut parts = IndexMap::new(alloc);
         self.add_missing(alloc, lists, &mut parts)?;
@@ -82,7 +82,7 @@ impl KeptPlans {
         parts: &mut IndexMap<Vec<Target>, &'a AccessList>,
     ) -> Result<(), NoMemory>
         requires { parts.old.entries ≡ [] }
-        ensures { OnOk result (AreOf lists.now (values parts.new)) }
+        ensures { OnOk result (AreMissing self.now lists.now (values parts.new)) }
     {
         for list in lists {
             let targets = targets_of(alloc, list)?;
