@@ -41,6 +41,10 @@ pub record Follows (kept : Bool) (seen : Option ReceiptState) (receipt : Receipt
   pub rounds : IfSome seen (λ earlier. earlier.rounds ≤ receipt.rounds)
   pub number : kept ≡ true → IfSome seen (λ earlier. earlier.number < receipt.number)
 
+-- a receipt of another line, or one that doesn't come after the one that was seen
+abbrev pub IsForeign : Bool → List ℕ → Option ReceiptState → ReceiptState → Type 0
+IsForeign kept line seen receipt = receipt.line ≡ line → Follows kept seen receipt → ⊥
+
 -- the number of a line, counted from that of the first one and held at the greatest; 0 where nothing is counted
 abbrev pub number_at : Option ℕ → ℕ → ℕ
 number_at None place = 0

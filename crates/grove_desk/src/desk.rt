@@ -1,9 +1,9 @@
-ghost use Rattle.std.specs.Prelude.{◌≡◌, ◌<◌, ◌≤◌, false, [], length, IfOk};
+ghost use Rattle.std.specs.Prelude.{◌≡◌, ◌<◌, ◌≤◌, false, [], length, Err, IfOk};
 ghost use Rattle.std.specs.Option.{option_copied};
 ghost use Rattle.std.specs.Vec.{vec_capacity};
 ghost use Rattle.grove_session.specs.declared.answers.TheConstants.{LINE_LIMIT};
 ghost use Rattle.grove_tree.specs.Weights.{unweighed};
-ghost use Rattle.grove_desk.specs.Receipts.{IsAllowed, IsAnswered, Follows};
+ghost use Rattle.grove_desk.specs.Receipts.{ReceiptState, IsAllowed, IsAnswered, IsForeign, Follows};
 
 use crate::board::{Board, MOST_LINES};
 use crate::ledger::Ledger;
@@ -75,6 +75,8 @@ impl<B: Opening> Desk<B> {
         ensures allowed { IfOk result (IsAllowed (unweighed self.now.opening.rows)) }
         ensures follows { IfOk result (Follows self.now.kept (option_copied seen.entry)) }
         ensures unnumbered { IfOk result (λ receipt. self.now.kept ≡ false → receipt.number ≡ 0) }
+        ensures foreign { result ≡ Err DeskFault.Foreign
+            → (receipt : ReceiptState) × IsAnswered self.now.opening self.now.kept receipt × IsForeign self.now.kept line.now (option_copied seen.entry) receipt }
     {
         let receipt = self.receipt(rt, alloc, line, gate)?;
         if receipt.is_of(line) && receipt.follows(seen, self.kept) {
