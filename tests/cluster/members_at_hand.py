@@ -1,0 +1,78 @@
+"""A cluster of etcd members on loopback, started for a test; its data lies in a folder that goes with it."""
+import signal
+import subprocess
+import sys
+import tempfile
+import time
+from pathlib import Path
+
+TOP = Path(__file__).resolve().parents[2]
+sys.path[:0] = [str(TOP / "cluster"), str(TOP / "tests")]
+
+from grove_etcd.members import Lost, Members  # noqa: E402
+from server import HOST, free_port  # noqa: E402
+
+# How long a member may take to answer after it was started.
+SECONDS = 30.0
+
+
+class Cluster:
+    """So many members, for as long as it is entered."""
+
+    def __init__(self, count, words=()):
+        self.words = words
+        self.clients, self.peers = ([f"{HOST}:{free_port()}" for _ in range(count)] for _ in range(2))
+        self.started = [None] * count
+        self.room = tempfile.TemporaryDirectory(prefix="grove-etcd-")
+
+    @property
+    def addresses(self):
+        return ",".join(self.clients)
+
+    def __enter__(self):
+        for member in range(len(self.clients)):
+            self.start(member)
+        for address in self.clients:
+            need_answer(address)
+        return self
+
+    def start(self, member):
+        """Starts a member; one that was killed goes on with its data."""
+        everyone = ",".join(f"m{number}=http://{peer}" for number, peer in enumerate(self.peers))
+        client, peer = f"http://{self.clients[member]}", f"http://{self.peers[member]}"
+        words = ["--name", f"m{member}", "--data-dir", f"{self.room.name}/{member}", "--initial-cluster", everyone]
+        words += ["--listen-client-urls", client, "--advertise-client-urls", client]
+        words += ["--listen-peer-urls", peer, "--initial-advertise-peer-urls", peer]
+        words += ["--logger", "zap", "--log-level", "fatal", "--log-outputs", "/dev/null"]
+        self.started[member] = subprocess.Popen(
+            ["etcd", *words, *self.words], stdin=subprocess.DEVNULL, stdout=subprocess.DEVNULL, stderr=subprocess.DEVNULL
+        )
+
+    def kill(self, member):
+        self.started[member].send_signal(signal.SIGKILL)
+        self.started[member].wait()
+
+    def members(self):
+        return Members(self.clients)
+
+    def __exit__(self, *_):
+        for started in self.started:
+            if started:
+                started.kill()
+                started.wait()
+        self.room.cleanup()
+
+
+def need_answer(address):
+    until = time.monotonic() + SECONDS
+    members = Members([address])
+    try:
+        while True:
+            try:
+                return members.commit([], [])
+            except Lost:
+                if time.monotonic() > until:
+                    raise
+                time.sleep(0.1)
+    finally:
+        members.close()
