@@ -25,6 +25,8 @@ OPTIONS = [
     ("grpc.initial_reconnect_backoff_ms", 100),
     ("grpc.max_reconnect_backoff_ms", 1000),
     ("grpc.max_receive_message_length", -1),
+    # So one connection that hangs, as those made while a member starts, is no other client's.
+    ("grpc.use_local_subchannel_pool", 1),
 ]
 NO_ANSWER = {
     grpc.StatusCode.UNAVAILABLE,
@@ -57,7 +59,9 @@ class Found:
 
 
 class Members:
-    def __init__(self, addresses):
+    def __init__(self, addresses, seconds=CALL_SECONDS):
+        """Of a member that hasn't answered for so many seconds, no answer is waited for any longer."""
+        self.seconds = seconds
         self.clients = [connected(address) for address in addresses]
         random.shuffle(self.clients)
 
@@ -73,7 +77,7 @@ class Members:
     def get(self, *keys, revision=0):
         """These keys, all as they stood at one revision, at present where none is named; at most 128."""
         request = etcdrpc.TxnRequest(success=[reading(key, revision) for key in keys])
-        answer = self.ask_until_told(lambda stub: stub.Txn(request, CALL_SECONDS))
+        answer = self.ask_until_told(lambda stub: stub.Txn(request, self.seconds))
         found = Found(answer.header.revision)
         for response in answer.responses:
             found.add(response.response_range.kvs)
@@ -84,7 +88,7 @@ class Members:
         start, end = prefix, until or after(prefix)
         for _ in itertools.count():
             request = etcdrpc.RangeRequest(key=start.encode(), range_end=end.encode(), limit=PAGE, revision=revision)
-            answer = self.ask_until_told(lambda stub, request=request: stub.Range(request, CALL_SECONDS))
+            answer = self.ask_until_told(lambda stub, request=request: stub.Range(request, self.seconds))
             revision = revision or answer.header.revision
             found = Found(revision)
             found.add(answer.kvs)
@@ -107,7 +111,7 @@ class Members:
         weren't."""
         request = etcdrpc.TxnRequest(compare=guards, success=changes)
         try:
-            answer = self.clients[0].kvstub.Txn(request, CALL_SECONDS)
+            answer = self.clients[0].kvstub.Txn(request, self.seconds)
         except grpc.RpcError as error:
             self.turn()
             raise lost(error) from error
@@ -116,7 +120,7 @@ class Members:
     def write(self, changes):
         """Makes changes that may as well be made twice, until they are made."""
         request = etcdrpc.TxnRequest(success=changes)
-        self.ask_until_told(lambda stub: stub.Txn(request, CALL_SECONDS))
+        self.ask_until_told(lambda stub: stub.Txn(request, self.seconds))
 
     def ask_until_told(self, asked):
         """Asks one member after the other."""
@@ -138,7 +142,7 @@ class Members:
 
 def connected(address):
     host, _, port = address.rpartition(":")
-    return etcd3.client(host=host, port=int(port), timeout=CALL_SECONDS, grpc_options=OPTIONS)
+    return etcd3.client(host=host, port=int(port), grpc_options=OPTIONS)
 
 
 def lost(error):

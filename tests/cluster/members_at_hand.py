@@ -64,15 +64,15 @@ class Cluster:
 
 
 def need_answer(address):
+    """Waits until the member answers; each try has a connection of its own, since one made too early hangs."""
     until = time.monotonic() + SECONDS
-    members = Members([address])
-    try:
-        while True:
-            try:
-                return members.commit([], [])
-            except Lost:
-                if time.monotonic() > until:
-                    raise
-                time.sleep(0.1)
-    finally:
-        members.close()
+    while True:
+        members = Members([address], seconds=0.5)
+        try:
+            return members.commit([], [])
+        except Lost:
+            if time.monotonic() > until:
+                raise
+        finally:
+            members.close()
+        time.sleep(0.1)

@@ -1,0 +1,232 @@
+#!/usr/bin/python3
+"""Times plans on etcd clusters that it starts on loopback. Needs what tests/cluster/run needs.
+
+    usage: bench/cluster.py [throughput] [contention] [large]        (default: all)
+
+throughput: 200 jobs of one `add`, each at a leaf of its own, by 1, 4 and 16 workers on one and on three members.
+contention: 64 jobs of 4 accesses of 5 ms each by 1, 4 and 16 workers on three members; by settled plans, by plans that
+lock everything first, and by transactions that compare what they read and try again (etcd's STM). `hot`: each job adds to
+the root's record and then to three of 64 leaves; `mild`: to four of 64 leaves. Work is what accesses take, waits is how
+many locks found their node held.
+large: trees of 1,111,111 and of 1,000 nodes are loaded, and the same jobs of 8 accesses planned, submitted and run in each.
+"""
+import json
+import statistics
+import subprocess
+import sys
+import time
+from pathlib import Path
+from random import Random
+
+TOP = Path(__file__).resolve().parents[1]
+sys.path.insert(0, str(TOP / "tests/cluster"))
+from members_at_hand import Cluster  # noqa: E402
+
+from grove_etcd.command_line import GROVE  # noqa: E402
+from grove_etcd.epochs import Submitter  # noqa: E402
+from grove_etcd.groups import answer  # noqa: E402
+from grove_etcd.keys import Keys  # noqa: E402
+from grove_etcd.loading import load  # noqa: E402
+from grove_etcd.members import Members, putting, unchanged  # noqa: E402
+from grove_etcd.tree import names_of, ways_down  # noqa: E402
+from grove_etcd.worker import Worker  # noqa: E402
+
+WORKERS = (1, 4, 16)
+SLOT = 0.005
+LEAVES = [f"/l{number}" for number in range(64)]
+
+
+class Counting(Worker):
+    """Counts commits that failed, notes when the last one was made, and how long it worked."""
+
+    failed, last, waited = 0, 0.0, 0.0
+
+    def commit(self, job, group, found):
+        done = super().commit(job, group, found)
+        self.failed += not done
+        self.last = time.time()
+        return done
+
+    def wait_for(self, group, revision):
+        begun = time.monotonic()
+        holder = super().wait_for(group, revision)
+        self.waited += time.monotonic() - begun
+        return holder
+
+
+def work(members, keys, slot):
+    worker = Counting(members, keys, slot=slot)
+    worker.run(until_ended=True)
+    return {"failed": worker.failed, "last": worker.last, "waited": worker.waited, "tries": 0}
+
+
+def compare_and_retry(members, keys, lists):
+    """Does lists by transactions that are made only if nothing that they read has changed."""
+    tries = 0
+    for accesses in lists:
+        done = None
+        while done is None:
+            tries += 1
+            found = members.get(*{keys.record(access[1]) for access in accesses})
+            records = {key: int(found.values.get(key, "0")) for key in map(keys.record, (access[1] for access in accesses))}
+            for access in accesses:
+                time.sleep(SLOT)
+                records[keys.record(access[1])], _ = answer(records[keys.record(access[1])], access)
+            guards = [unchanged(key, found.revision_of(key)) for key in records]
+            done = members.commit(guards, [putting(key, str(record)) for key, record in records.items()])
+    return {"failed": tries - len(lists), "last": time.time(), "waited": 0.0, "tries": tries}
+
+
+def be_worker(addresses, store, slot):
+    """A process of its own: says that it is ready, waits for a line with its lists, and prints what it counted."""
+    members, keys = Members(addresses.split(",")), Keys(store)
+    members.get(keys.epoch())
+    print("ready", flush=True)
+    lists = json.loads(sys.stdin.readline())
+    told = work(members, keys, float(slot)) if lists is None else compare_and_retry(members, keys, lists)
+    print(json.dumps(told), flush=True)
+
+
+def run_workers(cluster, store, count, slot, lists=None):
+    """How many seconds passed until the last commit, and what all workers counted together."""
+    words = [sys.executable, __file__, "worker", cluster.addresses, store, str(slot)]
+    streams = {"stdin": subprocess.PIPE, "stdout": subprocess.PIPE, "text": True}
+    started = [subprocess.Popen(words, **streams) for _ in range(count)]
+    for worker in started:
+        worker.stdout.readline()
+    begun = time.time()
+    for number, worker in enumerate(started):
+        worker.stdin.write(json.dumps(lists and lists[number::count]) + "\n")
+        worker.stdin.flush()
+    told = [json.loads(worker.communicate()[0]) for worker in started]
+    total = {name: sum(each[name] for each in told) for name in told[0]}
+    return max(each["last"] for each in told) - begun, total
+
+
+def leaf_plan(path):
+    return [["lock", path], ["access", 0], ["unlock", path]]
+
+
+def rows_below_root(paths, weight):
+    return [{"parent": None, "name": "", "weight": weight}] + [{"parent": 0, "name": path[1:], "weight": 1} for path in paths]
+
+
+def throughput():
+    leaves = [f"/l{number:03}" for number in range(200)]
+    for count in (1, 3):
+        with Cluster(count) as cluster:
+            rates = []
+            for workers in WORKERS:
+                members, keys = cluster.members(), Keys(f"t{workers}")
+                load(members, keys, rows_below_root(leaves, 50))
+                submitter = Submitter(members, keys, GROVE)
+                for path in leaves:
+                    submitter.submit_planned([["add", path, 1]], leaf_plan(path))
+                spent, _ = run_workers(cluster, keys.store, workers, 0)
+                rates.append(f"{len(leaves) / spent:,.0f}")
+            print(f"{count} members: {', '.join(rates)} jobs a second by {WORKERS} workers", flush=True)
+
+
+def locking_all_first(accesses):
+    """A legal plan: all nodes on the ways, the accesses, and then all is let go."""
+    nodes = ways_down([access[1] for access in accesses])
+    locks, unlocks = ([[kind, path] for path in nodes] for kind in ("lock", "unlock"))
+    return locks + [["access", number] for number in range(len(accesses))] + unlocks
+
+
+def contended(kind, random):
+    nodes = (["/"] if kind == "hot" else []) + random.sample(LEAVES, 3 if kind == "hot" else 4)
+    return [["add", path, 1] for path in nodes]
+
+
+def contention():
+    with Cluster(3) as cluster:
+        for kind in ("hot", "mild"):
+            lists = [contended(kind, Random(f"{kind} {number}")) for number in range(64)]
+            for way in ("settled", "all-first", "stm"):
+                for workers in WORKERS:
+                    contend(cluster, f"{kind}-{way}-{workers}", lists, way, workers)
+
+
+def contend(cluster, name, lists, way, workers):
+    members, keys = cluster.members(), Keys(name)
+    load(members, keys, rows_below_root(LEAVES, 50))
+    submitter = Submitter(members, keys, GROVE)
+    for accesses in lists if way != "stm" else []:
+        submitter.submit_planned(accesses, submitter.plan(accesses) if way == "settled" else locking_all_first(accesses))
+    spent, total = run_workers(cluster, name, workers, SLOT, lists if way == "stm" else None)
+    marks = sum('"mark":true' in text for text in members.below(keys.events(1)).values.values())
+    wasted = total["failed"] * len(lists[0]) * SLOT if way == "stm" else 0.0
+    useful = len(lists) * len(lists[0]) * SLOT
+    print(
+        f"{name}: {len(lists) / spent:.0f} jobs a second; {marks} waits, {total['waited'] / len(lists) * 1000:.0f} ms a job; "
+        f"work thrown away {wasted / useful:.2f} of the useful work; {total['failed']} commits failed",
+        flush=True,
+    )
+
+
+def rows_of_tens(depth):
+    """Rows of a tree with ten children a node, in preorder, with their paths."""
+    rows, paths = [], []
+
+    def grow(parent, name, path, below):
+        rows.append({"parent": parent, "name": name, "weight": 1 + below})
+        paths.append(path or "/")
+        number = len(rows) - 1
+        for child in range(10 if below else 0):
+            grow(number, f"n{child}", f"{path}/n{child}", below - 1)
+
+    grow(None, "", "", depth)
+    return rows, paths
+
+
+def rows_of_paths(paths):
+    number_of = {path: number for number, path in enumerate(paths)}
+    above = [path.rpartition("/")[0] or "/" for path in paths]
+    return [
+        {"parent": number_of[up] if path != "/" else None, "name": path.rpartition("/")[2], "weight": 7 - len(names_of(path))}
+        for path, up in zip(paths, above)
+    ]
+
+
+def large():
+    rows, paths = rows_of_tens(6)
+    random = Random("large")
+    leaves = [path for path in paths if len(names_of(path)) == 6]
+    lists = [[["add", path, 1] for path in random.sample(leaves, 8)] for _ in range(16)]
+    few = set(ways_down(access[1] for accesses in lists for access in accesses))
+    few = sorted(few | set(paths[: max(0, 1000 - len(few))]), key=names_of)
+    with Cluster(3) as cluster:
+        for name, some in (("thousand", rows_of_paths(few)), ("million", rows)):
+            members, keys = cluster.members(), Keys(name)
+            begun = time.monotonic()
+            load(members, keys, some)
+            print(f"{len(some):,} nodes loaded in {time.monotonic() - begun:.1f} s", flush=True)
+            time_jobs(members, keys, lists)
+
+
+def time_jobs(members, keys, lists):
+    submitter, times = Submitter(members, keys, GROVE), []
+    for accesses in lists:
+        begun = time.monotonic()
+        plan = submitter.plan(accesses)
+        planned = time.monotonic()
+        job = submitter.submit_planned(accesses, plan)
+        submitted = time.monotonic()
+        worker = Worker(members, keys)
+        worker.run_job(worker.read_job(*job)[0])
+        times.append((planned - begun, submitted - planned, time.monotonic() - submitted))
+    parts = [f"{statistics.median(part) * 1000:.1f}" for part in zip(*times)]
+    print(f"  a job of 8 accesses, median of {len(lists)}: planned {parts[0]}, submitted {parts[1]}, run {parts[2]} ms", flush=True)
+
+
+def main():
+    if sys.argv[1:2] == ["worker"]:
+        be_worker(*sys.argv[2:])
+        return
+    for name in sys.argv[1:] or ["throughput", "contention", "large"]:
+        {"throughput": throughput, "contention": contention, "large": large}[name]()
+
+
+if __name__ == "__main__":
+    main()
