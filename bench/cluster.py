@@ -5,10 +5,11 @@
 
 throughput: 200 jobs of one `add`, each at a leaf of its own, by 1, 4 and 16 workers on one and on three members.
 contention: 64 jobs of 4 accesses of 5 ms each by 1, 4 and 16 workers on three members; by settled plans, by plans that
-lock everything first, and by transactions that compare what they read and try again (etcd's STM). `hot`: each job adds to
-the root's record and then to three of 64 leaves; `mild`: to four of 64 leaves. Work is what accesses take, waits is how
-many locks found their node held.
-large: trees of 1,111,111 and of 1,000 nodes are loaded, and the same jobs of 8 accesses planned, submitted and run in each.
+lock everything first, and by transactions that compare what they read and try again (etcd's STM). `hot`: each job adds
+to the root's record and then to three of 64 leaves; `mild`: to four of 64 leaves. Work is what accesses take, waits is
+how many locks found their node held.
+large: trees of 1,111,111 and of 1,000 nodes are loaded, and the same jobs of 8 accesses planned, submitted and run in
+each.
 """
 import json
 import statistics
@@ -68,7 +69,8 @@ def compare_and_retry(members, keys, lists):
         while done is None:
             tries += 1
             found = members.get(*{keys.record(access[1]) for access in accesses})
-            records = {key: int(found.values.get(key, "0")) for key in map(keys.record, (access[1] for access in accesses))}
+            records = {keys.record(access[1]): 0 for access in accesses}
+            records |= {key: int(text) for key, text in found.values.items()}
             for access in accesses:
                 time.sleep(SLOT)
                 records[keys.record(access[1])], _ = answer(records[keys.record(access[1])], access)
@@ -108,7 +110,8 @@ def leaf_plan(path):
 
 
 def rows_below_root(paths, weight):
-    return [{"parent": None, "name": "", "weight": weight}] + [{"parent": 0, "name": path[1:], "weight": 1} for path in paths]
+    root = {"parent": None, "name": "", "weight": weight}
+    return [root, *({"parent": 0, "name": path[1:], "weight": 1} for path in paths)]
 
 
 def throughput():
@@ -153,14 +156,15 @@ def contend(cluster, name, lists, way, workers):
     load(members, keys, rows_below_root(LEAVES, 50))
     submitter = Submitter(members, keys, GROVE)
     for accesses in lists if way != "stm" else []:
-        submitter.submit_planned(accesses, submitter.plan(accesses) if way == "settled" else locking_all_first(accesses))
+        plan = submitter.plan(accesses) if way == "settled" else locking_all_first(accesses)
+        submitter.submit_planned(accesses, plan)
     spent, total = run_workers(cluster, name, workers, SLOT, lists if way == "stm" else None)
     marks = sum('"mark":true' in text for text in members.below(keys.events(1)).values.values())
     wasted = total["failed"] * len(lists[0]) * SLOT if way == "stm" else 0.0
     useful = len(lists) * len(lists[0]) * SLOT
     print(
-        f"{name}: {len(lists) / spent:.0f} jobs a second; {marks} waits, {total['waited'] / len(lists) * 1000:.0f} ms a job; "
-        f"work thrown away {wasted / useful:.2f} of the useful work; {total['failed']} commits failed",
+        f"{name}: {len(lists) / spent:.0f} jobs a second; {marks} waits, {total['waited'] / len(lists) * 1000:.0f} ms"
+        f" a job; work thrown away {wasted / useful:.2f} of the useful work; {total['failed']} commits failed",
         flush=True,
     )
 
@@ -183,10 +187,11 @@ def rows_of_tens(depth):
 def rows_of_paths(paths):
     number_of = {path: number for number, path in enumerate(paths)}
     above = [path.rpartition("/")[0] or "/" for path in paths]
-    return [
-        {"parent": number_of[up] if path != "/" else None, "name": path.rpartition("/")[2], "weight": 7 - len(names_of(path))}
-        for path, up in zip(paths, above)
-    ]
+    rows = []
+    for path, up in zip(paths, above):
+        parent = number_of[up] if path != "/" else None
+        rows.append({"parent": parent, "name": path.rpartition("/")[2], "weight": 7 - len(names_of(path))})
+    return rows
 
 
 def large():
@@ -216,8 +221,8 @@ def time_jobs(members, keys, lists):
         worker = Worker(members, keys)
         worker.run_job(worker.read_job(*job)[0])
         times.append((planned - begun, submitted - planned, time.monotonic() - submitted))
-    parts = [f"{statistics.median(part) * 1000:.1f}" for part in zip(*times)]
-    print(f"  a job of 8 accesses, median of {len(lists)}: planned {parts[0]}, submitted {parts[1]}, run {parts[2]} ms", flush=True)
+    planned, submitted, ran = (f"{statistics.median(part) * 1000:.1f}" for part in zip(*times))
+    print(f"  a job, median of {len(lists)}: planned {planned}, submitted {submitted}, run {ran} ms", flush=True)
 
 
 def main():

@@ -3,6 +3,8 @@ import argparse
 import sys
 from pathlib import Path
 
+import grpc
+
 from .keys import Keys
 from .members import Lost, Members
 from .refusals import Refused
@@ -24,8 +26,8 @@ def with_grove(parser):
 
 
 def run(parser, program):
-    """Runs a program on the members and keys that its words name. Status 1 where it refuses, 2 where the words are wrong, 3
-    where no member answers."""
+    """Runs a program on the members and keys that its words name. Status 1 where it refuses, 2 where the words are wrong,
+    3 where no member answers, or etcd doesn't do what it is asked for."""
     given = parser.parse_args()
     try:
         keys, members = Keys(given.store), Members(given.members.split(","))
@@ -38,6 +40,9 @@ def run(parser, program):
         sys.exit(1)
     except Lost as lost:
         print(f"no member answers; what was to be written may have been: {lost}", file=sys.stderr)
+        sys.exit(3)
+    except grpc.RpcError as error:
+        print(f"etcd says: {error.details()}", file=sys.stderr)
         sys.exit(3)
     except KeyboardInterrupt:
         sys.exit(130)

@@ -1,6 +1,7 @@
 """Epochs: as many jobs as one audit takes, from the records that stood when each node was first accessed in it.
 
-A job is put into the present epoch. One that doesn't fit opens the next epoch, if all jobs of the present one have ended.
+A job is put into the present epoch. One that doesn't fit opens the next epoch, if all jobs of the present one have
+ended.
 """
 import json
 
@@ -61,12 +62,12 @@ class Epoch:
         return unchanged(self.keys.epoch(), self.found.revision_of(self.keys.epoch()))
 
     def open_next(self):
-        """Makes the next epoch the present one. Nothing is added to this one in the meantime, and what has ended stays so."""
+        """Makes the next epoch the present one. Nothing is added to this one in the meantime; what has ended stays so."""
         self.need_ended()
         self.members.commit([self.guard()], [putting(self.keys.epoch(), epoch_text(self.number + 1))])
 
     def submit(self, accesses, plan):
-        """Puts the job into the epoch. Gives its number, or `None` where another was put in since the epoch was read."""
+        """Puts the job into the epoch. Gives its number; `None` where another was put in since the epoch was read."""
         job = Job(self.number, self.jobs, accesses, plan)
         fresh = sorted(job.accessed() - self.accessed)
         records = [self.keys.record(path) for path in fresh]

@@ -21,7 +21,7 @@ class Group:
         # Records as they are in the end, and those of them that the group changes.
         self.records, self.changed = {}, set()
         self.replies = []
-        # The node whose lock comes next and is held by another job, which one that is, and whether the step gets its mark.
+        # The node whose lock comes next and is held by another job, by which, and whether the step gets its mark.
         self.blocked, self.holder, self.mark = None, None, False
 
     def lock(self, path):

@@ -41,8 +41,8 @@ class History:
         return events
 
     def standing(self):
-        """The records with which the epoch ended: those with which a later one began, the first that accesses the node, or
-        else those that stand at present."""
+        """The records with which the epoch ended: those with which a later one began, the first that accesses the node,
+        or else those that stand at present."""
         records = {path: int(self.present.get(self.keys.record(path), "0")) for path in self.opening}
         for key in sorted(self.later.values, reverse=True):
             path = key.removeprefix(self.keys.whole("a"))[10:]
@@ -54,12 +54,13 @@ class History:
         """Weights don't matter to a run. A node that no job of the epoch accesses has a record of 0 in it."""
         rows = rows_of(self.paths, dict.fromkeys(self.paths, 1), self.opening)
         jobs = [{"list": job.accesses, "plan": job.plan} for job in self.jobs]
-        return written({"version": 2, "nodes": rows, "jobs": jobs, "events": self.events(), "standing": self.standing()})
+        told = {"version": 2, "nodes": rows, "jobs": jobs, "events": self.events(), "standing": self.standing()}
+        return written(told)
 
 
 def audit(members, keys, grove, epoch, document=None):
-    """What `grove audit` prints of the epoch, as lines by their words. An epoch whose audit has passed is closed: the next
-    one is opened, and the waits that the audit found are kept for a reweighing."""
+    """What `grove audit` prints of the epoch, as lines by their words. An epoch whose audit has passed is closed: the
+    next one is opened, and the waits that the audit found are kept for a reweighing."""
     found = members.get(keys.epoch())
     told = epoch_read(keys, found)
     history = History(members, keys, epoch, found.revision)
@@ -87,11 +88,12 @@ def keep_waits(members, keys, epoch, waits):
 
 
 def forget(members, keys, epoch):
-    """Deletes an audited epoch's jobs, events and opening records; none but the oldest that is kept, since those before it
-    need its opening records."""
+    """Deletes an audited epoch's jobs, events and opening records; none but the oldest that is kept, since those before
+    it need its opening records."""
     if members.below(keys.whole("p"), until=keys.plans(epoch)).values:
         raise Refused("epoch-not-oldest")
-    members.write([deleting_below(prefix(epoch)) for prefix in (keys.plans, keys.progresses, keys.events, keys.openings)])
+    kinds = keys.plans, keys.progresses, keys.events, keys.openings
+    members.write([deleting_below(prefix(epoch)) for prefix in kinds])
 
 
 def number_of(key):

@@ -37,7 +37,7 @@ class Job(NamedTuple):
 
 
 class Progress(NamedTuple):
-    """How many steps of how many are done and in how many groups, whether the next one has its mark, and the replies."""
+    """How many steps of how many are done, in how many groups, whether the next one has its mark, and the replies."""
 
     step: int
     steps: int

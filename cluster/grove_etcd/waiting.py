@@ -7,8 +7,8 @@ NEEDS_LEADER = (("hasleader", "true"),)
 
 
 def wait(members, key, revision, seconds):
-    """Waits until the key is put or deleted after this revision, or for so long. Whether it was; where the member is lost
-    the next one is asked from then on, and the caller has to look by itself."""
+    """Waits until the key is put or deleted after this revision, or for so long. Whether it was; where the member is
+    lost the next one is asked from then on, and the caller has to look by itself."""
     create = etcdrpc.WatchCreateRequest(key=key.encode(), start_revision=revision + 1)
     stub = etcdrpc.WatchStub(members.channel)
     answers = stub.Watch(iter([etcdrpc.WatchRequest(create_request=create)]), timeout=seconds, metadata=NEEDS_LEADER)

@@ -3,7 +3,7 @@ import json
 
 from .jobs import written
 from .loading import batches, weight_text
-from .members import deleting, putting
+from .members import MOST_OPERATIONS, deleting_below, putting
 from .refusals import Refused
 from .tree import MOST_WEIGHT
 
@@ -16,10 +16,10 @@ def new_weight(weight, waits):
 
 
 def reweigh(members, keys):
-    """Gives each node its new weight by the waits of the epochs audited since the last reweighing, and how many changed.
+    """Makes each node's new weight by the waits of the epochs audited since the last reweighing; how many changed.
 
-    A weight says which reweighing made it. So one that broke off is finished by the next call, and no weight is made anew
-    twice; jobs that are planned in the meantime have legal plans by whichever weights they find."""
+    A weight says which reweighing made it. So one that broke off is finished by the next call, and no weight is made
+    anew twice; jobs that are planned in the meantime have legal plans by whichever weights they find."""
     if keys.epoch() not in members.get(keys.epoch()).values:
         raise Refused("not-loaded")
     found = members.get(keys.weighing())
@@ -36,16 +36,15 @@ def reweigh(members, keys):
     for batch in batches(new_weights(members, keys, last["number"], waits)):
         members.write(batch)
         changed += len(batch)
-    for batch in batches(deleting(key) for epoch in last["waits"] for key in members.below(keys.all_waits(epoch)).values):
-        members.write(batch)
-    members.write([putting(keys.weighing(), written(last | {"done": True, "waits": []}))])
+    done = putting(keys.weighing(), written(last | {"done": True}))
+    members.write([done, *(deleting_below(keys.all_waits(epoch)) for epoch in last["waits"])])
     return changed
 
 
 def audited_epochs(members, keys):
-    """Those whose waits stand in etcd, and all of them."""
+    """Those whose waits stand in etcd, and all of them; as many as are deleted at once."""
     waited, audited = ({int(key.split("/")[2]) for key in members.below(keys.whole(kind)).values} for kind in "wd")
-    return sorted(waited & audited)
+    return sorted(waited & audited)[: MOST_OPERATIONS - 1]
 
 
 def new_weights(members, keys, number, waits):

@@ -16,8 +16,8 @@ from .waiting import wait
 
 class Worker:
     def __init__(self, members, keys, patience=2.0, slot=0.0):
-        """What hasn't moved for `patience` seconds is taken up. Where a slot has a length in seconds, each access is given
-        as many slots as it is long, with its node held; else an access takes no time."""
+        """What hasn't moved for `patience` seconds is taken up. Where a slot has a length in seconds, each access is
+        given as many slots as it is long, with its node held; else an access takes no time."""
         self.members, self.keys, self.patience, self.slot = members, keys, patience, slot
         # When each job's progress was first seen as it is, by its key.
         self.seen = {}
@@ -47,7 +47,8 @@ class Worker:
         return epoch_read(self.keys, self.epoch_seen)["epoch"]
 
     def run_fresh(self, fresh):
-        """Does jobs that nobody has begun, from a random one on, until it meets one that another worker has. Was there any?"""
+        """Does jobs that nobody has begun, from a random one on, until it meets one that another worker has. Were there
+        any?"""
         first = random.randrange(len(fresh)) if fresh else 0
         for epoch, number, _ in fresh[first:] + fresh[:first]:
             job, progress = self.read_job(epoch, number)
@@ -171,7 +172,8 @@ class Worker:
         return [
             putting(keys.progress(job.epoch, job.number), after.text()),
             putting(event, written({"takes": group.taken, "mark": group.mark})),
-            *(putting(keys.owner(path), owner) if held else deleting(keys.owner(path)) for path, held in group.held.items()),
+            *(putting(keys.owner(path), owner) for path, held in group.held.items() if held),
+            *(deleting(keys.owner(path)) for path, held in group.held.items() if not held),
             *(putting(keys.record(path), str(group.records[path])) for path in sorted(group.changed)),
         ]
 
@@ -183,7 +185,7 @@ class Worker:
             return False
 
     def wait_for(self, group, revision):
-        """Waits until the node changes hands. If it doesn't, and the holder hasn't moved for a while either, gives that."""
+        """Waits until the node changes hands. If it doesn't, and the holder hasn't moved for a while, gives that."""
         if wait(self.members, self.keys.owner(group.blocked), revision, self.patience):
             return None
         epoch, number = owner_read(group.holder)

@@ -19,8 +19,7 @@ SECONDS = 30.0
 class Cluster:
     """So many members, for as long as it is entered."""
 
-    def __init__(self, count, words=()):
-        self.words = words
+    def __init__(self, count):
         self.clients, self.peers = ([f"{HOST}:{free_port()}" for _ in range(count)] for _ in range(2))
         self.started = [None] * count
         self.room = tempfile.TemporaryDirectory(prefix="grove-etcd-")
@@ -44,9 +43,8 @@ class Cluster:
         words += ["--listen-client-urls", client, "--advertise-client-urls", client]
         words += ["--listen-peer-urls", peer, "--initial-advertise-peer-urls", peer]
         words += ["--logger", "zap", "--log-level", "fatal", "--log-outputs", "/dev/null"]
-        self.started[member] = subprocess.Popen(
-            ["etcd", *words, *self.words], stdin=subprocess.DEVNULL, stdout=subprocess.DEVNULL, stderr=subprocess.DEVNULL
-        )
+        streams = dict.fromkeys(["stdin", "stdout", "stderr"], subprocess.DEVNULL)
+        self.started[member] = subprocess.Popen(["etcd", *words], **streams)
 
     def kill(self, member):
         self.started[member].send_signal(signal.SIGKILL)

@@ -5,8 +5,8 @@ from store import Store
 
 
 def fault_of_order(document, lists, told, records, replies):
-    """What is wrong with an audit that printed `told`: from the document's records, the lists in its order have to leave
-    the records (by path, those that are named) and to have the replies that etcd has."""
+    """What is wrong with an audit that printed `told`: from the document's records, the lists in its order have to
+    leave the records (by path, those that are named) and to have the replies that etcd has."""
     order = json.loads(told["order"])
     if sorted(order) != list(range(len(lists))):
         return f"it names the lists {order}"

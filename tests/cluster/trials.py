@@ -31,7 +31,7 @@ SMALL = [
     {"parent": 2, "name": "c", "weight": 9, "value": 5},
     {"parent": 0, "name": "a-d", "weight": 3},
 ]
-# Its plan locks /, /a and /b and lets / go before the first access, since / is heavy: with slots, that is the first group.
+# Its plan locks /, /a and /b and lets / go before the first access, since / is heavy: by slots, that is the first group.
 BOTH = [["add", "/a", 1], ["add", "/b", 1]]
 
 
@@ -261,7 +261,7 @@ def two_workers_at_one_job_do_it_once(cluster, grove):
 
 
 def a_job_is_taken_up_by_one_that_waits_for_it(cluster, grove):
-    """One job is left with its locks; a worker on another, which waits for them, does both. The wait becomes a weight."""
+    """A job is left with its locks; a worker on another, which waits for them, does both. The wait becomes a weight."""
     store = Store(cluster, grove, "left", [BOTH, BOTH])
     left = store.worker(slot=SLOT)
     group, found, _ = left.next_group(store.job(0), 0)
