@@ -8,9 +8,11 @@ contention: 64 jobs of 4 accesses of 5 ms each by 1, 4 and 16 workers on three m
 lock everything first, and by transactions that compare what they read and try again (etcd's STM). `hot`: each job adds
 to the root's record and then to three of 64 leaves; `mild`: to four of 64 leaves. Work is what accesses take, waits is
 how many locks found their node held.
-large: trees of 1,111,111 and of 1,000 nodes are loaded, and the same jobs of 8 accesses planned, submitted and run in
-each.
+Both are done RUNS times, all cases in turn; the median is printed, with the least and the most in brackets.
+large: trees of 1,111,111 and of some 1,000 nodes are loaded, and the same jobs of 8 accesses planned, submitted and run
+in each.
 """
+import itertools
 import json
 import statistics
 import subprocess
@@ -33,6 +35,7 @@ from grove_etcd.tree import names_of, ways_down  # noqa: E402
 from grove_etcd.worker import Worker  # noqa: E402
 
 WORKERS = (1, 4, 16)
+RUNS = 3
 SLOT = 0.005
 LEAVES = [f"/l{number}" for number in range(64)]
 
@@ -114,20 +117,33 @@ def rows_below_root(paths, weight):
     return [root, *({"parent": 0, "name": path[1:], "weight": 1} for path in paths)]
 
 
+def spread(values, form="{:,.0f}"):
+    """The median, with the least and the most."""
+    told = map(form.format, (statistics.median(values), min(values), max(values)))
+    return "{} ({} to {})".format(*told)
+
+
 def throughput():
-    leaves = [f"/l{number:03}" for number in range(200)]
     for count in (1, 3):
+        rates = {workers: [] for workers in WORKERS}
         with Cluster(count) as cluster:
-            rates = []
-            for workers in WORKERS:
-                members, keys = cluster.members(), Keys(f"t{workers}")
-                load(members, keys, rows_below_root(leaves, 50))
-                submitter = Submitter(members, keys, GROVE)
-                for path in leaves:
-                    submitter.submit_planned([["add", path, 1]], leaf_plan(path))
-                spent, _ = run_workers(cluster, keys.store, workers, 0)
-                rates.append(f"{len(leaves) / spent:,.0f}")
-            print(f"{count} members: {', '.join(rates)} jobs a second by {WORKERS} workers", flush=True)
+            for turn in range(RUNS):
+                for workers, found in rates.items():
+                    found.append(add_at_leaves(cluster, f"t{turn}-{workers}", workers))
+        for workers, found in rates.items():
+            print(f"{count} members, {workers} workers: {spread(found)} jobs a second", flush=True)
+
+
+def add_at_leaves(cluster, name, workers):
+    """How many jobs a second."""
+    leaves = [f"/l{number:03}" for number in range(200)]
+    members, keys = cluster.members(), Keys(name)
+    load(members, keys, rows_below_root(leaves, 50))
+    submitter = Submitter(members, keys, GROVE)
+    for path in leaves:
+        submitter.submit_planned([["add", path, 1]], leaf_plan(path))
+    spent, _ = run_workers(cluster, name, workers, 0)
+    return len(leaves) / spent
 
 
 def locking_all_first(accesses):
@@ -143,30 +159,35 @@ def contended(kind, random):
 
 
 def contention():
+    cases = list(itertools.product(("hot", "mild"), ("settled", "all-first", "stm"), WORKERS))
+    found = {case: [] for case in cases}
     with Cluster(3) as cluster:
-        for kind in ("hot", "mild"):
-            lists = [contended(kind, Random(f"{kind} {number}")) for number in range(64)]
-            for way in ("settled", "all-first", "stm"):
-                for workers in WORKERS:
-                    contend(cluster, f"{kind}-{way}-{workers}", lists, way, workers)
+        for turn in range(RUNS):
+            for case in cases:
+                found[case].append(contend(cluster, turn, *case))
+    for case, runs in found.items():
+        rate, waits, waited, wasted, failed = zip(*runs)
+        print(
+            f"{case}: {spread(rate)} jobs a second; {spread(waits)} waits, {spread(waited)} ms a job;"
+            f" {spread(failed)} commits failed" + (f"; thrown away {spread(wasted, '{:.1f}')}" if "stm" in case else ""),
+            flush=True,
+        )
 
 
-def contend(cluster, name, lists, way, workers):
-    members, keys = cluster.members(), Keys(name)
+def contend(cluster, turn, kind, way, workers):
+    """Jobs a second, waits, milliseconds of waiting a job, work thrown away in parts of the useful, failed commits. (A
+    plan's worker keeps the work of an access when a commit fails, so what is thrown away is counted for STM alone.)"""
+    lists = [contended(kind, Random(f"{kind} {number}")) for number in range(64)]
+    members, keys = cluster.members(), Keys(f"{kind}-{way}-{workers}-{turn}")
     load(members, keys, rows_below_root(LEAVES, 50))
     submitter = Submitter(members, keys, GROVE)
     for accesses in lists if way != "stm" else []:
         plan = submitter.plan(accesses) if way == "settled" else locking_all_first(accesses)
         submitter.submit_planned(accesses, plan)
-    spent, total = run_workers(cluster, name, workers, SLOT, lists if way == "stm" else None)
-    marks = sum('"mark":true' in text for text in members.below(keys.events(1)).values.values())
-    wasted = total["failed"] * len(lists[0]) * SLOT if way == "stm" else 0.0
-    useful = len(lists) * len(lists[0]) * SLOT
-    print(
-        f"{name}: {len(lists) / spent:.0f} jobs a second; {marks} waits, {total['waited'] / len(lists) * 1000:.0f} ms"
-        f" a job; work thrown away {wasted / useful:.2f} of the useful work; {total['failed']} commits failed",
-        flush=True,
-    )
+    spent, total = run_workers(cluster, keys.store, workers, SLOT, lists if way == "stm" else None)
+    waits = sum('"mark":true' in text for text in members.below(keys.events(1)).values.values())
+    wasted = total["failed"] / len(lists) if way == "stm" else 0.0
+    return len(lists) / spent, waits, total["waited"] / len(lists) * 1000, wasted, total["failed"]
 
 
 def rows_of_tens(depth):
