@@ -22,7 +22,7 @@ def exported(crate):
 
 def blocks(text):
     """The top-level items of a source text: each with its head line and its whole text."""
-    starts = [m.start() for m in re.finditer(r"^(?:pub |impl|fn |trait |struct |enum |#\[cfg)", text, re.M)]
+    starts = [m.start() for m in re.finditer(r"^(?:pub(?:\(crate\))? |impl|fn |trait |struct |enum |#\[cfg)", text, re.M)]
     return [text[a:b] for a, b in zip(starts, [*starts[1:], len(text)])]
 
 
