@@ -6,7 +6,7 @@ use Rattle.grove.proofs.command.order_answer.Goals as goal
 pub returns-clause-said : goal.returns-clause-said
 returns-clause-said g c none =
     answers_input c.args.order.command _ _ c.deref.result.now c.in_ok-bytes.bytes.items c.bytes_answer.result
-    (c.in_ok-bytes.ensures.input none) (λ few. c.in_ok-bytes.ensures.end none (rw c.most_bytes.ensures.most few)) c.deref.ensures.value c.bytes_answer.ensures.said
+    (c.in_ok-bytes.ensures.input none) (λ few. c.in_ok-bytes.ensures.end none (rw c.most_bytes-most.ensures.most few)) c.deref.ensures.value c.bytes_answer.ensures.said
 
 pub returns-clause-read : goal.returns-clause-read
 returns-clause-read g c = IfOk-weaker c.bytes_answer.result _ _ (λ answer says. (c.deref.result.now, says)) c.bytes_answer.ensures.said
