@@ -124,9 +124,7 @@ impl Carry {
         if !self.entries.is_empty() {
             return None;
         }
-        let value = known_value(&self.known, node)?;
-        release(&mut self.known, node);
-        Some(value)
+        release(&mut self.known, node)
     }
 
     /// Makes the present values the known ones, and drops the entries.

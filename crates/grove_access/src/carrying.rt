@@ -1,4 +1,4 @@
-ghost use Rattle.std.specs.Prelude.{◌≡◌, ◌<◌, ◌≤◌, [], ◌∷◌, ◌++◌, length, None, MatchOption, vec_len, vec_capacity};
+ghost use Rattle.std.specs.Prelude.{◌≡◌, ◌<◌, ◌≤◌, [], ◌∷◌, ◌++◌, length, None, IfNone, MatchOption, vec_len, vec_capacity};
 ghost use Rattle.grove_access.specs.Effects.{answer};
 ghost use Rattle.grove_access.specs.Carries.{known_at, value_after, without, settled};
 ghost use Rattle.grove_access.specs.KnownPlaces.{StandsAt};
@@ -75,14 +75,15 @@ pub fn note(entries: &mut Vec<Entry>, number: u32, access: Access, reply: Reply)
     });
 }
 
-/// Takes a node out, where it is there.
-pub fn release(known: &mut Vec<Known>, node: Node)
+/// Takes a node out, where it is there, and answers its known value.
+pub fn release(known: &mut Vec<Known>, node: Node) -> Option<i64>
+    ensures value { result ≡ known_at known.old.items node }
     ensures items { known.new.items ≡ without known.old.items node }
+    ensures none { IfNone result (known.new ≡ known.old) }
     ensures capacity { vec_capacity known.new ≡ vec_capacity known.old }
 {
-    if let Some(place) = place_of(known, node) {
-        let _ = known.remove(place);
-    }
+    let place = place_of(known, node)?;
+    Some(value_of(known.remove(place)))
 }
 
 /// Puts each node's present value in place of the known one.
