@@ -5,8 +5,8 @@ use Rattle.grove_tree.specs.Trees.{Rows}
 use Rattle.grove_access.specs.declared.access.Access.{Access}
 use Rattle.grove_access.specs.declared.reply.Reply.{Reply}
 use Rattle.grove_core.specs.declared.job.Job.{Job}
-use Rattle.grove_run.specs.declared.fault.RunFault.{RunFault}
-use Rattle.grove_run.specs.declared.fault.RunFault.TheVariants.{BadPlan, Memory, Foreign, Unfinished}
+use Rattle.grove_core.specs.declared.run_fault.RunFault.{RunFault}
+use Rattle.grove_core.specs.declared.run_fault.RunFault.TheVariants.{BadPlan, Memory, Foreign, Unfinished}
 use Rattle.grove_run.specs.Runs.{IsLegalRunFault}
 use Rattle.grove_store.specs.Rounds.{AreSettledJobs}
 use Rattle.grove_wire.specs.Texts.{RunFaultFits, run_text}

@@ -10,3 +10,4 @@ pub mod Replays
 pub mod Carried
 pub mod CarriedTests
 pub mod Starts
+pub mod RunFaults

@@ -9,6 +9,7 @@ pub use laws::run_laws;
 pub use machine::Core;
 pub use opening::judge_all;
 pub use ordering::{serial_order, serial_order_into};
+pub use run_fault::RunFault;
 
 mod event;
 mod fault;
@@ -22,3 +23,4 @@ mod opening;
 mod ordering;
 mod owner;
 mod progress;
+mod run_fault;

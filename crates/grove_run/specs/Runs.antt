@@ -4,17 +4,12 @@ use Rattle.std.specs.List.{position_or_len}
 use Rattle.grove_base.specs.Numbers.{numbers_below}
 use Rattle.grove_tree.specs.Trees.{Rows}
 use Rattle.grove_core.specs.declared.job.Job.{Job}
-use Rattle.grove_core.specs.declared.fault.OpenFault.{OpenFault}
-use Rattle.grove_core.specs.declared.fault.OpenFault.TheVariants.{BadPlan as BadOpen, Memory as NoRoom}
+use Rattle.grove_core.specs.declared.fault.OpenFault.TheVariants.{BadPlan as BadOpen}
 use Rattle.grove_core.specs.Openings.{IsFirstFault}
 use Rattle.grove_core.specs.Runs.{AllLegal}
 use Rattle.grove_core.specs.Kept.{State}
-use Rattle.grove_run.specs.declared.fault.RunFault.{RunFault}
-use Rattle.grove_run.specs.declared.fault.RunFault.TheVariants.{BadPlan, Memory, Foreign, Unfinished}
-
-abbrev pub fault_of_open : OpenFault → RunFault
-fault_of_open (BadOpen t fault) = BadPlan t fault
-fault_of_open NoRoom = Memory
+use Rattle.grove_core.specs.declared.run_fault.RunFault.{RunFault}
+use Rattle.grove_core.specs.declared.run_fault.RunFault.TheVariants.{BadPlan, Memory, Foreign, Unfinished}
 
 -- what can come once no plan is bad
 abbrev pub IsLegalRunFault : RunFault → Type 0

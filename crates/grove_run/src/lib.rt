@@ -3,15 +3,14 @@
 
 pub use batch::{run_batch, run_legal};
 pub use book::Book;
-pub use fault::RunFault;
 pub use finished::Finished;
+pub use grove_core::RunFault;
 pub use steps::{BookStep, CarryStep};
 
 mod batch;
 mod bells;
 mod book;
 mod carries;
-mod fault;
 mod finished;
 mod register;
 mod sleepers;

@@ -7,8 +7,8 @@ use Rattle.grove_core.specs.declared.job.Job.{Job}
 use Rattle.grove_core.specs.Kept.{State, past_of}
 use Rattle.grove_core.specs.Orders.{placement_order}
 use Rattle.grove_core.specs.Runs.{IsRun, IsFinished, run_records}
-use Rattle.grove_run.specs.declared.fault.RunFault.{RunFault}
-use Rattle.grove_run.specs.declared.fault.RunFault.TheVariants.{BadPlan, Memory, Foreign, Unfinished}
+use Rattle.grove_core.specs.declared.run_fault.RunFault.{RunFault}
+use Rattle.grove_core.specs.declared.run_fault.RunFault.TheVariants.{BadPlan, Memory, Foreign, Unfinished}
 use Rattle.grove_run.specs.Runs.{IsCoreOf, IsLegalRunFault, places_of}
 use Rattle.grove_wire.specs.Names.{run_name}
 use Rattle.grove_wire.specs.Replies.{error_text}

@@ -6,8 +6,8 @@ use Rattle.grove_plan.specs.declared.fault.PlanFault.{PlanFault}
 use Rattle.grove_plan.specs.declared.fault.PlanFault.TheVariants as plan
 use Rattle.grove_proof.specs.declared.fault.ProofFault.{ProofFault}
 use Rattle.grove_proof.specs.declared.fault.ProofFault.TheVariants as proof
-use Rattle.grove_run.specs.declared.fault.RunFault.{RunFault}
-use Rattle.grove_run.specs.declared.fault.RunFault.TheVariants as run
+use Rattle.grove_core.specs.declared.run_fault.RunFault.{RunFault}
+use Rattle.grove_core.specs.declared.run_fault.RunFault.TheVariants as run
 use Rattle.grove_wire.specs.declared.fault.WireFault.{WireFault}
 use Rattle.grove_wire.specs.declared.fault.WireFault.TheVariants.{BadJson, Shape, NoPath, BadLength, Limit, Tree, Memory}
 

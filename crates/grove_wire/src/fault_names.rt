@@ -4,7 +4,7 @@ ghost use Rattle.grove_wire.specs.Names.{tree_name, wire_name, plan_name, proof_
 use crate::WireFault;
 use grove_plan::PlanFault;
 use grove_proof::ProofFault;
-use grove_run::RunFault;
+use grove_core::RunFault;
 use grove_tree::TreeFault;
 
 /// The name of a fault of reading, as `shape` or `bad-parent`, by which a session line is refused.

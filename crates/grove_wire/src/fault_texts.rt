@@ -5,7 +5,7 @@ ghost use Rattle.grove_wire.specs.Texts.{place_text, tree_text, wire_text, plan_
 use crate::{Place, WireFault};
 use grove_plan::PlanFault;
 use grove_proof::ProofFault;
-use grove_run::RunFault;
+use grove_core::RunFault;
 use grove_tree::{NoMemory, Node, Tree, TreeFault};
 use std::alloc::Global;
 

@@ -1,4 +1,4 @@
-use grove_core::OpenFault;
+use crate::OpenFault;
 use grove_plan::PlanFault;
 use grove_tree::NoMemory;
 use std::alloc::{AllocError, AllocFailed};
@@ -13,7 +13,7 @@ pub enum RunFault {
     /// A growth was refused.
     #[error("memory")]
     Memory,
-    /// A carry wasn't of its job.
+    /// What a worker had out wasn't of its job.
     #[error("foreign")]
     Foreign,
     /// The workers have ended, and some job hasn't.
@@ -23,7 +23,7 @@ pub enum RunFault {
 
 impl From<AllocError> for RunFault {
     ghost use Rattle.std.specs.Prelude.{◌≡◌};
-    ghost use Rattle.grove_run.specs.declared.fault.RunFault.TheVariants.{Memory};
+    ghost use Rattle.grove_core.specs.declared.run_fault.RunFault.TheVariants.{Memory};
 
     ghost from_gives = { λ _ fault. fault ≡ Memory };
 
@@ -34,7 +34,7 @@ impl From<AllocError> for RunFault {
 
 impl<T: Drop> From<AllocFailed<T>> for RunFault {
     ghost use Rattle.std.specs.Prelude.{◌≡◌};
-    ghost use Rattle.grove_run.specs.declared.fault.RunFault.TheVariants.{Memory};
+    ghost use Rattle.grove_core.specs.declared.run_fault.RunFault.TheVariants.{Memory};
 
     ghost from_gives = { λ _ fault. fault ≡ Memory };
 
@@ -45,7 +45,7 @@ impl<T: Drop> From<AllocFailed<T>> for RunFault {
 
 impl From<NoMemory> for RunFault {
     ghost use Rattle.std.specs.Prelude.{◌≡◌};
-    ghost use Rattle.grove_run.specs.declared.fault.RunFault.TheVariants.{Memory};
+    ghost use Rattle.grove_core.specs.declared.run_fault.RunFault.TheVariants.{Memory};
 
     ghost from_gives = { λ _ fault. fault ≡ Memory };
 
@@ -56,7 +56,7 @@ impl From<NoMemory> for RunFault {
 
 impl From<OpenFault> for RunFault {
     ghost use Rattle.std.specs.Prelude.{◌≡◌};
-    ghost use Rattle.grove_run.specs.Runs.{fault_of_open};
+    ghost use Rattle.grove_core.specs.RunFaults.{fault_of_open};
 
     ghost from_gives = { λ fault other. other ≡ fault_of_open fault };
 
