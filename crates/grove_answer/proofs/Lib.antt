@@ -6,3 +6,4 @@ pub mod Fitting
 pub mod Records
 pub mod SameReplies
 pub mod Saying
+pub mod OneLine

@@ -4,6 +4,7 @@
 pub use auditing::audit_document;
 pub use checking::check_document;
 pub use judging::judge_document;
+pub use laws::refusal_laws;
 pub use planning::plan_document;
 pub use refusal::{Refusal, or_refuse};
 pub use running::run_document;
@@ -11,6 +12,7 @@ pub use running::run_document;
 mod auditing;
 mod checking;
 mod judging;
+mod laws;
 mod planning;
 mod reading;
 mod refusal;

@@ -31,7 +31,7 @@ either true xs ys of_xs of_ys = of_xs
 either false xs ys of_xs of_ys = of_ys refl
 
 -- whether no byte is a line feed
-abbrev none_is : List ℕ → Bool
+abbrev pub none_is : List ℕ → Bool
 none_is [] = true
 none_is (x ∷ xs) = cond (x == 10) false (none_is xs)
 
@@ -39,7 +39,7 @@ later_ones : (b more : Bool) → cond b false more ≡ true → more ≡ true
 later_ones true more found = cc
 later_ones false more found = found
 
-none_found : (text : List ℕ) → none_is text ≡ true → Feedless text
+pub none_found : (text : List ℕ) → none_is text ≡ true → Feedless text
 none_found [] none = All-nil NoFeed
 none_found (x ∷ xs) none =
     All-cons NoFeed x xs (λ is. let found : false ≡ true = subst (λ (y : ℕ). none_is (y ∷ xs) ≡ true) is none in cc)
@@ -57,11 +57,11 @@ digits_feedless (suc k) n after so_far =
     either (n / 10 == 0) (digit_glyph false (n % 10) ∷ after) (digits_onto k 10 false (n / 10) (digit_glyph false (n % 10) ∷ after)) more
     (λ _. digits_feedless k (n / 10) (digit_glyph false (n % 10) ∷ after) more)
 
-decimal_feedless : (n : ℕ) → Feedless (decimal n)
+pub decimal_feedless : (n : ℕ) → Feedless (decimal n)
 unfolding digits
 decimal_feedless n = digits_feedless 64 n [] (All-nil NoFeed)
 
-signed_feedless : (z : ℤ) → Feedless (signed_decimal z)
+pub signed_feedless : (z : ℤ) → Feedless (signed_decimal z)
 signed_feedless (pos n) = decimal_feedless n
 signed_feedless (negsuc n) = All-cons NoFeed 45 (decimal (suc n)) (λ is. omega arith) (decimal_feedless (suc n))
 
