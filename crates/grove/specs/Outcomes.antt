@@ -1,6 +1,6 @@
 -- What each command may say of bytes, and what the program prints of it.
-use Rattle.std.specs.Prelude.{◌≡◌, ℕ, ◌≤◌, ℤ, List, Option, Result, Ok, Err}
-use Rattle.std.specs.Io.KnownBytes.{Appends}
+use Rattle.std.specs.Prelude.{◌≡◌, ◌⊎◌, ℕ, ◌≤◌, ℤ, List, take, Option, Result, Ok, Err}
+use Rattle.std.specs.Io.KnownBytes.{Appends, Keeps}
 use Rattle.serde_json.specs.Data.{Data}
 use Rattle.grove_tree.specs.Trees.{Rows}
 use Rattle.grove_wire.specs.declared.fault.WireFault.{WireFault}
@@ -51,3 +51,8 @@ outcome_text (Err fault) = refusal_line fault
 abbrev pub Prints : (Outcome → Type 0) → ℕ → Option (List ℕ) → Option (List ℕ) → Type 0
 Prints MaySay status old new = status ≤ 2 → (outcome : Outcome)
     × MaySay outcome × (status ≡ outcome_status outcome) × Appends old new (outcome_text outcome)
+
+-- even then standard output gets nothing, or the first bytes of such a text
+abbrev pub PrintsPart : (Outcome → Type 0) → Option (List ℕ) → Option (List ℕ) → Type 0
+PrintsPart MaySay old new = Keeps old new ⊎ ((outcome : Outcome) × MaySay outcome
+    × (count : ℕ) × Appends old new (take count (outcome_text outcome)))

@@ -1,4 +1,4 @@
-ghost use Rattle.std.specs.Prelude.{◌≡◌, ◌≤◌, ◌⊎◌, true, false, IfOk, IsOkAnd};
+ghost use Rattle.std.specs.Prelude.{◌≡◌, ◌≤◌, ◌⊎◌, ℕ, true, false, take, IfOk, IsOkAnd};
 ghost use Rattle.std.specs.Io.KnownBytes.{Appends, Keeps};
 ghost use Rattle.grove.specs.Answers.{status_of, printed, complained, IsListen, IsRefusalLine};
 ghost use Rattle.grove.specs.Endings.{stop_line, SaysRefusal, SaysWhy};
@@ -44,6 +44,8 @@ pub fn end<R: AllocGlobal + Threads + Wait + Sync, O: Sink, E: Sink>(
     ensures answered { result ≤ 2 → IsOkAnd answer (λ answer. (result ≡ status_of answer)
         × Appends (O.contents out.old) (O.contents out.new) (printed answer)
         × Appends (E.contents err.old) (E.contents err.new) (complained answer)) }
+    ensures part { Keeps (O.contents out.old) (O.contents out.new)
+        ⊎ IsOkAnd answer (λ answer. (count : ℕ) × Appends (O.contents out.old) (O.contents out.new) (take count (printed answer))) }
     ensures refused { IfOk answer IsRefusalLine → result ≡ 1 → SaysRefusal (O.contents out.old) (O.contents out.new) }
     ensures quiet_output { result ≡ 2 → Keeps (O.contents out.old) (O.contents out.new) }
     ensures quiet_errors { result ≤ 1 → Keeps (E.contents err.old) (E.contents err.new) }
@@ -70,6 +72,7 @@ fn tell<O: Sink, E: Sink>(text: &str, status: u8, out: &mut O, err: &mut E) -> u
     requires { status ≤ 2 }
     ensures status { (result ≡ status) ⊎ (result ≡ 3) }
     ensures output { result ≤ 2 → Appends (O.contents out.old) (O.contents out.new) text.now }
+    ensures part { (count : ℕ) × Appends (O.contents out.old) (O.contents out.new) (take count text.now) }
     ensures errors { result ≤ 2 → err.new ≡ err.old }
     ensures sound { result ≤ 2 → O.has_failed out.new ≡ O.has_failed out.old }
     ensures failed { result ≡ 3 → O.has_failed out.new ≡ true }
@@ -104,6 +107,7 @@ fn say_and_serve<R: AllocGlobal + Threads + Wait + Sync, O: Sink, E: Sink>(
 ) -> u8
     ensures status { result ≡ 3 }
     ensures said { O.has_failed out.new ≡ false → Appends (O.contents out.old) (O.contents out.new) line.now }
+    ensures part { (count : ℕ) × Appends (O.contents out.old) (O.contents out.new) (take count line.now) }
     ensures told { E.has_failed err.new ≡ false → Appends (E.contents err.old) (E.contents err.new) (stop_line Stop.Device) }
 {
     if write_whole(out, line.as_bytes()).is_ok() {

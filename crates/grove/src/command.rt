@@ -7,7 +7,7 @@ ghost use Rattle.grove.specs.Answers.{most_bytes, status_of, AnswersBy, HasText,
 ghost use Rattle.grove_words.specs.CommandLines.{AreWrong, AskFor, AskForWorkers, AskToServe, AskToShow, NameDevice};
 ghost use Rattle.grove_words.specs.NoOrders.{HasText as IsToldText, TellsShown, TellsWrong};
 ghost use Rattle.grove.specs.Endings.{Blames, SaysListening, SaysRefusal, SaysSomething, SaysWhy};
-ghost use Rattle.grove.specs.Outcomes.{document_for, IsOutcome, MaySay, Prints};
+ghost use Rattle.grove.specs.Outcomes.{document_for, IsOutcome, MaySay, Prints, PrintsPart};
 
 use crate::answer::{Answer, Stop, end};
 use crate::refusal::answer_of;
@@ -44,6 +44,10 @@ pub fn run_command<
         → IfSome (I.remaining input.old) (λ document. Prints (IsOutcome order.command document) result (O.contents out.old) (O.contents out.new)) }
     ensures read { (order : Order) → AskFor (map string_bytes words.now) order
         → (bytes : List ℕ) × Prints (IsOutcome order.command bytes) result (O.contents out.old) (O.contents out.new) }
+    ensures cut { (order : Order) → AskFor (map string_bytes words.now) order → order.document ≡ None
+        → IfSome (I.remaining input.old) (λ document. PrintsPart (IsOutcome order.command document) (O.contents out.old) (O.contents out.new)) }
+    ensures cut_read { (order : Order) → AskFor (map string_bytes words.now) order
+        → (bytes : List ℕ) × PrintsPart (IsOutcome order.command bytes) (O.contents out.old) (O.contents out.new) }
     ensures status { result ≤ 3 }
     ensures refused { result ≡ 1 → SaysRefusal (O.contents out.old) (O.contents out.new) }
     ensures wrong { AreWrong (map string_bytes words.now) → (result ≡ 2) ⊎ (result ≡ 3) }

@@ -1,5 +1,5 @@
 use Rattle.grove.specs.Outcomes.{IsOutcome}
-use Rattle.grove.proofs.Printing.{blames_device, prints_input, prints_port, prints_read, not_usage}
+use Rattle.grove.proofs.Printing.{blames_device, part_of_input, part_of_read, prints_input, prints_port, prints_read, not_usage}
 use Rattle.grove.proofs.command.run_command.Goals as goal
 
 pub returns-clause-answered : goal.returns-clause-answered
@@ -18,3 +18,10 @@ returns-clause-blamed g c three sound =
 
 pub returns-clause-read : goal.returns-clause-read
 returns-clause-read g c order asks = prints_read order.command c.answer.result _ _ _ _ (c.answer.ensures.read order asks) c.end.ensures.answered
+
+pub returns-clause-cut : goal.returns-clause-cut
+returns-clause-cut g c order asks none =
+    part_of_input (IsOutcome order.command) _ c.answer.result _ _ (c.answer.ensures.said order asks none) c.end.ensures.part
+
+pub returns-clause-cut_read : goal.returns-clause-cut_read
+returns-clause-cut_read g c order asks = part_of_read order.command c.answer.result _ _ (c.answer.ensures.read order asks) c.end.ensures.part
