@@ -1,22 +1,22 @@
 -- No refusal has a line feed in it: its words, numbers and paths have none.
-use Rattle.std.proofs.Common.{◌≡◌, ◌≢◌, ◌⊎◌, ℕ, zero, suc, Bool, true, false, ℤ, List, [], ◌∷◌, ◌++◌, length, Option, Some, None, Result, Ok, Err, refl, sym, ap, subst, inl, inr, arith}
-use Rattle.std.specs.Prelude.{All, codes, decimal}
+use Rattle.std.proofs.Common.{◌≡◌, ◌≢◌, ℕ, zero, suc, Bool, true, false, ◌&&◌, ℤ, List, [], ◌∷◌, ◌++◌, length, Option, Some, None, Result, Ok, Err, refl, sym, subst, inl, inr, arith}
+use Rattle.std.specs.Prelude.{codes, decimal}
 use Rattle.std.specs.Fmt.{signed_decimal}
 use Rattle.std.specs.List.{list_all}
 use Rattle.std.proofs.lemmas.List.Elements.{All-nil, All-cons, All-append}
 use Rattle.serde_json.specs.Data.{Data}
-use Rattle.grove_tree.specs.Trees.{Rows, IsTree, parent_of, name_of}
-use Rattle.grove_tree.specs.Rules.{is_name_byte, tree_fault_of, IsWithinLimits}
+use Rattle.grove_tree.specs.Trees.{Rows, parent_of, name_of}
+use Rattle.grove_tree.specs.Rules.{is_name_byte, tree_fault_of}
 use Rattle.grove_tree.specs.Paths.{name_below, names_within, or_slash, path_of}
 use Rattle.grove_tree.specs.declared.fault.TreeFault.{TreeFault}
 use Rattle.grove_tree.specs.declared.fault.TreeFault.TheVariants as tree
 use Rattle.grove_tree.proofs.FaultlessRows.{faultless_tree, faultless_within}
 use Rattle.grove_tree.proofs.PathDescent.{named}
 use Rattle.grove_access.specs.declared.access.Access.{Access}
+use Rattle.grove_access.specs.declared.reply.Reply.{Reply}
 use Rattle.grove_plan.specs.declared.step.Step.{Step}
 use Rattle.grove_plan.specs.declared.fault.PlanFault.{PlanFault}
 use Rattle.grove_plan.specs.declared.fault.PlanFault.TheVariants as plan
-use Rattle.grove_plan.specs.Faults.{plan_fault_of}
 use Rattle.grove_proof.specs.declared.flow.FlowRow.{FlowRow}
 use Rattle.grove_proof.specs.declared.fault.ProofFault.{ProofFault}
 use Rattle.grove_proof.specs.declared.fault.ProofFault.TheVariants as proof
@@ -33,10 +33,10 @@ use Rattle.grove_wire.specs.Places.{part_word}
 use Rattle.grove_wire.specs.Outcomes.{◌>>=◌}
 use Rattle.grove_wire.specs.Reading.{items_in, columns_of, unless_fault, tree_of, tree_in, list_in, lists_in, plan_in, flow_in}
 use Rattle.grove_wire.specs.Histories.{Standing, jobs_in, events_in, standing_in}
-use Rattle.grove_wire.specs.Texts.{number_text, place_text, tree_text, wire_text, plan_text, value_text, proof_text, event_text, replay_text}
+use Rattle.grove_wire.specs.Texts.{number_text, place_text, tree_text, wire_text, plan_text, proof_text, event_text, replay_text}
 use Rattle.grove_store.proofs.Feedless.{none_is, none_found, decimal_feedless, signed_feedless}
 use Rattle.grove_answer.specs.declared.reading.Task.{Task}
-use Rattle.grove_answer.specs.Outcomes.{Outcome, ThenSays, task_in, trial_in, claim_in, batch_in, History, history_in, unless_faulty, judge_lines, IsJudged, IsChecked, IsPlanned, IsRunBatch, IsMisstated, IsAudited}
+use Rattle.grove_answer.specs.Outcomes.{Outcome, ThenSays, task_in, trial_in, claim_in, batch_in, History, history_in, unless_faulty, IsJudged, IsChecked, IsPlanned, IsRunBatch, IsMisstated, IsAudited}
 use Rattle.grove_answer.specs.Laws.{IsOneLine, RefusesInOneLine, FaultsAreOneLine, CommandsRefuseInOneLine}
 
 -- ---- of words and numbers
@@ -47,7 +47,7 @@ joined xs ys = All-append (λ (byte : ℕ). byte ≢ 10) xs ys
 -- words, a number, and words again
 numbered : (before : List ℕ) (n : ℕ) (after : List ℕ) → none_is before ≡ true → none_is after ≡ true → IsOneLine (before ++ decimal n ++ after)
 numbered before n after one other =
-    joined before (decimal n ++ after) (none_found before one) (joined (decimal n) after (decimal_feedless n) (none_found after other))
+    joined (before ++ decimal n) after (joined before (decimal n) (none_found before one) (decimal_feedless n)) (none_found after other)
 
 -- words and a number
 ends_with : (before : List ℕ) (n : ℕ) → none_is before ≡ true → IsOneLine (before ++ decimal n)
@@ -77,8 +77,8 @@ number_is (Some n) = ends_with (codes " ") n refl
 place_is : (before : List ℕ) (place : Place) → none_is before ≡ true → IsOneLine (before ++ place_text place)
 place_is before place one =
     joined before (place_text place) (none_found before one)
-    (joined (part_word place.part) (number_text place.at ++ number_text place.item) (word_is place.part)
-    (joined (number_text place.at) (number_text place.item) (number_is place.at) (number_is place.item)))
+    (joined (part_word place.part ++ number_text place.at) (number_text place.item)
+    (joined (part_word place.part) (number_text place.at) (word_is place.part) (number_is place.at)) (number_is place.item))
 
 rule_is : (fault : TreeFault) → IsOneLine (tree_text fault)
 rule_is tree.Empty = none_found (codes "tree empty") refl
@@ -115,16 +115,17 @@ name_is (byte ∷ name) all =
 abbrev IsFaultless : Rows → Type 0
 IsFaultless rows = tree_fault_of rows ≡ None
 
+below_is : (rows : Rows) → IsFaultless rows → (names : ℕ → List ℕ) → ((node : ℕ) → IsOneLine (names node)) → (node : ℕ) (parent : Option ℕ)
+    → parent_of rows node ≡ parent → IsOneLine (name_below names (name_of rows node) parent)
+below_is rows faultless names above node None is = All-nil (λ (byte : ℕ). byte ≢ 10)
+below_is rows faultless names above node (Some parent) is =
+    joined (names parent) (47 ∷ name_of rows node) (above parent)
+    (All-cons (λ (byte : ℕ). byte ≢ 10) 47 (name_of rows node) (λ is. omega arith)
+    (name_is (name_of rows node) (named rows (faultless_tree rows faultless) (faultless_within rows faultless) node parent is)))
+
 names_are : (rows : Rows) → IsFaultless rows → (n node : ℕ) → IsOneLine (names_within rows n node)
 names_are rows faultless zero node = All-nil (λ (byte : ℕ). byte ≢ 10)
-names_are rows faultless (suc n) node = by_parent (parent_of rows node) refl
-  where
-    by_parent : (parent : Option ℕ) → parent_of rows node ≡ parent → IsOneLine (name_below (names_within rows n) (name_of rows node) parent)
-    by_parent None is = All-nil (λ (byte : ℕ). byte ≢ 10)
-    by_parent (Some parent) is =
-        joined (names_within rows n parent) (47 ∷ name_of rows node) (names_are rows faultless n parent)
-        (All-cons (λ (byte : ℕ). byte ≢ 10) 47 (name_of rows node) (λ is. omega arith)
-        (name_is (name_of rows node) (named rows (faultless_tree rows faultless) (faultless_within rows faultless) node parent is)))
+names_are rows faultless (suc n) node = below_is rows faultless (names_within rows n) (names_are rows faultless n) node (parent_of rows node) refl
 
 slash_is : (names : List ℕ) → IsOneLine names → IsOneLine (or_slash names)
 slash_is [] of_names = none_found (47 ∷ []) refl
@@ -144,8 +145,8 @@ plan_is rows faultless (plan.WrongAccess step) = numbered (codes "step ") step (
 plan_is rows faultless (plan.AccessNotHeld step) = numbered (codes "step ") step (codes " access-not-held") refl refl
 plan_is rows faultless (plan.AccessMissing access) = numbered (codes "access ") access (codes " missing") refl refl
 plan_is rows faultless (plan.StillHeld node) =
-    joined (codes "node ") (path_of rows node ++ codes " still-held") (none_found (codes "node ") refl)
-    (joined (path_of rows node) (codes " still-held") (path_is rows faultless node) (none_found (codes " still-held") refl))
+    joined (codes "node " ++ path_of rows node) (codes " still-held")
+    (joined (codes "node ") (path_of rows node) (none_found (codes "node ") refl) (path_is rows faultless node)) (none_found (codes " still-held") refl)
 plan_is rows faultless plan.Memory = none_found (codes "memory") refl
 
 proof_is : (rows : Rows) → IsFaultless rows → (fault : ProofFault) → IsOneLine (proof_text rows fault)
@@ -156,9 +157,8 @@ proof_is rows faultless (proof.TooBig row) = ends_with (codes "too-big ") row re
 proof_is rows faultless (proof.LockBalance row) = ends_with (codes "lock-balance ") row refl
 proof_is rows faultless (proof.ReleaseBalance row) = ends_with (codes "release-balance ") row refl
 proof_is rows faultless (proof.Value cost bound) =
-    joined (codes "value ") (decimal cost ++ (codes " " ++ signed_decimal bound)) (none_found (codes "value ") refl)
-    (joined (decimal cost) (codes " " ++ signed_decimal bound) (decimal_feedless cost)
-    (joined (codes " ") (signed_decimal bound) (none_found (codes " ") refl) (signed_feedless bound)))
+    joined (codes "value " ++ decimal cost) (codes " " ++ signed_decimal bound) (ends_with (codes "value ") cost refl)
+    (joined (codes " ") (signed_decimal bound) (none_found (codes " ") refl) (signed_feedless bound))
 proof_is rows faultless proof.Memory = none_found (codes "memory") refl
 
 event_is : (fault : StepFault) → IsOneLine (event_text fault)
@@ -171,8 +171,7 @@ event_is event.Marked = none_found (codes "marked") refl
 -- words, a number, a space, and a text
 numbered_text : (before : List ℕ) (n : ℕ) (text : List ℕ) → none_is before ≡ true → IsOneLine text → IsOneLine (before ++ decimal n ++ codes " " ++ text)
 numbered_text before n text one of_text =
-    joined before (decimal n ++ codes " " ++ text) (none_found before one)
-    (joined (decimal n) (codes " " ++ text) (decimal_feedless n) (joined (codes " ") text (none_found (codes " ") refl) of_text))
+    joined (before ++ decimal n ++ codes " ") text (numbered before n (codes " ") one refl) of_text
 
 replay_is : (rows : Rows) → IsFaultless rows → (fault : ReplayFault) → IsOneLine (replay_text rows fault)
 replay_is rows faultless (replay.BadPlan job fault) = numbered_text (codes "job ") job (plan_text rows fault) refl (plan_is rows faultless fault)
@@ -241,40 +240,41 @@ history_reads document =
 
 -- ---- of what is said
 
-same_text : (text other : List ℕ) → Err {T = List ℕ} text ≡ Err other → text ≡ other
+same_text : (text other : List ℕ) → ◌≡◌ {A = Outcome} (Err text) (Err other) → text ≡ other
 same_text text other same = cc
 
 -- a fault of reading, or what is said of what was read
 then_says : {A : Type 0} (rows_of : A → Rows) (MaySay : A → Outcome → Type 0) (read : Result A WireFault) → Reads rows_of read
     → ((x : A) → IsFaultless (rows_of x) → RefusesInOneLine (MaySay x)) → RefusesInOneLine (ThenSays read MaySay)
-then_says rows_of MaySay (Ok x) reads says = says x reads
+then_says rows_of MaySay (Ok x) reads says text told = says x reads text told
 then_says rows_of MaySay (Err fault) reads says text told = subst IsOneLine (sym (same_text text (wire_text fault) told)) (faults_are_one_line fault)
 
+-- a legal plan has lines, and any other its fault
+unless_legal : (rows : Rows) → IsFaultless rows → (fault : Option PlanFault) (lines text : List ℕ) → ◌≡◌ {A = Outcome} (Err text) (unless_faulty rows fault lines) → IsOneLine text
+unless_legal rows faultless None lines text told = cc
+unless_legal rows faultless (Some fault) lines text told = subst IsOneLine (sym (same_text text (plan_text rows fault) told)) (plan_is rows faultless fault)
+
 judged : (trial : Task × List Step) → IsFaultless trial.0.tree → RefusesInOneLine (IsJudged trial)
-judged (task, steps) faultless text says = by_fault (plan_fault_of task.tree _ steps) says
-  where
-    by_fault : (fault : Option PlanFault) {lines : List ℕ} → Err text ≡ unless_faulty task.tree fault lines → IsOneLine text
-    by_fault None told = cc
-    by_fault (Some fault) told = subst IsOneLine (sym (same_text text (plan_text task.tree fault) told)) (plan_is task.tree faultless fault)
+judged (task, steps) faultless text says = unless_legal task.tree faultless _ _ text says
 
 checked : (claim : Task × List Step × List FlowRow) → IsFaultless claim.0.tree → RefusesInOneLine (IsChecked claim)
-checked (task, steps, flow) faultless text (fault, (other, (is, told))) = subst IsOneLine (sym told) (proof_is task.tree faultless fault)
+checked (task, steps, flow) faultless text (fault, other, is, told) = subst IsOneLine (sym told) (proof_is task.tree faultless fault)
 
 planned : (task : Task) → IsFaultless task.tree → RefusesInOneLine (IsPlanned task)
-planned task faultless text (steps, (flow, (settled, (certified, told)))) = cc
+planned task faultless text (steps, flow, settled, certified, told) = let never : ◌≡◌ {A = Outcome} (Err text) (Ok _) = told in cc
 
 run_batch : (batch : Rows × List ℤ × List (List Access)) → IsFaultless batch.0 → RefusesInOneLine (IsRunBatch batch)
 run_batch (rows, records, lists) faultless text (inl foreign) = subst IsOneLine (sym foreign) (none_found (codes "foreign") refl)
 run_batch (rows, records, lists) faultless text (inr unfinished) = subst IsOneLine (sym unfinished) (none_found (codes "unfinished") refl)
 
-misstated : (said : Option Standing) {records : List ℤ} {replies : _} (text : List ℕ) → IsMisstated said records replies text → IsOneLine text
-misstated None text is = absurd is
-misstated (Some said) text (inl (node, (first, told))) = subst IsOneLine (sym told) (ends_with (codes "standing records ") node refl)
-misstated (Some said) text (inr (same, (job, (first, told)))) = subst IsOneLine (sym told) (ends_with (codes "standing replies ") job refl)
+misstated : (said : Option Standing) (records : List ℤ) (replies : List (List Reply)) (text : List ℕ) → IsMisstated said records replies text → IsOneLine text
+misstated None records replies text is = absurd is
+misstated (Some said) records replies text (inl (node, first, told)) = subst IsOneLine (sym told) (ends_with (codes "standing records ") node refl)
+misstated (Some said) records replies text (inr (same, (job, first, told))) = subst IsOneLine (sym told) (ends_with (codes "standing replies ") job refl)
 
 audited : (history : History) → IsFaultless history.tree → RefusesInOneLine (IsAudited history)
-audited history faultless text (inl (fault, (other, (is, told)))) = subst IsOneLine (sym told) (replay_is history.tree faultless fault)
-audited history faultless text (inr (finished, is)) = misstated history.standing text is
+audited history faultless text (inl (fault, other, is, told)) = subst IsOneLine (sym told) (replay_is history.tree faultless fault)
+audited history faultless text (inr (finished, is)) = misstated history.standing _ _ text is
 
 pub commands_refuse_in_one_line : CommandsRefuseInOneLine
 commands_refuse_in_one_line = record {
