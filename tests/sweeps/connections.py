@@ -3,8 +3,10 @@ Servers whose own devices fail: `device`."""
 
 from __future__ import annotations
 
+import errno
 import json
 import os
+import socket
 import subprocess
 import time
 from functools import partial
@@ -27,6 +29,8 @@ REPLIES = TEN_LINES.connections[0].replies
 ADD = b'{"batch":[[["add","/a",1]]]}\n'
 GET = b'{"batch":[[["get","/a"]]]}\n'
 WEIGHTS = b'{"weights":null}\n'
+# This machine's too, but not the one that is listened at.
+OTHER_HOST = "127.0.0.2"
 # How long a client that never reads goes on sending, where nothing holds it up.
 SECONDS = 2.0
 
@@ -40,6 +44,7 @@ def tries(program: str, room: str) -> list[Try]:
         Try("clients that never read", partial(never_read, program)),
         Try("a server whose devices fail", partial(failing_devices, program)),
         Try("connections without a thread", partial(no_threads, program, library_in(room))),
+        Try("another address", partial(another_address, program)),
     ]
 
 
@@ -156,3 +161,11 @@ def no_threads(program: str, library: str, tally: Tally) -> None:
         with staying.makefile("rb") as replies:
             came = b"".join(replies.readline() for _ in lines_of(look(store)))
         note_replies(store, look(store), came, "the one that stayed", tally)
+
+
+def another_address(program: str, tally: Tally) -> None:
+    """It listens at 127.0.0.1 alone."""
+    with Serving(program, TREE) as server:
+        with socket.socket() as other:
+            code = other.connect_ex((OTHER_HOST, server.port))
+        tally.note(OTHER_HOST, None if code == errno.ECONNREFUSED else f"connecting ended with {code}")
