@@ -3,14 +3,18 @@ Servers whose own devices fail: `device`."""
 
 from __future__ import annotations
 
+import errno
 import json
+import os
+import socket
+import subprocess
 import time
 from functools import partial
 from pathlib import Path
 from random import Random
 
 from case_file import read_case
-from server import HOST, Serving, connected, free_port, talk
+from server import HOST, Serving, connected, free_port, talk, talk_in_turn
 from store import Store
 
 from sweeps.documents import EXAMPLES
@@ -25,11 +29,13 @@ REPLIES = TEN_LINES.connections[0].replies
 ADD = b'{"batch":[[["add","/a",1]]]}\n'
 GET = b'{"batch":[[["get","/a"]]]}\n'
 WEIGHTS = b'{"weights":null}\n'
+# This machine's too, but not the one that is listened at.
+OTHER_HOST = "127.0.0.2"
 # How long a client that never reads goes on sending, where nothing holds it up.
 SECONDS = 2.0
 
 
-def tries(program: str, _room: str) -> list[Try]:
+def tries(program: str, room: str) -> list[Try]:
     return [
         Try("ten lines in pieces", partial(in_pieces, program)),
         Try("ten lines cut after each byte", partial(cut_after_each, program)),
@@ -37,7 +43,18 @@ def tries(program: str, _room: str) -> list[Try]:
         Try("clients that leave after some bytes of a reply", partial(leave_in_a_reply, program)),
         Try("clients that never read", partial(never_read, program)),
         Try("a server whose devices fail", partial(failing_devices, program)),
+        Try("connections without a thread", partial(no_threads, program, library_in(room))),
+        Try("another address", partial(another_address, program)),
     ]
+
+
+def library_in(room: str) -> str:
+    """Compiles what refuses threads, to be preloaded."""
+    library = f"{room}/refuse_threads.so"
+    source = Path(__file__).with_name("refuse_threads.c")
+    words = ["cc", "-O1", "-shared", "-fPIC", "-o", library, source, "-ldl"]
+    subprocess.run(words, check=True, stdin=subprocess.DEVNULL)
+    return library
 
 
 def in_pieces(program: str, tally: Tally) -> None:
@@ -125,3 +142,30 @@ def failing_devices(program: str, tally: Tally) -> None:
     ran = run("sh", "-c", 'ulimit -n 4; exec "$@"', "sh", program, *words, str(port))
     listened = b"listening %s:%d\n" % (HOST.encode(), port)
     tally.compare("no file for a connection", ran, Ran(3, listened, b"device\n"))
+
+
+def no_threads(program: str, library: str, tally: Tally) -> None:
+    """Connections for which no thread can be started, more of them than there are seats: each is closed with no reply.
+    Those before them, of which one stays all the time, and those after them are served."""
+    first, last = 3, 3 + 20
+    surroundings = {**os.environ, "LD_PRELOAD": library, "FIRST_REFUSED": str(first), "LAST_REFUSED": str(last)}
+    with Serving(program, TREE, env=surroundings) as server, connected(server.port) as staying:
+        store = Store(json.loads(TREE))
+        for number in range(2, last + 3):
+            came = talk_in_turn(server.port, [ADD])
+            if first <= number <= last:
+                tally.note(f"thread {number} refused", None if came == b"" else f"came {came!r}")
+            else:
+                note_replies(store, ADD, came, f"thread {number}", tally)
+        staying.sendall(look(store))
+        with staying.makefile("rb") as replies:
+            came = b"".join(replies.readline() for _ in lines_of(look(store)))
+        note_replies(store, look(store), came, "the one that stayed", tally)
+
+
+def another_address(program: str, tally: Tally) -> None:
+    """It listens at 127.0.0.1 alone."""
+    with Serving(program, TREE) as server:
+        with socket.socket() as other:
+            code = other.connect_ex((OTHER_HOST, server.port))
+        tally.note(OTHER_HOST, None if code == errno.ECONNREFUSED else f"connecting ended with {code}")

@@ -1,5 +1,6 @@
 """A server that reads and writes a connection byte by byte, and each read and write that fails in turn, alone: the session
-ends there, and just what was due before went out. The next session is whole, over the store that it left."""
+ends there, and just what was due before went out. The next session is whole, over the store that it left. A call that is
+interrupted is made again."""
 
 from __future__ import annotations
 
@@ -15,11 +16,12 @@ from server import Serving, talk_in_turn
 from store import Store
 
 from sweeps.connections import REPLIES, TEXT, TREE
+from sweeps.documents import EXAMPLES
 from sweeps.growths import is_told
-from sweeps.program import Tally, Try
+from sweeps.program import Tally, Try, run
 from sweeps.talks import note_replies
 
-TRIED = "reads and writes of a server that failed, each alone"
+TRIED = "reads and writes of a server that failed, each alone, and sessions with many of them interrupted"
 LINES = TEXT.splitlines(keepends=True)
 RIGHT = REPLIES.splitlines(keepends=True)
 # No server here takes more reads, or more writes, for ten lines.
@@ -31,11 +33,12 @@ BYTE_BY_BYTE = {"READ_AT_MOST": "1", "WRITE_AT_MOST": "1"}
 
 def tries(program: str, room: str) -> list[Try]:
     library = library_in(room)
-    return [
+    failing = [
         Try(f"each {PARTS}th {kind} from {first} on", partial(fail_each, program, library, kind, first))
         for kind in ("read", "write")
         for first in range(1, PARTS + 1)
     ]
+    return failing + [Try("interrupted reads and writes", partial(interrupt_each, program, library))]
 
 
 def library_in(room: str) -> str:
@@ -58,6 +61,19 @@ def fail_each(program: str, library: str, kind: str, first: int, tally: Tally) -
             tally.note(where, None if came == wanted else f"wanted {wanted!r}; came {came!r}")
             ask_next(server, done, f"{where}, after it", tally)
     tally.blame(f"{kind} {number} failed", "there are still more of them")
+
+
+def interrupt_each(program: str, library: str, tally: Tally) -> None:
+    """Of all reads and writes, standard input's and output's among them, each second or third is interrupted."""
+    document = (EXAMPLES / "two-leaves.json").read_bytes()
+    wanted = run(program, "judge", text=document)
+    for each in (2, 3):
+        calls = {"LD_PRELOAD": library, **BYTE_BY_BYTE, "INTERRUPTED_EACH": str(each)}
+        surroundings = {**os.environ, **calls}
+        with Serving(program, TREE, env=surroundings) as server:
+            came = talk_in_turn(server.port, LINES)
+        tally.note(f"each of {each} interrupted", None if came == REPLIES else f"wanted {REPLIES!r}; came {came!r}")
+        tally.compare(f"judge, each of {each} interrupted", run(program, "judge", text=document, env=surroundings), wanted)
 
 
 def ask_next(server: Serving, done: int, where: str, tally: Tally) -> None:

@@ -14,7 +14,7 @@ from server import Serving
 
 from sweeps.program import Tally, Try, run, short
 
-TRIED = "batches by some number of workers, with their threads counted"
+TRIED = "batches and new weights by some number of workers, with their threads counted"
 WORKERS = (1, 2, 3, 4, 16)
 # No two lists have the same nodes in the same order, so each is planned by itself.
 LISTS = [[["get", f"/n{node}"] for node in [first, second] * 12] for first in range(16) for second in range(16)]
@@ -22,11 +22,12 @@ ROOT = {"parent": None, "name": "", "weight": 1}
 NODES = [ROOT] + [{"parent": 0, "name": f"n{number}", "weight": 1} for number in range(16)]
 DOCUMENT = json.dumps({"nodes": NODES, "lists": LISTS}).encode()
 BATCH = json.dumps({"batch": LISTS}).encode() + b"\n"
+REWEIGH = b'{"reweigh":null}\n'
 
 
 def tries(program: str, room: str) -> list[Try]:
     library = library_in(room)
-    asked = {"run": run_batch, "serve": serve_batch}
+    asked = {"run": run_batch, "serve": serve_batch, "reweigh": reweigh}
     return [Try(f"{name} by {workers}", partial(call, program, library, workers)) for name, call in asked.items() for workers in WORKERS]
 
 
@@ -43,7 +44,7 @@ def run_batch(program: str, library: str, workers: int, tally: Tally) -> None:
     with counting(library) as (how, told):
         ran = run(program, "run", "--workers", str(workers), text=DOCUMENT, **how)
         well = ran.status == 0 and ran.out.startswith(b"order [")
-        tally.note("run", fault_of(told(), workers, 0) if well else f"came {ran}")
+        tally.note("run", fault_of(told(), 0, workers - 1, batch_threads(workers)) if well else f"came {ran}")
 
 
 def serve_batch(program: str, library: str, workers: int, tally: Tally) -> None:
@@ -52,18 +53,32 @@ def serve_batch(program: str, library: str, workers: int, tally: Tally) -> None:
         with Serving(program, DOCUMENT, workers, **how) as server:
             reply = server.talk(BATCH)
         well = reply.startswith(b'{"places":[')
-        tally.note("serve", fault_of(told(), workers, 1) if well else f"came {short(reply)}")
+        tally.note("serve", fault_of(told(), 1, workers - 1, batch_threads(workers)) if well else f"came {short(reply)}")
 
 
-def fault_of(told: bytes, workers: int, others: int) -> str | None:
+def reweigh(program: str, library: str, workers: int, tally: Tally) -> None:
+    """The root has 16 children, so each further worker is a thread of its own."""
+    with counting(library) as (how, told):
+        with Serving(program, DOCUMENT, workers, **how) as server:
+            reply = server.talk(REWEIGH)
+        well = reply == b'{"changed":0}\n'
+        further = workers - 1
+        tally.note("reweigh", fault_of(told(), 1, further, range(further, further + 1)) if well else f"came {short(reply)}")
+
+
+def batch_threads(workers: int) -> range:
     """Lists are planned by so many, the caller among them, and then run by two of them at least. Two halves are
     planned at once, then halves of these, so that as many threads are started as there are further workers."""
+    return range(workers if workers > 1 else 0, 2 * (workers - 1) + 1)
+
+
+def fault_of(told: bytes, others: int, further: int, started: range) -> str | None:
+    """Beside the first thread and so many others there are never more than the further workers, and so many are started."""
     here = [told[: at + 1].count(b"+") - told[: at + 1].count(b"-") for at in range(len(told))]
-    most, started = max(here, default=0), told.count(b"+") - others
-    fewest, further = (workers if workers > 1 else 0), workers - 1
+    most, count = max(here, default=0), told.count(b"+") - others
     if most > further + others:
         return f"{most} threads at once beside the first"
-    return None if fewest <= started <= 2 * further else f"{started} threads were started"
+    return None if count in started else f"{count} threads were started"
 
 
 @contextlib.contextmanager
