@@ -1,5 +1,5 @@
 -- What is read, said and printed for a whole input.
-use Rattle.std.proofs.Common.{rules, ◌≡◌, ℕ, ◌+◌, ◌<◌, ◌≤◌, nat_lt, true, List, [], ◌++◌, length, Option, Some, None, IfSome, IfOk, IfErr, IsOkAnd, Result, Ok, Err, ◌⊎◌, sym, ap, ◌∙◌, subst, inl, inr, arith, take, OnOk, OnErr, le_refl, length-append, append-nil, take_all}
+use Rattle.std.proofs.Common.{rules, ◌≡◌, ℕ, ◌+◌, ◌<◌, ◌≤◌, nat_lt, true, List, [], ◌++◌, length, Option, Some, None, IfSome, IfOk, IfErr, IsOkAnd, Result, Ok, Err, ◌⊎◌, sym, ap, ◌∙◌, subst, inl, inr, arith, take, le_refl, length-append, append-nil, take_all}
 use Rattle.std.proofs.lemmas.Bool.{cases_lt, cond-true}
 use Rattle.std.proofs.lemmas.Result.{IfOk-weaker}
 use Rattle.std.specs.Io.KnownBytes.{Appends, Consumes, IsAtEnd, Keeps}
@@ -19,7 +19,7 @@ use Rattle.grove_words.specs.CommandLines.{AskToServe, NameDevice}
 use Rattle.grove_answer.specs.Outcomes.{Outcome, ThenSays}
 use Rattle.grove.specs.Answers.{most_bytes, status_of, printed, AnswersBy, IsListen, NamesPort}
 use Rattle.grove.specs.Endings.{Blames, SaysListening, SaysWhy}
-use Rattle.grove.specs.Outcomes.{document_for, MaySay, IsOutcome, Prints, PrintsPart}
+use Rattle.grove.specs.Outcomes.{document_for, MaySay, IsOutcome, Prints, PrintsPart, outcome_text}
 
 over_limit : (most : ℕ) (bytes : List ℕ) → most < length bytes → document_within most bytes ≡ Err (Limit (whole_of Whole))
 over_limit most bytes h = let over : nat_lt most (length bytes) ≡ true = search rules in cond-true (nat_lt most (length bytes)) _ _ over
@@ -81,11 +81,18 @@ prints_read command (Ok a) status old new Also (bytes, (outcome, may, is)) done 
     (bytes, λ h. (outcome, may, (done h).0 ∙ is.0, subst (λ text. Appends old new text) is.1 (done h).1))
 prints_read command (Err why) status old new Also says done = ([], λ h. absurd (done h))
 
--- what went out of a text, wherever the write was cut
-pub part_written : {T E : Type 0} (text : List ℕ) (result : Result T E) (old new : Option (List ℕ)) → OnOk result (Appends old new text)
-    → OnErr result ((count : ℕ) × (count < length text) × Appends old new (take count text)) → (count : ℕ) × Appends old new (take count text)
-part_written text (Ok x) old new whole cut = (length text, subst (λ out. Appends old new out) (sym (take_all (length text) text (le_refl (length text)))) whole)
-part_written text (Err fault) old new whole (count, less, out) = (count, out)
+-- a whole text is a first part of it
+pub all_written : (text : List ℕ) (old new : Option (List ℕ)) → Appends old new text → (count : ℕ) × Appends old new (take count text)
+all_written text old new whole = (length text, subst (λ out. Appends old new out) (sym (take_all (length text) text (le_refl (length text)))) whole)
+
+-- and so is what went out of a text that was cut
+pub cut_written : (text : List ℕ) (old new : Option (List ℕ)) → (count : ℕ) × (count < length text) × Appends old new (take count text) → (count : ℕ) × Appends old new (take count text)
+cut_written text old new (count, less, out) = (count, out)
+
+-- what went out of an answer is what went out of what may be said
+part_said : (MaySay : Outcome → Type 0) (answer : Answer) (old new : Option (List ℕ)) → AnswersBy MaySay answer → (count : ℕ) × Appends old new (take count (printed answer))
+    → (outcome : Outcome) × MaySay outcome × (count : ℕ) × Appends old new (take count (outcome_text outcome))
+part_said MaySay answer old new (outcome, may, is) (count, out) = (outcome, may, (count, subst (λ text. Appends old new (take count text)) is.1 out))
 
 -- of what is said of an input at most a first part is printed, where its bytes are known
 pub part_of_input : (Said : List ℕ → Outcome → Type 0) (known : Option (List ℕ)) (answer : Result Answer Stop) (old new : Option (List ℕ))
@@ -93,20 +100,17 @@ pub part_of_input : (Said : List ℕ → Outcome → Type 0) (known : Option (Li
     → Keeps old new ⊎ IsOkAnd answer (λ a. (count : ℕ) × Appends old new (take count (printed a)))
     → IfSome known (λ document. PrintsPart (Said document) old new)
 part_of_input Said None answer old new says out = tt
-part_of_input Said (Some document) answer old new says (inl kept) = inl kept
-part_of_input Said (Some document) (Ok a) old new (outcome, may, is) (inr (count, out)) =
-    inr (outcome, may, count, subst (λ text. Appends old new (take count text)) is.1 out)
-part_of_input Said (Some document) (Err why) old new says (inr out) = absurd out
+part_of_input Said (Some document) (Ok a) old new says out = elim out [ inl kept ↦ inl kept | inr part ↦ inr (part_said (Said document) a old new says part) ]
+part_of_input Said (Some document) (Err why) old new says out = elim out [ inl kept ↦ inl kept | inr part ↦ absurd part ]
 
 -- the same of some bytes
 pub part_of_read : (command : Command) (answer : Result Answer Stop) (old new : Option (List ℕ))
     → IfOk answer (λ a. (bytes : List ℕ) × AnswersBy (IsOutcome command bytes) a)
     → Keeps old new ⊎ IsOkAnd answer (λ a. (count : ℕ) × Appends old new (take count (printed a)))
     → (bytes : List ℕ) × PrintsPart (IsOutcome command bytes) old new
-part_of_read command answer old new says (inl kept) = ([], inl kept)
-part_of_read command (Ok a) old new (bytes, (outcome, may, is)) (inr (count, out)) =
-    (bytes, inr (outcome, may, count, subst (λ text. Appends old new (take count text)) is.1 out))
-part_of_read command (Err why) old new says (inr out) = absurd out
+part_of_read command (Ok a) old new says out =
+    (says.0, elim out [ inl kept ↦ inl kept | inr part ↦ inr (part_said (IsOutcome command says.0) a old new says.1 part) ])
+part_of_read command (Err why) old new says out = ([], elim out [ inl kept ↦ inl kept | inr part ↦ absurd part ])
 
 -- an answer that is no usage fault doesn't end as one
 pub not_usage : (answer : Result Answer Stop) (status : ℕ) (old new : Option (List ℕ)) (Also : Answer → Type 0) → IfOk answer (λ a. status_of a ≤ 1)

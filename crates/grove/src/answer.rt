@@ -68,6 +68,7 @@ pub fn end<R: AllocGlobal + Threads + Wait + Sync, O: Sink, E: Sink>(
 }
 
 /// Prints the text on standard output, and gives the status if that is done.
+#[tactic(auto, using(crate::proofs::Printing::all_written, crate::proofs::Printing::cut_written))]
 fn tell<O: Sink, E: Sink>(text: &str, status: u8, out: &mut O, err: &mut E) -> u8
     requires { status ≤ 2 }
     ensures status { (result ≡ status) ⊎ (result ≡ 3) }
@@ -98,6 +99,7 @@ fn complain<E: Sink>(text: &str, err: &mut E) -> u8
 }
 
 /// Prints the line and serves, which ends only where a device fails.
+#[tactic(auto, using(crate::proofs::Printing::all_written, crate::proofs::Printing::cut_written))]
 fn say_and_serve<R: AllocGlobal + Threads + Wait + Sync, O: Sink, E: Sink>(
     rt: &R,
     line: &str,

@@ -2,9 +2,9 @@ ghost use Rattle.std.specs.Prelude.{◌≡◌};
 ghost use Rattle.grove_wire.specs.Names.{tree_name, wire_name, plan_name, proof_name, run_name};
 
 use crate::WireFault;
+use grove_core::RunFault;
 use grove_plan::PlanFault;
 use grove_proof::ProofFault;
-use grove_core::RunFault;
 use grove_tree::TreeFault;
 
 /// The name of a fault of reading, as `shape` or `bad-parent`, by which a session line is refused.

@@ -3,9 +3,9 @@ ghost use Rattle.grove_tree.specs.Paths.{path_of};
 ghost use Rattle.grove_wire.specs.Texts.{place_text, tree_text, wire_text, plan_text, FaultFits, value_text, proof_text, ProofFaultFits, run_text, RunFaultFits};
 
 use crate::{Place, WireFault};
+use grove_core::RunFault;
 use grove_plan::PlanFault;
 use grove_proof::ProofFault;
-use grove_core::RunFault;
 use grove_tree::{NoMemory, Node, Tree, TreeFault};
 use std::alloc::Global;
 
