@@ -1,0 +1,8 @@
+//! Plans as pictures: what is drawn of a plan, and the drawings themselves, as SVG and as text.
+#![tactic(auto)]
+
+pub use bar::Bar;
+pub use picture::{Picture, legal_picture, picture_of};
+
+mod bar;
+mod picture;
