@@ -2,7 +2,14 @@
 #![tactic(auto)]
 
 pub use bar::Bar;
+pub use drawing::{Drawing, Form};
 pub use picture::{Picture, legal_picture, picture_of};
 
 mod bar;
+mod columns;
+mod drawing;
+mod escaping;
 mod picture;
+mod svg;
+mod text;
+mod words;
