@@ -1,0 +1,2 @@
+pub mod LockedNodes
+pub mod BarsBelow

@@ -1,0 +1,186 @@
+use crate::columns::{Columns, Widths};
+use crate::words::{depth_below, name_of, path_in, push_cost, push_length, push_number, word_of};
+use crate::{Bar, Drawing, Picture};
+use grove_access::Access;
+use std::alloc::{AllocError, Global};
+
+/// How wide the names are at most.
+const NAMES: usize = 30;
+
+/// How wide the accesses are together, at most.
+const ACCESSES: usize = 64;
+
+/// The drawing for a terminal: no row is longer than some 120 letters.
+pub fn text(alloc: Global, drawing: &Drawing) -> Result<String, AllocError> {
+    let mut out = String::new(alloc);
+    let columns = columns_of(alloc, &drawing.settled.accesses)?;
+    if let Some(own) = &drawing.own {
+        let cost = own.cost;
+        writeln!(out, "the document's plan: cost {cost}")?;
+        push_picture(&mut out, own, &columns)?;
+    }
+    let cost = drawing.settled.cost;
+    writeln!(out, "the settled plan: cost {cost}")?;
+    push_picture(&mut out, &drawing.settled, &columns)?;
+    if let Some(saved) = drawing.saved() {
+        writeln!(out, "saved: {saved}\n")?;
+    }
+    push_accesses(&mut out, &drawing.settled)?;
+    Ok(out)
+}
+
+/// The columns of the accesses: of a few, each has room for its word.
+fn columns_of(alloc: Global, accesses: &[Access]) -> Result<Columns, AllocError> {
+    let (least, slot) = if accesses.len() <= 12 { (4, 2) } else { (1, 5) };
+    let shared = ACCESSES.saturating_sub(accesses.len().saturating_mul(least));
+    let widths = Widths {
+        least,
+        shared,
+        slot,
+    };
+    Columns::new(alloc, accesses, widths)
+}
+
+fn push_picture(out: &mut String, picture: &Picture, columns: &Columns) -> Result<(), AllocError> {
+    let names = names_width(picture);
+    push_padded(out, "node", names)?;
+    out.push_str(" weight ")?;
+    push_times(out, picture, columns)?;
+    for (place, bar) in picture.bars.iter().enumerate() {
+        push_name(out, picture, bar, place == 0, names)?;
+        push_weight(out, bar)?;
+        push_bar(out, picture, bar, columns)?;
+        let held = columns
+            .time(bar.release as usize)
+            .saturating_sub(columns.time(bar.lock as usize));
+        push_cost(out, bar, held, "x")?;
+        out.push('\n')?;
+    }
+    out.push('\n')
+}
+
+/// How wide the names of a picture are.
+fn names_width(picture: &Picture) -> usize {
+    let mut width: usize = 4;
+    for (place, bar) in picture.bars.iter().enumerate() {
+        let indent = depth_below(picture, bar).saturating_mul(2);
+        let letters = name_of(bar, place == 0).chars().count();
+        width = width.max(indent.saturating_add(letters));
+    }
+    width.min(NAMES)
+}
+
+/// The slots at which the accesses begin, as far as there is room for them.
+fn push_times(out: &mut String, picture: &Picture, columns: &Columns) -> Result<(), AllocError> {
+    let mut at: usize = 0;
+    for access in 0..=picture.accesses.len() {
+        let start = columns.start(access);
+        if start >= at {
+            push_letters(out, ' ', start.saturating_sub(at))?;
+            let before = out.len();
+            let time = columns.time(access);
+            write!(out, "{time}")?;
+            let letters = out.len().saturating_sub(before);
+            at = start.saturating_add(letters);
+            out.push(' ')?;
+            at = at.saturating_add(1);
+        }
+    }
+    out.push('\n')
+}
+
+fn push_name(
+    out: &mut String,
+    picture: &Picture,
+    bar: &Bar,
+    first: bool,
+    width: usize,
+) -> Result<(), AllocError> {
+    let indent = depth_below(picture, bar).saturating_mul(2).min(width / 2);
+    push_letters(out, ' ', indent)?;
+    push_padded(out, name_of(bar, first), width.saturating_sub(indent))
+}
+
+fn push_weight(out: &mut String, bar: &Bar) -> Result<(), AllocError> {
+    let weight = bar.weight;
+    write!(out, " {weight:>6} ")
+}
+
+/// The bar over the accesses: a word where its own node is accessed, dashes where it is held else, and a stroke where it
+/// is let go in the slot of its lock.
+fn push_bar(
+    out: &mut String,
+    picture: &Picture,
+    bar: &Bar,
+    columns: &Columns,
+) -> Result<(), AllocError> {
+    let lock = bar.lock as usize;
+    let release = bar.release as usize;
+    for (place, access) in picture.accesses.iter().enumerate() {
+        let width = columns
+            .start(place.saturating_add(1))
+            .saturating_sub(columns.start(place));
+        if lock <= place && place < release {
+            if access.node == bar.node {
+                push_filled(out, word_of(access.op), '=', width)?;
+            } else {
+                push_letters(out, '-', width)?;
+            }
+        } else if lock == place && release == place {
+            push_filled(out, "|", ' ', width)?;
+        } else {
+            push_letters(out, ' ', width)?;
+        }
+    }
+    let ends_there = lock == picture.accesses.len();
+    out.push_str(if ends_there { "| " } else { "  " })
+}
+
+/// The accesses, one in a line.
+fn push_accesses(out: &mut String, picture: &Picture) -> Result<(), AllocError> {
+    for (place, access) in picture.accesses.iter().enumerate() {
+        let word = word_of(access.op);
+        let path = path_in(picture, access.node);
+        write!(out, "access {place}: {word} {path}")?;
+        push_number(out, access.op)?;
+        push_length(out, access)?;
+        out.push('\n')?;
+    }
+    Ok(())
+}
+
+fn push_letters(out: &mut String, letter: char, times: usize) -> Result<(), AllocError> {
+    for _ in 0..times {
+        out.push(letter)?;
+    }
+    Ok(())
+}
+
+/// The text within a width, filled up by a letter.
+fn push_filled(out: &mut String, text: &str, fill: char, width: usize) -> Result<(), AllocError> {
+    let mut rest = width;
+    for letter in text.chars() {
+        if rest > 0 {
+            out.push(letter)?;
+            rest -= 1;
+        }
+    }
+    push_letters(out, fill, rest)
+}
+
+/// The text within a width, filled up by blanks; of a longer one the last letters, after two dots.
+fn push_padded(out: &mut String, text: &str, width: usize) -> Result<(), AllocError> {
+    let letters = text.chars().count();
+    if letters <= width {
+        out.push_str(text)?;
+        return push_letters(out, ' ', width.saturating_sub(letters));
+    }
+    out.push_str("..")?;
+    let dropped = letters.saturating_sub(width.saturating_sub(2));
+    for (place, letter) in text.chars().enumerate() {
+        if place >= dropped {
+            out.push(letter)?;
+        }
+    }
+    Ok(())
+}
