@@ -1,0 +1,10 @@
+use Rattle.std.proofs.Common.{◌≤◌, length}
+use Rattle.std.specs.Prelude.{All, string_bytes}
+use Rattle.grove_hint.specs.Hints.{IsPrintable}
+use Rattle.grove_hint.proofs.line.printable.Given as goal
+
+abbrev pub invariant-loop-letter : goal.invariant-loop-letter
+invariant-loop-letter l = record {
+  printable : All IsPrintable (string_bytes l.said);
+  short : length (string_bytes l.said) ≤ 400;
+}

@@ -1,0 +1,117 @@
+use crate::members::{Kind, unfit};
+use crate::nearest::nearest_word;
+use crate::shown::quoted;
+use grove_base::NoMemory;
+use serde_json::Value;
+use std::alloc::Global;
+
+/// The operations of accesses.
+const OPERATIONS: [&str; 4] = ["get", "set", "add", "take"];
+
+/// Why a value is no access.
+pub(crate) fn access_amiss(
+    alloc: Global,
+    place: &str,
+    has_lengths: bool,
+    value: &Value,
+) -> Result<String, NoMemory> {
+    let form = r#"an access, as ["get","/a"] or ["add","/a",1],"#;
+    let Some(items) = value.as_array() else {
+        return unfit(alloc, place, value, form);
+    };
+    let Some((first, operands)) = items.split_first() else {
+        return unfit(alloc, place, value, form);
+    };
+    match first.as_str() {
+        None => {
+            let first_of = format!(in alloc; "the operation of {place}")?;
+            unfit(alloc, &first_of, first, r#""get", "set", "add" or "take""#)
+        }
+        Some("get") => operands_amiss(alloc, place, has_lengths, operands),
+        Some("set" | "add" | "take") => numbered_amiss(alloc, place, has_lengths, operands),
+        Some(word) => no_operation(alloc, place, word),
+    }
+}
+
+/// A word that is none of the four.
+fn no_operation(alloc: Global, place: &str, word: &str) -> Result<String, NoMemory> {
+    let shown = quoted(alloc, word)?;
+    let near = match nearest_word(alloc, word, &OPERATIONS)? {
+        Some(near) => format!(in alloc; ", but resembles \"{near}\"")?,
+        None => String::new(alloc),
+    };
+    Ok(format!(in alloc;
+        "{shown} of {place} is no operation{near}; the four are \"get\", \"set\", \"add\" and \"take\""
+    )?)
+}
+
+/// What is amiss after `get`.
+fn operands_amiss(
+    alloc: Global,
+    place: &str,
+    has_lengths: bool,
+    operands: &[Value],
+) -> Result<String, NoMemory> {
+    match operands {
+        [] => Ok(format!(in alloc; "{place} has no path")?),
+        [path, ..] if !path.is_string() => path_amiss(alloc, place, path),
+        [_path, lengths @ ..] => length_amiss(alloc, place, has_lengths, lengths),
+    }
+}
+
+/// What is amiss after `set`, `add` or `take`.
+fn numbered_amiss(
+    alloc: Global,
+    place: &str,
+    has_lengths: bool,
+    operands: &[Value],
+) -> Result<String, NoMemory> {
+    match operands {
+        [] => Ok(format!(in alloc; "{place} has no path")?),
+        [path, ..] if !path.is_string() => path_amiss(alloc, place, path),
+        [_path] => Ok(format!(in alloc; "{place} has no number after its path")?),
+        [_path, number, ..] if !number.is_i64() => {
+            let member = format!(in alloc; "the number of {place}")?;
+            unfit(alloc, &member, number, Kind::Signed.wanted())
+        }
+        [_path, _number, lengths @ ..] => length_amiss(alloc, place, has_lengths, lengths),
+    }
+}
+
+fn path_amiss(alloc: Global, place: &str, path: &Value) -> Result<String, NoMemory> {
+    let member = format!(in alloc; "the path of {place}")?;
+    unfit(alloc, &member, path, r#"a text, as "/a","#)
+}
+
+/// What is amiss with the items of an access that come where its length may stand.
+fn length_amiss(
+    alloc: Global,
+    place: &str,
+    has_lengths: bool,
+    lengths: &[Value],
+) -> Result<String, NoMemory> {
+    match lengths {
+        [length] if !length.is_u64() => {
+            let member = format!(in alloc; "the length of {place}")?;
+            unfit(alloc, &member, length, "a whole number from 1 to 1000")
+        }
+        [_length] if !has_lengths => Ok(format!(in alloc;
+            "{place} tells a length, which is read only where the document has \"version\":2"
+        )?),
+        _ => Ok(format!(in alloc; "{place} has too many items")?),
+    }
+}
+
+/// A length that is no length of an access.
+pub(crate) fn length_beyond(alloc: Global, place: &str, value: &Value) -> Result<String, NoMemory> {
+    let told = match value.as_array() {
+        Some(items) => items.last().and_then(Value::as_u64),
+        None => None,
+    };
+    match told {
+        Some(length) => Ok(format!(in alloc;
+            "{place} is {length} slots long, but an access has 1 to 1000"
+        )?),
+        None => Ok(format!(in alloc; "an access is 1 to 1000 slots long")?),
+    }
+}

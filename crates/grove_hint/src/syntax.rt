@@ -1,0 +1,176 @@
+ghost use Rattle.std.specs.Prelude.{◌≤◌, length};
+
+use crate::scanning::{Next, Stopped, Wrong, first_wrong};
+use crate::shown::{quoted, words};
+use grove_base::NoMemory;
+use serde_json::Value;
+use std::alloc::Global;
+use std::str;
+
+/// Why bytes are no JSON.
+pub(crate) fn syntax_amiss(alloc: Global, bytes: &[u8]) -> Result<String, NoMemory> {
+    if bytes.starts_with(b"\xef\xbb\xbf") {
+        return words(
+            alloc,
+            "the document begins with a byte-order mark, which JSON has none of; save it as UTF-8 without one",
+        );
+    }
+    if bytes.starts_with(b"\xff\xfe") || bytes.starts_with(b"\xfe\xff") {
+        return words(alloc, "the document is UTF-16; save it as UTF-8");
+    }
+    if let Err(error) = str::from_utf8(bytes) {
+        let place = Spot::of(bytes, error.valid_up_to());
+        let (line, column) = (place.line, place.column);
+        return Ok(format!(in alloc;
+            "line {line}, column {column}: what begins there isn't UTF-8"
+        )?);
+    }
+    match first_wrong(alloc, bytes)? {
+        Some(
+            Stopped {
+                at: _,
+                wrong: Wrong::End(Next::Value),
+            },
+        ) if is_blank(bytes) => { words(alloc, "the document is empty") }
+        Some(stopped) => stopped_amiss(alloc, bytes, stopped),
+        None => unread_amiss(alloc, bytes),
+    }
+}
+
+fn is_blank(bytes: &[u8]) -> bool {
+    bytes.trim_ascii().is_empty()
+}
+
+/// A line and a column of a text, both from 1; a column is a character.
+#[derive(Clone, Copy, Debug, PartialEq, Eq)]
+struct Spot {
+    line: usize,
+    column: usize,
+}
+
+impl Spot {
+    /// Where so many bytes of the text end.
+    fn of(bytes: &[u8], at: usize) -> Spot {
+        let (before, _) = bytes.split_at(at.min(bytes.len()));
+        let mut line = 1usize;
+        let mut column = 1usize;
+        for byte in before {
+            if *byte == b'\n' {
+                line = line.saturating_add(1);
+                column = 1;
+            } else if *byte < 0x80 || *byte >= 0xc0 {
+                column = column.saturating_add(1);
+            }
+        }
+        Spot { line, column }
+    }
+}
+
+fn stopped_amiss(alloc: Global, bytes: &[u8], stopped: Stopped) -> Result<String, NoMemory> {
+    let Spot { line, column } = Spot::of(bytes, stopped.at);
+    let (_, rest) = bytes.split_at(stopped.at.min(bytes.len()));
+    let why = match stopped.wrong {
+        Wrong::Unawaited(next) => unawaited(alloc, next, rest)?,
+        Wrong::Control => words(
+            alloc,
+            "a text isn't closed on its line, or has a tab in it; \\n and \\t stand for a line feed and a tab",
+        )?,
+        Wrong::Escape => words(
+            alloc,
+            "after \\ stands one of \" \\ / b f n r t, or u and four digits",
+        )?,
+        Wrong::Word => word_amiss(alloc, rest)?,
+        Wrong::Deep => words(alloc, "values nest 128 deep there")?,
+        Wrong::OpenText => words(
+            alloc,
+            "the document ends within a text, which a \" has to close",
+        )?,
+        Wrong::End(next) => {
+            let awaited = awaited(next);
+            format!(in alloc; "the document ends, but {awaited} has to come")?
+        }
+    };
+    Ok(format!(in alloc; "line {line}, column {column}: {why}")?)
+}
+
+/// Something else may come than what is there.
+fn unawaited(alloc: Global, next: Next, rest: &[u8]) -> Result<String, NoMemory> {
+    let awaited = awaited(next);
+    match (next, rest) {
+        (Next::Item, [b']', ..]) | (Next::Name, [b'}', ..]) => {
+            words(alloc, "no comma may stand before a closing bracket")
+        }
+        (Next::Nothing, _) => words(alloc, "the document has ended there, but more comes"),
+        (_, [b'\'', ..]) => words(alloc, "texts and names stand in double quotes"),
+        (_, [b'/' | b'#', ..]) => words(alloc, "JSON has no comments"),
+        (_, [0x80..=0xff, ..]) => {
+            words(
+                alloc,
+                "a character that isn't ASCII stands outside of a text; quotes are \"",
+            )
+        }
+        (Next::FirstName | Next::Name, [first, ..]) if first.is_ascii_alphabetic() => {
+            words(alloc, "the names of members stand in double quotes")
+        }
+        (_, [first @ 33..=126, ..]) => {
+            let found = char::from(*first);
+            Ok(format!(in alloc; "{awaited} has to come, but {found} is there")?)
+        }
+        _ => Ok(format!(in alloc; "{awaited} has to come")?),
+    }
+}
+
+fn awaited(next: Next) -> &'static str {
+    match next {
+        Next::Value | Next::Item => "a value",
+        Next::FirstItem => "a value or ]",
+        Next::FirstName => "a name in double quotes or }",
+        Next::Name => "a name in double quotes",
+        Next::Colon => "a colon",
+        Next::ItemEnd => "a comma or ]",
+        Next::MemberEnd => "a comma or }",
+        Next::Nothing => "nothing",
+    }
+}
+
+/// A word or a number that there isn't.
+fn word_amiss(alloc: Global, rest: &[u8]) -> Result<String, NoMemory> {
+    let (word, _) = rest.split_at(word_length(rest));
+    let shown = match str::from_utf8(word) {
+        Ok(word) => quoted(alloc, word)?,
+        Err(_) => words(alloc, "what stands there")?,
+    };
+    match word {
+        [b'0'..=b'9' | b'-' | b'+' | b'.', ..] => Ok(format!(in alloc;
+            "{shown} is no number of JSON: no + before it, no 0 before another digit, and digits on both sides of a point"
+        )?),
+        _ => Ok(format!(in alloc;
+            "{shown} is no value: texts stand in double quotes, and the words are null, true and false"
+        )?),
+    }
+}
+
+/// How many bytes of a word the text begins with.
+fn word_length(rest: &[u8]) -> usize
+    ensures { result ≤ length rest.now }
+{
+    rest.iter()
+        .take_while(|byte| byte.is_ascii_alphanumeric()
+            || matches!(**byte, b'+' | b'-' | b'.' | b'_'))
+        .count()
+        .min(rest.len())
+}
+
+/// What is refused though each byte is in place.
+fn unread_amiss(alloc: Global, bytes: &[u8]) -> Result<String, NoMemory> {
+    match Value::from_slice(alloc, bytes) {
+        Ok(_) => words(alloc, "the document is JSON"),
+        Err(error) if error.is_memory() => Err(NoMemory),
+        Err(error) => {
+            let (line, column) = (error.line(), error.column());
+            Ok(format!(in alloc;
+                "line {line}, column {column}: a number is too large there, or half of a \\u pair stands alone"
+            )?)
+        }
+    }
+}
