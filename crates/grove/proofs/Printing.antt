@@ -1,5 +1,5 @@
 -- What is read, said and printed for a whole input.
-use Rattle.std.proofs.Common.{rules, ◌≡◌, ℕ, ◌+◌, ◌<◌, ◌≤◌, nat_lt, true, List, [], ◌++◌, length, Option, Some, None, IfSome, IfOk, IfErr, IsOkAnd, Result, Ok, Err, ◌⊎◌, sym, ap, ◌∙◌, subst, inl, inr, arith, take, le_refl, length-append, append-nil, take_all}
+use Rattle.std.proofs.Common.{rules, ◌≡◌, ℕ, ◌+◌, ◌<◌, ◌≤◌, nat_lt, true, List, [], ◌++◌, length, Option, Some, None, IfSome, IfOk, IfErr, IsOkAnd, Result, Ok, Err, string_bytes, ◌⊎◌, sym, ap, ◌∙◌, subst, inl, inr, arith, take, le_refl, length-append, append-nil, take_all}
 use Rattle.std.proofs.lemmas.Bool.{cases_lt, cond-true}
 use Rattle.std.proofs.lemmas.Result.{IfOk-weaker}
 use Rattle.std.specs.Io.KnownBytes.{Appends, Consumes, IsAtEnd, Keeps}
@@ -17,8 +17,8 @@ use Rattle.grove_words.specs.declared.order.Command.{Command}
 use Rattle.grove_words.specs.declared.order.Command.TheVariants.{Judge, Check, Plan, Run, Audit, Serve}
 use Rattle.grove_words.specs.CommandLines.{AskToServe, NameDevice}
 use Rattle.grove_answer.specs.Outcomes.{Outcome, ThenSays}
-use Rattle.grove.specs.Answers.{most_bytes, status_of, printed, AnswersBy, IsListen, NamesPort}
-use Rattle.grove.specs.Endings.{Blames, SaysListening, SaysWhy}
+use Rattle.grove.specs.Answers.{most_bytes, status_of, printed, AnswersBy, HasText, IsListen, NamesPort}
+use Rattle.grove.specs.Endings.{Blames, SaysListening, SaysSomething, SaysWhy}
 use Rattle.grove.specs.Outcomes.{document_for, MaySay, IsOutcome, Prints, PrintsPart, outcome_text}
 
 over_limit : (most : ℕ) (bytes : List ℕ) → most < length bytes → document_within most bytes ≡ Err (Limit (whole_of Whole))
@@ -92,7 +92,7 @@ cut_written text old new (count, less, out) = (count, out)
 -- what went out of an answer is what went out of what may be said
 part_said : (MaySay : Outcome → Type 0) (answer : Answer) (old new : Option (List ℕ)) → AnswersBy MaySay answer → (count : ℕ) × Appends old new (take count (printed answer))
     → (outcome : Outcome) × MaySay outcome × (count : ℕ) × Appends old new (take count (outcome_text outcome))
-part_said MaySay answer old new (outcome, may, is) (count, out) = (outcome, may, (count, subst (λ text. Appends old new (take count text)) is.1 out))
+part_said MaySay answer old new (outcome, may, is) (count, out) = (outcome, may, count, subst (λ text. Appends old new (take count text)) is.1 out)
 
 -- of what is said of an input at most a first part is printed, where its bytes are known
 pub part_of_input : (Said : List ℕ → Outcome → Type 0) (known : Option (List ℕ)) (answer : Result Answer Stop) (old new : Option (List ℕ))
@@ -111,6 +111,24 @@ pub part_of_read : (command : Command) (answer : Result Answer Stop) (old new : 
 part_of_read command (Ok a) old new says out =
     (says.0, elim out [ inl kept ↦ inl kept | inr part ↦ inr (part_said (IsOutcome command says.0) a old new says.1 part) ])
 part_of_read command (Err why) old new says out = ([], elim out [ inl kept ↦ inl kept | inr part ↦ absurd part ])
+
+-- an answer with a text says something
+says_text : (answer : Answer) (old new : Option (List ℕ)) → status_of answer ≡ 0 → HasText answer → Appends old new (printed answer) → SaysSomething old new
+says_text (Done text) old new zero has said = (string_bytes text, has, said)
+says_text (Refused text) old new zero has said = absurd has
+says_text (Usage text) old new zero has said = let two : ◌≡◌ {A = ℕ} 2 0 = zero in cc
+says_text (Listen line service) old new zero has said = (string_bytes line, has, said)
+
+-- an answer of status 0 with a text is shown, or can't be printed
+pub shown_text : (answer : Result Answer Stop) (status : ℕ) (old new : Option (List ℕ)) (Also : Answer → Type 0) → status ≤ 3 → IfOk answer (λ a. (status_of a ≡ 0) × HasText a)
+    → (status ≤ 2 → IsOkAnd answer (λ a. (status ≡ status_of a) × Appends old new (printed a) × Also a)) → ((status ≡ 0) × SaysSomething old new) ⊎ (status ≡ 3)
+shown_text (Ok a) status old new Also few has done =
+    elim (cases_lt 2 status) [
+      | inl over ↦ inr (omega arith)
+      | inr within ↦ inl ((done within).0 ∙ has.0, says_text a old new has.0 has.1 (done within).1)
+    ]
+shown_text (Err why) status old new Also few has done =
+    elim (cases_lt 2 status) [ inl over ↦ inr (omega arith) | inr within ↦ absurd (done within) ]
 
 -- an answer that is no usage fault doesn't end as one
 pub not_usage : (answer : Result Answer Stop) (status : ℕ) (old new : Option (List ℕ)) (Also : Answer → Type 0) → IfOk answer (λ a. status_of a ≤ 1)

@@ -1,5 +1,5 @@
 use Rattle.grove.specs.Outcomes.{IsOutcome}
-use Rattle.grove.proofs.Printing.{blames_device, part_of_input, part_of_read, prints_input, prints_port, prints_read, not_usage}
+use Rattle.grove.proofs.Printing.{blames_device, part_of_input, part_of_read, prints_input, prints_port, prints_read, not_usage, shown_text}
 use Rattle.grove.proofs.command.run_command.Goals as goal
 
 pub returns-clause-answered : goal.returns-clause-answered
@@ -25,3 +25,6 @@ returns-clause-cut g c order asks none =
 
 pub returns-clause-cut_read : goal.returns-clause-cut_read
 returns-clause-cut_read g c order asks = part_of_read order.command c.answer.result _ _ (c.answer.ensures.read order asks) c.end.ensures.part
+
+pub returns-clause-shown : goal.returns-clause-shown
+returns-clause-shown g c asks = shown_text c.answer.result _ _ _ _ c.end.ensures.status (c.answer.ensures.shown asks) c.end.ensures.answered
