@@ -39,7 +39,7 @@ class Case:
     is_port_taken: bool = False
     status: int | None = None
     output: Wanted = field(default_factory=Wanted)
-    errors: Wanted = field(default_factory=Wanted)
+    errors: Wanted | None = None
     seconds: float = 10.0
 
 

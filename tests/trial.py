@@ -7,7 +7,9 @@ import tempfile
 from dataclasses import dataclass
 from pathlib import Path
 
+from case_file import Wanted
 from certificate import fault_of_certificate, is_flow
+from hints import split_hint
 
 SHOWN = 72
 
@@ -30,7 +32,7 @@ def faults_of_run(program, case):
     if ran.status != case.status:
         faults.append(f"status: wanted {case.status}, came {ran.status}")
     faults += faults_of_stream("output", case.output, ran.output)
-    faults += faults_of_stream("errors", case.errors, ran.errors)
+    faults += faults_of_errors(case, ran)
     if case.output.comparison == "certified" and not faults:
         faults += faults_of_certified(program, case, ran.output.removeprefix(case.output.text))
     return faults
@@ -60,6 +62,12 @@ def lay_out(case, folder):
     for name, content in case.files.items():
         (Path(folder) / name).parent.mkdir(parents=True, exist_ok=True)
         (Path(folder) / name).write_bytes(content)
+
+
+def faults_of_errors(case, ran):
+    """Where a case doesn't say what comes on standard error, a refusal may have a hint there."""
+    unsaid = split_hint(ran.status, ran.errors)[1]
+    return faults_of_stream("errors", case.errors or Wanted(b""), ran.errors if case.errors else unsaid)
 
 
 def faults_of_stream(name, wanted, came):

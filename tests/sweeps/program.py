@@ -8,6 +8,8 @@ import subprocess
 from dataclasses import dataclass, field
 from typing import Callable
 
+from hints import split_hint
+
 # The longest that a run may take: it ends in milliseconds, but a machine may stand still for seconds.
 SECONDS = 60.0
 # How many wrong runs a try tells before it ends.
@@ -16,11 +18,12 @@ MOST_FAULTS = 3
 
 @dataclass(frozen=True)
 class Ran:
-    """How a run ended. No status: it was stopped, since it took too long."""
+    """How a run ended. No status: it was stopped, since it took too long. Of the hint only the form is compared."""
 
     status: int | None
     out: bytes
     err: bytes
+    hint: bytes = field(default=b"", compare=False)
 
     def __str__(self) -> str:
         ended = f"not ended after {SECONDS:g} s" if self.status is None else f"status {self.status}"
@@ -45,7 +48,8 @@ def run(program: str, *words: str, text: bytes | None = b"", **how) -> Ran:
             os.killpg(started.pid, signal.SIGKILL)
             out, err = started.communicate()
             return Ran(None, out or b"", err or b"")
-    return Ran(started.returncode, out or b"", err or b"")
+    hint, errors = split_hint(started.returncode, err or b"")
+    return Ran(started.returncode, out or b"", errors, hint)
 
 
 class Enough(Exception):

@@ -1,5 +1,5 @@
 -- What is read, said and printed for a whole input.
-use Rattle.std.proofs.Common.{rules, ◌≡◌, ℕ, ◌+◌, ◌<◌, ◌≤◌, nat_lt, true, List, [], ◌++◌, length, Option, Some, None, IfSome, IfOk, IfErr, IsOkAnd, Result, Ok, Err, string_bytes, ◌⊎◌, sym, ap, ◌∙◌, subst, inl, inr, arith, take, le_refl, length-append, append-nil, take_all}
+use Rattle.std.proofs.Common.{rules, ◌≡◌, ℕ, Bool, ◌+◌, ◌<◌, ◌≤◌, nat_lt, true, List, [], ◌++◌, length, Option, Some, None, IfSome, IfOk, IfErr, IsOkAnd, Result, Ok, Err, string_bytes, ◌⊎◌, sym, ap, ◌∙◌, subst, inl, inr, arith, take, le_refl, length-append, append-nil, take_all}
 use Rattle.std.proofs.lemmas.Bool.{cases_lt, cond-true}
 use Rattle.std.proofs.lemmas.Result.{IfOk-weaker}
 use Rattle.std.specs.Io.KnownBytes.{Appends, Consumes, IsAtEnd, Keeps}
@@ -18,7 +18,7 @@ use Rattle.grove_words.specs.declared.order.Command.TheVariants.{Judge, Check, P
 use Rattle.grove_words.specs.CommandLines.{AskToServe, NameDevice}
 use Rattle.grove_answer.specs.Outcomes.{Outcome, ThenSays}
 use Rattle.grove.specs.Answers.{most_bytes, status_of, printed, AnswersBy, HasText, IsListen, NamesPort}
-use Rattle.grove.specs.Endings.{Blames, SaysListening, SaysSomething, SaysWhy}
+use Rattle.grove.specs.Endings.{Blames, IsHintLine, MayHint, SaysListening, SaysSomething, SaysWhy}
 use Rattle.grove.specs.Outcomes.{document_for, MaySay, IsOutcome, Prints, PrintsPart, outcome_text}
 
 over_limit : (most : ℕ) (bytes : List ℕ) → most < length bytes → document_within most bytes ≡ Err (Limit (whole_of Whole))
@@ -88,6 +88,15 @@ all_written text old new whole = (length text, subst (λ out. Appends old new ou
 -- and so is what went out of a text that was cut
 pub cut_written : (text : List ℕ) (old new : Option (List ℕ)) → (count : ℕ) × (count < length text) × Appends old new (take count text) → (count : ℕ) × Appends old new (take count text)
 cut_written text old new (count, less, out) = (count, out)
+
+-- the line of a hint went out, and nothing failed
+pub hint_written : (failed fails : Bool) (line : List ℕ) (old new : Option (List ℕ)) → IsHintLine line → fails ≡ failed → Appends old new line → MayHint failed fails old new
+hint_written failed fails line old new is same out = inl (same, inr (line, is, out))
+
+-- only the first bytes of it went out
+pub hint_cut : (failed fails : Bool) (line : List ℕ) (old new : Option (List ℕ)) → IsHintLine line → fails ≡ true
+    → (count : ℕ) × (count < length line) × Appends old new (take count line) → MayHint failed fails old new
+hint_cut failed fails line old new is fail (count, less, out) = inr (fail, line, is, count, out)
 
 -- what went out of an answer is what went out of what may be said
 part_said : (MaySay : Outcome → Type 0) (answer : Answer) (old new : Option (List ℕ)) → AnswersBy MaySay answer → (count : ℕ) × Appends old new (take count (printed answer))

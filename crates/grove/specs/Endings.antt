@@ -1,6 +1,7 @@
 -- What the program says where it has no answer, and the lines of refusals and of ports.
-use Rattle.std.specs.Prelude.{◌≢◌, ℕ, codes, decimal, List, [], ◌∷◌, ◌++◌, Option}
-use Rattle.std.specs.Io.KnownBytes.{Appends}
+use Rattle.std.specs.Prelude.{◌≡◌, ◌≢◌, ◌⊎◌, ℕ, Bool, true, codes, decimal, List, [], ◌∷◌, ◌++◌, take, Option}
+use Rattle.std.specs.Io.KnownBytes.{Appends, Keeps}
+use Rattle.grove_hint.specs.Hints.{IsHint}
 use Rattle.grove.specs.declared.answer.Stop.{Stop}
 use Rattle.grove.specs.declared.answer.Stop.TheVariants.{Device, Memory}
 
@@ -37,3 +38,12 @@ listening_line port = codes "listening 127.0.0.1:" ++ decimal port ++ 10 ∷ []
 -- standard output got the line for such a port
 abbrev pub SaysListening : (ℕ → Type 0) → Option (List ℕ) → Option (List ℕ) → Type 0
 SaysListening IsPort old new = (port : ℕ) × IsPort port × Appends old new (listening_line port)
+
+-- the line of a hint
+abbrev pub IsHintLine : List ℕ → Type 0
+IsHintLine line = (hint : List ℕ) × IsHint hint × (line ≡ hint ++ 10 ∷ [])
+
+-- standard error got nothing or the line of a hint, or it failed, and got only the first bytes of one
+abbrev pub MayHint : Bool → Bool → Option (List ℕ) → Option (List ℕ) → Type 0
+MayHint failed fails old new = ((fails ≡ failed) × (Keeps old new ⊎ ((line : List ℕ) × IsHintLine line × Appends old new line)))
+    ⊎ ((fails ≡ true) × (line : List ℕ) × IsHintLine line × (count : ℕ) × Appends old new (take count line))

@@ -1,7 +1,7 @@
-ghost use Rattle.std.specs.Prelude.{◌≡◌, ◌≤◌, ◌⊎◌, ℕ, true, false, take, IfOk, IsOkAnd};
+ghost use Rattle.std.specs.Prelude.{◌≡◌, ◌≤◌, ◌⊎◌, ℕ, true, false, None, take, IfOk, IfSome, IsOkAnd, string_bytes};
 ghost use Rattle.std.specs.Io.KnownBytes.{Appends, Keeps};
 ghost use Rattle.grove.specs.Answers.{status_of, printed, complained, IsListen, IsRefusalLine};
-ghost use Rattle.grove.specs.Endings.{stop_line, SaysRefusal, SaysWhy};
+ghost use Rattle.grove.specs.Endings.{stop_line, IsHintLine, MayHint, SaysRefusal, SaysWhy};
 
 use crate::connections::serve;
 use crate::serving::Service;
@@ -33,8 +33,70 @@ pub enum Stop {
     Memory,
 }
 
-/// Prints the answer, or why there is none, and gives the status of the process.
+/// What a command comes to: its answer, or why there is none.
+#[derive(Drop)]
+pub struct Response {
+    pub answer: Result<Answer, Stop>,
+    /// A line for standard error beside an answer of status 0 or 1.
+    pub hint: Option<String>,
+}
+
+impl Response {
+    /// A response without a hint.
+    pub fn plain(answer: Result<Answer, Stop>) -> Response
+        ensures { (result.answer ≡ answer) × (result.hint ≡ None) }
+    {
+        Response { answer, hint: None }
+    }
+}
+
+/// Prints the response, and gives the status of the process.
 pub fn end<R: AllocGlobal + Threads + Wait + Sync, O: Sink, E: Sink>(
+    rt: &R,
+    response: Response,
+    out: &mut O,
+    err: &mut E,
+) -> u8
+    requires { IfSome response.hint (λ line. IsHintLine (string_bytes line)) }
+    ensures status { result ≤ 3 }
+    ensures answered { result ≤ 2 → IsOkAnd response.answer (λ answer. (result ≡ status_of answer)
+        × Appends (O.contents out.old) (O.contents out.new) (printed answer)
+        × (result ≡ 2 → Appends (E.contents err.old) (E.contents err.new) (complained answer))) }
+    ensures part { Keeps (O.contents out.old) (O.contents out.new)
+        ⊎ IsOkAnd response.answer (λ answer. (count : ℕ) × Appends (O.contents out.old) (O.contents out.new) (take count (printed answer))) }
+    ensures refused { IfOk response.answer IsRefusalLine → result ≡ 1 → SaysRefusal (O.contents out.old) (O.contents out.new) }
+    ensures quiet_output { result ≡ 2 → Keeps (O.contents out.old) (O.contents out.new) }
+    ensures quiet_errors { response.hint ≡ None → result ≤ 1 → Keeps (E.contents err.old) (E.contents err.new) }
+    ensures hinted { result ≤ 1 → MayHint (E.has_failed err.old) (E.has_failed err.new) (E.contents err.old) (E.contents err.new) }
+    ensures sound_output { result ≤ 2 → O.has_failed out.new ≡ O.has_failed out.old }
+    ensures sound_errors { result ≡ 2 → E.has_failed err.new ≡ E.has_failed err.old }
+    ensures blamed { result ≡ 3 → E.has_failed err.new ≡ false
+        → SaysWhy ((response.answer ≡ Err Stop.Device) ⊎ (IsOkAnd response.answer IsListen ⊎ (O.has_failed out.new ≡ true)))
+        ((response.answer ≡ Err Stop.Memory) × (O.has_failed out.new ≡ O.has_failed out.old)) (E.contents err.old) (E.contents err.new) }
+    ensures unprinted { result ≡ 3 → O.has_failed out.new ≡ false → Keeps (O.contents out.old) (O.contents out.new)
+        ⊎ IsOkAnd response.answer (λ answer. IsListen answer × Appends (O.contents out.old) (O.contents out.new) (printed answer)) }
+    ensures served { IsOkAnd response.answer IsListen → result ≡ 3 }
+{
+    let Response { answer, hint } = response;
+    let status = print(rt, answer, out, err);
+    match hint {
+        Some(line) if status <= 1 => add(&line, err),
+        _ => {}
+    }
+    status
+}
+
+/// Prints the line of a hint on standard error. It is there to help: where it can't be printed, the answer stands.
+#[tactic(auto, using(crate::proofs::Printing::hint_written, crate::proofs::Printing::hint_cut))]
+pub fn add<E: Sink>(line: &str, err: &mut E)
+    requires { IsHintLine line.now }
+    ensures { MayHint (E.has_failed err.old) (E.has_failed err.new) (E.contents err.old) (E.contents err.new) }
+{
+    let _printed = write_whole(err, line.as_bytes());
+}
+
+/// Prints the answer, or why there is none, and gives the status of the process.
+fn print<R: AllocGlobal + Threads + Wait + Sync, O: Sink, E: Sink>(
     rt: &R,
     answer: Result<Answer, Stop>,
     out: &mut O,

@@ -6,10 +6,11 @@ ghost use Rattle.std.specs.Io.KnownBytes.{Consumes, IsAtEnd, Keeps};
 ghost use Rattle.grove.specs.Answers.{most_bytes, status_of, AnswersBy, HasText, IsListen, IsOpenedBy, IsOpenedFrom, IsRefusalLine, NamesPort, ServesStore};
 ghost use Rattle.grove_words.specs.CommandLines.{AreWrong, AskFor, AskForWorkers, AskToServe, AskToShow, NameDevice};
 ghost use Rattle.grove_words.specs.NoOrders.{HasText as IsToldText, TellsShown, TellsWrong};
-ghost use Rattle.grove.specs.Endings.{Blames, SaysListening, SaysRefusal, SaysSomething, SaysWhy};
+ghost use Rattle.grove.specs.Endings.{Blames, IsHintLine, MayHint, SaysListening, SaysRefusal, SaysSomething, SaysWhy};
 ghost use Rattle.grove.specs.Outcomes.{document_for, IsOutcome, MaySay, Prints, PrintsPart};
 
-use crate::answer::{Answer, Stop, end};
+use crate::answer::{Answer, Response, Stop, add, end};
+use crate::hinting::{awaited_by, hint_beside};
 use crate::refusal::answer_of;
 use crate::serving::serve_document;
 use grove_answer::{
@@ -28,7 +29,8 @@ use std::thread::Threads;
 
 /// Does what the words after the program's name ask for, and gives the status of the process: 0 done, 1 refused,
 /// 2 wrong words, found before anything is read, 3 no answer or one that couldn't be printed. A document without
-/// a name is read from `input`.
+/// a name is read from `input`. Beside a refusal of the document a hint may go to `err`, and beside an answer to one that
+/// has a member which nothing uses and which resembles one that is used.
 pub fn run_command<
     R: Files
         + AllocGlobal
@@ -65,57 +67,41 @@ pub fn run_command<
         ⊎ SaysListening (AskToServe (map string_bytes words.now)) (O.contents out.old) (O.contents out.new) }
     ensures served { (order : Order) → AskFor (map string_bytes words.now) order → order.command ≡ Command.Serve → (result ≡ 1) ⊎ (result ≡ 3) }
     ensures quiet_output { result ≡ 2 → Keeps (O.contents out.old) (O.contents out.new) }
-    ensures quiet_errors { result ≤ 1 → Keeps (E.contents err.old) (E.contents err.new) }
+    ensures hinted { result ≤ 1 → MayHint (E.has_failed err.old) (E.has_failed err.new) (E.contents err.old) (E.contents err.new) }
+    ensures quiet_errors { AskToShow (map string_bytes words.now) → result ≤ 1 → Keeps (E.contents err.old) (E.contents err.new) }
     ensures sound_input { result ≤ 2 → I.has_failed input.new ≡ I.has_failed input.old }
     ensures sound_output { result ≤ 2 → O.has_failed out.new ≡ O.has_failed out.old }
-    ensures sound_errors { result ≤ 2 → E.has_failed err.new ≡ E.has_failed err.old }
+    ensures sound_errors { result ≡ 2 → E.has_failed err.new ≡ E.has_failed err.old }
 {
-    end(rt, answer(rt, words, input), out, err)
+    end(rt, response(rt, words, input), out, err)
 }
 
-/// The answer to words that aren't text.
-pub fn refused_words(alloc: Global) -> Result<Answer, Stop>
-    ensures usage { IfOk result (λ answer. status_of answer ≡ 2) }
-    ensures stopped { IfErr result (λ stop. stop ≡ Stop.Memory) }
+/// The response to words that aren't text.
+pub fn refused_words(alloc: Global) -> Response
+    ensures usage { IfOk result.answer (λ answer. status_of answer ≡ 2) }
+    ensures stopped { IfErr result.answer (λ stop. stop ≡ Stop.Memory) }
+    ensures unhinted { result.hint ≡ None }
 {
-    words_answer(not_text(alloc))
+    Response::plain(words_answer(not_text(alloc)))
 }
 
-fn answer<
-    R: Files
-        + AllocGlobal
-        + Net<Listener = TcpListener, Stream = TcpStream>
-        + Threads
-        + Wait
-        + Sync,
-    I: Source,
->(rt: &R, words: &[String], input: &mut I) -> Result<Answer, Stop>
-    ensures said { (order : Order) → AskFor (map string_bytes words.now) order → order.document ≡ None → IfOk result (λ answer.
-        IfSome (I.remaining input.old) (λ document. AnswersBy (IsOutcome order.command document) answer)) }
-    ensures read { (order : Order) → AskFor (map string_bytes words.now) order → IfOk result (λ answer. (bytes : List ℕ) × AnswersBy (IsOutcome order.command bytes) answer) }
-    ensures workers { IfOk result (ServesStore (λ store. AskForWorkers (map string_bytes words.now) store.workers)) }
-    ensures refused { IfOk result IsRefusalLine }
-    ensures wrong { AreWrong (map string_bytes words.now) → IfOk result (λ answer. status_of answer ≡ 2) }
-    ensures shown { AskToShow (map string_bytes words.now) → IfOk result (λ answer. (status_of answer ≡ 0) × HasText answer) }
-    ensures taken { (order : Order) → AskFor (map string_bytes words.now) order → IfOk result (λ answer. status_of answer ≤ 1) }
-    ensures served { (order : Order) → AskFor (map string_bytes words.now) order → order.command ≡ Command.Serve
-        → IfOk result (λ answer. (status_of answer ≡ 1) ⊎ IsListen answer) }
-    ensures port { IfOk result (NamesPort (AskToServe (map string_bytes words.now))) }
-    ensures usage { IfOk result (λ answer. status_of answer ≡ 2 → HasText answer) }
-    ensures unread { IfOk result (λ answer. status_of answer ≡ 2 → input.new ≡ input.old) }
-    ensures apart { (order : Order) → AskFor (map string_bytes words.now) order → order.document ≢ None → input.new ≡ input.old }
-    ensures sound { OnOk result (I.has_failed input.new ≡ I.has_failed input.old) }
-    ensures blamed { IfErr result (Blames ((I.has_failed input.new ≡ true) ⊎ NameDevice (map string_bytes words.now))
-        (I.has_failed input.new ≡ I.has_failed input.old)) }
+/// Says on standard error which document is to come, where the words ask for one that has no name.
+pub fn say_what_is_awaited<E: Sink>(alloc: Global, words: &[String], err: &mut E)
+    ensures { MayHint (E.has_failed err.old) (E.has_failed err.new) (E.contents err.old) (E.contents err.new) }
 {
-    match order_of(rt.alloc(), words) {
-        Ok(order) => order_answer(rt, order, input),
-        Err(why) => words_answer(why),
+    if let Ok(Order {
+        command,
+        document: None,
+        ..
+    }) = order_of(alloc, words)
+    {
+        if let Some(line) = awaited_by(alloc, command) {
+            add(&line, err);
+        }
     }
 }
 
-/// What an order says of its document.
-fn order_answer<
+fn response<
     R: Files
         + AllocGlobal
         + Net<Listener = TcpListener, Stream = TcpStream>
@@ -123,43 +109,91 @@ fn order_answer<
         + Wait
         + Sync,
     I: Source,
->(rt: &R, order: Order<'_>, input: &mut I) -> Result<Answer, Stop>
-    requires { (1 ≤ order.workers) × (order.workers ≤ 16) }
-    ensures said { order.entry.document ≡ None → IfOk result (λ answer.
-        IfSome (I.remaining input.old) (λ document. AnswersBy (IsOutcome order.entry.command document) answer)) }
-    ensures read { IfOk result (λ answer. (bytes : List ℕ) × AnswersBy (IsOutcome order.entry.command bytes) answer) }
-    ensures workers { IfOk result (ServesStore (λ store. store.workers ≡ order.entry.workers)) }
-    ensures refused { IfOk result IsRefusalLine }
-    ensures status { IfOk result (λ answer. status_of answer ≤ 1) }
-    ensures served { order.entry.command ≡ Command.Serve → IfOk result (λ answer. (status_of answer ≡ 1) ⊎ IsListen answer) }
-    ensures port { IfOk result (NamesPort (λ port. (order.entry.command ≡ Command.Serve) × (order.entry.port ≡ Some port))) }
-    ensures apart { order.entry.document ≢ None → input.new ≡ input.old }
-    ensures sound { OnOk result (I.has_failed input.new ≡ I.has_failed input.old) }
-    ensures blamed { IfErr result (Blames ((I.has_failed input.new ≡ true) ⊎ ((order.entry.document ≢ None) ⊎ (order.entry.command ≡ Command.Serve)))
+>(rt: &R, words: &[String], input: &mut I) -> Response
+    ensures said { (order : Order) → AskFor (map string_bytes words.now) order → order.document ≡ None → IfOk result.answer (λ answer.
+        IfSome (I.remaining input.old) (λ document. AnswersBy (IsOutcome order.command document) answer)) }
+    ensures read { (order : Order) → AskFor (map string_bytes words.now) order → IfOk result.answer (λ answer. (bytes : List ℕ) × AnswersBy (IsOutcome order.command bytes) answer) }
+    ensures workers { IfOk result.answer (ServesStore (λ store. AskForWorkers (map string_bytes words.now) store.workers)) }
+    ensures refused { IfOk result.answer IsRefusalLine }
+    ensures wrong { AreWrong (map string_bytes words.now) → IfOk result.answer (λ answer. status_of answer ≡ 2) }
+    ensures shown { AskToShow (map string_bytes words.now) → IfOk result.answer (λ answer. (status_of answer ≡ 0) × HasText answer) }
+    ensures taken { (order : Order) → AskFor (map string_bytes words.now) order → IfOk result.answer (λ answer. status_of answer ≤ 1) }
+    ensures served { (order : Order) → AskFor (map string_bytes words.now) order → order.command ≡ Command.Serve
+        → IfOk result.answer (λ answer. (status_of answer ≡ 1) ⊎ IsListen answer) }
+    ensures port { IfOk result.answer (NamesPort (AskToServe (map string_bytes words.now))) }
+    ensures usage { IfOk result.answer (λ answer. status_of answer ≡ 2 → HasText answer) }
+    ensures unread { IfOk result.answer (λ answer. status_of answer ≡ 2 → input.new ≡ input.old) }
+    ensures apart { (order : Order) → AskFor (map string_bytes words.now) order → order.document ≢ None → input.new ≡ input.old }
+    ensures sound { OnOk result.answer (I.has_failed input.new ≡ I.has_failed input.old) }
+    ensures blamed { IfErr result.answer (Blames ((I.has_failed input.new ≡ true) ⊎ NameDevice (map string_bytes words.now))
         (I.has_failed input.new ≡ I.has_failed input.old)) }
+    ensures hinted { IfSome result.hint (λ line. IsHintLine (string_bytes line)) }
+    ensures unhinted { AskToShow (map string_bytes words.now) → result.hint ≡ None }
 {
-    let most = most_bytes(order.command);
-    let bytes = document_bytes(rt, order.document, most, input)?;
-    bytes_answer(rt, order, &bytes)
+    match order_of(rt.alloc(), words) {
+        Ok(order) => order_response(rt, order, input),
+        Err(why) => Response::plain(words_answer(why)),
+    }
 }
 
-/// What an order says of the bytes of its document, whoever gave them.
-fn bytes_answer<
-    R: AllocGlobal + Net<Listener = TcpListener, Stream = TcpStream> + Threads + Wait + Sync,
->(rt: &R, order: Order<'_>, bytes: &[u8]) -> Result<Answer, Stop>
+/// What an order says of its document, and what a person is told beside it.
+fn order_response<
+    R: Files
+        + AllocGlobal
+        + Net<Listener = TcpListener, Stream = TcpStream>
+        + Threads
+        + Wait
+        + Sync,
+    I: Source,
+>(rt: &R, order: Order<'_>, input: &mut I) -> Response
     requires { (1 ≤ order.workers) × (order.workers ≤ 16) }
-    ensures said { IfOk result (AnswersBy (IsOutcome order.entry.command bytes.now)) }
-    ensures opened { IfOk result (ServesStore (IsOpenedBy order.entry.command bytes.now order.entry.workers)) }
-    ensures refused { IfOk result IsRefusalLine }
-    ensures status { IfOk result (λ answer. status_of answer ≤ 1) }
-    ensures served { order.entry.command ≡ Command.Serve → IfOk result (λ answer. (status_of answer ≡ 1) ⊎ IsListen answer) }
-    ensures port { IfOk result (NamesPort (λ port. (order.entry.command ≡ Command.Serve) × (order.entry.port ≡ Some port))) }
-    ensures blamed { IfErr result (Blames (order.entry.command ≡ Command.Serve) ⊤) }
+    ensures said { order.entry.document ≡ None → IfOk result.answer (λ answer.
+        IfSome (I.remaining input.old) (λ document. AnswersBy (IsOutcome order.entry.command document) answer)) }
+    ensures read { IfOk result.answer (λ answer. (bytes : List ℕ) × AnswersBy (IsOutcome order.entry.command bytes) answer) }
+    ensures workers { IfOk result.answer (ServesStore (λ store. store.workers ≡ order.entry.workers)) }
+    ensures refused { IfOk result.answer IsRefusalLine }
+    ensures status { IfOk result.answer (λ answer. status_of answer ≤ 1) }
+    ensures served { order.entry.command ≡ Command.Serve → IfOk result.answer (λ answer. (status_of answer ≡ 1) ⊎ IsListen answer) }
+    ensures port { IfOk result.answer (NamesPort (λ port. (order.entry.command ≡ Command.Serve) × (order.entry.port ≡ Some port))) }
+    ensures apart { order.entry.document ≢ None → input.new ≡ input.old }
+    ensures sound { OnOk result.answer (I.has_failed input.new ≡ I.has_failed input.old) }
+    ensures blamed { IfErr result.answer (Blames ((I.has_failed input.new ≡ true) ⊎ ((order.entry.document ≢ None) ⊎ (order.entry.command ≡ Command.Serve)))
+        (I.has_failed input.new ≡ I.has_failed input.old)) }
+    ensures hinted { IfSome result.hint (λ line. IsHintLine (string_bytes line)) }
+{
+    let most = most_bytes(order.command);
+    match document_bytes(rt, order.document, most, input) {
+        Ok(bytes) => bytes_response(rt, order, &bytes),
+        Err(stop) => Response::plain(Err(stop)),
+    }
+}
+
+/// The same of the bytes of its document, whoever gave them.
+fn bytes_response<
+    R: AllocGlobal + Net<Listener = TcpListener, Stream = TcpStream> + Threads + Wait + Sync,
+>(rt: &R, order: Order<'_>, bytes: &[u8]) -> Response
+    requires { (1 ≤ order.workers) × (order.workers ≤ 16) }
+    ensures said { IfOk result.answer (AnswersBy (IsOutcome order.entry.command bytes.now)) }
+    ensures opened { IfOk result.answer (ServesStore (IsOpenedBy order.entry.command bytes.now order.entry.workers)) }
+    ensures refused { IfOk result.answer IsRefusalLine }
+    ensures status { IfOk result.answer (λ answer. status_of answer ≤ 1) }
+    ensures served { order.entry.command ≡ Command.Serve → IfOk result.answer (λ answer. (status_of answer ≡ 1) ⊎ IsListen answer) }
+    ensures port { IfOk result.answer (NamesPort (λ port. (order.entry.command ≡ Command.Serve) × (order.entry.port ≡ Some port))) }
+    ensures blamed { IfErr result.answer (Blames (order.entry.command ≡ Command.Serve) ⊤) }
+    ensures hinted { IfSome result.hint (λ line. IsHintLine (string_bytes line)) }
 {
     let alloc = rt.alloc();
     match read_for(alloc, order.command, bytes) {
-        Ok(document) => document_answer(rt, order, &document),
-        Err(fault) => answer_of(alloc, Err(Refusal::of_wire(alloc, &fault))),
+        Ok(document) => {
+            let answer = document_answer(rt, order, &document);
+            let hint = hint_beside(alloc, order.command, bytes, Some(&document), &answer);
+            Response { answer, hint }
+        }
+        Err(fault) => {
+            let answer = answer_of(alloc, Err(Refusal::of_wire(alloc, &fault)));
+            let hint = hint_beside(alloc, order.command, bytes, None, &answer);
+            Response { answer, hint }
+        }
     }
 }
 

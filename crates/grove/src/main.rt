@@ -1,17 +1,18 @@
 //! The program: reads a command line and a document, does the command, and prints what comes of it.
 #![tactic(auto)]
 
-use answer::{Stop, end};
-use command::{refused_words, run_command};
+use answer::{Response, Stop, end};
+use command::{refused_words, run_command, say_what_is_awaited};
 use grove_session::{ReaderSource, WriterSink};
 use std::alloc::Global;
 use std::env;
-use std::io::ErrorKind;
+use std::io::{ErrorKind, IsTerminal};
 use std::process::ExitCode;
 
 mod answer;
 mod command;
 mod connections;
+mod hinting;
 mod refusal;
 mod seats;
 mod serving;
@@ -21,16 +22,24 @@ const KEPT: usize = 1 << 24;
 
 fn main(rt: HostRuntime) -> ExitCode {
     keep_freed_memory(rt.alloc());
-    let mut input = ReaderSource::new(rt.stdin());
+    let stdin = rt.stdin();
+    let is_typed = stdin.is_terminal();
+    let mut input = ReaderSource::new(stdin);
     let mut out = WriterSink::new(rt.stdout());
     let mut err = WriterSink::new(rt.stderr());
+    let no_memory = Response::plain(Err(Stop::Memory));
     let status = match env::args(&rt) {
         Ok(words) => match words.skip(1).collect::<Vec<String>>(rt.alloc()) {
-            Ok(words) => run_command(&rt, &words, &mut input, &mut out, &mut err),
-            Err(_) => end(&rt, Err(Stop::Memory), &mut out, &mut err),
+            Ok(words) => {
+                if is_typed {
+                    say_what_is_awaited(rt.alloc(), &words, &mut err);
+                }
+                run_command(&rt, &words, &mut input, &mut out, &mut err)
+            }
+            Err(_) => end(&rt, no_memory, &mut out, &mut err),
         },
         Err(error) if error.kind() == ErrorKind::OutOfMemory => {
-            end(&rt, Err(Stop::Memory), &mut out, &mut err)
+            end(&rt, no_memory, &mut out, &mut err)
         }
         Err(_) => end(&rt, refused_words(rt.alloc()), &mut out, &mut err),
     };

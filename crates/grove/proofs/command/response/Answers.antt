@@ -5,22 +5,22 @@ use Rattle.grove_words.specs.CommandLines.{AskForWorkers}
 use Rattle.grove.specs.declared.answer.Stop.TheVariants.{Memory}
 use Rattle.grove.proofs.Orders.{blames_named, found_port, read_of_asked, said_of_asked}
 use Rattle.grove.proofs.Saying.{serves_nothing, serves_weaker}
-use Rattle.grove.proofs.command.answer.Goals as goal
+use Rattle.grove.proofs.command.response.Goals as goal
 
 pub returns-in-Ok-clause-said : goal.returns-in-Ok-clause-said
 returns-in-Ok-clause-said g c order asks none =
-    said_of_asked _ order c.in-Ok.order _ c.order_answer.result asks c.in-Ok.ensures.asked none c.order_answer.ensures.said
+    said_of_asked _ order c.in-Ok.order _ c.order_response.result.answer asks c.in-Ok.ensures.asked none c.order_response.ensures.said
 
 pub returns-in-Ok-clause-apart : goal.returns-in-Ok-clause-apart
 returns-in-Ok-clause-apart g c order asks named =
-    c.order_answer.ensures.apart (λ none. named (same_name _ order c.in-Ok.order asks c.in-Ok.ensures.asked none))
+    c.order_response.ensures.apart (λ none. named (same_name _ order c.in-Ok.order asks c.in-Ok.ensures.asked none))
 
 pub returns-in-Ok-clause-served : goal.returns-in-Ok-clause-served
-returns-in-Ok-clause-served g c order asks serves = c.order_answer.ensures.served (serves_found _ order c.in-Ok.order asks c.in-Ok.ensures.asked serves)
+returns-in-Ok-clause-served g c order asks serves = c.order_response.ensures.served (serves_found _ order c.in-Ok.order asks c.in-Ok.ensures.asked serves)
 
 pub returns-in-Ok-clause-port : goal.returns-in-Ok-clause-port
 returns-in-Ok-clause-port g c =
-    IfOk-weaker c.order_answer.result _ _ (λ answer. found_port _ c.in-Ok.order answer c.in-Ok.ensures.port) c.order_answer.ensures.port
+    IfOk-weaker c.order_response.result.answer _ _ (λ answer. found_port _ c.in-Ok.order answer c.in-Ok.ensures.port) c.order_response.ensures.port
 
 pub returns-in-Err-clause-said : goal.returns-in-Err-clause-said
 returns-in-Err-clause-said g c order asks none =
@@ -39,10 +39,10 @@ returns-in-Err-clause-served g c order asks serves =
 
 pub returns-in-Ok-clause-blamed : goal.returns-in-Ok-clause-blamed
 returns-in-Ok-clause-blamed g c =
-    IfErr-weaker c.order_answer.result _ _ (λ stop. blames_named _ _ _ c.in-Ok.order stop c.in-Ok.ensures.asked) c.order_answer.ensures.blamed
+    IfErr-weaker c.order_response.result.answer _ _ (λ stop. blames_named _ _ _ c.in-Ok.order stop c.in-Ok.ensures.asked) c.order_response.ensures.blamed
 
 pub returns-in-Ok-clause-read : goal.returns-in-Ok-clause-read
-returns-in-Ok-clause-read g c order asks = read_of_asked _ order c.in-Ok.order c.order_answer.result asks c.in-Ok.ensures.asked c.order_answer.ensures.read
+returns-in-Ok-clause-read g c order asks = read_of_asked _ order c.in-Ok.order c.order_response.result.answer asks c.in-Ok.ensures.asked c.order_response.ensures.read
 
 pub returns-in-Err-clause-read : goal.returns-in-Err-clause-read
 returns-in-Err-clause-read g c order asks =
@@ -52,8 +52,8 @@ returns-in-Err-clause-read g c order asks =
 pub returns-in-Ok-clause-workers : goal.returns-in-Ok-clause-workers
 returns-in-Ok-clause-workers g c =
     let AreGiven = AskForWorkers (map string_bytes c.args.words.now) in
-    IfOk-weaker c.order_answer.result _ _ (λ answer serves. serves_weaker _ (λ store. AreGiven store.workers) (λ store same. subst AreGiven (sym same) c.in-Ok.ensures.given) answer serves)
-    c.order_answer.ensures.workers
+    IfOk-weaker c.order_response.result.answer _ _ (λ answer serves. serves_weaker _ (λ store. AreGiven store.workers) (λ store same. subst AreGiven (sym same) c.in-Ok.ensures.given) answer serves)
+    c.order_response.ensures.workers
 
 pub returns-in-Err-clause-workers : goal.returns-in-Err-clause-workers
 returns-in-Err-clause-workers g c = serves_nothing _ c.words_answer.result c.words_answer.ensures.unlistened

@@ -1,6 +1,6 @@
 use Rattle.serde_json.specs.View.{view}
 use Rattle.grove.proofs.Saying.{opened_by_bytes, says_document, says_unread, serves_nothing}
-use Rattle.grove.proofs.command.bytes_answer.Goals as goal
+use Rattle.grove.proofs.command.bytes_response.Goals as goal
 
 pub returns-in-Ok-clause-said : goal.returns-in-Ok-clause-said
 returns-in-Ok-clause-said g c =
