@@ -121,7 +121,8 @@ def faults_of_certified(program, case, line):
     fault = fault_of_certificate(document, int(cost)) if is_flow(flow) else "it hasn't the form of one"
     if fault:
         return [f"the flow is no certificate: {fault}"]
+    hinted = case.errors.text if case.errors else b""
     checked = run(program, [b"check"], case, json.dumps(document).encode())
-    if checked != Ran(0, b"cost %s\n" % cost, b""):
+    if not checked or (checked.status, checked.output, checked.errors) != (0, b"cost %s\n" % cost, hinted):
         return [f"check of the plan and the flow: wanted cost {int(cost)}, came {checked and shown(checked.output)}"]
     return []
