@@ -22,6 +22,9 @@ NOBODY = 65534
 # How many bytes go in or out at once where each read or write fails, and more of these than any run has.
 PIECE = 40
 MOST_CALLS = 20_000
+# A terminal holds no more than this before it is read. Ctrl-D is typed at the end of an input.
+TERMINAL_HOLDS = 4000
+END_OF_INPUT = b"\x04"
 # Where standard error fails too, nothing can be said.
 SILENT = Ran(3, b"", b"")
 
@@ -40,6 +43,7 @@ def tries(program: str, room: str) -> list[Try]:
         Try("a name that is no readable file", partial(unreadable_names, program)),
         Try("a file without leave to read", partial(forbidden, program, room)),
         Try("an endless input", partial(endless, program)),
+        Try("a terminal as standard input", partial(terminal, program)),
     ]
     pieces = [Try(f"{it.name}, in pieces", partial(in_pieces, program, it)) for it in examples() + certified_examples()]
     return fixed + pieces
@@ -177,6 +181,28 @@ def endless(program: str, tally: Tally) -> None:
         tally.compare(f"{command}, named", run(program, command, "/dev/zero"), wanted)
         with opened("/dev/zero", os.O_RDONLY) as zeros:
             tally.compare(f"{command}, standard input", run(program, command, text=None, stdin=zeros), wanted)
+
+
+def terminal(program: str, tally: Tally) -> None:
+    """At a terminal it is said what is awaited there, unless the document has a name."""
+    for asked in (it for it in examples() if it.status == 0 and len(it.text) < TERMINAL_HOLDS):
+        awaited = b'hint: "%s" awaits a JSON document with ' % asked.words[0].encode()
+        ran = typed(program, asked.words, asked.text)
+        is_well = (ran.status, ran.out) == (0, asked.output) and ran.err.startswith(awaited) and ran.err.count(b"\n") == 1
+        tally.note(asked.name, None if is_well else f"wanted {asked.output!r} and a line {awaited!r}..; came {ran}")
+    for asked in named_examples():
+        tally.note(asked.name, asked.fault(typed(program, asked.words, b"")))
+
+
+def typed(program: str, words: tuple[str, ...], text: bytes) -> Ran:
+    """Runs the program at a terminal at which this is typed, and then the end of the input."""
+    keyboard, screen = os.openpty()
+    try:
+        os.write(keyboard, text + (b"" if text.endswith(b"\n") else b"\n") + END_OF_INPUT)
+        return run(program, *words, text=None, stdin=screen)
+    finally:
+        os.close(screen)
+        os.close(keyboard)
 
 
 def in_pieces(program: str, asked: Asked, tally: Tally) -> None:
