@@ -1,9 +1,10 @@
 -- What is read, said and printed for a whole input.
-use Rattle.std.proofs.Common.{rules, ◌≡◌, ℕ, Bool, ◌+◌, ◌<◌, ◌≤◌, nat_lt, true, List, [], ◌++◌, length, Option, Some, None, IfSome, IfOk, IfErr, IsOkAnd, Result, Ok, Err, string_bytes, ◌⊎◌, sym, ap, ◌∙◌, subst, inl, inr, arith, take, le_refl, length-append, append-nil, take_all}
+use Rattle.std.proofs.Common.{rules, ◌≡◌, ℕ, Bool, ◌+◌, ◌<◌, ◌≤◌, nat_lt, true, false, ◌||◌, is_err, OnOk, OnErr, refl, List, [], ◌++◌, length, Option, Some, None, IfSome, IfOk, IfErr, IsOkAnd, Result, Ok, Err, string_bytes, ◌⊎◌, sym, ap, ◌∙◌, subst, inl, inr, arith, take, le_refl, length-append, append-nil, take_all}
 use Rattle.std.proofs.lemmas.Bool.{cases_lt, cond-true}
 use Rattle.std.proofs.lemmas.Result.{IfOk-weaker}
 use Rattle.std.specs.Io.KnownBytes.{Appends, Consumes, IsAtEnd, Keeps}
 use Rattle.serde_json.specs.Data.{Data}
+use Rattle.grove_session.specs.declared.fault.DeviceFault.{DeviceFault}
 use Rattle.grove_wire.specs.declared.fault.WireFault.{WireFault}
 use Rattle.grove_wire.specs.declared.fault.WireFault.TheVariants.{Limit}
 use Rattle.grove_wire.specs.declared.place.Part.TheVariants.{Whole}
@@ -89,14 +90,27 @@ all_written text old new whole = (length text, subst (λ out. Appends old new ou
 pub cut_written : (text : List ℕ) (old new : Option (List ℕ)) → (count : ℕ) × (count < length text) × Appends old new (take count text) → (count : ℕ) × Appends old new (take count text)
 cut_written text old new (count, less, out) = (count, out)
 
--- the line of a hint went out, and nothing failed
-pub hint_written : (failed fails : Bool) (line : List ℕ) (old new : Option (List ℕ)) → IsHintLine line → fails ≡ failed → Appends old new line → MayHint failed fails old new
-hint_written failed fails line old new is same out = inl (same, inr (line, is, out))
+or_false : (b : Bool) → (b || false) ≡ b
+or_false true = refl
+or_false false = refl
 
--- only the first bytes of it went out
-pub hint_cut : (failed fails : Bool) (line : List ℕ) (old new : Option (List ℕ)) → IsHintLine line → fails ≡ true
-    → (count : ℕ) × (count < length line) × Appends old new (take count line) → MayHint failed fails old new
-hint_cut failed fails line old new is fail (count, less, out) = inr (fail, line, is, count, out)
+or_true : (b : Bool) → (b || true) ≡ true
+or_true true = refl
+or_true false = refl
+
+-- a hint's line went out, or its first bytes did and standard error failed
+pub hint_out : (failed fails : Bool) (line : List ℕ) (old new : Option (List ℕ)) (result : Result (Unit {0}) DeviceFault) → IsHintLine line → OnOk result (Appends old new line)
+    → OnErr result ((count : ℕ) × (count < length line) × Appends old new (take count line)) → fails ≡ (failed || is_err result) → MayHint failed fails old new
+hint_out failed fails line old new (Ok done) is whole cut same = inl (same ∙ or_false failed, inr (line, is, whole))
+hint_out failed fails line old new (Err fault) is whole (count, less, out) same = inr (same ∙ or_true failed, line, is, count, out)
+
+-- a hint comes after nothing
+pub hint_after : (failed between fails : Bool) (old middle new : Option (List ℕ)) → between ≡ failed → Keeps old middle → MayHint between fails middle new → MayHint failed fails old new
+hint_after failed between fails None middle new same kept (inl (sound, out)) = inl (sound ∙ same, inl tt)
+hint_after failed between fails None middle new same kept (inr (fail, line, is, count, out)) = inr (fail, line, is, count, tt)
+hint_after failed between fails (Some xs) None new same kept hint = absurd kept
+hint_after failed between fails (Some xs) (Some ys) new same kept hint =
+    subst (λ f. MayHint f fails (Some xs) new) same (subst (λ zs. MayHint between fails (Some zs) new) kept hint)
 
 -- what went out of an answer is what went out of what may be said
 part_said : (MaySay : Outcome → Type 0) (answer : Answer) (old new : Option (List ℕ)) → AnswersBy MaySay answer → (count : ℕ) × Appends old new (take count (printed answer))

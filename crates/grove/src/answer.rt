@@ -87,7 +87,6 @@ pub fn end<R: AllocGlobal + Threads + Wait + Sync, O: Sink, E: Sink>(
 }
 
 /// Prints the line of a hint on standard error. It is there to help: where it can't be printed, the answer stands.
-#[tactic(auto, using(crate::proofs::Printing::hint_written, crate::proofs::Printing::hint_cut))]
 pub fn add<E: Sink>(line: &str, err: &mut E)
     requires { IsHintLine line.now }
     ensures { MayHint (E.has_failed err.old) (E.has_failed err.new) (E.contents err.old) (E.contents err.new) }

@@ -1,4 +1,4 @@
-use Rattle.std.proofs.Common.{◌≡◌, Err, map, string_bytes, subst, sym}
+use Rattle.std.proofs.Common.{◌≡◌, ◌∙◌, Err, map, string_bytes, subst, sym}
 use Rattle.std.proofs.lemmas.Result.{IfErr-weaker, IfOk-weaker}
 use Rattle.grove_words.proofs.Orders.{same_name, serves_found}
 use Rattle.grove_words.specs.CommandLines.{AskForWorkers}
@@ -25,17 +25,17 @@ returns-in-Ok-clause-port g c =
 pub returns-in-Err-clause-said : goal.returns-in-Err-clause-said
 returns-in-Err-clause-said g c order asks none =
     let stopped : c.words_answer.result ≡ Err Memory = c.words_answer.ensures.memory (c.in-Err.ensures.taken order asks) in
-    rw stopped tt
+    rw (c.plain.ensures.0 ∙ stopped) tt
 
 pub returns-in-Err-clause-taken : goal.returns-in-Err-clause-taken
 returns-in-Err-clause-taken g c order asks =
     let stopped : c.words_answer.result ≡ Err Memory = c.words_answer.ensures.memory (c.in-Err.ensures.taken order asks) in
-    rw stopped tt
+    rw (c.plain.ensures.0 ∙ stopped) tt
 
 pub returns-in-Err-clause-served : goal.returns-in-Err-clause-served
 returns-in-Err-clause-served g c order asks serves =
     let stopped : c.words_answer.result ≡ Err Memory = c.words_answer.ensures.memory (c.in-Err.ensures.taken order asks) in
-    rw stopped tt
+    rw (c.plain.ensures.0 ∙ stopped) tt
 
 pub returns-in-Ok-clause-blamed : goal.returns-in-Ok-clause-blamed
 returns-in-Ok-clause-blamed g c =
@@ -47,7 +47,7 @@ returns-in-Ok-clause-read g c order asks = read_of_asked _ order c.in-Ok.order c
 pub returns-in-Err-clause-read : goal.returns-in-Err-clause-read
 returns-in-Err-clause-read g c order asks =
     let stopped : c.words_answer.result ≡ Err Memory = c.words_answer.ensures.memory (c.in-Err.ensures.taken order asks) in
-    rw stopped tt
+    rw (c.plain.ensures.0 ∙ stopped) tt
 
 pub returns-in-Ok-clause-workers : goal.returns-in-Ok-clause-workers
 returns-in-Ok-clause-workers g c =
@@ -56,4 +56,4 @@ returns-in-Ok-clause-workers g c =
     c.order_response.ensures.workers
 
 pub returns-in-Err-clause-workers : goal.returns-in-Err-clause-workers
-returns-in-Err-clause-workers g c = serves_nothing _ c.words_answer.result c.words_answer.ensures.unlistened
+returns-in-Err-clause-workers g c = rw c.plain.ensures.0 (serves_nothing _ c.words_answer.result c.words_answer.ensures.unlistened)
