@@ -57,3 +57,19 @@ def cost_of_plan(tree, accesses, steps):
         else:
             held ^= {tree.node_of[what]}
     return cost
+
+
+def bars_of_plan(tree, accesses, steps):
+    """Of each node that a legal plan locks, in the tree's order: its path, how many accesses come before its lock and before
+    its release, and what it costs."""
+    done, ends, costs = 0, {}, {}
+    for kind, what in steps:
+        if kind == "access":
+            held = [node for node, (_, release) in ends.items() if release is None]
+            costs.update({node: costs[node] + length_of(accesses[what]) * tree.weights[node] for node in held})
+            done += 1
+        elif kind == "lock":
+            ends[tree.node_of[what]], costs[tree.node_of[what]] = (done, None), 0
+        else:
+            ends[tree.node_of[what]] = (ends[tree.node_of[what]][0], done)
+    return [(tree.paths[node], *ends[node], costs[node]) for node in sorted(ends)]

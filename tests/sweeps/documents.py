@@ -10,6 +10,8 @@ from random import Random
 from sweeps.program import Ran
 
 EXAMPLES = Path(__file__).resolve().parents[2] / "examples"
+# The options of commands whose outputs are stored, by the kind of file.
+OPTIONS = {("run", ".txt"): ("--workers", "1"), ("draw", ".txt"): ("--text",)}
 
 
 @dataclass(frozen=True)
@@ -34,16 +36,16 @@ class Asked:
 
 
 def examples() -> list[Asked]:
-    """The documents of examples/, each with the outputs that stand beside it as DOC.COMMAND.txt."""
-    return [example(stored) for stored in sorted(EXAMPLES.glob("*.*.txt"))]
+    """The documents of examples/, each with the outputs that stand beside it as DOC.COMMAND.txt, and DOC.draw.svg."""
+    return [example(stored) for stored in sorted([*EXAMPLES.glob("*.*.txt"), *EXAMPLES.glob("*.*.svg")])]
 
 
 def example(stored: Path) -> Asked:
     name, command = stored.stem.rsplit(".", 1)
     output = stored.read_bytes()
     status = 1 if output.startswith(b"refused ") else 0
-    words = (command, "--workers", "1") if command == "run" else (command,)
-    return Asked(f"{command} {name}.json", words, (EXAMPLES / f"{name}.json").read_bytes(), status, output)
+    words = (command, *OPTIONS.get((command, stored.suffix), ()))
+    return Asked(f"{' '.join(words)} {name}.json", words, (EXAMPLES / f"{name}.json").read_bytes(), status, output)
 
 
 def put_back(document: bytes, planned: bytes) -> bytes:

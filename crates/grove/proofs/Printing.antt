@@ -15,7 +15,7 @@ use Rattle.grove.specs.declared.answer.Answer.TheVariants.{Done, Refused, Usage,
 use Rattle.grove.specs.declared.answer.Stop.{Stop}
 use Rattle.grove.specs.declared.answer.Stop.TheVariants.{Device, Memory}
 use Rattle.grove_words.specs.declared.order.Command.{Command}
-use Rattle.grove_words.specs.declared.order.Command.TheVariants.{Judge, Check, Plan, Run, Audit, Serve}
+use Rattle.grove_words.specs.declared.order.Command.TheVariants.{Judge, Check, Plan, Draw, Run, Audit, Serve}
 use Rattle.grove_words.specs.CommandLines.{AskToServe, NameDevice}
 use Rattle.grove_answer.specs.Outcomes.{Outcome, ThenSays}
 use Rattle.grove.specs.Answers.{most_bytes, status_of, printed, AnswersBy, HasText, IsListen, NamesPort}
@@ -31,6 +31,7 @@ unfolding document_of history_of
 over_most Judge bytes h = over_limit 4194304 bytes h
 over_most Check bytes h = over_limit 4194304 bytes h
 over_most Plan bytes h = over_limit 4194304 bytes h
+over_most Draw bytes h = over_limit 4194304 bytes h
 over_most Run bytes h = over_limit 4194304 bytes h
 over_most Audit bytes h = over_limit 67108864 bytes h
 over_most Serve bytes h = over_limit 4194304 bytes h

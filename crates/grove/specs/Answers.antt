@@ -6,7 +6,7 @@ use Rattle.grove_session.specs.declared.fault.ReadFault.TheVariants as read
 use Rattle.grove_store.specs.Stocks.{Stock, opened}
 use Rattle.grove_wire.specs.Reading.{tree_in}
 use Rattle.grove_words.specs.declared.order.Command.{Command}
-use Rattle.grove_words.specs.declared.order.Command.TheVariants.{Judge, Check, Plan, Run, Audit, Serve}
+use Rattle.grove_words.specs.declared.order.Command.TheVariants.{Judge, Check, Plan, Draw, Run, Audit, Serve}
 use Rattle.grove_answer.specs.Outcomes.{Outcome}
 use Rattle.grove.specs.declared.answer.Answer.{Answer}
 use Rattle.grove.specs.declared.answer.Answer.TheVariants.{Done, Refused, Usage, Listen}
@@ -96,6 +96,7 @@ abbrev pub most_bytes : Command → ℕ
 most_bytes Judge = 4194304
 most_bytes Check = 4194304
 most_bytes Plan = 4194304
+most_bytes Draw = 4194304
 most_bytes Run = 4194304
 most_bytes Audit = 67108864
 most_bytes Serve = 4194304

@@ -6,8 +6,8 @@ use Rattle.grove_tree.specs.Trees.{Rows}
 use Rattle.grove_wire.specs.declared.fault.WireFault.{WireFault}
 use Rattle.grove_wire.specs.Reading.{document_of, history_of, tree_in}
 use Rattle.grove_words.specs.declared.order.Command.{Command}
-use Rattle.grove_words.specs.declared.order.Command.TheVariants.{Judge, Check, Plan, Run, Audit, Serve}
-use Rattle.grove_answer.specs.Outcomes.{Outcome, ThenSays, task_in, trial_in, claim_in, batch_in, history_in, IsJudged, IsChecked, IsPlanned, IsRunBatch, IsAudited}
+use Rattle.grove_words.specs.declared.order.Command.TheVariants.{Judge, Check, Plan, Draw, Run, Audit, Serve}
+use Rattle.grove_answer.specs.Outcomes.{Outcome, ThenSays, task_in, trial_in, claim_in, sketch_in, batch_in, history_in, IsJudged, IsChecked, IsPlanned, IsDrawn, IsRunBatch, IsAudited}
 use Rattle.grove.specs.Endings.{listening_line, refusal_line}
 
 -- ---- serve: the port that is listened on
@@ -21,6 +21,7 @@ abbrev pub MaySay : Command → Data → Outcome → Type 0
 MaySay Judge document = ThenSays (trial_in document) IsJudged
 MaySay Check document = ThenSays (claim_in document) IsChecked
 MaySay Plan document = ThenSays (task_in document) IsPlanned
+MaySay Draw document = ThenSays (sketch_in document) IsDrawn
 MaySay Run document = ThenSays (batch_in document) IsRunBatch
 MaySay Audit document = ThenSays (history_in document) IsAudited
 MaySay Serve document = ThenSays (tree_in document) IsServed
@@ -30,6 +31,7 @@ abbrev pub document_for : Command → List ℕ → Result Data WireFault
 document_for Judge bytes = document_of bytes
 document_for Check bytes = document_of bytes
 document_for Plan bytes = document_of bytes
+document_for Draw bytes = document_of bytes
 document_for Run bytes = document_of bytes
 document_for Audit bytes = history_of bytes
 document_for Serve bytes = document_of bytes

@@ -14,11 +14,13 @@ use crate::hinting::{awaited_by, hint_beside};
 use crate::refusal::answer_of;
 use crate::serving::serve_document;
 use grove_answer::{
-    Refusal, audit_document, check_document, judge_document, plan_document, run_document,
+    Refusal, audit_document, check_document, draw_document, judge_document, plan_document,
+    run_document,
 };
+use grove_draw::Form;
 use grove_session::{ReaderSource, Sink, Source, read_whole};
 use grove_wire::{MOST_BYTES, MOST_HISTORY_BYTES, WireFault, read_document, read_history};
-use grove_words::{Command, NoOrder, Order, not_text, order_of};
+use grove_words::{Command, Form as WrittenForm, NoOrder, Order, not_text, order_of};
 use serde_json::Value;
 use std::alloc::Global;
 use std::fs;
@@ -204,9 +206,12 @@ fn most_bytes(command: Command) -> usize
 {
     match command {
         Command::Audit => MOST_HISTORY_BYTES,
-        Command::Judge | Command::Check | Command::Plan | Command::Run | Command::Serve => {
-            MOST_BYTES
-        }
+        Command::Judge
+        | Command::Check
+        | Command::Plan
+        | Command::Draw
+        | Command::Run
+        | Command::Serve => MOST_BYTES,
     }
 }
 
@@ -218,9 +223,12 @@ fn read_for(alloc: Global, command: Command, bytes: &[u8]) -> Result<Value, Wire
 {
     match command {
         Command::Audit => read_history(alloc, bytes),
-        Command::Judge | Command::Check | Command::Plan | Command::Run | Command::Serve => {
-            read_document(alloc, bytes)
-        }
+        Command::Judge
+        | Command::Check
+        | Command::Plan
+        | Command::Draw
+        | Command::Run
+        | Command::Serve => read_document(alloc, bytes),
     }
 }
 
@@ -244,9 +252,21 @@ fn document_answer<
         Command::Judge => answer_of(alloc, judge_document(alloc, document)),
         Command::Check => answer_of(alloc, check_document(alloc, document)),
         Command::Plan => answer_of(alloc, plan_document(alloc, document)),
+        Command::Draw => answer_of(alloc, draw_document(alloc, document, form_of(order.form))),
         Command::Run => answer_of(alloc, run_document(rt, alloc, document, order.workers)),
         Command::Audit => answer_of(alloc, audit_document(alloc, document)),
         Command::Serve => serve_document(rt, alloc, document, order.workers, order.port),
+    }
+}
+
+/// The form of a drawing that the words ask for.
+fn form_of(form: WrittenForm) -> Form
+    ensures svg { form ≡ WrittenForm.Svg → result ≡ Form.Svg }
+    ensures text { form ≡ WrittenForm.Text → result ≡ Form.Text }
+{
+    match form {
+        WrittenForm::Svg => Form::Svg,
+        WrittenForm::Text => Form::Text,
     }
 }
 

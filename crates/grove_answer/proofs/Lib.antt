@@ -1,6 +1,7 @@
 pub mod Audits
 pub mod Batches
 pub mod Differences
+pub mod Drawings
 pub mod Faults
 pub mod Fitting
 pub mod Records

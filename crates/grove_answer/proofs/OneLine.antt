@@ -5,6 +5,7 @@ use Rattle.std.specs.Fmt.{signed_decimal}
 use Rattle.std.specs.List.{list_all}
 use Rattle.std.proofs.lemmas.List.Elements.{All-nil, All-cons, All-append}
 use Rattle.serde_json.specs.Data.{Data}
+use Rattle.serde_json.specs.Find.{get}
 use Rattle.grove_tree.specs.Trees.{Rows, parent_of, name_of}
 use Rattle.grove_tree.specs.Rules.{is_name_byte, tree_fault_of}
 use Rattle.grove_tree.specs.Paths.{name_below, names_within, or_slash, path_of}
@@ -36,7 +37,7 @@ use Rattle.grove_wire.specs.Histories.{Standing, jobs_in, events_in, standing_in
 use Rattle.grove_wire.specs.Texts.{number_text, place_text, tree_text, wire_text, plan_text, proof_text, event_text, replay_text}
 use Rattle.grove_store.proofs.Feedless.{none_is, none_found, decimal_feedless, signed_feedless}
 use Rattle.grove_answer.specs.declared.reading.Task.{Task}
-use Rattle.grove_answer.specs.Outcomes.{Outcome, ThenSays, task_in, trial_in, claim_in, batch_in, History, history_in, unless_faulty, IsJudged, IsChecked, IsPlanned, IsRunBatch, IsMisstated, IsAudited}
+use Rattle.grove_answer.specs.Outcomes.{Outcome, ThenSays, task_in, trial_in, claim_in, own_plan, sketch_in, batch_in, History, history_in, unless_faulty, own_fault, IsJudged, IsChecked, IsPlanned, IsDrawn, IsRunBatch, IsMisstated, IsAudited}
 use Rattle.grove_answer.specs.Laws.{IsOneLine, RefusesInOneLine, FaultsAreOneLine, CommandsRefuseInOneLine}
 
 -- ---- of words and numbers
@@ -224,6 +225,12 @@ claim_reads document =
     then_reads (λ trial. trial.0.tree) (λ claim. claim.0.tree) (trial_in document) _ (trial_reads document) (λ trial faultless.
     after_reads (λ claim. claim.0.tree) (flow_in trial.0.tree document) _ (λ flow. faultless))
 
+sketch_reads : (document : Data) → Reads (λ (sketch : Task × Option (List Step)). sketch.0.tree) (sketch_in document)
+unfolding sketch_in
+sketch_reads document =
+    then_reads (λ task. task.tree) (λ sketch. sketch.0.tree) (task_in document) _ (task_reads document) (λ task faultless.
+    after_reads (λ sketch. sketch.0.tree) (own_plan task.tree document (get (codes "plan") document)) _ (λ own. faultless))
+
 batch_reads : (document : Data) → Reads (λ (batch : Rows × List ℤ × List (List Access)). batch.0) (batch_in document)
 unfolding batch_in
 batch_reads document =
@@ -263,6 +270,9 @@ checked (task, steps, flow) faultless text (fault, other, is, told) = subst IsOn
 planned : (task : Task) → IsFaultless task.tree → RefusesInOneLine (IsPlanned task)
 planned task faultless text (steps, flow, settled, certified, told) = let never : ◌≡◌ {A = Outcome} (Err text) (Ok _) = told in cc
 
+drawn : (sketch : Task × Option (List Step)) → IsFaultless sketch.0.tree → RefusesInOneLine (IsDrawn sketch)
+drawn (task, own) faultless text (lines, says) = unless_legal task.tree faultless (own_fault task own) lines text says
+
 run_batch : (batch : Rows × List ℤ × List (List Access)) → IsFaultless batch.0 → RefusesInOneLine (IsRunBatch batch)
 run_batch (rows, records, lists) faultless text (inl foreign) = subst IsOneLine (sym foreign) (none_found (codes "foreign") refl)
 run_batch (rows, records, lists) faultless text (inr unfinished) = subst IsOneLine (sym unfinished) (none_found (codes "unfinished") refl)
@@ -281,6 +291,7 @@ commands_refuse_in_one_line = record {
   judge = λ document. then_says (λ trial. trial.0.tree) IsJudged (trial_in document) (trial_reads document) judged;
   check = λ document. then_says (λ claim. claim.0.tree) IsChecked (claim_in document) (claim_reads document) checked;
   plan = λ document. then_says (λ task. task.tree) IsPlanned (task_in document) (task_reads document) planned;
+  draw = λ document. then_says (λ sketch. sketch.0.tree) IsDrawn (sketch_in document) (sketch_reads document) drawn;
   run = λ document. then_says (λ batch. batch.0) IsRunBatch (batch_in document) (batch_reads document) run_batch;
   audit = λ document. then_says (λ history. history.tree) IsAudited (history_in document) (history_reads document) audited;
 }

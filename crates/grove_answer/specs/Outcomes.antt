@@ -1,6 +1,7 @@
 -- What each command says of a document: its lines, or the text of the first fault.
 use Rattle.std.specs.Prelude.{◌≡◌, ◌≢◌, ◌⊎◌, ℕ, ◌<◌, ℤ, codes, decimal, List, ◌++◌, length, map, reverse, slice_get, Option, Some, None, Result, Ok, Err}
 use Rattle.serde_json.specs.Data.{Data}
+use Rattle.serde_json.specs.Find.{get}
 use Rattle.serde_json.specs.Written.{compact_text}
 use Rattle.grove_base.specs.Numbers.{numbers_below}
 use Rattle.grove_tree.specs.Trees.{Rows}
@@ -10,7 +11,7 @@ use Rattle.grove_access.specs.Lists.{nodes_of, lengths_of}
 use Rattle.grove_access.specs.Effects.{records_after, replies_to}
 use Rattle.grove_plan.specs.declared.step.Step.{Step}
 use Rattle.grove_plan.specs.declared.fault.PlanFault.{PlanFault}
-use Rattle.grove_plan.specs.Plans.{IsLeast, cost}
+use Rattle.grove_plan.specs.Plans.{IsLeast, IsLegal, cost}
 use Rattle.grove_plan.specs.Faults.{plan_fault_of}
 use Rattle.grove_proof.specs.declared.flow.FlowRow.{FlowRow}
 use Rattle.grove_proof.specs.declared.fault.ProofFault.{ProofFault}
@@ -18,6 +19,9 @@ use Rattle.grove_proof.specs.declared.fault.ProofFault.TheVariants as proof
 use Rattle.grove_proof.specs.Flows.{IsCertificate}
 use Rattle.grove_proof.specs.Faults.{IsFault}
 use Rattle.grove_build.specs.Settled.{IsSettled}
+use Rattle.grove_draw.specs.declared.picture.Picture.{Picture}
+use Rattle.grove_draw.specs.declared.drawing.Drawing.{Drawing}
+use Rattle.grove_draw.specs.Pictures.{IsPictureOf}
 use Rattle.grove_core.specs.declared.job.Job.{Job}
 use Rattle.grove_core.specs.declared.event.Event.{Event}
 use Rattle.grove_core.specs.declared.fault.ReplayFault.{ReplayFault}
@@ -70,6 +74,17 @@ batch_in document = do
   stored ← tree_in document
   lists ← lists_in stored.0 document
   Ok (stored.0, stored.1, lists)
+
+-- a task, and a plan for it where the document has one
+abbrev pub own_plan : Rows → Data → Option Data → Result (Option (List Step)) WireFault
+own_plan tree document None = Ok None
+own_plan tree document (Some plan) = plan_in tree document >>= λ steps. Ok (Some steps)
+
+unfoldable pub sketch_in : Data → Result (Task × Option (List Step)) WireFault
+sketch_in document = do
+  task ← task_in document
+  own ← own_plan task.tree document (get (codes "plan") document)
+  Ok (task, own)
 
 -- jobs over a tree with records, the events of their run, and what is said to stand after them
 pub record History : Type 0 where
@@ -129,6 +144,29 @@ IsPlanned task outcome = (plan : List Step) × (flow : List FlowRow)
     × IsSettled task.tree (nodes_of task.list) (lengths_of task.list) plan
     × IsCertificate task.tree (nodes_of task.list) (lengths_of task.list) flow (cost task.tree (lengths_of task.list) plan)
     × (outcome ≡ Ok (plan_lines task.tree task.list plan flow))
+
+-- ---- draw: the pictures of the settled plan and of the document's own, if it has one, unless that has a fault
+
+-- a picture of the own plan, which is legal; none where there is no such plan
+abbrev pub PicturesOwn : Task → Option (List Step) → Option Picture → Type 0
+PicturesOwn task None None = Unit {0}
+PicturesOwn task None (Some picture) = ⊥
+PicturesOwn task (Some plan) None = ⊥
+PicturesOwn task (Some plan) (Some picture) = IsLegal task.tree (nodes_of task.list) plan × IsPictureOf task.tree task.list plan picture
+
+pub record IsDrawingOf (task : Task) (own : Option (List Step)) (drawing : Drawing) : Type 0 where
+  pub own_picture : PicturesOwn task own drawing.own
+  pub plan : List Step
+  pub is_settled : IsSettled task.tree (nodes_of task.list) (lengths_of task.list) plan
+  pub picture : IsPictureOf task.tree task.list plan drawing.settled
+
+abbrev pub own_fault : Task → Option (List Step) → Option PlanFault
+own_fault task None = None
+own_fault task (Some plan) = plan_fault_of task.tree (nodes_of task.list) plan
+
+-- some text is made of the drawing
+abbrev pub IsDrawn : Task × Option (List Step) → Outcome → Type 0
+IsDrawn (task, own) outcome = (lines : List ℕ) × (outcome ≡ unless_faulty task.tree (own_fault task own) lines)
 
 -- ---- run: the lists, each by its settled plan, brought to the end of some run, and the order in which doing them whole is the same
 

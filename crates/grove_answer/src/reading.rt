@@ -1,4 +1,5 @@
-ghost use Rattle.std.specs.Prelude.{◌≡◌, ◌≤◌, length, option_map, IfOk, All};
+ghost use Rattle.std.specs.Prelude.{◌≡◌, ◌≤◌, codes, length, option_map, IfOk, All};
+ghost use Rattle.serde_json.specs.Find.{get};
 ghost use Rattle.serde_json.specs.View.{view};
 ghost use Rattle.grove_access.specs.Lists.{nodes_of, AreNodes};
 ghost use Rattle.grove_core.specs.Openings.{AllFit};
@@ -6,7 +7,7 @@ ghost use Rattle.grove_wire.specs.Forms.{AreArraysShort, HasShortArrays};
 ghost use Rattle.grove_wire.specs.Histories.{standing_of};
 ghost use Rattle.grove_wire.specs.Outcomes.{Gives};
 ghost use Rattle.grove_answer.specs.Says.{IsFitting};
-ghost use Rattle.grove_answer.specs.Outcomes.{task_in, trial_in, claim_in, batch_in, history_in};
+ghost use Rattle.grove_answer.specs.Outcomes.{task_in, trial_in, claim_in, sketch_in, batch_in, history_in, own_plan};
 
 use grove_access::{AccessList, Records};
 use grove_core::{Event, Job};
@@ -74,6 +75,28 @@ pub fn read_claim(alloc: Global, document: &Value) -> Result<(Task, Plan, Flow),
     let (task, plan) = read_trial(alloc, document)?;
     let flow = read_flow(alloc, &task.tree, document)?;
     Ok((task, plan, flow))
+}
+
+/// The document's tree and list, and a plan for them where it has one.
+#[tactic(auto, unfolding(crate::specs::Outcomes::sketch_in))]
+pub fn read_sketch(alloc: Global, document: &Value) -> Result<(Task, Option<Plan>), WireFault>
+    requires { HasShortArrays (view document.now) }
+    ensures read { Gives (λ sketch. (sketch.0, sketch.1)) result (sketch_in (view document.now)) }
+    ensures fits { IfOk result (λ sketch. IsFitting sketch.0) }
+{
+    let task = read_task(alloc, document)?;
+    let own = read_own_plan(alloc, &task.tree, document)?;
+    Ok((task, own))
+}
+
+fn read_own_plan(alloc: Global, tree: &Tree, document: &Value) -> Result<Option<Plan>, WireFault>
+    requires { HasShortArrays (view document.now) }
+    ensures { Gives (λ own. own) result (own_plan tree.now (view document.now) (get (codes "plan") (view document.now))) }
+{
+    match document.get("plan") {
+        Some(_) => Ok(Some(read_plan(alloc, tree, document)?)),
+        None => Ok(None),
+    }
 }
 
 /// The document's tree and lists.

@@ -10,10 +10,10 @@ use Rattle.clap.specs.Faults.{word_fault, step_fault, entered_fault, level_fault
 use Rattle.clap.specs.Kinds.{Kinds}
 use Rattle.clap.proofs.OnLiterals.{clap_on_literals}
 use Rattle.grove_words.specs.CommandLines.{command_named, grove_command, hyphens, is_option, AreCommand, AreDocument, AreFor, AskFor, word_of, text_of}
-use Rattle.grove_words.proofs.Words.{IsFaulty, or_faulty, or_later, not_none, top_rules, leaf_rules, batch_rules, port_rules, top_long, top_short, IsOption, option_refused, HasNoFlag, no_flag, no_bundle, differs, Kind, hyphens_kind, option_kind, plain_kind, kind_of}
-use Rattle.grove_words.proofs.Documents.{document_in, leaf, batch_leaf, port_leaf, leaf_fault, Reads, leaf_reads}
+use Rattle.grove_words.proofs.Words.{IsFaulty, or_faulty, or_later, not_none, top_rules, leaf_rules, drawing_rules, batch_rules, port_rules, top_long, top_short, IsOption, option_refused, HasNoFlag, no_flag, no_bundle, differs, Kind, hyphens_kind, option_kind, plain_kind, kind_of}
+use Rattle.grove_words.proofs.Documents.{document_in, leaf, drawing_leaf, batch_leaf, port_leaf, leaf_fault, Reads, leaf_reads}
 use Rattle.grove_words.specs.declared.order.Command.{Command}
-use Rattle.grove_words.specs.declared.order.Command.TheVariants.{Judge, Check, Plan, Run, Audit, Serve}
+use Rattle.grove_words.specs.declared.order.Command.TheVariants.{Judge, Check, Plan, Draw, Run, Audit, Serve}
 use Rattle.grove_words.specs.declared.order.Order.{Order}
 
 -- clap's statements hold of this command line
@@ -46,11 +46,13 @@ pub record IsFound (rows : Option (Text × List Row)) (found : Order) : Type 0 w
 
 -- what clap reads the words after a command by
 abbrev pub shape_of : Command → Shape
+shape_of Draw = drawing_leaf (word_of Draw)
 shape_of Run = batch_leaf (word_of Run)
 shape_of Serve = port_leaf (word_of Serve)
 shape_of command = leaf (word_of command)
 
 abbrev pub rules_of : Command → List Rule
+rules_of Draw = drawing_rules
 rules_of Run = batch_rules
 rules_of Serve = port_rules
 rules_of command = leaf_rules
@@ -71,6 +73,7 @@ unfolding clap_on_literals
 is_one_of Judge = record { met = refl; turns = refl; enters = λ rest. refl; fails = λ rest. refl; named = refl }
 is_one_of Check = record { met = refl; turns = refl; enters = λ rest. refl; fails = λ rest. refl; named = refl }
 is_one_of Plan = record { met = refl; turns = refl; enters = λ rest. refl; fails = λ rest. refl; named = refl }
+is_one_of Draw = record { met = refl; turns = refl; enters = λ rest. refl; fails = λ rest. refl; named = refl }
 is_one_of Run = record { met = refl; turns = refl; enters = λ rest. refl; fails = λ rest. refl; named = refl }
 is_one_of Audit = record { met = refl; turns = refl; enters = λ rest. refl; fails = λ rest. refl; named = refl }
 is_one_of Serve = record { met = refl; turns = refl; enters = λ rest. refl; fails = λ rest. refl; named = refl }
@@ -115,11 +118,12 @@ which word =
     by_word (codes "judge") word (a_command Judge) (λ judge.
     by_word (codes "check") word (a_command Check) (λ check.
     by_word (codes "plan") word (a_command Plan) (λ plan.
+    by_word (codes "draw") word (a_command Draw) (λ draw.
     by_word (codes "run") word (a_command Run) (λ run.
     by_word (codes "audit") word (a_command Audit) (λ audit.
     by_word (codes "serve") word (a_command Serve) (λ serve.
     by_word (codes "help") word a_help (λ help.
-    neither (rw (judge, check, plan, run, audit, serve, help) refl))))))))
+    neither (rw (judge, check, plan, draw, run, audit, serve, help) refl)))))))))
 
 -- a word that is no command
 
@@ -185,6 +189,8 @@ names_document : (command : Command) (rest : List Text) → fault_of grove_comma
 names_document Judge rest taken found is = document_reads Judge rest refl refl taken found is
 names_document Check rest taken found is = document_reads Check rest refl refl taken found is
 names_document Plan rest taken found is = document_reads Plan rest refl refl taken found is
+names_document Draw rest taken found is =
+    (taken, rows_after drawing_rules [] rest, rows_are Draw rest, sym (is.document (word_of Draw) (rows_after drawing_rules [] rest) (rows_are Draw rest)))
 names_document Run rest taken found is =
     (taken, rows_after batch_rules [] rest, rows_are Run rest, sym (is.document (word_of Run) (rows_after batch_rules [] rest) (rows_are Run rest)))
 names_document Audit rest taken found is = document_reads Audit rest refl refl taken found is

@@ -14,7 +14,7 @@ use Rattle.clap.proofs.OnLiterals.{clap_on_literals}
 use Rattle.clap.proofs.WalkLemmas.{walk_stopped}
 use Rattle.clap.proofs.FaultLemmas.{fault_ends, stopped_fault}
 use Rattle.grove_words.specs.declared.order.Command.{Command}
-use Rattle.grove_words.specs.declared.order.Command.TheVariants.{Judge, Check, Plan, Run, Audit, Serve}
+use Rattle.grove_words.specs.declared.order.Command.TheVariants.{Judge, Check, Plan, Draw, Run, Audit, Serve}
 use Rattle.grove_words.specs.declared.order.Order.{Order}
 use Rattle.grove_words.specs.CommandLines.{command_named, grove_command, hyphens, IsPlain, AreCommand, AreDocument, AreFor, AreTakenFor, AskFor, AskToShow, word_of, text_of}
 use Rattle.grove_words.proofs.Words.{top_rules, leaf_rules, HasNoFlag, no_flag, differs, met_plain}
@@ -112,6 +112,7 @@ taken_for : (command : Command) (words : List Text) (document : Option Text) →
 taken_for Judge words document are = document_taken Judge words document refl are
 taken_for Check words document are = document_taken Check words document refl are
 taken_for Plan words document are = document_taken Plan words document refl are
+taken_for Draw words document are = are.0
 taken_for Run words document are = are.0
 taken_for Audit words document are = document_taken Audit words document refl are
 taken_for Serve words document are = are.0
@@ -129,6 +130,7 @@ found_for : (command : Command) (words : List Text) (document : Option Text) →
 found_for Judge words document are = rows_of_document Judge words document are
 found_for Check words document are = rows_of_document Check words document are
 found_for Plan words document are = rows_of_document Plan words document are
+found_for Draw words document are = (are.1, are.2)
 found_for Run words document are = (are.1, are.2)
 found_for Audit words document are = rows_of_document Audit words document are
 found_for Serve words document are = (are.1, are.2)
@@ -199,6 +201,7 @@ one_name : (command : Command) (words : List Text) (name : Text) → AreFor comm
 one_name Judge words name none some = one_document Judge words name none some
 one_name Check words name none some = one_document Check words name none some
 one_name Plan words name none some = one_document Plan words name none some
+one_name Draw words name none some = one_taken (word_of Draw) words name none some
 one_name Run words name none some = one_taken (word_of Run) words name none some
 one_name Audit words name none some = one_document Audit words name none some
 one_name Serve words name none some = one_taken (word_of Serve) words name none some

@@ -9,7 +9,7 @@ use Rattle.clap.specs.Simple.{help_rule, version_rule, filled, with_index}
 use Rattle.clap.specs.Walk.{Held, idle, word_met, bundle_met, plain, value, arg_by_long, arg_by_short, settled, reacted}
 use Rattle.clap.specs.Faults.{flag_word_fault, long_fault, short_fault, flags_fault, settle_fault, use_fault, react_fault}
 use Rattle.clap.specs.Kinds.{or_else, Kinds}
-use Rattle.grove_words.specs.CommandLines.{port_rule, tree_rule, workers_rule, hyphens, is_option}
+use Rattle.grove_words.specs.CommandLines.{port_rule, text_rule, tree_rule, workers_rule, hyphens, is_option}
 
 -- some kind is among them
 abbrev pub IsFaulty : Kinds → Type 0
@@ -39,6 +39,9 @@ top_rules = help_option ∷ version_option ∷ []
 
 abbrev pub leaf_rules : List Rule
 leaf_rules = document_argument ∷ help_option ∷ []
+
+abbrev pub drawing_rules : List Rule
+drawing_rules = document_argument ∷ filled text_rule ∷ help_option ∷ []
 
 abbrev pub batch_rules : List Rule
 batch_rules = document_argument ∷ with_index 1 (filled workers_rule) ∷ help_option ∷ []

@@ -5,10 +5,13 @@ use Rattle.std.specs.Str.{bytes_eq, chars}
 use Rattle.std.specs.Str.Parse.{IsNumeral, digits_value, without_leading_plus}
 use Rattle.clap.specs.Lexer.{long_of, short_of}
 use Rattle.clap.specs.Words.{App, IsAmong, Row, Rule, fault_of, first_of, new_app, new_rule, one_of, subcommand_of, with_rule, with_subcommand}
+use Rattle.clap.specs.declared.builder.action.ArgAction.TheVariants.{SetTrue}
 use Rattle.clap.specs.declared.builder.value_parser.ValueParser.TheVariants.{Signed}
 use Rattle.clap.specs.declared.error.kind.ErrorKind.TheVariants.{DisplayHelp, DisplayVersion}
 use Rattle.grove_words.specs.declared.order.Command.{Command}
-use Rattle.grove_words.specs.declared.order.Command.TheVariants.{Judge, Check, Plan, Run, Audit, Serve}
+use Rattle.grove_words.specs.declared.order.Command.TheVariants.{Judge, Check, Plan, Draw, Run, Audit, Serve}
+use Rattle.grove_words.specs.declared.order.Form.{Form}
+use Rattle.grove_words.specs.declared.order.Form.TheVariants.{Svg, Text}
 use Rattle.grove_words.specs.declared.order.Order.{Order}
 
 -- ---- commands and documents
@@ -18,6 +21,7 @@ abbrev pub word_of : Command → List ℕ
 word_of Judge = codes "judge"
 word_of Check = codes "check"
 word_of Plan = codes "plan"
+word_of Draw = codes "draw"
 word_of Run = codes "run"
 word_of Audit = codes "audit"
 word_of Serve = codes "serve"
@@ -27,6 +31,7 @@ abbrev pub command_named : List ℕ → Command
 command_named word =
     if bytes_eq word (codes "check") then Check
     else if bytes_eq word (codes "plan") then Plan
+    else if bytes_eq word (codes "draw") then Draw
     else if bytes_eq word (codes "run") then Run
     else if bytes_eq word (codes "audit") then Audit
     else if bytes_eq word (codes "serve") then Serve
@@ -81,6 +86,17 @@ workers_rule = record (new_rule (codes "workers")) {
 abbrev pub batch_command : List ℕ → App
 batch_command name = with_rule (document_command name) workers_rule
 
+-- a flag that asks for text
+abbrev pub text_rule : Rule
+text_rule = record (new_rule (codes "text")) {
+  long = Some (codes "text");
+  action = Some SetTrue;
+}
+
+-- a command that reads one document and may be told to write text
+abbrev pub drawing_command : List ℕ → App
+drawing_command name = with_rule (document_command name) text_rule
+
 -- the document that is served, which has to be given
 abbrev pub tree_rule : Rule
 tree_rule = record (new_rule (codes "DOC")) {
@@ -105,7 +121,9 @@ abbrev pub grove_command : App
 grove_command =
     with_subcommand
     (with_command
-    (with_subcommand (with_command (with_command (with_command no_command (codes "judge")) (codes "check")) (codes "plan")) (batch_command (codes "run")).top)
+    (with_subcommand
+    (with_subcommand (with_command (with_command (with_command no_command (codes "judge")) (codes "check")) (codes "plan")) (drawing_command (codes "draw")).top)
+    (batch_command (codes "run")).top)
     (codes "audit"))
     (port_command (codes "serve")).top
 
@@ -125,6 +143,7 @@ abbrev pub AreFor : Command → List (List ℕ) → Option (List ℕ) → Type 0
 AreFor Judge words document = AreCommand (word_of Judge) words document
 AreFor Check words document = AreCommand (word_of Check) words document
 AreFor Plan words document = AreCommand (word_of Plan) words document
+AreFor Draw words document = AreTakenFor (word_of Draw) words document
 AreFor Run words document = AreTakenFor (word_of Run) words document
 AreFor Audit words document = AreCommand (word_of Audit) words document
 AreFor Serve words document = AreTakenFor (word_of Serve) words document
@@ -158,6 +177,19 @@ AreWorkersIn found workers = AreWorkers (option_and_then (λ rows. one_of (codes
 -- the words ask for so many workers
 abbrev pub AskForWorkers : List (List ℕ) → ℕ → Type 0
 AskForWorkers words workers = AreWorkersIn (subcommand_of grove_command words) workers
+
+-- a drawing is asked for in this form by the text of a flag: as text where it is set, else as SVG
+abbrev pub IsForm : Option (List ℕ) → Form → Type 0
+IsForm None form = form ≡ Svg
+IsForm (Some flag) form = (flag ≡ codes "true" → form ≡ Text) × (flag ≡ codes "false" → form ≡ Svg)
+
+-- by the text that clap finds for the flag, among a command's rows
+abbrev pub IsFormIn : Option (List ℕ × List Row) → Form → Type 0
+IsFormIn found form = IsForm (option_and_then (λ rows. one_of (codes "text") rows.1) found) form
+
+-- the words ask for this form
+abbrev pub AskForForm : List (List ℕ) → Form → Type 0
+AskForForm words form = IsFormIn (subcommand_of grove_command words) form
 
 -- the words ask to serve at this port
 abbrev pub AskToServe : List (List ℕ) → ℕ → Type 0

@@ -1,12 +1,12 @@
 ghost use Rattle.std.specs.Prelude.{◌≡◌, ◌≤◌, ℕ, List, false, codes, map, Some, None, IfOk, IfErr, IfSome, IsErrAnd, string_bytes};
 ghost use Rattle.clap.specs.declared.builder.command.Command.{out-Command};
 ghost use Rattle.clap.specs.Words.{App, HasKind, Row, app_of, fault_of, first_of, found_of, one_text, rule_of, new_rule, subcommand_of, subcommand_rows_of, with_subcommand};
-ghost use Rattle.grove_words.specs.CommandLines.{batch_command, command_named, document_command, grove_command, no_command, port_command, port_rule, tree_rule, workers_rule, AreWorkers, AreWorkersIn, AreWrong, AskFor, AskForWorkers, AskToServe, AskToShow, IsPortIn, text_of};
+ghost use Rattle.grove_words.specs.CommandLines.{batch_command, command_named, document_command, drawing_command, grove_command, no_command, port_command, port_rule, text_rule, tree_rule, workers_rule, AreWorkers, AreWorkersIn, AreWrong, AskFor, AskForForm, AskForWorkers, AskToServe, AskToShow, IsForm, IsFormIn, IsPortIn, text_of};
 ghost use Rattle.grove_words.specs.NoOrders.{HasText, TellsShown, TellsWrong};
 
 use crate::no_order::{NoOrder, no_order};
-use crate::order::{Command, Order};
-use clap::{Arg, ArgMatches, Error, value_parser};
+use crate::order::{Command, Form, Order};
+use clap::{Arg, ArgAction, ArgMatches, Error, value_parser};
 use std::alloc::{AllocError, Global};
 
 /// The program's version.
@@ -22,6 +22,7 @@ pub fn order_of<'a>(alloc: Global, words: &'a [String]) -> Result<Order<'a>, NoO
     ensures asked { IfOk result (AskFor (map string_bytes words.now)) }
     ensures workers { IfOk result (λ order. (1 ≤ order.workers) × (order.workers ≤ 16)) }
     ensures given { IfOk result (λ order. AskForWorkers (map string_bytes words.now) order.workers) }
+    ensures form { IfOk result (λ order. AskForForm (map string_bytes words.now) order.form) }
     ensures port { IfOk result (λ order. order.command ≡ Command.Serve → IfSome order.port (AskToServe (map string_bytes words.now))) }
     ensures taken { (order : Order) → AskFor (map string_bytes words.now) order → IfErr result (λ why. why ≡ NoOrder.Memory) }
     ensures wrong { AreWrong (map string_bytes words.now) → IsErrAnd result TellsWrong }
@@ -39,6 +40,7 @@ fn order_among<'a>(alloc: Global, words: &'a [String]) -> Result<Order<'a>, Erro
     ensures asked { IfOk result (AskFor (map string_bytes words.now)) }
     ensures workers { IfOk result (λ order. (1 ≤ order.workers) × (order.workers ≤ 16)) }
     ensures given { IfOk result (λ order. AreWorkersIn (subcommand_of grove_command (map string_bytes words.now)) order.workers) }
+    ensures form { IfOk result (λ order. IsFormIn (subcommand_of grove_command (map string_bytes words.now)) order.form) }
     ensures port { IfOk result (λ order. IfSome order.port (IsPortIn (subcommand_of grove_command (map string_bytes words.now)))) }
     ensures refused { IfErr result (HasKind (fault_of grove_command (map string_bytes words.now))) }
 {
@@ -54,6 +56,7 @@ fn order_in<'a>(matches: &ArgMatches<'a>) -> Order<'a>
         → text_of result.document ≡ first_of (codes "DOC") rows }
     ensures workers { (1 ≤ result.workers) × (result.workers ≤ 16) }
     ensures given { AreWorkersIn (subcommand_rows_of matches.now) result.workers }
+    ensures form { IsFormIn (subcommand_rows_of matches.now) result.form }
     ensures port { IfSome result.port (IsPortIn (subcommand_rows_of matches.now)) }
 {
     match matches.subcommand() {
@@ -62,12 +65,14 @@ fn order_in<'a>(matches: &ArgMatches<'a>) -> Order<'a>
             document: given.get_str("DOC"),
             workers: workers_in(given),
             port: given.get_one::<u16>("port"),
+            form: form_in(given),
         },
         None => Order {
             command: Command::Judge,
             document: None,
             workers: FEW_WORKERS,
             port: None,
+            form: Form::Svg,
         },
     }
 }
@@ -81,6 +86,17 @@ fn workers_in(given: &ArgMatches<'_>) -> u32
     workers.max(1).min(MOST_WORKERS)
 }
 
+/// The form of a drawing, for a command that has one.
+fn form_in(given: &ArgMatches<'_>) -> Form
+    ensures { IsForm (one_text (found_of given.now) (codes "text")) result }
+{
+    if given.get_flag("text") {
+        Form::Text
+    } else {
+        Form::Svg
+    }
+}
+
 /// The command that a word names. Clap lets no other words through.
 fn command_named(word: &str) -> Command
     ensures { result ≡ command_named word.now }
@@ -88,6 +104,7 @@ fn command_named(word: &str) -> Command
     match word {
         "check" => Command::Check,
         "plan" => Command::Plan,
+        "draw" => Command::Draw,
         "run" => Command::Run,
         "audit" => Command::Audit,
         "serve" => Command::Serve,
@@ -102,7 +119,8 @@ pub fn command_line<'a>(alloc: Global) -> Result<clap::Command<'a>, AllocError>
     let judges = add(program(alloc), judge(alloc));
     let checks = add(judges, check(alloc));
     let plans = add(checks, plan(alloc));
-    let runs = add(plans, run(alloc));
+    let draws = add(plans, draw(alloc));
+    let runs = add(draws, run(alloc));
     let audits = add(runs, audit(alloc));
     add(audits, serve(alloc))
 }
@@ -154,6 +172,15 @@ fn plan<'a>(alloc: Global) -> Result<clap::Command<'a>, AllocError>
 {
     let about = "Plan a list: the cheapest plan, and the flow that proves it";
     on_document(alloc, "plan", about)
+}
+
+/// A command that reads one document and may be told to write text.
+fn draw<'a>(alloc: Global) -> Result<clap::Command<'a>, AllocError>
+    ensures app { IfOk result (λ command. app_of command ≡ drawing_command (codes "draw")) }
+    ensures local { IfOk result (λ command. (out-Command command).has_globals ≡ false) }
+{
+    let about = "Draw a list's cheapest plan, and the document's own above it where it has one";
+    on_document(alloc, "draw", about)?.arg(text(alloc))
 }
 
 /// A command that reads one document and may be told how many workers there are.
@@ -218,6 +245,16 @@ fn workers<'a>(alloc: Global) -> Arg<'a>
         .value_parser(value_parser!(u32).range(1..=16))
         .default_value("4")
         .help("How many workers run the lists at once")
+}
+
+fn text<'a>(alloc: Global) -> Arg<'a>
+    ensures rule { rule_of result ≡ text_rule }
+    ensures local { result.global ≡ false }
+{
+    Arg::new(alloc, "text")
+        .long("text")
+        .action(ArgAction::SetTrue)
+        .help("Write lines for a terminal, and no SVG")
 }
 
 fn tree<'a>(alloc: Global) -> Arg<'a>

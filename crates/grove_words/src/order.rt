@@ -9,6 +9,17 @@ pub struct Order<'a> {
     pub workers: u32,
     /// The port to listen on, where sessions are to be served.
     pub port: Option<u16>,
+    /// How a drawing is to be written.
+    pub form: Form,
+}
+
+/// How a drawing is written.
+#[derive(Clone, Copy, Debug, PartialEq, Eq)]
+pub enum Form {
+    /// As an SVG document.
+    Svg,
+    /// As lines for a terminal.
+    Text,
 }
 
 /// What is to be done with a document.
@@ -17,6 +28,7 @@ pub enum Command {
     Judge,
     Check,
     Plan,
+    Draw,
     Run,
     Audit,
     Serve,

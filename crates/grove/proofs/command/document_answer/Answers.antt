@@ -1,5 +1,5 @@
 use Rattle.serde_json.specs.View.{view}
-use Rattle.grove_words.specs.declared.order.Command.TheVariants.{Judge, Check, Plan, Run, Audit}
+use Rattle.grove_words.specs.declared.order.Command.TheVariants.{Judge, Check, Plan, Draw, Run, Audit}
 use Rattle.grove.specs.Outcomes.{MaySay}
 use Rattle.grove.proofs.Saying.{answer_says, names_no_port, serves_nothing}
 use Rattle.grove.proofs.command.document_answer.Goals as goal
@@ -53,3 +53,13 @@ returns-in-Audit-clause-port g c = names_no_port _ c.answer_of-in-Audit.result c
 
 pub returns-in-Audit-clause-opened : goal.returns-in-Audit-clause-opened
 returns-in-Audit-clause-opened g c = serves_nothing _ c.answer_of-in-Audit.result c.answer_of-in-Audit.ensures.unlistened
+
+pub returns-in-Draw-clause-said : goal.returns-in-Draw-clause-said
+returns-in-Draw-clause-said g c =
+    rw c.in-Draw.is (answer_says (MaySay Draw (view c.args.document.now)) c.draw_document.result c.answer_of-in-Draw.result c.draw_document.ensures c.answer_of-in-Draw.ensures.said)
+
+pub returns-in-Draw-clause-port : goal.returns-in-Draw-clause-port
+returns-in-Draw-clause-port g c = names_no_port _ c.answer_of-in-Draw.result c.answer_of-in-Draw.ensures.unlistened
+
+pub returns-in-Draw-clause-opened : goal.returns-in-Draw-clause-opened
+returns-in-Draw-clause-opened g c = serves_nothing _ c.answer_of-in-Draw.result c.answer_of-in-Draw.ensures.unlistened
