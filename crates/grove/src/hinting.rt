@@ -71,6 +71,7 @@ fn asked_by(command: Command) -> Asked {
         Command::Judge => Asked::Judge,
         Command::Check => Asked::Check,
         Command::Plan => Asked::Plan,
+        Command::Draw => Asked::Draw,
         Command::Run => Asked::Run,
         Command::Audit => Asked::Audit,
         Command::Serve => Asked::Serve,

@@ -4,6 +4,7 @@ pub enum Asked {
     Judge,
     Check,
     Plan,
+    Draw,
     Run,
     Audit,
     Serve,
@@ -16,6 +17,7 @@ impl Asked {
             Asked::Judge => "judge",
             Asked::Check => "check",
             Asked::Plan => "plan",
+            Asked::Draw => "draw",
             Asked::Run => "run",
             Asked::Audit => "audit",
             Asked::Serve => "serve",
@@ -27,7 +29,7 @@ impl Asked {
         match self {
             Asked::Judge => r#""nodes", "list" and "plan""#,
             Asked::Check => r#""nodes", "list", "plan" and "flow""#,
-            Asked::Plan => r#""nodes" and "list""#,
+            Asked::Plan | Asked::Draw => r#""nodes" and "list""#,
             Asked::Run => r#""nodes" and "lists""#,
             Asked::Audit => r#""nodes", "jobs" and "events""#,
             Asked::Serve => r#""nodes""#,
@@ -38,8 +40,13 @@ impl Asked {
     pub(crate) fn reads(self, name: &str) -> bool {
         match name {
             "version" | "nodes" => true,
-            "list" => matches!(self, Asked::Judge | Asked::Check | Asked::Plan),
-            "plan" => matches!(self, Asked::Judge | Asked::Check),
+            "list" => {
+                matches!(
+                    self,
+                    Asked::Judge | Asked::Check | Asked::Plan | Asked::Draw
+                )
+            }
+            "plan" => matches!(self, Asked::Judge | Asked::Check | Asked::Draw),
             "flow" => matches!(self, Asked::Check),
             "lists" => matches!(self, Asked::Run),
             "jobs" | "events" | "standing" => matches!(self, Asked::Audit),

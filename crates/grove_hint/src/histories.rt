@@ -77,7 +77,7 @@ pub(crate) fn standing_amiss(
     }
     let number = number.first().copied().unwrap_or("");
     Ok(format!(in alloc;
-        "standing-{what} {number} isn't what the events leave of {each} {number}"
+        "standing: {what} {number} isn't what the events leave of {each} {number}"
     )?)
 }
 

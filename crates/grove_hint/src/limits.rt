@@ -12,7 +12,8 @@ const MOST_ACCESSES: usize = 64;
 pub(crate) fn bytes_beyond(alloc: Global, asked: Asked) -> Result<String, NoMemory> {
     let most = match asked {
         Asked::Audit => MOST_HISTORY_BYTES,
-        Asked::Judge | Asked::Check | Asked::Plan | Asked::Run | Asked::Serve => MOST_BYTES,
+        Asked::Judge | Asked::Check | Asked::Plan | Asked::Draw | Asked::Run | Asked::Serve =>
+            MOST_BYTES,
     };
     let command = asked.word();
     Ok(format!(in alloc; "the document has more than the {most} bytes that \"{command}\" takes")?)
