@@ -3,7 +3,7 @@ ghost use Rattle.serde_json.specs.View.{view};
 ghost use Rattle.grove_wire.specs.Forms.{AreArraysShort, HasShortArrays};
 ghost use Rattle.grove_wire.specs.Outcomes.{Gives};
 ghost use Rattle.std.specs.Io.KnownBytes.{Consumes, IsAtEnd, Keeps};
-ghost use Rattle.grove.specs.Answers.{most_bytes, status_of, AnswersBy, HasText, IsListen, IsOpenedBy, IsOpenedFrom, IsRefusalLine, NamesPort, ServesStore};
+ghost use Rattle.grove.specs.Answers.{most_bytes, status_of, AnswersBy, HasText, IsListen, IsOpenedBy, IsOpenedFrom, IsRefusalLine, Listens, ServesStore};
 ghost use Rattle.grove_words.specs.CommandLines.{AreWrong, AskFor, AskForWorkers, AskToServe, AskToShow, NameDevice};
 ghost use Rattle.grove_words.specs.NoOrders.{HasText as IsToldText, TellsShown, TellsWrong};
 ghost use Rattle.grove.specs.Endings.{Blames, SaysListening, SaysRefusal, SaysSomething, SaysWhy};
@@ -25,6 +25,7 @@ use std::net::{Net, TcpListener, TcpStream};
 use std::rt::Files;
 use std::sync::Wait;
 use std::thread::Threads;
+use std::time::Clock;
 
 /// Does what the words after the program's name ask for, and gives the status of the process: 0 done, 1 refused,
 /// 2 wrong words, found before anything is read, 3 no answer or one that couldn't be printed. A document without
@@ -35,6 +36,7 @@ pub fn run_command<
         + Net<Listener = TcpListener, Stream = TcpStream>
         + Threads
         + Wait
+        + Clock
         + Sync,
     I: Source,
     O: Sink,
@@ -100,7 +102,7 @@ fn answer<
     ensures taken { (order : Order) → AskFor (map string_bytes words.now) order → IfOk result (λ answer. status_of answer ≤ 1) }
     ensures served { (order : Order) → AskFor (map string_bytes words.now) order → order.command ≡ Command.Serve
         → IfOk result (λ answer. (status_of answer ≡ 1) ⊎ IsListen answer) }
-    ensures port { IfOk result (NamesPort (AskToServe (map string_bytes words.now))) }
+    ensures place { IfOk result (Listens (AskToServe (map string_bytes words.now))) }
     ensures usage { IfOk result (λ answer. status_of answer ≡ 2 → HasText answer) }
     ensures unread { IfOk result (λ answer. status_of answer ≡ 2 → input.new ≡ input.old) }
     ensures apart { (order : Order) → AskFor (map string_bytes words.now) order → order.document ≢ None → input.new ≡ input.old }
@@ -132,7 +134,7 @@ fn order_answer<
     ensures refused { IfOk result IsRefusalLine }
     ensures status { IfOk result (λ answer. status_of answer ≤ 1) }
     ensures served { order.entry.command ≡ Command.Serve → IfOk result (λ answer. (status_of answer ≡ 1) ⊎ IsListen answer) }
-    ensures port { IfOk result (NamesPort (λ port. (order.entry.command ≡ Command.Serve) × (order.entry.port ≡ Some port))) }
+    ensures place { IfOk result (Listens (λ place. (order.entry.command ≡ Command.Serve) × (order.entry.place ≡ Some place))) }
     ensures apart { order.entry.document ≢ None → input.new ≡ input.old }
     ensures sound { OnOk result (I.has_failed input.new ≡ I.has_failed input.old) }
     ensures blamed { IfErr result (Blames ((I.has_failed input.new ≡ true) ⊎ ((order.entry.document ≢ None) ⊎ (order.entry.command ≡ Command.Serve)))
@@ -153,7 +155,7 @@ fn bytes_answer<
     ensures refused { IfOk result IsRefusalLine }
     ensures status { IfOk result (λ answer. status_of answer ≤ 1) }
     ensures served { order.entry.command ≡ Command.Serve → IfOk result (λ answer. (status_of answer ≡ 1) ⊎ IsListen answer) }
-    ensures port { IfOk result (NamesPort (λ port. (order.entry.command ≡ Command.Serve) × (order.entry.port ≡ Some port))) }
+    ensures place { IfOk result (Listens (λ place. (order.entry.command ≡ Command.Serve) × (order.entry.place ≡ Some place))) }
     ensures blamed { IfErr result (Blames (order.entry.command ≡ Command.Serve) ⊤) }
 {
     let alloc = rt.alloc();
@@ -202,7 +204,7 @@ fn document_answer<
     ensures refused { IfOk result IsRefusalLine }
     ensures status { IfOk result (λ answer. status_of answer ≤ 1) }
     ensures served { order.entry.command ≡ Command.Serve → IfOk result (λ answer. (status_of answer ≡ 1) ⊎ IsListen answer) }
-    ensures port { IfOk result (NamesPort (λ port. (order.entry.command ≡ Command.Serve) × (order.entry.port ≡ Some port))) }
+    ensures place { IfOk result (Listens (λ place. (order.entry.command ≡ Command.Serve) × (order.entry.place ≡ Some place))) }
     ensures blamed { IfErr result (Blames (order.entry.command ≡ Command.Serve) ⊤) }
 {
     let alloc = rt.alloc();
@@ -212,7 +214,7 @@ fn document_answer<
         Command::Plan => answer_of(alloc, plan_document(alloc, document)),
         Command::Run => answer_of(alloc, run_document(rt, alloc, document, order.workers)),
         Command::Audit => answer_of(alloc, audit_document(alloc, document)),
-        Command::Serve => serve_document(rt, alloc, document, order.workers, order.port),
+        Command::Serve => serve_document(rt, alloc, document, order.workers, order.place),
     }
 }
 
