@@ -48,6 +48,7 @@ class Server:
 
     def __init__(self, program, words, folder=None, **how):
         self.port = int(words[words.index("--port") + 1])
+        self.host = words[words.index("--bind") + 1] if "--bind" in words else HOST
         streams = {"stdin": subprocess.DEVNULL, "stdout": subprocess.PIPE, "stderr": subprocess.PIPE}
         self.started = subprocess.Popen([program, *words], cwd=folder, **streams, **how)
 
@@ -55,12 +56,22 @@ class Server:
         watch = threading.Timer(SECONDS, self.started.kill)
         watch.start()
         line = self.started.stdout.readline()
-        is_listening = line == b"listening %s:%d\n" % (HOST.encode(), self.port)
+        is_listening = self.hears_of_port(line)
         rest, errors = (b"", b"") if is_listening else self.started.communicate()
         watch.cancel()
         if not is_listening:
             raise NotListening(self.started.returncode, line + rest, errors)
         return self
+
+    def hears_of_port(self, line):
+        """Does the line say where it listens? Where any port was asked for, it says which."""
+        before, _, port = line.rstrip(b"\n").rpartition(b":")
+        shown = f"[{self.host}]" if ":" in self.host else self.host
+        if before != b"listening " + shown.encode() or line != before + b":%d\n" % int(port or 0):
+            return False
+        if self.port == 0:
+            self.port = int(port)
+        return self.port == int(port) and 1 <= self.port <= 65535
 
     def __exit__(self, *_):
         self.started.kill()
@@ -70,16 +81,16 @@ class Server:
         return self.started.poll() is None
 
     def talk(self, *words, **how):
-        return talk(self.port, *words, **how)
+        return talk(self.port, *words, host=self.host, **how)
 
 
 class Serving(Server):
     """The program, serving a document that is given as bytes."""
 
-    def __init__(self, program, document, workers=1, **how):
+    def __init__(self, program, document, workers=1, port=None, further=(), **how):
         self.room = tempfile.TemporaryDirectory(prefix="grove-serve-")
         (Path(self.room.name) / "tree.json").write_bytes(document)
-        words = ["serve", "--tree", "tree.json", "--port", str(free_port()), "--workers", str(workers)]
+        words = ["serve", "--tree", "tree.json", "--port", str(free_port() if port is None else port), "--workers", str(workers), *further]
         super().__init__(program, words, self.room.name, **how)
 
     def __exit__(self, *_):
@@ -87,16 +98,16 @@ class Serving(Server):
         self.room.cleanup()
 
 
-def connected(port):
-    connection = socket.create_connection((HOST, port), timeout=SECONDS)
+def connected(port, host=HOST):
+    connection = socket.create_connection((host, port), timeout=SECONDS)
     connection.setsockopt(socket.IPPROTO_TCP, socket.TCP_NODELAY, 1)
     return connection
 
 
-def talk(port, text, piece=PIECE, leaves=False):
+def talk(port, text, piece=PIECE, leaves=False, host=HOST):
     """Sends the text, a piece at a time, and no more; gives all that comes back. One that leaves looks at nothing of it,
     and closes at once."""
-    with connected(port) as connection:
+    with connected(port, host) as connection:
         if leaves:
             send(connection, text, piece)
             return b""

@@ -14,11 +14,11 @@ from pathlib import Path
 from random import Random
 
 from case_file import read_case
-from server import HOST, Serving, connected, free_port, talk, talk_in_turn
+from server import Serving, connected, free_port, talk, talk_in_turn
 from store import Store
 
 from sweeps.documents import EXAMPLES
-from sweeps.program import DEVICE, Ran, Tally, Try, run
+from sweeps.program import DEVICE, Tally, Try, run
 from sweeps.talks import lines_of, look, note_replies
 
 TRIED = "lines and connections of clients that end in every way"
@@ -134,14 +134,10 @@ def flood(connection, seconds: float) -> None:
 
 
 def failing_devices(program: str, tally: Tally) -> None:
-    """A standard output that takes nothing, and so few files that no connection can be one more."""
-    words = ["serve", "--tree", str(EXAMPLES / "two-leaves.json"), "--port"]
+    """A standard output that takes nothing."""
+    words = ["serve", "--tree", str(EXAMPLES / "two-leaves.json"), "--port", str(free_port())]
     with open("/dev/full", "wb") as full:
-        tally.compare("standard output, full", run(program, *words, str(free_port()), stdout=full), DEVICE)
-    port = free_port()
-    ran = run("sh", "-c", 'ulimit -n 4; exec "$@"', "sh", program, *words, str(port))
-    listened = b"listening %s:%d\n" % (HOST.encode(), port)
-    tally.compare("no file for a connection", ran, Ran(3, listened, b"device\n"))
+        tally.compare("standard output, full", run(program, *words, stdout=full), DEVICE)
 
 
 def no_threads(program: str, library: str, tally: Tally) -> None:

@@ -1,5 +1,5 @@
 -- The answer to the order that was found is one to the order that the words ask for.
-use Rattle.std.proofs.Common.{◌≡◌, ◌≢◌, ℕ, subst, List, Option, Some, None, IfOk, IfSome, Result, inl, inr, ◌⊎◌}
+use Rattle.std.proofs.Common.{◌≡◌, ◌≢◌, ℕ, subst, List, Option, Some, None, IfOk, IfSome, IsSomeAnd, Result, inl, inr, ◌⊎◌}
 use Rattle.grove_words.specs.declared.order.Command.{Command}
 use Rattle.grove_words.specs.declared.order.Command.TheVariants.{Serve}
 use Rattle.grove_words.specs.declared.order.Order.{Order}
@@ -9,7 +9,7 @@ use Rattle.grove.specs.declared.answer.Answer.{Answer}
 use Rattle.grove.specs.declared.answer.Answer.TheVariants.{Done, Refused, Usage, Listen}
 use Rattle.grove.specs.declared.answer.Stop.{Stop}
 use Rattle.grove.specs.declared.answer.Stop.TheVariants.{Device, Memory}
-use Rattle.grove.specs.Answers.{AnswersBy, NamesPort}
+use Rattle.grove.specs.Answers.{AnswersBy, Listens}
 use Rattle.grove.specs.Endings.{Blames}
 use Rattle.grove.specs.Outcomes.{IsOutcome}
 
@@ -28,14 +28,14 @@ blames_named Failed IsSound words found Device finds (inl failed) = inl failed
 blames_named Failed IsSound words found Device finds (inr named) = inr (found, finds, named)
 blames_named Failed IsSound words found Memory finds sound = sound
 
--- the port of the order that was found is the one that the words ask for
-pub found_port : (words : List (List ℕ)) (found : Order) (answer : Answer) → (found.command ≡ Serve → IfSome found.port (AskToServe words))
-    → NamesPort (λ port. (found.command ≡ Serve) × (found.port ≡ Some port)) answer → NamesPort (AskToServe words) answer
-found_port words found (Done text) asks _ = tt
-found_port words found (Refused text) asks _ = tt
-found_port words found (Usage text) asks _ = tt
-found_port words found (Listen line service) asks (port, (serves, at), said) =
-    (port, subst (λ p. IfSome p (AskToServe words)) at (asks serves), said)
+-- the place of the order that was found is the one that the words ask for
+pub found_place : (words : List (List ℕ)) (found : Order) (answer : Answer) → (found.command ≡ Serve → IsSomeAnd found.place (AskToServe words))
+    → Listens (λ place. (found.command ≡ Serve) × (found.place ≡ Some place)) answer → Listens (AskToServe words) answer
+found_place words found (Done text) asks _ = tt
+found_place words found (Refused text) asks _ = tt
+found_place words found (Usage text) asks _ = tt
+found_place words found (Listen line service) asks (place, (serves, at), said) =
+    (place, subst (λ p. IsSomeAnd p (AskToServe words)) at (asks serves), said)
 
 -- what the order that was found says of some bytes, the one that was asked for says
 pub read_of_asked : (words : List (List ℕ)) (order found : Order) (answer : Result Answer Stop) → AskFor words order → AskFor words found

@@ -16,9 +16,10 @@ use Rattle.grove.specs.declared.answer.Stop.{Stop}
 use Rattle.grove.specs.declared.answer.Stop.TheVariants.{Device, Memory}
 use Rattle.grove_words.specs.declared.order.Command.{Command}
 use Rattle.grove_words.specs.declared.order.Command.TheVariants.{Judge, Check, Plan, Draw, Run, Audit, Serve}
+use Rattle.grove_words.specs.declared.order.Place.{Place}
 use Rattle.grove_words.specs.CommandLines.{AskToServe, NameDevice}
 use Rattle.grove_answer.specs.Outcomes.{Outcome, ThenSays}
-use Rattle.grove.specs.Answers.{most_bytes, status_of, printed, AnswersBy, HasText, IsListen, NamesPort}
+use Rattle.grove.specs.Answers.{most_bytes, status_of, printed, AnswersBy, HasText, IsListen, Listens}
 use Rattle.grove.specs.Endings.{Blames, IsHintLine, MayHint, SaysListening, SaysSomething, SaysWhy}
 use Rattle.grove.specs.Outcomes.{document_for, MaySay, IsOutcome, Prints, PrintsPart, outcome_text}
 
@@ -162,32 +163,32 @@ not_usage (Ok a) status old new Also few done two =
     omega arith
 not_usage (Err why) status old new Also few done two = done (omega arith)
 
--- an answer that listens prints the port that it names
-prints_named : (IsPort : ℕ → Type 0) (answer : Answer) (old new : Option (List ℕ)) → NamesPort IsPort answer → IsListen answer → Appends old new (printed answer)
-    → SaysListening IsPort old new
-prints_named IsPort (Done text) old new names listens said = absurd listens
-prints_named IsPort (Refused text) old new names listens said = absurd listens
-prints_named IsPort (Usage text) old new names listens said = absurd listens
-prints_named IsPort (Listen line service) old new (port, is, line_is) listens said = (port, is, subst (λ text. Appends old new text) line_is said)
+-- an answer that listens prints the place that it names
+prints_named : (IsAsked : Place → Type 0) (answer : Answer) (old new : Option (List ℕ)) → Listens IsAsked answer → IsListen answer → Appends old new (printed answer)
+    → SaysListening IsAsked old new
+prints_named IsAsked (Done text) old new names listens said = absurd listens
+prints_named IsAsked (Refused text) old new names listens said = absurd listens
+prints_named IsAsked (Usage text) old new names listens said = absurd listens
+prints_named IsAsked (Listen line service) old new names listens said = (names.0, names.1, string_bytes line, names.2, said)
 
 -- what an answer that listens names is what is printed, else nothing is
-pub prints_port : (IsPort : ℕ → Type 0) (answer : Result Answer Stop) (old new : Option (List ℕ)) → IfOk answer (NamesPort IsPort)
-    → Keeps old new ⊎ IsOkAnd answer (λ a. IsListen a × Appends old new (printed a)) → Keeps old new ⊎ SaysListening IsPort old new
-prints_port IsPort (Ok answer) old new names (inl kept) = inl kept
-prints_port IsPort (Ok answer) old new names (inr (listens, said)) = inr (prints_named IsPort answer old new names listens said)
-prints_port IsPort (Err why) old new names (inl kept) = inl kept
-prints_port IsPort (Err why) old new names (inr listens) = absurd listens
+pub prints_place : (IsAsked : Place → Type 0) (answer : Result Answer Stop) (old new : Option (List ℕ)) → IfOk answer (Listens IsAsked)
+    → Keeps old new ⊎ IsOkAnd answer (λ a. IsListen a × Appends old new (printed a)) → Keeps old new ⊎ SaysListening IsAsked old new
+prints_place IsAsked (Ok answer) old new names (inl kept) = inl kept
+prints_place IsAsked (Ok answer) old new names (inr (listens, said)) = inr (prints_named IsAsked answer old new names listens said)
+prints_place IsAsked (Err why) old new names (inl kept) = inl kept
+prints_place IsAsked (Err why) old new names (inr listens) = absurd listens
 
 -- an answer that listens was asked to serve
-asked_to_serve : (words : List (List ℕ)) (answer : Answer) → NamesPort (AskToServe words) answer → IsListen answer → NameDevice words
+asked_to_serve : (words : List (List ℕ)) (answer : Answer) → Listens (AskToServe words) answer → IsListen answer → NameDevice words
 asked_to_serve words (Done text) named listens = absurd listens
 asked_to_serve words (Refused text) named listens = absurd listens
 asked_to_serve words (Usage text) named listens = absurd listens
-asked_to_serve words (Listen line service) (port, (order, asks, serves, at), said) listens = (order, asks, inr serves)
+asked_to_serve words (Listen line service) (place, (order, asks, serves, at), said) listens = (order, asks, inr serves)
 
 -- what reading blames, serving and printing may blame besides
 pub blames_device : (words : List (List ℕ)) (answer : Result Answer Stop) (InFailed InSound OutFailed OutSound : Type 0) (old new : Option (List ℕ))
-    → IfErr answer (Blames (InFailed ⊎ NameDevice words) InSound) → IfOk answer (NamesPort (AskToServe words))
+    → IfErr answer (Blames (InFailed ⊎ NameDevice words) InSound) → IfOk answer (Listens (AskToServe words))
     → SaysWhy ((answer ≡ Err Device) ⊎ (IsOkAnd answer IsListen ⊎ OutFailed)) ((answer ≡ Err Memory) × OutSound) old new
     → SaysWhy (InFailed ⊎ (OutFailed ⊎ NameDevice words)) (InSound × OutSound) old new
 blames_device words (Ok answer) InFailed InSound OutFailed OutSound old new blames named (Device, said, inl same) = let e : Ok answer ≡ Err Device = same in absurd (cc)

@@ -10,6 +10,7 @@ use Rattle.grove_wire.specs.Reading.{tree_in}
 use Rattle.grove_wire.specs.Texts.{wire_text}
 use Rattle.grove_store.specs.Stocks.{Stock, opened}
 use Rattle.grove_words.specs.declared.order.Command.{Command}
+use Rattle.grove_words.specs.declared.order.Place.{Place}
 use Rattle.grove_answer.specs.declared.refusal.Refusal.{Refusal}
 use Rattle.grove_answer.specs.declared.refusal.Refusal.TheVariants.{Fault, Memory}
 use Rattle.grove_answer.specs.Outcomes.{Outcome, ThenSays}
@@ -17,7 +18,7 @@ use Rattle.grove_answer.specs.Says.{outcome_of, refusal_outcome, IsTold, Says}
 use Rattle.grove.specs.declared.answer.Answer.{Answer}
 use Rattle.grove.specs.declared.answer.Answer.TheVariants.{Done, Refused, Usage, Listen}
 use Rattle.grove.specs.declared.answer.Stop.{Stop}
-use Rattle.grove.specs.Answers.{AnswersBy, IsAnswerTo, IsListen, IsOpenedBy, IsOpenedFrom, NamesPort, ServesStore}
+use Rattle.grove.specs.Answers.{AnswersBy, IsAnswerTo, IsListen, IsOpenedBy, IsOpenedFrom, Listens, ServesStore}
 use Rattle.grove.specs.Endings.{listening_line}
 use Rattle.grove.specs.Outcomes.{document_for, IsOutcome, IsServed, MaySay}
 
@@ -30,22 +31,23 @@ answer_says MaySay (Err Memory) (Ok a) says is = absurd is
 answer_says MaySay (Err Memory) (Err why) says is = tt
 
 -- what is listened for is what was read
-pub says_served : (found : Result (Rows × List ℤ) WireFault) (IsStored : Rows × List ℤ → Type 0) (IsPort : ℕ → Type 0) (answer : Result Answer Stop) → IsOkAnd found IsStored
-    → IfOk answer (NamesPort IsPort) → IfOk answer IsListen → IfOk answer (AnswersBy (ThenSays found IsServed))
-says_served (Ok stored) IsStored IsPort (Ok (Listen line service)) read (port, is, said) listens = (Ok (listening_line port), (port, refl), (refl, said))
-says_served (Ok stored) IsStored IsPort (Ok (Done text)) read names listens = absurd listens
-says_served (Ok stored) IsStored IsPort (Ok (Refused text)) read names listens = absurd listens
-says_served (Ok stored) IsStored IsPort (Ok (Usage text)) read names listens = absurd listens
-says_served (Ok stored) IsStored IsPort (Err why) read names listens = tt
-says_served (Err fault) IsStored IsPort answer read names listens = absurd read
+pub says_served : (found : Result (Rows × List ℤ) WireFault) (IsStored : Rows × List ℤ → Type 0) (IsAsked : Place → Type 0) (answer : Result Answer Stop) → IsOkAnd found IsStored
+    → IfOk answer (Listens IsAsked) → IfOk answer IsListen → IfOk answer (AnswersBy (ThenSays found IsServed))
+says_served (Ok stored) IsStored IsAsked (Ok (Listen line service)) read (place, is, port, for, said) listens =
+    (Ok (listening_line place.address port), (place.address, port, refl), (refl, said))
+says_served (Ok stored) IsStored IsAsked (Ok (Done text)) read names listens = absurd listens
+says_served (Ok stored) IsStored IsAsked (Ok (Refused text)) read names listens = absurd listens
+says_served (Ok stored) IsStored IsAsked (Ok (Usage text)) read names listens = absurd listens
+says_served (Ok stored) IsStored IsAsked (Err why) read names listens = tt
+says_served (Err fault) IsStored IsAsked answer read names listens = absurd read
 
--- an answer that doesn't listen names no port
-pub names_no_port : (IsPort : ℕ → Type 0) (answer : Result Answer Stop) → IfOk answer (λ a. ¬ IsListen a) → IfOk answer (NamesPort IsPort)
-names_no_port IsPort (Ok (Done text)) other = tt
-names_no_port IsPort (Ok (Refused text)) other = tt
-names_no_port IsPort (Ok (Usage text)) other = tt
-names_no_port IsPort (Ok (Listen line service)) other = absurd (other tt)
-names_no_port IsPort (Err why) other = tt
+-- an answer that doesn't listen names no place
+pub names_no_place : (IsAsked : Place → Type 0) (answer : Result Answer Stop) → IfOk answer (λ a. ¬ IsListen a) → IfOk answer (Listens IsAsked)
+names_no_place IsAsked (Ok (Done text)) other = tt
+names_no_place IsAsked (Ok (Refused text)) other = tt
+names_no_place IsAsked (Ok (Usage text)) other = tt
+names_no_place IsAsked (Ok (Listen line service)) other = absurd (other tt)
+names_no_place IsAsked (Err why) other = tt
 
 -- what a command says of a document it says of the bytes that are read as it
 pub says_document : (command : Command) (bytes : List ℕ) (document : Data) (answer : Result Answer Stop) → document_for command bytes ≡ Ok document

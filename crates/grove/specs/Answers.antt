@@ -6,13 +6,14 @@ use Rattle.grove_session.specs.declared.fault.ReadFault.TheVariants as read
 use Rattle.grove_store.specs.Stocks.{Stock, opened}
 use Rattle.grove_wire.specs.Reading.{tree_in}
 use Rattle.grove_words.specs.declared.order.Command.{Command}
+use Rattle.grove_words.specs.declared.order.Place.{Place}
 use Rattle.grove_words.specs.declared.order.Command.TheVariants.{Judge, Check, Plan, Draw, Run, Audit, Serve}
 use Rattle.grove_answer.specs.Outcomes.{Outcome}
 use Rattle.grove.specs.declared.answer.Answer.{Answer}
 use Rattle.grove.specs.declared.answer.Answer.TheVariants.{Done, Refused, Usage, Listen}
 use Rattle.grove.specs.declared.answer.Stop.{Stop}
 use Rattle.grove.specs.declared.answer.Stop.TheVariants as stop
-use Rattle.grove.specs.Endings.{listening_line, refusal_line}
+use Rattle.grove.specs.Endings.{refusal_line, NamesPlace}
 use Rattle.grove.specs.Outcomes.{document_for, outcome_status, outcome_text}
 
 -- the status that an answer has, once it is printed
@@ -56,12 +57,12 @@ IsListen (Refused text) = ⊥
 IsListen (Usage text) = ⊥
 IsListen (Listen line service) = Unit {0}
 
--- an answer that says so names such a port
-abbrev pub NamesPort : (ℕ → Type 0) → Answer → Type 0
-NamesPort IsPort (Done text) = Unit {0}
-NamesPort IsPort (Refused text) = Unit {0}
-NamesPort IsPort (Usage text) = Unit {0}
-NamesPort IsPort (Listen line service) = (port : ℕ) × IsPort port × (string_bytes line ≡ listening_line port)
+-- an answer that says so names such a place
+abbrev pub Listens : (Place → Type 0) → Answer → Type 0
+Listens IsAsked (Done text) = Unit {0}
+Listens IsAsked (Refused text) = Unit {0}
+Listens IsAsked (Usage text) = Unit {0}
+Listens IsAsked (Listen line service) = (place : Place) × IsAsked place × NamesPlace place (string_bytes line)
 
 -- an answer that says so serves such a store
 abbrev pub ServesStore : (Stock → Type 0) → Answer → Type 0

@@ -1,7 +1,12 @@
 -- What the program says where it has no answer, and the lines of refusals and of ports.
-use Rattle.std.specs.Prelude.{◌≡◌, ◌≢◌, ◌⊎◌, ℕ, Bool, true, codes, decimal, List, [], ◌∷◌, ◌++◌, take, Option}
+use Rattle.std.specs.Prelude.{◌≡◌, ◌≢◌, ◌≤◌, ◌⊎◌, ℕ, Bool, true, codes, decimal, List, [], ◌∷◌, ◌++◌, take, Option}
 use Rattle.std.specs.Io.KnownBytes.{Appends, Keeps}
+use Rattle.std.specs.Net.Addr.{ipv4_octets, ipv6_segments}
+use Rattle.std.specs.Net.Text.{ipv4_text, ipv6_text}
+use Rattle.std.specs.declared.net.ip_addr.IpAddr.{IpAddr}
+use Rattle.std.specs.declared.net.ip_addr.IpAddr.TheVariants.{V4, V6}
 use Rattle.grove_hint.specs.Hints.{IsHint}
+use Rattle.grove_words.specs.declared.order.Place.{Place}
 use Rattle.grove.specs.declared.answer.Stop.{Stop}
 use Rattle.grove.specs.declared.answer.Stop.TheVariants.{Device, Memory}
 
@@ -31,13 +36,26 @@ refusal_line fault = codes "refused " ++ fault ++ 10 ∷ []
 abbrev pub SaysRefusal : Option (List ℕ) → Option (List ℕ) → Type 0
 SaysRefusal old new = (fault : List ℕ) × Appends old new (refusal_line fault)
 
--- the line for a port that is listened on
-abbrev pub listening_line : ℕ → List ℕ
-listening_line port = codes "listening 127.0.0.1:" ++ decimal port ++ 10 ∷ []
+-- an address before a port; one of IPv6 is in brackets
+abbrev pub address_text : IpAddr → List ℕ
+address_text (V4 address) = ipv4_text (ipv4_octets address)
+address_text (V6 address) = codes "[" ++ ipv6_text (ipv6_segments address) ++ codes "]"
 
--- standard output got the line for such a port
-abbrev pub SaysListening : (ℕ → Type 0) → Option (List ℕ) → Option (List ℕ) → Type 0
-SaysListening IsPort old new = (port : ℕ) × IsPort port × Appends old new (listening_line port)
+-- the line for a port that is listened on at an address
+abbrev pub listening_line : IpAddr → ℕ → List ℕ
+listening_line address port = codes "listening " ++ address_text address ++ codes ":" ++ decimal port ++ 10 ∷ []
+
+-- the port that is listened on is the one that was asked for, or any where 0 was
+abbrev pub IsPortFor : ℕ → ℕ → Type 0
+IsPortFor asked port = (1 ≤ port) × (port ≤ 65535) × (asked ≢ 0 → port ≡ asked)
+
+-- the text is the line for a place that was asked for
+abbrev pub NamesPlace : Place → List ℕ → Type 0
+NamesPlace place text = (port : ℕ) × IsPortFor place.port port × (text ≡ listening_line place.address port)
+
+-- standard output got the line for such a place
+abbrev pub SaysListening : (Place → Type 0) → Option (List ℕ) → Option (List ℕ) → Type 0
+SaysListening IsAsked old new = (place : Place) × IsAsked place × (text : List ℕ) × NamesPlace place text × Appends old new text
 
 -- the line of a hint
 abbrev pub IsHintLine : List ℕ → Type 0

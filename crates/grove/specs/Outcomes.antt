@@ -1,6 +1,7 @@
 -- What each command may say of bytes, and what the program prints of it.
 use Rattle.std.specs.Prelude.{◌≡◌, ◌⊎◌, ℕ, ◌≤◌, ℤ, List, take, Option, Result, Ok, Err}
 use Rattle.std.specs.Io.KnownBytes.{Appends, Keeps}
+use Rattle.std.specs.declared.net.ip_addr.IpAddr.{IpAddr}
 use Rattle.serde_json.specs.Data.{Data}
 use Rattle.grove_tree.specs.Trees.{Rows}
 use Rattle.grove_wire.specs.declared.fault.WireFault.{WireFault}
@@ -10,10 +11,10 @@ use Rattle.grove_words.specs.declared.order.Command.TheVariants.{Judge, Check, P
 use Rattle.grove_answer.specs.Outcomes.{Outcome, ThenSays, task_in, trial_in, claim_in, sketch_in, batch_in, history_in, IsJudged, IsChecked, IsPlanned, IsDrawn, IsRunBatch, IsAudited}
 use Rattle.grove.specs.Endings.{listening_line, refusal_line}
 
--- ---- serve: the port that is listened on
+-- ---- serve: the address and the port that are listened on
 
 abbrev pub IsServed : Rows × List ℤ → Outcome → Type 0
-IsServed (tree, records) outcome = (port : ℕ) × (outcome ≡ Ok (listening_line port))
+IsServed (tree, records) outcome = (address : IpAddr) × (port : ℕ) × (outcome ≡ Ok (listening_line address port))
 
 -- ---- what a command may say of a document, and of bytes
 

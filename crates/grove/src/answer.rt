@@ -10,6 +10,7 @@ use std::alloc::{AllocError, AllocFailed, AllocGlobal};
 use std::io;
 use std::sync::Wait;
 use std::thread::Threads;
+use std::time::Clock;
 
 /// What a command prints, made whole before any of it is printed.
 #[derive(Drop)]
@@ -51,7 +52,7 @@ impl Response {
 }
 
 /// Prints the response, and gives the status of the process.
-pub fn end<R: AllocGlobal + Threads + Wait + Sync, O: Sink, E: Sink>(
+pub fn end<R: AllocGlobal + Threads + Wait + Clock + Sync, O: Sink, E: Sink>(
     rt: &R,
     response: Response,
     out: &mut O,
@@ -95,7 +96,7 @@ pub fn add<E: Sink>(line: &str, err: &mut E)
 }
 
 /// Prints the answer, or why there is none, and gives the status of the process.
-fn print<R: AllocGlobal + Threads + Wait + Sync, O: Sink, E: Sink>(
+fn print<R: AllocGlobal + Threads + Wait + Clock + Sync, O: Sink, E: Sink>(
     rt: &R,
     answer: Result<Answer, Stop>,
     out: &mut O,
@@ -161,7 +162,7 @@ fn complain<E: Sink>(text: &str, err: &mut E) -> u8
 
 /// Prints the line and serves, which ends only where a device fails.
 #[tactic(auto, using(crate::proofs::Printing::all_written, crate::proofs::Printing::cut_written))]
-fn say_and_serve<R: AllocGlobal + Threads + Wait + Sync, O: Sink, E: Sink>(
+fn say_and_serve<R: AllocGlobal + Threads + Wait + Clock + Sync, O: Sink, E: Sink>(
     rt: &R,
     line: &str,
     service: Service,

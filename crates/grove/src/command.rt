@@ -3,7 +3,7 @@ ghost use Rattle.serde_json.specs.View.{view};
 ghost use Rattle.grove_wire.specs.Forms.{AreArraysShort, HasShortArrays};
 ghost use Rattle.grove_wire.specs.Outcomes.{Gives};
 ghost use Rattle.std.specs.Io.KnownBytes.{Consumes, IsAtEnd, Keeps};
-ghost use Rattle.grove.specs.Answers.{most_bytes, status_of, AnswersBy, HasText, IsListen, IsOpenedBy, IsOpenedFrom, IsRefusalLine, NamesPort, ServesStore};
+ghost use Rattle.grove.specs.Answers.{most_bytes, status_of, AnswersBy, HasText, IsListen, IsOpenedBy, IsOpenedFrom, IsRefusalLine, Listens, ServesStore};
 ghost use Rattle.grove_words.specs.CommandLines.{AreWrong, AskFor, AskForWorkers, AskToServe, AskToShow, NameDevice};
 ghost use Rattle.grove_words.specs.NoOrders.{HasText as IsToldText, TellsShown, TellsWrong};
 ghost use Rattle.grove.specs.Endings.{Blames, IsHintLine, MayHint, SaysListening, SaysRefusal, SaysSomething, SaysWhy};
@@ -28,6 +28,7 @@ use std::net::{Net, TcpListener, TcpStream};
 use std::rt::Files;
 use std::sync::Wait;
 use std::thread::Threads;
+use std::time::Clock;
 
 /// Does what the words after the program's name ask for, and gives the status of the process: 0 done, 1 refused,
 /// 2 wrong words, found before anything is read, 3 no answer or one that couldn't be printed. A document without
@@ -39,6 +40,7 @@ pub fn run_command<
         + Net<Listener = TcpListener, Stream = TcpStream>
         + Threads
         + Wait
+        + Clock
         + Sync,
     I: Source,
     O: Sink,
@@ -91,11 +93,13 @@ pub fn refused_words(alloc: Global) -> Response
 pub fn say_what_is_awaited<E: Sink>(alloc: Global, words: &[String], err: &mut E)
     ensures { MayHint (E.has_failed err.old) (E.has_failed err.new) (E.contents err.old) (E.contents err.new) }
 {
-    if let Ok(Order {
-        command,
-        document: None,
-        ..
-    }) = order_of(alloc, words)
+    if let Ok(
+        Order {
+            command,
+            document: None,
+            ..
+        },
+    ) = order_of(alloc, words)
     {
         if let Some(line) = awaited_by(alloc, command) {
             add(&line, err);
@@ -122,7 +126,7 @@ fn response<
     ensures taken { (order : Order) → AskFor (map string_bytes words.now) order → IfOk result.answer (λ answer. status_of answer ≤ 1) }
     ensures served { (order : Order) → AskFor (map string_bytes words.now) order → order.command ≡ Command.Serve
         → IfOk result.answer (λ answer. (status_of answer ≡ 1) ⊎ IsListen answer) }
-    ensures port { IfOk result.answer (NamesPort (AskToServe (map string_bytes words.now))) }
+    ensures place { IfOk result.answer (Listens (AskToServe (map string_bytes words.now))) }
     ensures usage { IfOk result.answer (λ answer. status_of answer ≡ 2 → HasText answer) }
     ensures unread { IfOk result.answer (λ answer. status_of answer ≡ 2 → input.new ≡ input.old) }
     ensures apart { (order : Order) → AskFor (map string_bytes words.now) order → order.document ≢ None → input.new ≡ input.old }
@@ -156,7 +160,7 @@ fn order_response<
     ensures refused { IfOk result.answer IsRefusalLine }
     ensures status { IfOk result.answer (λ answer. status_of answer ≤ 1) }
     ensures served { order.entry.command ≡ Command.Serve → IfOk result.answer (λ answer. (status_of answer ≡ 1) ⊎ IsListen answer) }
-    ensures port { IfOk result.answer (NamesPort (λ port. (order.entry.command ≡ Command.Serve) × (order.entry.port ≡ Some port))) }
+    ensures place { IfOk result.answer (Listens (λ place. (order.entry.command ≡ Command.Serve) × (order.entry.place ≡ Some place))) }
     ensures apart { order.entry.document ≢ None → input.new ≡ input.old }
     ensures sound { OnOk result.answer (I.has_failed input.new ≡ I.has_failed input.old) }
     ensures blamed { IfErr result.answer (Blames ((I.has_failed input.new ≡ true) ⊎ ((order.entry.document ≢ None) ⊎ (order.entry.command ≡ Command.Serve)))
@@ -180,7 +184,7 @@ fn bytes_response<
     ensures refused { IfOk result.answer IsRefusalLine }
     ensures status { IfOk result.answer (λ answer. status_of answer ≤ 1) }
     ensures served { order.entry.command ≡ Command.Serve → IfOk result.answer (λ answer. (status_of answer ≡ 1) ⊎ IsListen answer) }
-    ensures port { IfOk result.answer (NamesPort (λ port. (order.entry.command ≡ Command.Serve) × (order.entry.port ≡ Some port))) }
+    ensures place { IfOk result.answer (Listens (λ place. (order.entry.command ≡ Command.Serve) × (order.entry.place ≡ Some place))) }
     ensures blamed { IfErr result.answer (Blames (order.entry.command ≡ Command.Serve) ⊤) }
     ensures hinted { IfSome result.hint (λ line. IsHintLine (string_bytes line)) }
 {
@@ -244,7 +248,7 @@ fn document_answer<
     ensures refused { IfOk result IsRefusalLine }
     ensures status { IfOk result (λ answer. status_of answer ≤ 1) }
     ensures served { order.entry.command ≡ Command.Serve → IfOk result (λ answer. (status_of answer ≡ 1) ⊎ IsListen answer) }
-    ensures port { IfOk result (NamesPort (λ port. (order.entry.command ≡ Command.Serve) × (order.entry.port ≡ Some port))) }
+    ensures place { IfOk result (Listens (λ place. (order.entry.command ≡ Command.Serve) × (order.entry.place ≡ Some place))) }
     ensures blamed { IfErr result (Blames (order.entry.command ≡ Command.Serve) ⊤) }
 {
     let alloc = rt.alloc();
@@ -255,7 +259,7 @@ fn document_answer<
         Command::Draw => answer_of(alloc, draw_document(alloc, document, form_of(order.form))),
         Command::Run => answer_of(alloc, run_document(rt, alloc, document, order.workers)),
         Command::Audit => answer_of(alloc, audit_document(alloc, document)),
-        Command::Serve => serve_document(rt, alloc, document, order.workers, order.port),
+        Command::Serve => serve_document(rt, alloc, document, order.workers, order.place),
     }
 }
 

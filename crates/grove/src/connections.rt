@@ -8,17 +8,23 @@ use std::alloc::AllocGlobal;
 use std::marker::Brand;
 use std::net::{TcpListener, TcpStream};
 use std::sync::Wait;
-use std::thread;
 use std::thread::Threads;
+use std::time::Clock;
+use std::{io, thread};
+
+/// The system's numbers of the errors that there is no descriptor left for this process, and none for any.
+const NO_DESCRIPTOR_HERE: i32 = 24;
+
+const NO_DESCRIPTOR_AT_ALL: i32 = 23;
 
 /// Serves connections, as many at once as there are seats, until one can't be accepted and the others have ended. A
-/// connection that no thread can be started for is closed.
-pub fn serve<R: Threads + Wait + Sync + AllocGlobal>(rt: &R, service: Service) {
+/// connection that there is no descriptor for waits for one; one that no thread can be started for is closed.
+pub fn serve<R: Threads + Wait + Clock + Sync + AllocGlobal>(rt: &R, service: Service) {
     serve_as::<Brand, R>(rt, service);
 }
 
 /// Serves connections at a desk over the service's store, which keeps no journal.
-fn serve_as<B: Opening + Send + Sync, R: Threads + Wait + Sync + AllocGlobal>(
+fn serve_as<B: Opening + Send + Sync, R: Threads + Wait + Clock + Sync + AllocGlobal>(
     rt: &R,
     service: Service,
 )
@@ -32,7 +38,7 @@ fn serve_as<B: Opening + Send + Sync, R: Threads + Wait + Sync + AllocGlobal>(
 }
 
 /// Serves the listener's connections at the desk, each in its seat.
-fn serve_at<B: Opening + Send + Sync, R: Threads + Wait + Sync + AllocGlobal>(
+fn serve_at<B: Opening + Send + Sync, R: Threads + Wait + Clock + Sync + AllocGlobal>(
     rt: &R,
     desk: &Desk<B>,
     seats: &Seats,
@@ -41,24 +47,49 @@ fn serve_at<B: Opening + Send + Sync, R: Threads + Wait + Sync + AllocGlobal>(
     thread::scope(thread::scope_env(), rt, |scope| {
         for _ in rt.forever() {
             seats.take(rt);
-            let Ok((stream, _)) = listener.accept() else {
-                break;
-            };
-            if scope
-                .spawn(move || serve_connection(rt, desk, seats, &stream))
-                .is_err()
-            {
-                seats.leave(rt);
+            match listener.accept() {
+                Ok((stream, _)) => {
+                    let spawned = scope.spawn(move || serve_connection(rt, desk, seats, stream));
+                    if spawned.is_err() {
+                        seats.leave(rt);
+                    }
+                }
+                Err(error) => {
+                    if !wants_descriptor(&error) {
+                        break;
+                    }
+                    seats.leave_and_wait(rt);
+                }
             }
         }
     });
 }
 
-/// A session over the connection, which leaves its seat then.
+/// Whether a descriptor is all that was wanting.
+fn wants_descriptor(error: &io::Error) -> bool {
+    matches!(
+        error.raw_os_error(),
+        Some(NO_DESCRIPTOR_HERE | NO_DESCRIPTOR_AT_ALL)
+    )
+}
+
+/// A session over the connection, which is closed then and leaves its seat.
 fn serve_connection<B: Opening, R: Threads + Wait + Sync + AllocGlobal>(
     rt: &R,
     desk: &Desk<B>,
     seats: &Seats,
+    stream: TcpStream,
+) {
+    answer_connection(rt, desk, &stream);
+    // Whoever waits for the seat may wait for the descriptor.
+    drop(stream);
+    seats.leave(rt);
+}
+
+/// A session over the stream.
+fn answer_connection<B: Opening, R: Threads + Wait + Sync + AllocGlobal>(
+    rt: &R,
+    desk: &Desk<B>,
     stream: &TcpStream,
 ) {
     // No reply is to wait until the one before it has arrived.
@@ -66,7 +97,6 @@ fn serve_connection<B: Opening, R: Threads + Wait + Sync + AllocGlobal>(
     let mut source = ReaderSource::new(stream);
     let mut sink = WriterSink::new(stream);
     answer_lines(rt, desk, &mut source, &mut sink);
-    seats.leave(rt);
 }
 
 /// A session at the desk. A fault ends it alone, and nobody is left there to be told of it.

@@ -1,7 +1,11 @@
 use std::sync::{Condvar, Mutex, Wait};
+use std::time::{Clock, Duration};
 
 /// How many connections are served at once.
 const MOST_CONNECTIONS: usize = 16;
+
+/// For how many milliseconds a seat to be left is waited for, where what is wanted may come from elsewhere too.
+const LONGEST_WAIT: u64 = 100;
 
 /// The seats of connections, as many as are served at once.
 #[derive(Drop)]
@@ -26,6 +30,17 @@ impl Seats {
             .left
             .wait_while(rt, self.free.lock(rt), |free| *free == 0);
         *free -= 1;
+    }
+
+    /// Gives back a seat that was taken in vain, and waits until another one is left, but not for long.
+    pub fn leave_and_wait<R: Wait + Clock>(&self, rt: &R) {
+        let mut free = self.free.lock(rt);
+        *free = free.saturating_add(1);
+        let before = *free;
+        let most = Duration::from_millis(LONGEST_WAIT);
+        let _left = self
+            .left
+            .wait_timeout_while(rt, free, most, |free| *free <= before);
     }
 
     /// Leaves a seat to the next connection.

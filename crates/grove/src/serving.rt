@@ -1,12 +1,12 @@
-ghost use Rattle.std.specs.Prelude.{◌≡◌, ◌≤◌, ◌⊎◌, Some, IfOk, IfErr, IfSome, IsOkAnd, ⊤};
+ghost use Rattle.std.specs.Prelude.{◌≡◌, ◌≤◌, ◌⊎◌, Some, IfOk, IfErr, IfSome, IsOkAnd, string_bytes, ⊤};
 ghost use Rattle.serde_json.specs.View.{view};
 ghost use Rattle.grove_store.specs.Stocks.{opened};
 ghost use Rattle.grove_wire.specs.Forms.{HasShortArrays};
 ghost use Rattle.grove_wire.specs.Reading.{tree_in};
 ghost use Rattle.grove_answer.specs.Outcomes.{ThenSays};
 ghost use Rattle.grove_answer.specs.Says.{refusal_outcome};
-ghost use Rattle.grove.specs.Answers.{status_of, AnswersBy, IsListen, IsOpenedFrom, IsRefusalLine, NamesPort, ServesStore};
-ghost use Rattle.grove.specs.Endings.{Blames};
+ghost use Rattle.grove.specs.Answers.{status_of, AnswersBy, IsListen, IsOpenedFrom, IsRefusalLine, Listens, ServesStore};
+ghost use Rattle.grove.specs.Endings.{listening_line, Blames, IsPortFor};
 ghost use Rattle.grove.specs.Outcomes.{IsServed};
 
 use crate::answer::{Answer, Stop};
@@ -14,11 +14,12 @@ use crate::refusal::answer_of;
 use grove_answer::{Refusal, or_refuse};
 use grove_store::{NoStore, Store};
 use grove_wire::read_tree;
+use grove_words::Place;
 use serde_json::Value;
-use std::alloc::Global;
-use std::net::{Ipv4Addr, Net, TcpListener, TcpStream};
+use std::alloc::{AllocError, Global};
+use std::net::{IpAddr, Net, TcpListener, TcpStream};
 
-/// A store, and the port at which sessions over it are asked for.
+/// A store, and where sessions over it are asked for.
 #[derive(Drop)]
 pub struct Service {
     pub store: Store,
@@ -31,7 +32,7 @@ pub fn serve_document<R: Net<Listener = TcpListener, Stream = TcpStream>>(
     alloc: Global,
     document: &Value,
     workers: u32,
-    port: Option<u16>,
+    place: Option<Place>,
 ) -> Result<Answer, Stop>
     requires short { HasShortArrays (view document.now) }
     requires workers { (1 ≤ workers) × (workers ≤ 16) }
@@ -39,11 +40,11 @@ pub fn serve_document<R: Net<Listener = TcpListener, Stream = TcpStream>>(
     ensures refused { IfOk result IsRefusalLine }
     ensures served { IfOk result (λ answer. (status_of answer ≡ 1) ⊎ IsListen answer) }
     ensures status { IfOk result (λ answer. status_of answer ≤ 1) }
-    ensures port { IfOk result (NamesPort (λ number. port ≡ Some number)) }
+    ensures place { IfOk result (Listens (λ asked. place ≡ Some asked)) }
     ensures opened { IfOk result (ServesStore (IsOpenedFrom (view document.now) workers)) }
 {
     match open_store(alloc, document, workers) {
-        Ok(store) => listening(rt, alloc, store, port),
+        Ok(store) => listening(rt, alloc, store, place),
         Err(refusal) => answer_of(alloc, Err(refusal)),
     }
 }
@@ -62,24 +63,49 @@ fn open_store(alloc: Global, document: &Value, workers: u32) -> Result<Store, Re
     }
 }
 
-/// The store, listened for at the port, and the line that says so.
+/// The store, listened for at the place, and the line that says so.
 fn listening<R: Net<Listener = TcpListener, Stream = TcpStream>>(
     rt: &R,
     alloc: Global,
     store: Store,
-    port: Option<u16>,
+    place: Option<Place>,
 ) -> Result<Answer, Stop>
-    ensures said { IfOk result (NamesPort (λ number. port ≡ Some number)) }
+    ensures said { IfOk result (Listens (λ asked. place ≡ Some asked)) }
     ensures listens { IfOk result IsListen }
     ensures kept { IfOk result (ServesStore (λ served. served ≡ store)) }
 {
-    let Some(port) = port else {
+    let Some(place) = place else {
         return Err(Stop::Device);
     };
-    let line = format!(in alloc; "listening 127.0.0.1:{port}\n")?;
-    let listener = TcpListener::bind(rt, (Ipv4Addr::LOCALHOST, port))?;
+    let listener = TcpListener::bind(rt, (place.address, place.port))?;
+    let line = line_for(alloc, place, port_of(&listener, place.port)?)?;
     Ok(Answer::Listen {
         line,
         service: Service { store, listener },
     })
+}
+
+/// The port that is listened on, where this one was asked for; for 0 the system has chosen one.
+fn port_of(listener: &TcpListener, asked: u16) -> Result<u16, Stop>
+    ensures { IfOk result (IsPortFor asked) }
+{
+    if asked != 0 {
+        return Ok(asked);
+    }
+    let port = listener.local_addr()?.port();
+    if port == 0 {
+        Err(Stop::Device)
+    } else {
+        Ok(port)
+    }
+}
+
+/// The line that says where sessions are served.
+fn line_for(alloc: Global, place: Place, port: u16) -> Result<String, AllocError>
+    ensures { IfOk result (λ line. string_bytes line ≡ listening_line place.address port) }
+{
+    match place.address {
+        IpAddr::V4(address) => format!(in alloc; "listening {address}:{port}\n"),
+        IpAddr::V6(address) => format!(in alloc; "listening [{address}]:{port}\n"),
+    }
 }

@@ -1,5 +1,5 @@
 -- Clap takes the words that are an order, and no others.
-use Rattle.std.proofs.Common.{◌≡◌, ◌≢◌, ◌∙◌, ap, refl, sym, subst, Bool, true, false, List, [], ◌∷◌, Option, Some, None, inl, inr, codes, length, fold}
+use Rattle.std.proofs.Common.{◌≡◌, ◌≢◌, ◌∙◌, ap, refl, sym, subst, Bool, true, false, List, [], ◌∷◌, Option, Some, None, IsSomeAnd, inl, inr, codes, length, fold}
 use Rattle.std.specs.Str.{bytes_eq}
 use Rattle.clap.specs.Words.{is_simple, is_simple_and_free, subcommand_of, Row, Rule, Shape, Text, fault_of, built}
 use Rattle.std.proofs.lemmas.Slice.Eq.{bytes_eq-Decides}
@@ -9,12 +9,13 @@ use Rattle.clap.specs.Walk.{subcommand_met, Names, walk, rows_after, Walk, idle,
 use Rattle.clap.specs.Faults.{word_fault, step_fault, entered_fault, level_fault, turn_fault, walk_fault}
 use Rattle.clap.specs.Kinds.{Kinds}
 use Rattle.clap.proofs.OnLiterals.{clap_on_literals}
-use Rattle.grove_words.specs.CommandLines.{command_named, grove_command, hyphens, is_option, AreCommand, AreDocument, AreFor, AskFor, word_of, text_of}
+use Rattle.grove_words.specs.CommandLines.{command_named, grove_command, hyphens, is_option, AreCommand, AreDocument, AreFor, AskFor, IsPlaceIn, word_of, text_of}
 use Rattle.grove_words.proofs.Words.{IsFaulty, or_faulty, or_later, not_none, top_rules, leaf_rules, drawing_rules, batch_rules, port_rules, top_long, top_short, IsOption, option_refused, HasNoFlag, no_flag, no_bundle, differs, Kind, hyphens_kind, option_kind, plain_kind, kind_of}
 use Rattle.grove_words.proofs.Documents.{document_in, leaf, drawing_leaf, batch_leaf, port_leaf, leaf_fault, Reads, leaf_reads}
 use Rattle.grove_words.specs.declared.order.Command.{Command}
 use Rattle.grove_words.specs.declared.order.Command.TheVariants.{Judge, Check, Plan, Draw, Run, Audit, Serve}
 use Rattle.grove_words.specs.declared.order.Order.{Order}
+use Rattle.grove_words.specs.declared.order.Place.{Place}
 
 -- clap's statements hold of this command line
 
@@ -43,6 +44,12 @@ pub record IsFound (rows : Option (Text × List Row)) (found : Order) : Type 0 w
   pub bare : rows ≡ None → (found.command ≡ Judge) × (found.document ≡ None)
   pub command : (word : Text) (below : List Row) → rows ≡ Some (word, below) → found.command ≡ command_named word
   pub document : (word : Text) (below : List Row) → rows ≡ Some (word, below) → text_of found.document ≡ document_in below
+  pub place : found.command ≡ Serve → (place : Place) × IsPlaceIn rows place
+
+-- a place that is told is one
+pub place_told : (found : Option (Text × List Row)) (place : Option Place) → IsSomeAnd place (IsPlaceIn found) → (p : Place) × IsPlaceIn found p
+place_told found None is = absurd is
+place_told found (Some p) is = (p, is)
 
 -- what clap reads the words after a command by
 abbrev pub shape_of : Command → Shape
@@ -185,22 +192,23 @@ document_reads command rest shape rules taken found is =
 
 -- the words after a command that are taken name the command's document
 names_document : (command : Command) (rest : List Text) → fault_of grove_command (word_of command ∷ rest) ≡ []
-    → (found : Order) → IsFound (subcommand_of grove_command (word_of command ∷ rest)) found → AreFor command (word_of command ∷ rest) (text_of found.document)
-names_document Judge rest taken found is = document_reads Judge rest refl refl taken found is
-names_document Check rest taken found is = document_reads Check rest refl refl taken found is
-names_document Plan rest taken found is = document_reads Plan rest refl refl taken found is
-names_document Draw rest taken found is =
+    → (found : Order) → IsFound (subcommand_of grove_command (word_of command ∷ rest)) found → found.command ≡ command
+    → AreFor command (word_of command ∷ rest) (text_of found.document)
+names_document Judge rest taken found is same = document_reads Judge rest refl refl taken found is
+names_document Check rest taken found is same = document_reads Check rest refl refl taken found is
+names_document Plan rest taken found is same = document_reads Plan rest refl refl taken found is
+names_document Draw rest taken found is same =
     (taken, rows_after drawing_rules [] rest, rows_are Draw rest, sym (is.document (word_of Draw) (rows_after drawing_rules [] rest) (rows_are Draw rest)))
-names_document Run rest taken found is =
+names_document Run rest taken found is same =
     (taken, rows_after batch_rules [] rest, rows_are Run rest, sym (is.document (word_of Run) (rows_after batch_rules [] rest) (rows_are Run rest)))
-names_document Audit rest taken found is = document_reads Audit rest refl refl taken found is
-names_document Serve rest taken found is =
-    (taken, rows_after port_rules [] rest, rows_are Serve rest, sym (is.document (word_of Serve) (rows_after port_rules [] rest) (rows_are Serve rest)))
+names_document Audit rest taken found is same = document_reads Audit rest refl refl taken found is
+names_document Serve rest taken found is same =
+    ((taken, rows_after port_rules [] rest, rows_are Serve rest, sym (is.document (word_of Serve) (rows_after port_rules [] rest) (rows_are Serve rest))), (is.place same).0, (is.place same).1)
 
 command_reads : (command : Command) (rest : List Text) → fault_of grove_command (word_of command ∷ rest) ≡ [] → IsReadLine (word_of command ∷ rest)
 command_reads command rest taken found is =
     let same : found.command ≡ command = is.command (word_of command) (rows_after (rules_of command) [] rest) (rows_are command rest) ∙ (is_one_of command).named in
-    inl (subst (λ c. AreFor c (word_of command ∷ rest) (text_of found.document)) (sym same) (names_document command rest taken found is))
+    inl (subst (λ c. AreFor c (word_of command ∷ rest) (text_of found.document)) (sym same) (names_document command rest taken found is same))
 
 pub line_reads : (words : List Text) → fault_of grove_command words ≡ [] → IsReadLine words
 line_reads [] taken = bare_reads [] (inl refl) no_command_found

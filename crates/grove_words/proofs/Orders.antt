@@ -1,22 +1,24 @@
 -- Words that are an order are taken by clap, and are no second order.
-use Rattle.std.proofs.Common.{◌≡◌, ◌≢◌, ◌∙◌, ap, refl, sym, subst, false, List, [], ◌∷◌, length, Option, Some, None, inl, inr, codes, fold}
+use Rattle.std.proofs.Common.{◌≡◌, ◌≢◌, ◌∙◌, ap, refl, sym, subst, false, List, [], ◌∷◌, length, Option, Some, None, IsSomeAnd, ◌⊎◌, inl, inr, codes, fold}
 use Rattle.std.specs.Prelude.{is_some}
 use Rattle.clap.specs.Words.{Row, Text, fault_of, first_of, subcommand_of, built}
 use Rattle.clap.specs.Walk.{Walk, idle, nothing_held, walk, walked, walk_from, word_met, settled, finished, rows_after}
 use Rattle.clap.specs.Faults.{word_fault, step_fault, turn_fault, walk_fault, settle_fault, defaults_fault, check_fault, entered_fault, level_fault}
 use Rattle.clap.specs.Simple.{entered}
 use Rattle.clap.specs.Kinds.{or_else, Kinds}
-use Rattle.clap.specs.Words.{HasKind, kind_of}
+use Rattle.clap.specs.Words.{HasKind, IsAmong, kind_of}
 use Rattle.clap.specs.declared.error.Error.{Error}
 use Rattle.clap.specs.declared.error.kind.ErrorKind.{ErrorKind}
-use Rattle.clap.specs.declared.error.kind.ErrorKind.TheVariants.{OutOfMemory, DisplayHelp, DisplayVersion}
+use Rattle.clap.specs.declared.error.kind.ErrorKind.TheVariants.{OutOfMemory, DisplayHelp, DisplayVersion, InvalidValue}
 use Rattle.clap.proofs.OnLiterals.{clap_on_literals}
 use Rattle.clap.proofs.WalkLemmas.{walk_stopped}
 use Rattle.clap.proofs.FaultLemmas.{fault_ends, stopped_fault}
 use Rattle.grove_words.specs.declared.order.Command.{Command}
 use Rattle.grove_words.specs.declared.order.Command.TheVariants.{Judge, Check, Plan, Draw, Run, Audit, Serve}
 use Rattle.grove_words.specs.declared.order.Order.{Order}
-use Rattle.grove_words.specs.CommandLines.{command_named, grove_command, hyphens, IsPlain, AreCommand, AreDocument, AreFor, AreTakenFor, AskFor, AskToShow, word_of, text_of}
+use Rattle.grove_words.specs.declared.order.Place.{Place}
+use Rattle.grove_words.specs.CommandLines.{command_named, grove_command, hyphens, IsPlain, AreCommand, AreDocument, AreFor, AreTakenFor, AskFor, AskToServe, AskToShow, AreWrong, GivePlace, IsPlaceIn, word_of, text_of}
+use Rattle.grove_words.specs.Refusals.{IsNowhere}
 use Rattle.grove_words.proofs.Words.{top_rules, leaf_rules, HasNoFlag, no_flag, differs, met_plain}
 use Rattle.grove_words.proofs.Documents.{leaf, leaf_fault, walked_plain, hyphens_after}
 use Rattle.grove_words.proofs.Asking.{names, top, at_command, is_one_of, shape_of, rules_of, below_fault, rows_are, no_command_found, hyphens_found}
@@ -115,7 +117,7 @@ taken_for Plan words document are = document_taken Plan words document refl are
 taken_for Draw words document are = are.0
 taken_for Run words document are = are.0
 taken_for Audit words document are = document_taken Audit words document refl are
-taken_for Serve words document are = are.0
+taken_for Serve words document are = are.0.0
 
 -- the words have this command's rows
 abbrev HasRows : Command → List Text → Type 0
@@ -133,7 +135,7 @@ found_for Plan words document are = rows_of_document Plan words document are
 found_for Draw words document are = (are.1, are.2)
 found_for Run words document are = (are.1, are.2)
 found_for Audit words document are = rows_of_document Audit words document are
-found_for Serve words document are = (are.1, are.2)
+found_for Serve words document are = (are.0.1, are.0.2)
 
 -- in a document's words alone it finds none
 nothing_found : (words : List Text) → AreDocument words None → subcommand_of grove_command words ≡ None
@@ -204,7 +206,7 @@ one_name Plan words name none some = one_document Plan words name none some
 one_name Draw words name none some = one_taken (word_of Draw) words name none some
 one_name Run words name none some = one_taken (word_of Run) words name none some
 one_name Audit words name none some = one_document Audit words name none some
-one_name Serve words name none some = one_taken (word_of Serve) words name none some
+one_name Serve words name none some = one_taken (word_of Serve) words name none.0 some.0
 
 -- two orders that the same words ask for have one command
 pub same_command : (words : List Text) (a b : Order) → AskFor words a → AskFor words b → a.command ≡ b.command
@@ -237,9 +239,6 @@ only_memory [] error none (inl memory) = memory
 only_memory [] error none (inr among) = absurd among
 only_memory (k ∷ ks) error none has = absurd (cc)
 
-pub certain : (words : List Text) (order : Order) (error : Error) → AskFor words order → HasKind (fault_of grove_command words) error → kind_of error ≡ OutOfMemory
-certain words order error asks has = only_memory (fault_of grove_command words) error (order_taken words order asks) has
-
 not_both : (kinds : Kinds) (k : ErrorKind) → kinds ≡ [] → kinds ≡ k ∷ [] → ⊥
 not_both kinds k none one = cc
 
@@ -252,3 +251,55 @@ not_shown words order asks (inr version) = not_both (fault_of grove_command word
 -- where words ask to serve, the order that was found does
 pub serves_found : (words : List Text) (order found : Order) → AskFor words order → AskFor words found → order.command ≡ Serve → found.command ≡ Serve
 serves_found words order found asks finds serves = same_command words found order finds asks ∙ serves
+
+-- words that ask to serve without a place are no order
+pub placeless : (words : List Text) → (subcommand_of grove_command words ≡ None → ⊥)
+    → ((word : Text) (rows : List Row) → subcommand_of grove_command words ≡ Some (word, rows) → command_named word ≡ Serve)
+    → ((place : Place) → GivePlace words place → ⊥) → (order : Order) → AskFor words order → ⊥
+placeless words some serves nowhere order (inr (none, judge, nameless)) = some (nothing_found words none)
+placeless words some serves nowhere order (inl are) =
+    let found : HasRows order.command words = found_for order.command words (text_of order.document) are in
+    let is : order.command ≡ Serve = sym (is_one_of order.command).named ∙ serves (word_of order.command) found.0 found.1 in
+    let served : AreFor Serve words (text_of order.document) = subst (λ c. AreFor c words (text_of order.document)) is are in
+    nowhere served.1 served.2
+
+-- what words are told that aren't an order
+abbrev pub IsTold : List Text → Error → Type 0
+IsTold words error = HasKind (fault_of grove_command words) error ⊎ IsNowhere words error
+
+pub certain : (words : List Text) (order : Order) (error : Error) → AskFor words order → IsTold words error → kind_of error ≡ OutOfMemory
+certain words order error asks (inl has) = only_memory (fault_of grove_command words) error (order_taken words order asks) has
+certain words order error asks (inr nowhere) = absurd (nowhere.2 order asks)
+
+-- wrong words are told no help and no version
+pub no_help_told : (words : List Text) (error : Error) → AreWrong words → IsTold words error → kind_of error ≡ DisplayHelp → ⊥
+no_help_told words error wrong (inl (inl memory)) is = cc
+no_help_told words error wrong (inl (inr among)) is = wrong.no_help (subst (λ kind. IsAmong kind (fault_of grove_command words)) is among)
+no_help_told words error wrong (inr nowhere) is = let other : kind_of error ≡ InvalidValue = nowhere.0 in cc
+
+pub no_version_told : (words : List Text) (error : Error) → AreWrong words → IsTold words error → kind_of error ≡ DisplayVersion → ⊥
+no_version_told words error wrong (inl (inl memory)) is = cc
+no_version_told words error wrong (inl (inr among)) is = wrong.no_version (subst (λ kind. IsAmong kind (fault_of grove_command words)) is among)
+no_version_told words error wrong (inr nowhere) is = let other : kind_of error ≡ InvalidValue = nowhere.0 in cc
+
+one_kind : (kinds : Kinds) (k kind : ErrorKind) → kinds ≡ k ∷ [] → IsAmong kind kinds → kind ≡ k
+one_kind kinds k kind one among = by_case (subst (IsAmong kind) one among)
+  where
+    by_case : IsAmong kind (k ∷ []) → kind ≡ k
+    by_case (inl is) = is
+    by_case (inr none) = absurd none
+
+-- words that ask for help or the version are told it, but for want of memory
+pub shown_told : (words : List Text) (error : Error) → AskToShow words → IsTold words error
+    → (kind_of error ≡ OutOfMemory) ⊎ ((kind_of error ≡ DisplayHelp) ⊎ (kind_of error ≡ DisplayVersion))
+shown_told words error asks (inl (inl memory)) = inl memory
+shown_told words error (inl help) (inl (inr among)) = inr (inl (one_kind (fault_of grove_command words) DisplayHelp (kind_of error) help among))
+shown_told words error (inr version) (inl (inr among)) = inr (inr (one_kind (fault_of grove_command words) DisplayVersion (kind_of error) version among))
+shown_told words error (inl help) (inr nowhere) = absurd (not_both (fault_of grove_command words) DisplayHelp nowhere.1 help)
+shown_told words error (inr version) (inr nowhere) = absurd (not_both (fault_of grove_command words) DisplayVersion nowhere.1 version)
+
+-- and where they serve, they do at the place that was found
+pub served_at : (words : List Text) (found : Order) (place : Option Place) → AskFor words found → found.command ≡ Serve
+    → IsSomeAnd place (IsPlaceIn (subcommand_of grove_command words)) → IsSomeAnd place (AskToServe words)
+served_at words found None asks serves at = absurd at
+served_at words found (Some place) asks serves at = (found, asks, serves, at)

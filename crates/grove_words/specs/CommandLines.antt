@@ -1,8 +1,9 @@
 -- The words of a command line: which order they are, and how clap is to read them.
-use Rattle.std.specs.Prelude.{◌≡◌, ◌≢◌, ◌≤◌, ℕ, pos, codes, Bool, true, false, ◌||◌, List, [], ◌∷◌, Option, None, Some, is_some, option_map, option_and_then, slice_get, IsSomeAnd, ◌⊎◌, if◌then◌else◌}
+use Rattle.std.specs.Prelude.{◌≡◌, ◌≢◌, ◌<◌, ◌≤◌, ℕ, pos, codes, Bool, true, false, ◌||◌, List, [], ◌∷◌, Option, None, Some, is_some, option_map, option_and_then, slice_get, IsSomeAnd, ◌⊎◌, if◌then◌else◌}
 use Rattle.std.specs.Borrow.{Bor}
 use Rattle.std.specs.Str.{bytes_eq, chars}
 use Rattle.std.specs.Str.Parse.{IsNumeral, digits_value, without_leading_plus}
+use Rattle.std.specs.Net.Grammar.{IsIpText}
 use Rattle.clap.specs.Lexer.{long_of, short_of}
 use Rattle.clap.specs.Words.{App, IsAmong, Row, Rule, fault_of, first_of, new_app, new_rule, one_of, subcommand_of, with_rule, with_subcommand}
 use Rattle.clap.specs.declared.builder.action.ArgAction.TheVariants.{SetTrue}
@@ -13,6 +14,7 @@ use Rattle.grove_words.specs.declared.order.Command.TheVariants.{Judge, Check, P
 use Rattle.grove_words.specs.declared.order.Form.{Form}
 use Rattle.grove_words.specs.declared.order.Form.TheVariants.{Svg, Text}
 use Rattle.grove_words.specs.declared.order.Order.{Order}
+use Rattle.grove_words.specs.declared.order.Place.{Place}
 
 -- ---- commands and documents
 
@@ -109,13 +111,21 @@ abbrev pub port_rule : Rule
 port_rule = record (new_rule (codes "port")) {
   long = Some (codes "port");
   value_names = 1;
-  parser = Some (Signed (pos 1) (pos 65535));
+  parser = Some (Signed (pos 0) (pos 65535));
   required = true;
+}
+
+-- the address of the port, by default 127.0.0.1
+abbrev pub address_rule : Rule
+address_rule = record (new_rule (codes "bind")) {
+  long = Some (codes "bind");
+  value_names = 1;
+  defaults = codes "127.0.0.1" ∷ [];
 }
 
 -- a command that serves a document's tree at a port
 abbrev pub port_command : List ℕ → App
-port_command name = with_rule (with_rule (with_rule (new_app name) tree_rule) port_rule) workers_rule
+port_command name = with_rule (with_rule (with_rule (with_rule (new_app name) tree_rule) port_rule) address_rule) workers_rule
 
 abbrev pub grove_command : App
 grove_command =
@@ -138,6 +148,23 @@ abbrev pub AreTakenFor : List ℕ → List (List ℕ) → Option (List ℕ) → 
 AreTakenFor command words document = (fault_of grove_command words ≡ [])
     × (rows : List Row) × (subcommand_of grove_command words ≡ Some (command, rows)) × (first_of (codes "DOC") rows ≡ document)
 
+-- the text writes this number
+abbrev pub Writes : List ℕ → ℕ → Type 0
+Writes text number = IsNumeral 10 (without_leading_plus text) × (digits_value 10 (without_leading_plus text) ≡ number)
+
+-- this is the place to listen that two texts give: one writes its address, the other its port
+abbrev pub IsPlace : Option (List ℕ) → Option (List ℕ) → Place → Type 0
+IsPlace address port place = IsSomeAnd address (λ text. IsIpText text place.address) × IsSomeAnd port (λ text. Writes text place.port × (place.port < 65536))
+
+-- by the texts that clap finds for it, among a command's rows
+abbrev pub IsPlaceIn : Option (List ℕ × List Row) → Place → Type 0
+IsPlaceIn found place =
+    IsPlace (option_and_then (λ rows. one_of (codes "bind") rows.1) found) (option_and_then (λ rows. one_of (codes "port") rows.1) found) place
+
+-- the words give this place
+abbrev pub GivePlace : List (List ℕ) → Place → Type 0
+GivePlace words place = IsPlaceIn (subcommand_of grove_command words) place
+
 -- the words are a command and the document that it is for, if that has a name
 abbrev pub AreFor : Command → List (List ℕ) → Option (List ℕ) → Type 0
 AreFor Judge words document = AreCommand (word_of Judge) words document
@@ -146,24 +173,16 @@ AreFor Plan words document = AreCommand (word_of Plan) words document
 AreFor Draw words document = AreTakenFor (word_of Draw) words document
 AreFor Run words document = AreTakenFor (word_of Run) words document
 AreFor Audit words document = AreCommand (word_of Audit) words document
-AreFor Serve words document = AreTakenFor (word_of Serve) words document
+AreFor Serve words document = AreTakenFor (word_of Serve) words document × (place : Place) × GivePlace words place
 
 -- the words ask for an order; with no command, standard input is to be judged
 abbrev pub AskFor : List (List ℕ) → Order → Type 0
 AskFor words order = AreFor order.command words (text_of order.document)
     ⊎ (AreDocument words None × (order.command ≡ Judge) × (order.document ≡ None))
 
--- they ask for an order with a device of its own: a document with a name, or a port
+-- they ask for an order with a device of its own: a document with a name, or a place to listen
 abbrev pub NameDevice : List (List ℕ) → Type 0
 NameDevice words = (order : Order) × AskFor words order × ((order.document ≢ None) ⊎ (order.command ≡ Serve))
-
--- this is the number that clap finds for a port, among a command's rows
-abbrev pub IsPortIn : Option (List ℕ × List Row) → ℕ → Type 0
-IsPortIn found port = IsSomeAnd (option_and_then (λ rows. one_of (codes "port") rows.1) found) (λ text. digits_value 10 (without_leading_plus text) ≡ port)
-
--- the text writes this number
-abbrev pub Writes : List ℕ → ℕ → Type 0
-Writes text number = IsNumeral 10 (without_leading_plus text) × (digits_value 10 (without_leading_plus text) ≡ number)
 
 -- so many workers are asked for by a text: the number from 1 to 16 that it writes, and 4 where there is none
 abbrev pub AreWorkers : Option (List ℕ) → ℕ → Type 0
@@ -191,9 +210,9 @@ IsFormIn found form = IsForm (option_and_then (λ rows. one_of (codes "text") ro
 abbrev pub AskForForm : List (List ℕ) → Form → Type 0
 AskForForm words form = IsFormIn (subcommand_of grove_command words) form
 
--- the words ask to serve at this port
-abbrev pub AskToServe : List (List ℕ) → ℕ → Type 0
-AskToServe words port = (order : Order) × AskFor words order × (order.command ≡ Serve) × IsPortIn (subcommand_of grove_command words) port
+-- the words ask to serve at this place
+abbrev pub AskToServe : List (List ℕ) → Place → Type 0
+AskToServe words place = (order : Order) × AskFor words order × (order.command ≡ Serve) × GivePlace words place
 
 -- the words ask for help or the version
 abbrev pub AskToShow : List (List ℕ) → Type 0

@@ -1,13 +1,16 @@
-ghost use Rattle.std.specs.Prelude.{◌≡◌, ◌≤◌, ℕ, List, false, codes, map, Some, None, IfOk, IfErr, IfSome, IsErrAnd, string_bytes};
+ghost use Rattle.std.specs.Prelude.{◌≡◌, ◌≤◌, ◌⊎◌, ℕ, List, [], false, codes, map, Some, None, IfOk, IfErr, IfSome, IsErrAnd, IsSomeAnd, string_bytes};
 ghost use Rattle.clap.specs.declared.builder.command.Command.{out-Command};
-ghost use Rattle.clap.specs.Words.{App, HasKind, Row, app_of, fault_of, first_of, found_of, one_text, rule_of, new_rule, subcommand_of, subcommand_rows_of, with_subcommand};
-ghost use Rattle.grove_words.specs.CommandLines.{batch_command, command_named, document_command, drawing_command, grove_command, no_command, port_command, port_rule, text_rule, tree_rule, workers_rule, AreWorkers, AreWorkersIn, AreWrong, AskFor, AskForForm, AskForWorkers, AskToServe, AskToShow, IsForm, IsFormIn, IsPortIn, text_of};
+ghost use Rattle.clap.specs.Words.{App, HasKind, Row, app_of, fault_of, first_of, first_value, found_of, kind_of, one_text, rule_of, new_rule, subcommand_of, subcommand_rows_of, with_subcommand};
+ghost use Rattle.grove_words.specs.CommandLines.{batch_command, command_named, document_command, drawing_command, grove_command, no_command, port_command, address_rule, port_rule, text_rule, tree_rule, workers_rule, AreWorkers, AreWorkersIn, AreWrong, AskFor, AskForForm, AskForWorkers, AskToServe, AskToShow, IsForm, IsFormIn, IsPlace, IsPlaceIn, text_of};
 ghost use Rattle.grove_words.specs.NoOrders.{HasText, TellsShown, TellsWrong};
+ghost use Rattle.grove_words.specs.Refusals.{IsNowhere};
 
 use crate::no_order::{NoOrder, no_order};
-use crate::order::{Command, Form, Order};
+use crate::order::{Command, Form, Order, Place};
+use clap::error::ErrorKind;
 use clap::{Arg, ArgAction, ArgMatches, Error, value_parser};
 use std::alloc::{AllocError, Global};
+use std::net::IpAddr;
 
 /// The program's version.
 const VERSION: &str = "0.1.0";
@@ -23,7 +26,7 @@ pub fn order_of<'a>(alloc: Global, words: &'a [String]) -> Result<Order<'a>, NoO
     ensures workers { IfOk result (λ order. (1 ≤ order.workers) × (order.workers ≤ 16)) }
     ensures given { IfOk result (λ order. AskForWorkers (map string_bytes words.now) order.workers) }
     ensures form { IfOk result (λ order. AskForForm (map string_bytes words.now) order.form) }
-    ensures port { IfOk result (λ order. order.command ≡ Command.Serve → IfSome order.port (AskToServe (map string_bytes words.now))) }
+    ensures place { IfOk result (λ order. order.command ≡ Command.Serve → IsSomeAnd order.place (AskToServe (map string_bytes words.now))) }
     ensures taken { (order : Order) → AskFor (map string_bytes words.now) order → IfErr result (λ why. why ≡ NoOrder.Memory) }
     ensures wrong { AreWrong (map string_bytes words.now) → IsErrAnd result TellsWrong }
     ensures shown { AskToShow (map string_bytes words.now) → IsErrAnd result TellsShown }
@@ -35,46 +38,102 @@ pub fn order_of<'a>(alloc: Global, words: &'a [String]) -> Result<Order<'a>, NoO
     }
 }
 
-/// The order that clap finds in the words, or what it says to them.
+/// The order that clap finds in the words, or what they are told.
 fn order_among<'a>(alloc: Global, words: &'a [String]) -> Result<Order<'a>, Error>
     ensures asked { IfOk result (AskFor (map string_bytes words.now)) }
     ensures workers { IfOk result (λ order. (1 ≤ order.workers) × (order.workers ≤ 16)) }
     ensures given { IfOk result (λ order. AreWorkersIn (subcommand_of grove_command (map string_bytes words.now)) order.workers) }
     ensures form { IfOk result (λ order. IsFormIn (subcommand_of grove_command (map string_bytes words.now)) order.form) }
-    ensures port { IfOk result (λ order. IfSome order.port (IsPortIn (subcommand_of grove_command (map string_bytes words.now)))) }
-    ensures refused { IfErr result (HasKind (fault_of grove_command (map string_bytes words.now))) }
+    ensures place { IfOk result (λ order. order.command ≡ Command.Serve → IsSomeAnd order.place (IsPlaceIn (subcommand_of grove_command (map string_bytes words.now)))) }
+    ensures refused { IfErr result (λ error. HasKind (fault_of grove_command (map string_bytes words.now)) error ⊎ IsNowhere (map string_bytes words.now) error) }
 {
     let matches = command_line(alloc)?.try_get_matches_from(words)?;
-    Ok(order_in(&matches))
+    match order_in(&matches) {
+        Some(order) => Ok(order),
+        None => Err(nowhere(alloc)?),
+    }
 }
 
-fn order_in<'a>(matches: &ArgMatches<'a>) -> Order<'a>
-    ensures bare { subcommand_rows_of matches.now ≡ None → (result.command ≡ Command.Judge) × (result.document ≡ None) }
+/// What words are told whose address is none.
+fn nowhere(alloc: Global) -> Result<Error, AllocError>
+    ensures { IfOk result (λ error. kind_of error ≡ ErrorKind.InvalidValue) }
+{
+    let message = "the value of '--bind <ADDRESS>' is no IP address";
+    command_line(alloc)?.error(ErrorKind::InvalidValue, message)
+}
+
+/// The order that was found, but where it is to serve at what is no address.
+fn order_in<'a>(matches: &ArgMatches<'a>) -> Option<Order<'a>>
+    ensures bare { subcommand_rows_of matches.now ≡ None → IsSomeAnd result (λ order. (order.command ≡ Command.Judge) × (order.document ≡ None)) }
     ensures command { (word : List ℕ) (rows : List Row) → subcommand_rows_of matches.now ≡ Some (word, rows)
-        → result.command ≡ command_named word }
+        → IfSome result (λ order. order.command ≡ command_named word) }
     ensures document { (word : List ℕ) (rows : List Row) → subcommand_rows_of matches.now ≡ Some (word, rows)
-        → text_of result.document ≡ first_of (codes "DOC") rows }
-    ensures workers { (1 ≤ result.workers) × (result.workers ≤ 16) }
-    ensures given { AreWorkersIn (subcommand_rows_of matches.now) result.workers }
-    ensures form { IsFormIn (subcommand_rows_of matches.now) result.form }
-    ensures port { IfSome result.port (IsPortIn (subcommand_rows_of matches.now)) }
+        → IfSome result (λ order. text_of order.document ≡ first_of (codes "DOC") rows) }
+    ensures workers { IfSome result (λ order. (1 ≤ order.workers) × (order.workers ≤ 16)) }
+    ensures given { IfSome result (λ order. AreWorkersIn (subcommand_rows_of matches.now) order.workers) }
+    ensures form { IfSome result (λ order. IsFormIn (subcommand_rows_of matches.now) order.form) }
+    ensures place { IfSome result (λ order. order.command ≡ Command.Serve → IsSomeAnd order.place (IsPlaceIn (subcommand_rows_of matches.now))) }
+    ensures serves { result ≡ None → (word : List ℕ) (rows : List Row) → subcommand_rows_of matches.now ≡ Some (word, rows)
+        → command_named word ≡ Command.Serve }
+    ensures nowhere { result ≡ None → (place : Place) → ¬ IsPlaceIn (subcommand_rows_of matches.now) place }
 {
     match matches.subcommand() {
-        Some((word, given)) => Order {
-            command: command_named(word),
-            document: given.get_str("DOC"),
-            workers: workers_in(given),
-            port: given.get_one::<u16>("port"),
-            form: form_in(given),
-        },
-        None => Order {
+        Some((word, given)) => order_with(word, given),
+        None => Some(Order {
             command: Command::Judge,
             document: None,
             workers: FEW_WORKERS,
-            port: None,
+            place: None,
             form: Form::Svg,
-        },
+        }),
     }
+}
+
+/// The order of a command and of what was given with it, but where it is to serve at what is no address.
+fn order_with<'a>(word: &str, given: &ArgMatches<'a>) -> Option<Order<'a>>
+    ensures command { IfSome result (λ order. order.command ≡ command_named word.now) }
+    ensures document { IfSome result (λ order. text_of order.document ≡ first_value (found_of given.now) (codes "DOC")) }
+    ensures workers { IfSome result (λ order. (1 ≤ order.workers) × (order.workers ≤ 16)) }
+    ensures given { IfSome result (λ order. AreWorkers (one_text (found_of given.now) (codes "workers")) order.workers) }
+    ensures form { IfSome result (λ order. IsForm (one_text (found_of given.now) (codes "text")) order.form) }
+    ensures place { IfSome result (λ order. order.command ≡ Command.Serve
+        → IsSomeAnd order.place (IsPlace (one_text (found_of given.now) (codes "bind")) (one_text (found_of given.now) (codes "port")))) }
+    ensures serves { result ≡ None → command_named word.now ≡ Command.Serve }
+    ensures nowhere { result ≡ None → (place : Place) → ¬ IsPlace (one_text (found_of given.now) (codes "bind")) (one_text (found_of given.now) (codes "port")) place }
+{
+    let command = command_named(word);
+    let place = place_in(given);
+    if command == Command::Serve && place.is_none() {
+        return None;
+    }
+    Some(Order {
+        command,
+        document: given.get_str("DOC"),
+        workers: workers_in(given),
+        place,
+        form: form_in(given),
+    })
+}
+
+/// Where to listen, by the words of a command that is told it.
+fn place_in(given: &ArgMatches<'_>) -> Option<Place>
+    ensures some { IfSome result (IsPlace (one_text (found_of given.now) (codes "bind")) (one_text (found_of given.now) (codes "port"))) }
+    ensures none { result ≡ None → (place : Place) → ¬ IsPlace (one_text (found_of given.now) (codes "bind")) (one_text (found_of given.now) (codes "port")) place }
+{
+    place_of(
+        given.get_one::<IpAddr>("bind"),
+        given.get_one::<u16>("port"),
+    )
+}
+
+fn place_of(address: Option<IpAddr>, port: Option<u16>) -> Option<Place>
+    ensures some { IfSome result (λ place. (address ≡ Some place.address) × (port ≡ Some place.port)) }
+    ensures none { result ≡ None → (address ≡ None) ⊎ (port ≡ None) }
+{
+    Some(Place {
+        address: address?,
+        port: port?,
+    })
 }
 
 /// The number of workers, for a command that has one. Clap lets none but those from 1 to 16 through.
@@ -201,16 +260,17 @@ fn audit<'a>(alloc: Global) -> Result<clap::Command<'a>, AllocError>
     on_document(alloc, "audit", about)
 }
 
-/// A command that serves a document's tree at a port, and may be told how many workers there are.
+/// A command that serves a document's tree at a port, and may be told its address and how many workers there are.
 fn serve<'a>(alloc: Global) -> Result<clap::Command<'a>, AllocError>
     ensures app { IfOk result (λ command. app_of command ≡ port_command (codes "serve")) }
     ensures local { IfOk result (λ command. (out-Command command).has_globals ≡ false) }
 {
-    let about = "Serve sessions with the records of a tree over TCP, at 127.0.0.1";
+    let about = "Serve sessions with the records of a tree over TCP";
     clap::Command::new(alloc, "serve")
         .about(about)
         .arg(tree(alloc))?
         .arg(port(alloc))?
+        .arg(address(alloc))?
         .arg(workers(alloc))
 }
 
@@ -275,6 +335,17 @@ fn port<'a>(alloc: Global) -> Arg<'a>
         .long("port")
         .value_name("P")
         .required(true)
-        .value_parser(value_parser!(u16).range(1..=65535))
-        .help("The port to listen on")
+        .value_parser(value_parser!(u16))
+        .help("The port to listen on; 0 takes one that is free")
+}
+
+fn address<'a>(alloc: Global) -> Arg<'a>
+    ensures rule { rule_of result ≡ address_rule }
+    ensures local { result.global ≡ false }
+{
+    Arg::new(alloc, "bind")
+        .long("bind")
+        .value_name("ADDRESS")
+        .default_value("127.0.0.1")
+        .help("The IP address to listen at")
 }

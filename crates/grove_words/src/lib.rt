@@ -3,7 +3,7 @@
 
 pub use command_line::order_of;
 pub use no_order::{NoOrder, not_text};
-pub use order::{Command, Form, Order};
+pub use order::{Command, Form, Order, Place};
 
 mod command_line;
 mod no_order;

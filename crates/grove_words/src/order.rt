@@ -1,3 +1,5 @@
+use std::net::IpAddr;
+
 /// What the words of a command line ask for.
 #[derive(Clone, Copy, Debug, PartialEq, Eq)]
 pub struct Order<'a> {
@@ -7,10 +9,18 @@ pub struct Order<'a> {
     pub document: Option<&'a str>,
     /// How many workers there are to run a batch.
     pub workers: u32,
-    /// The port to listen on, where sessions are to be served.
-    pub port: Option<u16>,
+    /// Where to listen, if sessions are to be served.
+    pub place: Option<Place>,
     /// How a drawing is to be written.
     pub form: Form,
+}
+
+/// Where sessions are asked for.
+#[derive(Clone, Copy, Debug, PartialEq, Eq)]
+pub struct Place {
+    pub address: IpAddr,
+    /// 0 stands for any port that is free.
+    pub port: u16,
 }
 
 /// How a drawing is written.

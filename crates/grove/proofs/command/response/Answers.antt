@@ -3,7 +3,7 @@ use Rattle.std.proofs.lemmas.Result.{IfErr-weaker, IfOk-weaker}
 use Rattle.grove_words.proofs.Orders.{same_name, serves_found}
 use Rattle.grove_words.specs.CommandLines.{AskForWorkers}
 use Rattle.grove.specs.declared.answer.Stop.TheVariants.{Memory}
-use Rattle.grove.proofs.Orders.{blames_named, found_port, read_of_asked, said_of_asked}
+use Rattle.grove.proofs.Orders.{blames_named, found_place, read_of_asked, said_of_asked}
 use Rattle.grove.proofs.Saying.{serves_nothing, serves_weaker}
 use Rattle.grove.proofs.command.response.Goals as goal
 
@@ -18,9 +18,9 @@ returns-in-Ok-clause-apart g c order asks named =
 pub returns-in-Ok-clause-served : goal.returns-in-Ok-clause-served
 returns-in-Ok-clause-served g c order asks serves = c.order_response.ensures.served (serves_found _ order c.in-Ok.order asks c.in-Ok.ensures.asked serves)
 
-pub returns-in-Ok-clause-port : goal.returns-in-Ok-clause-port
-returns-in-Ok-clause-port g c =
-    IfOk-weaker c.order_response.result.answer _ _ (λ answer. found_port _ c.in-Ok.order answer c.in-Ok.ensures.port) c.order_response.ensures.port
+pub returns-in-Ok-clause-place : goal.returns-in-Ok-clause-place
+returns-in-Ok-clause-place g c =
+    IfOk-weaker c.order_response.result.answer _ _ (λ answer. found_place _ c.in-Ok.order answer c.in-Ok.ensures.place) c.order_response.ensures.place
 
 pub returns-in-Err-clause-said : goal.returns-in-Err-clause-said
 returns-in-Err-clause-said g c order asks none =

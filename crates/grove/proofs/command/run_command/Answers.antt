@@ -1,5 +1,5 @@
 use Rattle.grove.specs.Outcomes.{IsOutcome}
-use Rattle.grove.proofs.Printing.{blames_device, part_of_input, part_of_read, prints_input, prints_port, prints_read, not_usage, shown_text}
+use Rattle.grove.proofs.Printing.{blames_device, part_of_input, part_of_read, prints_input, prints_place, prints_read, not_usage, shown_text}
 use Rattle.grove.proofs.command.run_command.Goals as goal
 
 pub returns-clause-answered : goal.returns-clause-answered
@@ -10,11 +10,11 @@ pub returns-clause-taken : goal.returns-clause-taken
 returns-clause-taken g c order asks = not_usage c.response.result.answer _ _ _ _ (c.response.ensures.taken order asks) c.end.ensures.answered
 
 pub returns-clause-unprinted : goal.returns-clause-unprinted
-returns-clause-unprinted g c three sound = prints_port _ c.response.result.answer _ _ c.response.ensures.port (c.end.ensures.unprinted three sound)
+returns-clause-unprinted g c three sound = prints_place _ c.response.result.answer _ _ c.response.ensures.place (c.end.ensures.unprinted three sound)
 
 pub returns-clause-blamed : goal.returns-clause-blamed
 returns-clause-blamed g c three sound =
-    blames_device _ c.response.result.answer _ _ _ _ _ _ c.response.ensures.blamed c.response.ensures.port (c.end.ensures.blamed three sound)
+    blames_device _ c.response.result.answer _ _ _ _ _ _ c.response.ensures.blamed c.response.ensures.place (c.end.ensures.blamed three sound)
 
 pub returns-clause-read : goal.returns-clause-read
 returns-clause-read g c order asks = prints_read order.command c.response.result.answer _ _ _ _ (c.response.ensures.read order asks) c.end.ensures.answered

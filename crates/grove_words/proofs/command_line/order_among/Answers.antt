@@ -1,47 +1,65 @@
-use Rattle.std.proofs.Common.{rules, [], IfSome, ◌≡◌, ◌∙◌, ap, sym, subst, map, string_bytes}
+use Rattle.std.proofs.Common.{rules, [], IsSomeAnd, ◌≡◌, ◌∙◌, ap, inl, inr, refl, sym, subst, map, string_bytes}
 use Rattle.clap.specs.Words.{App, HasKind, app_of, is_simple, is_simple_and_free, subcommand_of, subcommand_rows_of, fault_of}
-use Rattle.grove_words.specs.CommandLines.{grove_command, AreWorkersIn, IsFormIn, IsPortIn}
-use Rattle.grove_words.proofs.Asking.{is_simple_line, is_free_line, line_reads}
+use Rattle.grove_words.specs.declared.order.Place.{Place}
+use Rattle.grove_words.specs.CommandLines.{grove_command, AreWorkersIn, IsFormIn, IsPlaceIn}
+use Rattle.grove_words.proofs.Asking.{is_simple_line, is_free_line, line_reads, place_told}
+use Rattle.grove_words.proofs.Orders.{placeless}
 use Rattle.grove_words.proofs.command_line.order_among.Goals as goal
 
-pub returns-clause-asked : goal.returns-clause-asked
-returns-clause-asked c =
+pub returns-in-Some-clause-asked : goal.returns-in-Some-clause-asked
+returns-in-Some-clause-asked c =
     let words = map string_bytes c.args.words.now in
     let line : app_of c.in_ok-command_line.field-0 ≡ grove_command = c.in_ok-command_line.ensures in
     let matches = c.in_ok-matches.ensures.matches (ap is_simple line ∙ is_simple_line) in
     let rows : subcommand_rows_of c.in_ok-matches.matches ≡ subcommand_of grove_command words = matches.1 ∙ ap (λ (app : App). subcommand_of app words) line in
     let taken : fault_of grove_command words ≡ [] =
     ap (λ (app : App). fault_of app words) (sym line) ∙ c.in_ok-matches.ensures.kinds (ap is_simple_and_free line ∙ is_free_line) in
-    line_reads words taken c.order_in.result
+    line_reads words taken c.in-Some.order
     (record {
-      bare = λ none. c.order_in.ensures.bare (rows ∙ none);
-      command = λ word below at. c.order_in.ensures.command word below (rows ∙ at);
-      document = λ word below at. c.order_in.ensures.document word below (rows ∙ at);
+      bare = λ none. c.in-Some.ensures.bare (rows ∙ none);
+      command = λ word below at. c.in-Some.ensures.command word below (rows ∙ at);
+      document = λ word below at. c.in-Some.ensures.document word below (rows ∙ at);
+      place = λ serves. subst (λ found. (p : Place) × IsPlaceIn found p) rows (place_told (subcommand_rows_of c.in_ok-matches.matches) c.in-Some.order.place (c.in-Some.ensures.place serves));
     })
 
-pub returns-clause-given : goal.returns-clause-given
-returns-clause-given c =
+pub returns-in-Some-clause-given : goal.returns-in-Some-clause-given
+returns-in-Some-clause-given c =
     let words = map string_bytes c.args.words.now in
     let line : app_of c.in_ok-command_line.field-0 ≡ grove_command = c.in_ok-command_line.ensures in
     let matches = c.in_ok-matches.ensures.matches (ap is_simple line ∙ is_simple_line) in
     let rows : subcommand_rows_of c.in_ok-matches.matches ≡ subcommand_of grove_command words = matches.1 ∙ ap (λ (app : App). subcommand_of app words) line in
-    subst (λ found. AreWorkersIn found c.order_in.result.workers) rows c.order_in.ensures.given
+    subst (λ found. AreWorkersIn found c.in-Some.order.workers) rows c.in-Some.ensures.given
 
-pub returns-clause-form : goal.returns-clause-form
-returns-clause-form c =
+pub returns-in-Some-clause-form : goal.returns-in-Some-clause-form
+returns-in-Some-clause-form c =
     let words = map string_bytes c.args.words.now in
     let line : app_of c.in_ok-command_line.field-0 ≡ grove_command = c.in_ok-command_line.ensures in
     let matches = c.in_ok-matches.ensures.matches (ap is_simple line ∙ is_simple_line) in
     let rows : subcommand_rows_of c.in_ok-matches.matches ≡ subcommand_of grove_command words = matches.1 ∙ ap (λ (app : App). subcommand_of app words) line in
-    subst (λ found. IsFormIn found c.order_in.result.form) rows c.order_in.ensures.form
+    subst (λ found. IsFormIn found c.in-Some.order.form) rows c.in-Some.ensures.form
 
-pub returns-clause-port : goal.returns-clause-port
-returns-clause-port c =
+pub returns-in-Some-clause-place : goal.returns-in-Some-clause-place
+returns-in-Some-clause-place c serves =
     let words = map string_bytes c.args.words.now in
     let line : app_of c.in_ok-command_line.field-0 ≡ grove_command = c.in_ok-command_line.ensures in
     let matches = c.in_ok-matches.ensures.matches (ap is_simple line ∙ is_simple_line) in
     let rows : subcommand_rows_of c.in_ok-matches.matches ≡ subcommand_of grove_command words = matches.1 ∙ ap (λ (app : App). subcommand_of app words) line in
-    subst (λ found. IfSome c.order_in.result.port (IsPortIn found)) rows c.order_in.ensures.port
+    subst (λ found. IsSomeAnd c.in-Some.order.place (IsPlaceIn found)) rows (c.in-Some.ensures.place serves)
+
+pub returns-clause-refused : goal.returns-clause-refused
+returns-clause-refused c =
+    let words = map string_bytes c.args.words.now in
+    let line : app_of c.in_ok-command_line.field-0 ≡ grove_command = c.in_ok-command_line.ensures in
+    let matches = c.in_ok-matches.ensures.matches (ap is_simple line ∙ is_simple_line) in
+    let rows : subcommand_rows_of c.in_ok-matches.matches ≡ subcommand_of grove_command words = matches.1 ∙ ap (λ (app : App). subcommand_of app words) line in
+    let taken : fault_of grove_command words ≡ [] =
+    ap (λ (app : App). fault_of app words) (sym line) ∙ c.in_ok-matches.ensures.kinds (ap is_simple_and_free line ∙ is_free_line) in
+    inr (
+      c.in_ok-nowhere-in-None.ensures,
+      taken,
+      placeless words (λ none. c.in-None.ensures.bare (rows ∙ none)) (λ word below at. c.in-None.ensures.serves refl word below (rows ∙ at))
+          (λ place is. c.in-None.ensures.nowhere refl place (subst (λ found. IsPlaceIn found place) (sym rows) is)),
+    )
 
 pub returns-in_err-matches-clause-refused : goal.returns-in_err-matches-clause-refused
 returns-in_err-matches-clause-refused c =

@@ -1,40 +1,47 @@
 use Rattle.std.proofs.Common.{◌≡◌, ◌∙◌, ap, sym, subst, codes, Some, option_map}
-use Rattle.clap.specs.Words.{found_of, first_of, one_of, subcommand_rows_of}
+use Rattle.std.proofs.lemmas.Option.{IfSome_then}
+use Rattle.clap.specs.Words.{found_of, first_of, one_of, one_text, subcommand_rows_of}
 use Rattle.clap.specs.declared.parser.matches.ArgMatches.TheViews.{out-ArgMatches}
 use Rattle.clap.specs.Walk.{rows_of}
 use Rattle.clap.proofs.WalkLemmas.{first_value-rows, one_text-rows}
-use Rattle.std.specs.contracts.prelude.U16FromStr.TheImpl.{ghosts}
-use Rattle.grove_words.specs.CommandLines.{command_named, AreWorkers, IsForm}
-use Rattle.grove_words.proofs.Ports.{port_read, port_among, workers_among, form_among, word_among}
+use Rattle.grove_words.specs.CommandLines.{command_named, AreWorkers, IsForm, IsPlace}
+use Rattle.grove_words.proofs.Ports.{place_below, places_among, workers_among, form_among, word_among}
 use Rattle.grove_words.proofs.command_line.order_in.Goals as goal
 
 pub returns-in-Some-clause-document : goal.returns-in-Some-clause-document
 returns-in-Some-clause-document c word rows at =
     let both : Some (rows_of (found_of c.in-Some.given.now)) ≡ Some rows = c.in-Some.ensures.rows ∙ ap (option_map (λ found. found.1)) at in
     let same : rows_of (found_of c.in-Some.given.now) ≡ rows = cc in
-    c.get_str.ensures ∙ first_value-rows (found_of c.in-Some.given.now) (codes "DOC") ∙ ap (first_of (codes "DOC")) same
-
-pub returns-in-Some-clause-port : goal.returns-in-Some-clause-port
-returns-in-Some-clause-port c =
-    port_among (subcommand_rows_of c.args.matches.now) (rows_of (found_of c.in-Some.given.now)) c.get_one.result c.in-Some.ensures.rows
-    (port_read ghosts.from_str_gives (one_of (codes "port") (rows_of (found_of c.in-Some.given.now))) c.get_one.result
-    (λ none. c.get_one.ensures.none (one_text-rows (found_of c.in-Some.given.now) (codes "port") ∙ none))
-    (λ text is. c.get_one.ensures.value text (one_text-rows (found_of c.in-Some.given.now) (codes "port") ∙ is))
-    (λ text number reads. sym reads.0.1))
+    IfSome_then c.order_with.result c.order_with.ensures.document (λ order is. is ∙ first_value-rows (found_of c.in-Some.given.now) (codes "DOC") ∙ ap (first_of (codes "DOC")) same)
 
 pub returns-in-Some-clause-given : goal.returns-in-Some-clause-given
 returns-in-Some-clause-given c =
     let rows = rows_of (found_of c.in-Some.given.now) in
-    workers_among (subcommand_rows_of c.args.matches.now) rows c.workers_in.result c.in-Some.ensures.rows
-    (subst (λ text. AreWorkers text c.workers_in.result) (one_text-rows (found_of c.in-Some.given.now) (codes "workers")) c.workers_in.ensures.given)
+    IfSome_then c.order_with.result c.order_with.ensures.given (λ order are. workers_among (subcommand_rows_of c.args.matches.now) rows order.workers c.in-Some.ensures.rows
+    (subst (λ text. AreWorkers text order.workers) (one_text-rows (found_of c.in-Some.given.now) (codes "workers")) are))
+
+pub returns-in-Some-clause-place : goal.returns-in-Some-clause-place
+returns-in-Some-clause-place c =
+    let found = found_of c.in-Some.given.now in
+    IfSome_then c.order_with.result c.order_with.ensures.place (λ order at serves.
+    places_among (subcommand_rows_of c.args.matches.now) (rows_of found) (one_text found (codes "bind")) (one_text found (codes "port")) order.place c.in-Some.ensures.rows
+    (one_text-rows found (codes "bind")) (one_text-rows found (codes "port")) (at serves))
+
+pub returns-in-Some-clause-nowhere : goal.returns-in-Some-clause-nowhere
+returns-in-Some-clause-nowhere c none place is =
+    let found = found_of c.in-Some.given.now in
+    let below = place_below (subcommand_rows_of c.args.matches.now) (rows_of found) place c.in-Some.ensures.rows is in
+    c.order_with.ensures.nowhere none place
+    (subst (λ t. IsPlace (one_text found (codes "bind")) t place) (sym (one_text-rows found (codes "port")))
+    (subst (λ t. IsPlace t (one_of (codes "port") (rows_of found)) place) (sym (one_text-rows found (codes "bind"))) below))
 
 pub returns-in-Some-clause-form : goal.returns-in-Some-clause-form
 returns-in-Some-clause-form c =
     let rows = rows_of (found_of c.in-Some.given.now) in
-    form_among (subcommand_rows_of c.args.matches.now) rows c.form_in.result c.in-Some.ensures.rows
-    (subst (λ text. IsForm text c.form_in.result) (one_text-rows (found_of c.in-Some.given.now) (codes "text")) c.form_in.ensures)
+    IfSome_then c.order_with.result c.order_with.ensures.form (λ order is. form_among (subcommand_rows_of c.args.matches.now) rows order.form c.in-Some.ensures.rows
+    (subst (λ text. IsForm text order.form) (one_text-rows (found_of c.in-Some.given.now) (codes "text")) is))
 
 pub returns-in-Some-clause-command : goal.returns-in-Some-clause-command
 returns-in-Some-clause-command c word rows at =
-    c.command_named.ensures
-    ∙ ap command_named (word_among _ _ (out-ArgMatches c.args.matches.now).subcommand c.in-Some.word.now word rows c.in-Some.ensures.name at)
+    IfSome_then c.order_with.result c.order_with.ensures.command (λ order is.
+    is ∙ ap command_named (word_among _ _ (out-ArgMatches c.args.matches.now).subcommand c.in-Some.word.now word rows c.in-Some.ensures.name at))

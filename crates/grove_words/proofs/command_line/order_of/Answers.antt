@@ -1,8 +1,23 @@
-use Rattle.grove_words.proofs.Orders.{certain, not_shown}
+use Rattle.std.proofs.Common.{map, string_bytes, inl, inr, subst, sym}
+use Rattle.grove_words.specs.NoOrders.{TellsShown}
+use Rattle.grove_words.proofs.Orders.{certain, no_help_told, no_version_told, not_shown, served_at, shown_told}
 use Rattle.grove_words.proofs.command_line.order_of.Goals as goal
 
 pub returns-in-Ok-clause-shown : goal.returns-in-Ok-clause-shown
 returns-in-Ok-clause-shown c shown = not_shown _ c.in-Ok.order c.in-Ok.ensures.asked shown
 
+pub returns-in-Ok-clause-place : goal.returns-in-Ok-clause-place
+returns-in-Ok-clause-place c serves = served_at _ c.in-Ok.order c.in-Ok.order.place c.in-Ok.ensures.asked serves (c.in-Ok.ensures.place serves)
+
 pub returns-in-Err-clause-taken : goal.returns-in-Err-clause-taken
 returns-in-Err-clause-taken c order asks = c.no_order.ensures.memory (certain _ order c.in-Err.error asks c.in-Err.ensures.refused)
+
+pub returns-in-Err-clause-wrong : goal.returns-in-Err-clause-wrong
+returns-in-Err-clause-wrong c wrong =
+    c.no_order.ensures.wrong (no_help_told _ c.in-Err.error wrong c.in-Err.ensures.refused) (no_version_told _ c.in-Err.error wrong c.in-Err.ensures.refused)
+
+pub returns-in-Err-clause-shown : goal.returns-in-Err-clause-shown
+returns-in-Err-clause-shown c asks = elim (shown_told _ c.in-Err.error asks c.in-Err.ensures.refused) [
+  | inl memory ↦ subst TellsShown (sym (c.no_order.ensures.memory memory)) tt
+  | inr shown ↦ c.no_order.ensures.shown shown
+]

@@ -2,7 +2,7 @@ use Rattle.std.proofs.Common.{◌≡◌, ◌∙◌, ap, ap₂, codes}
 use Rattle.std.proofs.lemmas.Result.{IfOk-weaker}
 use Rattle.clap.specs.Words.{app_of, new_app, with_rule}
 use Rattle.clap.specs.Simple.{app_of_fields}
-use Rattle.grove_words.specs.CommandLines.{port_rule, tree_rule}
+use Rattle.grove_words.specs.CommandLines.{address_rule, port_rule, tree_rule}
 use Rattle.grove_words.proofs.command_line.serve.Goals as goal
 
 pub returns-clause-app : goal.returns-clause-app
@@ -12,6 +12,8 @@ returns-clause-app c =
     c.in_ok-arg.ensures.shape c.tree.ensures.local ∙ ap₂ with_rule bare c.tree.ensures.rule in
     let with_port : app_of c.in_ok-arg-2.field-0 ≡ with_rule (with_rule (new_app (codes "serve")) tree_rule) port_rule =
     c.in_ok-arg-2.ensures.shape c.port.ensures.local ∙ ap₂ with_rule with_tree c.port.ensures.rule in
-    IfOk-weaker c.arg-3.result _ _
-    (λ command added. added.shape c.workers.ensures.local ∙ ap₂ with_rule with_port c.workers.ensures.rule)
-    c.arg-3.ensures
+    let with_address : app_of c.in_ok-arg-3.field-0 ≡ with_rule (with_rule (with_rule (new_app (codes "serve")) tree_rule) port_rule) address_rule =
+    c.in_ok-arg-3.ensures.shape c.address.ensures.local ∙ ap₂ with_rule with_port c.address.ensures.rule in
+    IfOk-weaker c.arg-4.result _ _
+    (λ command added. added.shape c.workers.ensures.local ∙ ap₂ with_rule with_address c.workers.ensures.rule)
+    c.arg-4.ensures

@@ -1,0 +1,84 @@
+"""Servers at addresses of both kinds, at ports of their own and at any that is free: each says where it is, and answers there.
+At an address that isn't this machine's: `device`."""
+
+from __future__ import annotations
+
+import json
+import socket
+from contextlib import ExitStack
+from functools import partial
+
+from server import NotListening, Serving, connected
+from store import Store
+
+from sweeps.connections import TREE, WEIGHTS
+from sweeps.program import DEVICE, Ran, Tally, Try
+from sweeps.talks import note_replies
+
+TRIED = "places that a server was told"
+# Those of this machine; the last two are any address of it, asked at the first ones.
+ADDRESSES = [("127.0.0.1", "127.0.0.1"), ("127.0.0.2", "127.0.0.2"), ("::1", "::1"), ("0.0.0.0", "127.0.0.3"), ("::", "::1")]
+# For examples in texts: no machine has it.
+NOWHERE = "192.0.2.1"
+# How many servers at once take any port.
+MANY = 8
+
+
+def tries(program: str, _room: str) -> list[Try]:
+    return [Try(f"at {address}", partial(serve_at, program, address, asked)) for address, asked in ADDRESSES if is_here(asked)] + [
+        Try("many at any port", partial(serve_many, program)),
+        Try("a port in use", partial(serve_twice, program)),
+        Try("at no address of this machine", partial(serve_nowhere, program)),
+    ]
+
+
+def is_here(address: str) -> bool:
+    """Has this machine the address? (Some have none of IPv6.)"""
+    with socket.socket(socket.AF_INET6 if ":" in address else socket.AF_INET) as trial:
+        try:
+            trial.bind((address, 0))
+            return True
+        except OSError:
+            return False
+
+
+def serve_at(program: str, address: str, asked: str, tally: Tally) -> None:
+    """At a port of its own, and at any: it says its address, and the port that it listens on, and answers there."""
+    store = Store(json.loads(TREE))
+    for port in (None, 0):
+        with Serving(program, TREE, port=port, further=["--bind", address]) as server:
+            server.host = asked
+            note_replies(store, WEIGHTS, server.talk(WEIGHTS), f"{address}, port {server.port}", tally)
+
+
+def serve_many(program: str, tally: Tally) -> None:
+    """Each has a port of its own."""
+    with ExitStack() as room:
+        ports = [room.enter_context(Serving(program, TREE, port=0)).port for _ in range(MANY)]
+        for port in ports:
+            with connected(port) as connection:
+                connection.sendall(WEIGHTS)
+                came = connection.makefile("rb").readline()
+            note_replies(Store(json.loads(TREE)), WEIGHTS, came, f"port {port}", tally)
+    tally.note("the ports", None if len(set(ports)) == MANY else f"they are {ports}")
+
+
+def serve_twice(program: str, tally: Tally) -> None:
+    """At the address that another one has, but no other."""
+    with Serving(program, TREE, port=0) as server:
+        tally.compare("the same address", ended(program, server.port, "127.0.0.1"), DEVICE)
+        with Serving(program, TREE, port=server.port, further=["--bind", "127.0.0.2"]) as other:
+            tally.note("another address", None if other.is_running() else "it has ended")
+
+
+def serve_nowhere(program: str, tally: Tally) -> None:
+    tally.compare(NOWHERE, ended(program, 0, NOWHERE), DEVICE)
+
+
+def ended(program: str, port: int, address: str) -> Ran:
+    """How a server that can't listen ends."""
+    try:
+        with Serving(program, TREE, port=port, further=["--bind", address]):
+            return Ran(None, b"", b"")
+    except NotListening as why:
+        return Ran(*why.ended)
