@@ -150,8 +150,8 @@ def named_examples() -> list[Asked]:
 
 
 def named(asked: Asked) -> Asked:
-    command, file = asked.name.split()
-    return replace(asked, name=f"{asked.name} by name", words=(command, str(EXAMPLES / file)), text=b"")
+    *words, file = asked.name.split()
+    return replace(asked, name=f"{asked.name} by name", words=(*words, str(EXAMPLES / file)), text=b"")
 
 
 def unreadable_names(program: str, tally: Tally) -> None:
@@ -165,12 +165,13 @@ def forbidden(program: str, room: str, tally: Tally) -> None:
     os.chmod(room, 0o711)
     own = shutil.copy(program, f"{room}/program")
     for asked in named_examples():
-        file = shutil.copy(asked.words[1], room)
+        *words, named_file = asked.words
+        file = shutil.copy(named_file, room)
         as_nobody = {"user": NOBODY, "group": NOBODY, "extra_groups": []} if os.geteuid() == 0 else {}
         os.chmod(file, 0o644)
-        tally.note(f"{asked.name}, with leave", asked.fault(run(own, asked.words[0], file, cwd="/", **as_nobody)))
+        tally.note(f"{asked.name}, with leave", asked.fault(run(own, *words, file, cwd="/", **as_nobody)))
         os.chmod(file, 0)
-        tally.compare(f"{asked.name}, without leave", run(own, asked.words[0], file, cwd="/", **as_nobody), DEVICE)
+        tally.compare(f"{asked.name}, without leave", run(own, *words, file, cwd="/", **as_nobody), DEVICE)
         os.remove(file)
 
 

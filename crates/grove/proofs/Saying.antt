@@ -33,7 +33,7 @@ answer_says MaySay (Err Memory) (Err why) says is = tt
 -- what is listened for is what was read
 pub says_served : (found : Result (Rows × List ℤ) WireFault) (IsStored : Rows × List ℤ → Type 0) (IsAsked : Place → Type 0) (answer : Result Answer Stop) → IsOkAnd found IsStored
     → IfOk answer (Listens IsAsked) → IfOk answer IsListen → IfOk answer (AnswersBy (ThenSays found IsServed))
-says_served (Ok stored) IsStored IsAsked (Ok (Listen line service)) read (place, is, port, for, said) listens =
+says_served (Ok stored) IsStored IsAsked (Ok (Listen line service)) read (place, is, (port, for, said)) listens =
     (Ok (listening_line place.address port), (place.address, port, refl), (refl, said))
 says_served (Ok stored) IsStored IsAsked (Ok (Done text)) read names listens = absurd listens
 says_served (Ok stored) IsStored IsAsked (Ok (Refused text)) read names listens = absurd listens

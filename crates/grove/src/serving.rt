@@ -6,7 +6,7 @@ ghost use Rattle.grove_wire.specs.Reading.{tree_in};
 ghost use Rattle.grove_answer.specs.Outcomes.{ThenSays};
 ghost use Rattle.grove_answer.specs.Says.{refusal_outcome};
 ghost use Rattle.grove.specs.Answers.{status_of, AnswersBy, IsListen, IsOpenedFrom, IsRefusalLine, Listens, ServesStore};
-ghost use Rattle.grove.specs.Endings.{listening_line, Blames, IsPortFor};
+ghost use Rattle.grove.specs.Endings.{address_text, listening_line, Blames, IsPortFor};
 ghost use Rattle.grove.specs.Outcomes.{IsServed};
 
 use crate::answer::{Answer, Stop};
@@ -104,8 +104,16 @@ fn port_of(listener: &TcpListener, asked: u16) -> Result<u16, Stop>
 fn line_for(alloc: Global, place: Place, port: u16) -> Result<String, AllocError>
     ensures { IfOk result (λ line. string_bytes line ≡ listening_line place.address port) }
 {
-    match place.address {
-        IpAddr::V4(address) => format!(in alloc; "listening {address}:{port}\n"),
-        IpAddr::V6(address) => format!(in alloc; "listening [{address}]:{port}\n"),
+    let address = address_text(alloc, place.address)?;
+    format!(in alloc; "listening {address}:{port}\n")
+}
+
+/// An address as it stands before a port.
+fn address_text(alloc: Global, address: IpAddr) -> Result<String, AllocError>
+    ensures { IfOk result (λ text. string_bytes text ≡ address_text address) }
+{
+    match address {
+        IpAddr::V4(address) => format!(in alloc; "{address}"),
+        IpAddr::V6(address) => format!(in alloc; "[{address}]"),
     }
 }

@@ -58,8 +58,8 @@ pub returns-in-Draw-clause-said : goal.returns-in-Draw-clause-said
 returns-in-Draw-clause-said g c =
     rw c.in-Draw.is (answer_says (MaySay Draw (view c.args.document.now)) c.draw_document.result c.answer_of-in-Draw.result c.draw_document.ensures c.answer_of-in-Draw.ensures.said)
 
-pub returns-in-Draw-clause-port : goal.returns-in-Draw-clause-port
-returns-in-Draw-clause-port g c = names_no_port _ c.answer_of-in-Draw.result c.answer_of-in-Draw.ensures.unlistened
+pub returns-in-Draw-clause-place : goal.returns-in-Draw-clause-place
+returns-in-Draw-clause-place g c = names_no_place _ c.answer_of-in-Draw.result c.answer_of-in-Draw.ensures.unlistened
 
 pub returns-in-Draw-clause-opened : goal.returns-in-Draw-clause-opened
 returns-in-Draw-clause-opened g c = serves_nothing _ c.answer_of-in-Draw.result c.answer_of-in-Draw.ensures.unlistened
