@@ -1,5 +1,6 @@
 -- What a command says of what is read, once the reading's fault or the calls' own is told.
-use Rattle.std.proofs.Common.{◌≡◌, ◌≢◌, ℕ, ℤ, ap, List, Result, Ok, Err, IfOk, IsOkAnd, IsSomeAnd, String, refl, string_bytes, subst, sym}
+use Rattle.std.proofs.Common.{[], ◌∷◌, ◌++◌, append_assoc, ◌∙◌, ◌≡◌, ◌≢◌, ℕ, ℤ, ap, List, Result, Ok, Err, IfOk, IsOkAnd, IsSomeAnd, String, refl, string_bytes, subst, sym}
+use Rattle.std.specs.Prelude.{codes, decimal}
 use Rattle.std.proofs.lemmas.Result.{IfOk-weaker}
 use Rattle.serde_json.specs.Data.{Data}
 use Rattle.grove_tree.specs.Trees.{Rows}
@@ -115,3 +116,10 @@ pub serves_workers : (command : Command) (bytes : List ℕ) (workers : ℕ) (ans
     → IfOk answer (ServesStore (λ store. store.workers ≡ workers))
 serves_workers command bytes workers answer serves =
     IfOk-weaker answer _ _ (λ a it. serves_weaker (IsOpenedBy command bytes workers) (λ store. store.workers ≡ workers) (λ store is. workers_opened (document_for command bytes) workers store is) a it) serves
+
+-- the parts of the line of a place, as they are joined and as they are told
+pub line_joined : (text address : List ℕ) (port : ℕ) → text ≡ address
+    → codes "listening " ++ (text ++ (codes ":" ++ (decimal port ++ codes "\n"))) ≡ codes "listening " ++ address ++ codes ":" ++ decimal port ++ 10 ∷ []
+line_joined text address port same =
+    let P : List ℕ → Type 0 = λ a. codes "listening " ++ (text ++ (codes ":" ++ (decimal port ++ codes "\n"))) ≡ codes "listening " ++ a ++ codes ":" ++ decimal port ++ 10 ∷ [] in
+    subst P same (ap (λ rest. codes "listening " ++ rest) (sym (append_assoc (text ++ codes ":") (decimal port) (10 ∷ []) ∙ append_assoc text (codes ":") (decimal port ++ 10 ∷ []))))

@@ -1,9 +1,7 @@
 -- What an audit says: of a finished run, and why there is none.
-use Rattle.std.proofs.Common.{◌≡◌, ◌≢◌, ℕ, ℤ, List, reverse, Option, Some, IfSome, inl, inr, refl}
+use Rattle.std.proofs.Common.{◌≡◌, ℤ, List, reverse, Option, IfSome, inl, inr, refl}
 use Rattle.grove_tree.specs.Trees.{Rows, IsTree}
-use Rattle.grove_access.specs.declared.reply.Reply.{Reply}
 use Rattle.grove_access.specs.Lists.{nodes_of}
-use Rattle.grove_plan.specs.declared.fault.PlanFault.TheVariants as plan
 use Rattle.grove_core.specs.declared.job.Job.{Job}
 use Rattle.grove_core.specs.declared.event.Event.{Event}
 use Rattle.grove_core.specs.declared.fault.ReplayFault.{ReplayFault}

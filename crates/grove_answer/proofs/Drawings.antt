@@ -13,7 +13,7 @@ use Rattle.grove_wire.specs.Texts.{plan_text}
 use Rattle.grove_answer.specs.declared.reading.Task.{Task}
 use Rattle.grove_answer.specs.declared.refusal.Refusal.{Refusal}
 use Rattle.grove_answer.specs.declared.refusal.Refusal.TheVariants as refusal
-use Rattle.grove_answer.specs.Outcomes.{Outcome, ThenSays, unless_faulty, own_fault, IsDrawingOf, IsDrawn, PicturesOwn}
+use Rattle.grove_answer.specs.Outcomes.{ThenSays, unless_faulty, own_fault, IsDrawingOf, IsDrawn, PicturesOwn}
 use Rattle.grove_answer.specs.Says.{IsTold, refusal_outcome}
 
 -- an own plan that has a picture has no fault

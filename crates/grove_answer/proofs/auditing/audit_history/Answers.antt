@@ -1,11 +1,9 @@
-use Rattle.std.proofs.Common.{List, option_map, sym, subst}
-use Rattle.grove_core.specs.declared.job.Job.{Job}
-use Rattle.grove_core.specs.declared.event.Event.{Event}
+use Rattle.std.proofs.Common.{option_map, subst}
 use Rattle.grove_core.specs.Kept.{State}
 use Rattle.grove_wire.specs.Histories.{standing_of}
 use Rattle.grove_answer.specs.Says.{Says}
 use Rattle.grove_answer.specs.Outcomes.{IsAudited}
-use Rattle.grove_answer.proofs.Audits.{replay_fault_fits, says_replay_fault}
+use Rattle.grove_answer.proofs.Audits.{replay_fault_fits}
 use Rattle.grove_answer.proofs.auditing.audit_history.Goals as goal
 
 pub of_replay-requires : goal.of_replay-requires

@@ -1,5 +1,5 @@
 use Rattle.std.specs.List.{slice_get}
-use Rattle.std.proofs.Common.{rules, Some, ◌≡◌, ◌≤◌, ◌<◌, ◌+◌, [], List, Bor, Vec, Global, length, map, get_or, ap, sym, subst, ◌∙◌, arith}
+use Rattle.std.proofs.Common.{rules, Some, ◌≡◌, ◌≤◌, ◌<◌, [], List, Bor, Vec, Global, length, map, get_or, sym, subst, ◌∙◌, arith}
 use Rattle.std.proofs.lemmas.List.{length-map}
 use Rattle.std.proofs.lemmas.Option.{slice_get-get_or}
 use Rattle.grove_base.proofs.Lists.{read_at}

@@ -1,4 +1,4 @@
-use Rattle.std.proofs.Common.{rules, [], IsSomeAnd, ◌≡◌, ◌∙◌, ap, inl, inr, refl, sym, subst, map, string_bytes}
+use Rattle.std.proofs.Common.{rules, [], IsSomeAnd, ◌≡◌, ◌∙◌, ap, inr, refl, sym, subst, map, string_bytes}
 use Rattle.clap.specs.Words.{App, HasKind, app_of, is_simple, is_simple_and_free, subcommand_of, subcommand_rows_of, fault_of}
 use Rattle.grove_words.specs.declared.order.Place.{Place}
 use Rattle.grove_words.specs.CommandLines.{grove_command, AreWorkersIn, IsFormIn, IsPlaceIn}

@@ -1,4 +1,4 @@
-use Rattle.std.proofs.Common.{map, string_bytes, inl, inr, subst, sym}
+use Rattle.std.proofs.Common.{inl, inr, subst, sym}
 use Rattle.grove_words.specs.NoOrders.{TellsShown}
 use Rattle.grove_words.proofs.Orders.{certain, no_help_told, no_version_told, not_shown, served_at, shown_told}
 use Rattle.grove_words.proofs.command_line.order_of.Goals as goal
