@@ -12,6 +12,7 @@ from certificate import fault_of_certificate, is_flow
 from hints import split_hint
 
 SHOWN = 72
+REFUSED = 1
 
 
 @dataclass
@@ -66,8 +67,9 @@ def lay_out(case, folder):
 
 def faults_of_errors(case, ran):
     """Where a case doesn't say what comes on standard error, a refusal may have a hint there."""
-    unsaid = split_hint(ran.status, ran.errors)[1]
-    return faults_of_stream("errors", case.errors or Wanted(b""), ran.errors if case.errors else unsaid)
+    if case.errors:
+        return faults_of_stream("errors", case.errors, ran.errors)
+    return faults_of_stream("errors", Wanted(), split_hint(ran.errors)[1] if ran.status == REFUSED else ran.errors)
 
 
 def faults_of_stream(name, wanted, came):

@@ -189,7 +189,7 @@ def terminal(program: str, tally: Tally) -> None:
     for asked in (it for it in examples() if it.status == 0 and len(it.text) < TERMINAL_HOLDS):
         awaited = b'hint: "%s" awaits a JSON document with ' % asked.words[0].encode()
         ran = typed(program, asked.words, asked.text)
-        is_well = (ran.status, ran.out) == (0, asked.output) and ran.err.startswith(awaited) and ran.err.count(b"\n") == 1
+        is_well = ran == Ran(0, asked.output, b"") and ran.hint.startswith(awaited)
         tally.note(asked.name, None if is_well else f"wanted {asked.output!r} and a line {awaited!r}..; came {ran}")
     for asked in named_examples():
         tally.note(asked.name, asked.fault(typed(program, asked.words, b"")))

@@ -29,7 +29,8 @@ class Asked:
     def fault(self, ran: Ran) -> str | None:
         """What is wrong with the run as an answer, if anything is."""
         if self.output is not None:
-            return None if ran == Ran(self.status, self.output, b"") else f"wanted {self.output!r}; came {ran}"
+            is_right = ran == Ran(self.status, self.output, b"") and (self.status == 1 or not ran.hint)
+            return None if is_right else f"wanted {self.output!r}; came {ran}"
         said, unsaid = (ran.err, ran.out) if self.status == 2 else (ran.out, ran.err)
         is_well = ran.status == self.status and said and not unsaid
         return None if is_well else f"wanted status {self.status} and a text on one stream; came {ran}"

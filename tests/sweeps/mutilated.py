@@ -1,4 +1,5 @@
-"""Mutilated documents by a seeded generator: an answer, or a refusal in one line, and in no more than two seconds."""
+"""Mutilated documents by a seeded generator: an answer, or a refusal in one line with a hint beside it, and in no more
+than two seconds."""
 
 from __future__ import annotations
 
@@ -54,14 +55,14 @@ def planned(program: str, text: bytes) -> bytes:
 
 def ask(program: str, command: str, document: bytes, where: str, tally: Tally) -> int | None:
     ran = run(program, command, text=document)
-    tally.note(f"{where}, {command}", told(amiss(command, ran), document))
+    tally.note(f"{where}, {command}", told(amiss(command, ran) or unhinted(ran), document))
     return cost_of(command, ran)
 
 
 def plan(program: str, document: bytes, where: str, tally: Tally) -> int | None:
     """Asks for a plan, and has it checked."""
     ran = run(program, "plan", text=document)
-    tally.note(f"{where}, plan", told(amiss("plan", ran), document))
+    tally.note(f"{where}, plan", told(amiss("plan", ran) or unhinted(ran), document))
     cost = cost_of("plan", ran)
     if cost is not None:
         checked = run(program, "check", text=put_back(document, ran.out))
@@ -69,6 +70,11 @@ def plan(program: str, document: bytes, where: str, tally: Tally) -> int | None:
         fault = None if checked == wanted else f"wanted {wanted} of what was planned; came {checked}"
         tally.note(f"{where}, plan checked", told(fault, document))
     return cost
+
+
+def unhinted(ran: Ran) -> str | None:
+    """What is amiss with a refusal that has no hint beside it."""
+    return f"a refusal without a hint: {ran}" if ran.status == 1 and not ran.hint else None
 
 
 def told(fault: str | None, document: bytes) -> str | None:

@@ -14,6 +14,8 @@ from hints import split_hint
 SECONDS = 60.0
 # How many wrong runs a try tells before it ends.
 MOST_FAULTS = 3
+# The statuses of an answer and of a refusal, beside which a hint may stand.
+ANSWERED = (0, 1)
 
 
 @dataclass(frozen=True)
@@ -48,7 +50,7 @@ def run(program: str, *words: str, text: bytes | None = b"", **how) -> Ran:
             os.killpg(started.pid, signal.SIGKILL)
             out, err = started.communicate()
             return Ran(None, out or b"", err or b"")
-    hint, errors = split_hint(started.returncode, err or b"")
+    hint, errors = split_hint(err or b"") if started.returncode in ANSWERED else (b"", err or b"")
     return Ran(started.returncode, out or b"", errors, hint)
 
 
