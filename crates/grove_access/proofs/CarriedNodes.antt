@@ -12,33 +12,41 @@ use Rattle.grove_access.specs.Carries.{known_at, value_after, present_from, with
 use Rattle.grove_access.specs.KnownPlaces.{StandsAt}
 use Rattle.grove_access.proofs.Lists.{drop_next}
 
--- the node is sought from this place on
-pub record IsSought (known : List Known) (node place : ℕ) : Type 0 where
-  pub value : known_at (drop place known) node ≡ known_at known node
-  pub others : take place known ++ without (drop place known) node ≡ without known node
-
 -- the node stands first
 pub known_first : (known : List Known) (item : Known) (rest : List Known) (node : ℕ) → known ≡ item ∷ rest → item.node ≡ node → known_at known node ≡ Some item.value
 known_first known item rest node e same = rw e (cond-true (eqb item.node node) (Some item.value) (known_at rest node) (eq-eqb item.node node same))
 
-without_first : (known : List Known) (item : Known) (rest : List Known) (node : ℕ) → known ≡ item ∷ rest → item.node ≡ node → without known node ≡ rest
+pub without_first : (known : List Known) (item : Known) (rest : List Known) (node : ℕ) → known ≡ item ∷ rest → item.node ≡ node → without known node ≡ rest
 without_first known item rest node e same = rw e (cond-true (eqb item.node node) rest (item ∷ without rest node) (eq-eqb item.node node same))
 
 -- another stands first
 pub known_later : (known : List Known) (item : Known) (rest : List Known) (node : ℕ) → known ≡ item ∷ rest → item.node ≢ node → known_at known node ≡ known_at rest node
 known_later known item rest node e other = rw e (cond-false (eqb item.node node) (Some item.value) (known_at rest node) (ne_eqb item.node node other))
 
-without_later : (known : List Known) (item : Known) (rest : List Known) (node : ℕ) → known ≡ item ∷ rest → item.node ≢ node → without known node ≡ item ∷ without rest node
+pub without_later : (known : List Known) (item : Known) (rest : List Known) (node : ℕ) → known ≡ item ∷ rest → item.node ≢ node → without known node ≡ item ∷ without rest node
 without_later known item rest node e other = rw e (cond-false (eqb item.node node) rest (item ∷ without rest node) (ne_eqb item.node node other))
 
--- a node that stands at the place is found there
-pub sought_found : (known : List Known) (node place : ℕ) (item : Known) → slice_get known place ≡ Some item → item.node ≡ node → IsSought known node place → StandsAt known node place
-sought_found known node place item at same sought = record {
-  item = item;
-  there = at;
-  value = sym sought.value ∙ known_first (drop place known) item (drop (suc place) known) node (drop_next known place item at) same;
-  others = sym sought.others ∙ ap (λ ks. take place known ++ ks) (without_first (drop place known) item (drop (suc place) known) node (drop_next known place item at) same);
-}
+-- a node that stands at the place is found there, since none stands twice
+pub stands_there : (known : List Known) (node place : ℕ) (item : Known) → slice_get known place ≡ Some item → item.node ≡ node → AreApart known → StandsAt known node place
+stands_there [] node place item at same apart = absurd (none-some item at)
+stands_there (k ∷ known) node zero item at same apart =
+    let is : k ≡ item = same_Some k item at in
+    let first : k.node ≡ node = ap (λ (x : Known). x.node) is ∙ same in
+    record {
+      item = item;
+      there = at;
+      value = known_first (k ∷ known) k known node refl first ∙ ap (λ (x : Known). Some x.value) is;
+      others = without_first (k ∷ known) k known node refl first;
+    }
+stands_there (k ∷ known) node (suc place) item at same apart =
+    let later : StandsAt known node place = stands_there known node place item at same apart.1 in
+    let other : k.node ≢ node = λ e. none-some later.item.value (sym apart.0 ∙ ap (known_at known) e ∙ later.value) in
+    record {
+      item = later.item;
+      there = later.there;
+      value = known_later (k ∷ known) k known node refl other ∙ later.value;
+      others = without_later (k ∷ known) k known node refl other ∙ ap (λ ks. k ∷ ks) later.others;
+    }
 
 -- what stands at a place is read there
 pub stands_value : (known : List Known) (node place : ℕ) (item : Known) (value : ℤ) → StandsAt known node place → item ≡ get_or known place item → value ≡ item.value → Some value ≡ known_at known node

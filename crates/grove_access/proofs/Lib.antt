@@ -3,3 +3,4 @@ pub mod Lists
 pub mod Slots
 pub mod ForcedByTree
 pub mod CarriedNodes
+pub mod BucketCounts

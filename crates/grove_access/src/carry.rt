@@ -1,6 +1,7 @@
 ghost use Rattle.std.specs.Prelude.{◌≡◌, ◌<◌, ◌≤◌, ◌↔◌, [], ◌∷◌, ◌++◌, length, true, false, None, Some, IfOk, IfSome, IfNone, IsTrue, is_some};
 ghost use Rattle.grove_access.specs.Carries.{known_at, present_at, without, carry_settled, IsSound, CanApply, IsApplied};
 
+use crate::buckets::Buckets;
 use crate::carrying::{hold, known_value, note, release, reply_on, settle_all, value_left};
 use crate::{AccessList, Entry, Known, Reply};
 use grove_tree::{NoMemory, Node};
@@ -16,17 +17,20 @@ pub struct Carry {
     most_entries: usize,
     known: Vec<Known>,
     entries: Vec<Entry>,
+    /// How many of the nodes that are out are in each bucket.
+    buckets: Buckets,
 }
 
 impl Model for Carry {
     ghost use Rattle.std.specs.Prelude.{◌≤◌, length, vec_capacity};
     ghost use Rattle.grove_access.specs.Carries.{Carried, IsSound};
+    ghost use Rattle.grove_access.specs.KnownPlaces.{Counts};
 
     ghost Value = { Carried };
 
     ghost view = { λ carry. record { txn = carry.txn; most_nodes = carry.most_nodes; most_entries = carry.most_entries; known = carry.known.items; entries = carry.entries.items } };
 
-    ghost invariant = { λ carry. IsSound carry.known.items carry.entries.items × (length carry.known.items ≤ carry.most_nodes) × (carry.most_nodes ≤ vec_capacity carry.known) × (length carry.entries.items ≤ carry.most_entries) × (carry.most_entries ≤ vec_capacity carry.entries) × (carry.most_entries ≤ 64) };
+    ghost invariant = { λ carry. IsSound carry.known.items carry.entries.items × (length carry.known.items ≤ carry.most_nodes) × (carry.most_nodes ≤ vec_capacity carry.known) × (length carry.entries.items ≤ carry.most_entries) × (carry.most_entries ≤ vec_capacity carry.entries) × (carry.most_entries ≤ 64) × Counts carry.buckets.counts carry.known.items };
 }
 
 impl Carry {
@@ -42,6 +46,7 @@ impl Carry {
             most_entries: list.len() as usize,
             known,
             entries,
+            buckets: Buckets::new(),
         })
     }
 
@@ -107,9 +112,10 @@ impl Carry {
         ensures put { result ≡ true → self.new ≡ record self.old { known = self.old.known ++ record { node = node; value = value } ∷ [] } }
         ensures unchanged { result ≡ false → self.new ≡ self.old }
     {
-        if self.known.len() == self.most_nodes || known_value(&self.known, node).is_some() {
+        if self.known.len() == self.most_nodes || self.has(node) {
             return false;
         }
+        self.buckets.add(node);
         hold(&mut self.known, node, value);
         true
     }
@@ -124,7 +130,9 @@ impl Carry {
         if !self.entries.is_empty() {
             return None;
         }
-        release(&mut self.known, node)
+        let value = release(&mut self.known, node)?;
+        self.buckets.remove(node);
+        Some(value)
     }
 
     /// Makes the present values the known ones, and drops the entries.
@@ -133,5 +141,12 @@ impl Carry {
     {
         settle_all(&mut self.known, &self.entries);
         self.entries.clear();
+    }
+
+    // Is the node out? Where its bucket is empty, none is looked at.
+    fn has(&self, node: Node) -> bool
+        ensures { result ≡ is_some (known_at self.now.known node) }
+    {
+        !self.buckets.rule_out(node) && known_value(&self.known, node).is_some()
     }
 }

@@ -1,6 +1,6 @@
 ghost use Rattle.std.specs.Prelude.{◌≡◌, ◌<◌, ◌≤◌, [], ◌∷◌, ◌++◌, length, None, IfNone, MatchOption, vec_len, vec_capacity};
 ghost use Rattle.grove_access.specs.Effects.{answer};
-ghost use Rattle.grove_access.specs.Carries.{known_at, value_after, without, settled};
+ghost use Rattle.grove_access.specs.Carries.{known_at, value_after, without, settled, AreApart};
 ghost use Rattle.grove_access.specs.KnownPlaces.{StandsAt};
 
 use crate::records::done;
@@ -9,6 +9,7 @@ use grove_tree::Node;
 
 /// The known value of a node, where it is out.
 pub fn known_value(known: &[Known], node: Node) -> Option<i64>
+    requires { AreApart known.now }
     ensures { result ≡ known_at known.now node }
 {
     let place = place_of(known, node)?;
@@ -21,12 +22,13 @@ fn value_of(item: Known) -> i64
     item.value
 }
 
-/// Where a node stands.
+/// Where a node stands. It is sought from the end: what was taken out last is mostly given back first.
 fn place_of(known: &[Known], node: Node) -> Option<usize>
+    requires { AreApart known.now }
     ensures { MatchOption result (known_at known.now node ≡ None) (λ place. StandsAt known.now node place) }
 {
-    for (place, item) in known.iter().enumerate() {
-        if item.node == node {
+    for place in (0..known.len()).rev() {
+        if known[place].node == node {
             return Some(place);
         }
     }
@@ -77,6 +79,7 @@ pub fn note(entries: &mut Vec<Entry>, number: u32, access: Access, reply: Reply)
 
 /// Takes a node out, where it is there, and answers its known value.
 pub fn release(known: &mut Vec<Known>, node: Node) -> Option<i64>
+    requires { AreApart known.old.items }
     ensures value { result ≡ known_at known.old.items node }
     ensures items { known.new.items ≡ without known.old.items node }
     ensures none { IfNone result (known.new ≡ known.old) }

@@ -13,6 +13,7 @@ pub use reply::Reply;
 
 mod access;
 mod alone;
+mod buckets;
 mod carry;
 mod carrying;
 mod entry;

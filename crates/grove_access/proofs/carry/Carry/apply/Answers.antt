@@ -15,4 +15,5 @@ invariant_of-self c =
       grown (length c.self.inside.entries.items) (length c.note.new.entries.items) c.len-else-access-len.result c.self.inside.most_entries (length-more c.self.inside.entries.items c.note.new.entries.items _ c.note.ensures.items) (c.len-else-access-len.ensures ∙ c.self.inside.entries.ok.0) c.if-len-self.false c.self.invariant.3,
       omega (arith, c.self.invariant.4, c.note.ensures.capacity),
       c.self.invariant.5,
+      c.self.invariant.6,
     )

@@ -1,6 +1,7 @@
 use Rattle.std.proofs.Common.{◌≡◌, length, ◌∙◌, ap, arith}
 use Rattle.grove_access.specs.Carries.{settled}
 use Rattle.grove_access.proofs.CarriedNodes.{sound_settled, length-settled}
+use Rattle.grove_access.proofs.BucketCounts.{counts_settled}
 use Rattle.grove_access.proofs.carry.Carry.settle.Goals as goal
 
 pub invariant_of-self : goal.invariant_of-self
@@ -15,4 +16,5 @@ invariant_of-self c =
       omega arith,
       omega (arith, c.self.invariant.4, c.clear.ensures.capacity),
       c.self.invariant.5,
+      counts_settled c.self.inside.buckets.counts c.self.inside.entries.items c.self.inside.known.items c.settle_all.new.known.items items c.self.invariant.6,
     )

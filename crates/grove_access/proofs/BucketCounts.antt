@@ -1,0 +1,99 @@
+-- How many of the nodes that are out fall into a bucket.
+use Rattle.std.proofs.Common.{◌≡◌, ◌≢◌, ℕ, ◌+◌, ◌-◌, ◌<◌, ◌%◌, ℤ, eqb, List, [], ◌∷◌, ◌++◌, length, set, replicate, slice_get, Some, None, refl, ap, sym, ◌∙◌, inl, inr, arith}
+use Rattle.std.proofs.lemmas.Option.{none-some, same_Some}
+use Rattle.std.proofs.lemmas.Bool.{cond-true, cond-false, eq-eqb, ne_eqb, cases_eq}
+use Rattle.grove_base.proofs.Lists.{get_set_same, get_set_other, replicate_got}
+use Rattle.grove_access.specs.declared.known.Known.{Known}
+use Rattle.grove_access.specs.declared.entry.Entry.{Entry}
+use Rattle.grove_access.specs.Carries.{known_at, without, settled}
+use Rattle.grove_access.specs.KnownPlaces.{in_bucket, Counts}
+use Rattle.grove_access.proofs.CarriedNodes.{known_later, without_first, without_later}
+
+-- one node more
+pub in_more : (known : List Known) (item : Known) (bucket : ℕ) → in_bucket (known ++ item ∷ []) bucket ≡ in_bucket known bucket + in_bucket (item ∷ []) bucket
+in_more [] item bucket = omega arith
+in_more (k ∷ known) item bucket = let rest : in_bucket (known ++ item ∷ []) bucket ≡ in_bucket known bucket + in_bucket (item ∷ []) bucket = in_more known item bucket in omega arith
+
+-- a node falls into its own bucket
+in_own : (item : Known) (node : ℕ) → item.node ≡ node → in_bucket (item ∷ []) (node % 256) ≡ 1
+in_own item node same = ap (λ (n : ℕ). n + 0) (cond-true (eqb (item.node % 256) (node % 256)) 1 0 (eq-eqb (item.node % 256) (node % 256) (ap (λ (n : ℕ). n % 256) same)))
+
+-- and into no other
+in_other : (item : Known) (bucket : ℕ) → item.node % 256 ≢ bucket → in_bucket (item ∷ []) bucket ≡ 0
+in_other item bucket other = ap (λ (n : ℕ). n + 0) (cond-false (eqb (item.node % 256) bucket) 1 0 (ne_eqb (item.node % 256) bucket other))
+
+-- one node less
+pub in_without : (known : List Known) (item : Known) (value : ℤ) (bucket : ℕ) → known_at known item.node ≡ Some value
+    → in_bucket known bucket ≡ in_bucket (without known item.node) bucket + in_bucket (item ∷ []) bucket
+in_without [] item value bucket at = absurd (none-some value at)
+in_without (k ∷ known) item value bucket at = elim (cases_eq k.node item.node) [
+  | inl same ↦
+      let less : in_bucket (without (k ∷ known) item.node) bucket ≡ in_bucket known bucket = ap (λ ks. in_bucket ks bucket) (without_first (k ∷ known) k known item.node refl same) in
+      let one : in_bucket (k ∷ []) bucket ≡ in_bucket (item ∷ []) bucket = ap (λ (n : ℕ). in_bucket (record { node = n; value = value } ∷ []) bucket) same in
+      omega arith
+  | inr other ↦
+      let less : in_bucket (without (k ∷ known) item.node) bucket ≡ in_bucket (k ∷ without known item.node) bucket = ap (λ ks. in_bucket ks bucket) (without_later (k ∷ known) k known item.node refl other) in
+      let rest : in_bucket known bucket ≡ in_bucket (without known item.node) bucket + in_bucket (item ∷ []) bucket = in_without known item value bucket (sym (known_later (k ∷ known) k known item.node refl other) ∙ at) in
+      omega arith
+]
+
+-- a node whose bucket is empty isn't there
+pub none_in : (known : List Known) (node : ℕ) → in_bucket known (node % 256) ≡ 0 → known_at known node ≡ None
+none_in [] node none = refl
+none_in (k ∷ known) node none = elim (cases_eq k.node node) [
+  | inl same ↦ let one : in_bucket (k ∷ []) (node % 256) ≡ 1 = in_own k node same in absurd (omega arith)
+  | inr other ↦ known_later (k ∷ known) k known node refl other ∙ none_in known node (omega arith)
+]
+
+-- values don't count
+pub in_settled : (entries : List Entry) (known : List Known) (bucket : ℕ) → in_bucket (settled entries known) bucket ≡ in_bucket known bucket
+in_settled entries [] bucket = refl
+in_settled entries (k ∷ known) bucket = let rest : in_bucket (settled entries known) bucket ≡ in_bucket known bucket = in_settled entries known bucket in omega arith
+
+pub counts_settled : (counts : List ℕ) (entries : List Entry) (known new : List Known) → new ≡ settled entries known → Counts counts known → Counts counts new
+counts_settled counts entries known new is right = λ bucket count at few. right bucket count at few ∙ sym (in_settled entries known bucket) ∙ sym (ap (λ ks. in_bucket ks bucket) is)
+
+-- no node is counted at first
+pub counts_none : (counts : List ℕ) (n : ℕ) → counts ≡ replicate n 0 → Counts counts []
+counts_none counts n is = λ bucket count at few. sym (replicate_got n 0 bucket count (sym (ap (λ (cs : List ℕ). slice_get cs bucket) is) ∙ at))
+
+-- counts are right again once that of the one bucket is that has changed
+pub counts_changed : (counts new : List ℕ) (known changed : List Known) (place made : ℕ) → place < length counts → new ≡ set counts place made
+    → (made < 255 → made ≡ in_bucket changed place) → ((bucket : ℕ) → bucket ≢ place → in_bucket changed bucket ≡ in_bucket known bucket)
+    → Counts counts known → Counts new changed
+counts_changed counts new known changed place made within is here others right = λ bucket count at few. elim (cases_eq bucket place) [
+  | inl same ↦
+      let read : made ≡ count = same_Some made count (sym (get_set_same counts place made within) ∙ ap (λ (n : ℕ). slice_get (set counts place made) n) (sym same) ∙ sym (ap (λ (cs : List ℕ). slice_get cs bucket) is) ∙ at) in
+      let all : made ≡ in_bucket changed place = here (omega arith) in
+      sym read ∙ all ∙ ap (in_bucket changed) (sym same)
+  | inr other ↦
+      right bucket count (sym (get_set_other counts place bucket made other) ∙ sym (ap (λ (cs : List ℕ). slice_get cs bucket) is) ∙ at) few ∙ sym (others bucket other)
+]
+
+-- one node more is counted
+pub counts_more : (counts new : List ℕ) (known : List Known) (item : Known) (place count made : ℕ) → place ≡ item.node % 256 → place < length counts → slice_get counts place ≡ Some count
+    → new ≡ set counts place made → (made < 255 → (count < 255) × (made ≡ count + 1)) → Counts counts known → Counts new (known ++ item ∷ [])
+counts_more counts new known item place count made own within at is one right =
+    counts_changed counts new known (known ++ item ∷ []) place made within is
+    (λ few. let was : count ≡ in_bucket known place = right place count at (one few).0 in
+    let more : in_bucket (known ++ item ∷ []) place ≡ in_bucket known place + in_bucket (item ∷ []) place = in_more known item place in
+    let mine : in_bucket (item ∷ []) place ≡ 1 = ap (in_bucket (item ∷ [])) own ∙ in_own item item.node refl in
+    let made_is : made ≡ count + 1 = (one few).1 in
+    omega arith)
+    (λ bucket other. let more : in_bucket (known ++ item ∷ []) bucket ≡ in_bucket known bucket + in_bucket (item ∷ []) bucket = in_more known item bucket in
+    let none : in_bucket (item ∷ []) bucket ≡ 0 = in_other item bucket (λ e. other (sym e ∙ sym own)) in omega arith)
+    right
+
+-- one node less is counted
+pub counts_less : (counts new : List ℕ) (known : List Known) (item : Known) (value : ℤ) (place count made : ℕ) → known_at known item.node ≡ Some value → place ≡ item.node % 256 → place < length counts
+    → slice_get counts place ≡ Some count → new ≡ set counts place made → (made < 255 → (count < 255) × (made ≡ count - 1)) → Counts counts known → Counts new (without known item.node)
+counts_less counts new known item value place count made out own within at is one right =
+    counts_changed counts new known (without known item.node) place made within is
+    (λ few. let was : count ≡ in_bucket known place = right place count at (one few).0 in
+    let less : in_bucket known place ≡ in_bucket (without known item.node) place + in_bucket (item ∷ []) place = in_without known item value place out in
+    let mine : in_bucket (item ∷ []) place ≡ 1 = ap (in_bucket (item ∷ [])) own ∙ in_own item item.node refl in
+    let made_is : made ≡ count - 1 = (one few).1 in
+    omega arith)
+    (λ bucket other. let less : in_bucket known bucket ≡ in_bucket (without known item.node) bucket + in_bucket (item ∷ []) bucket = in_without known item value bucket out in
+    let none : in_bucket (item ∷ []) bucket ≡ 0 = in_other item bucket (λ e. other (sym e ∙ sym own)) in omega arith)
+    right
