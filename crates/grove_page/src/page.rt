@@ -23,7 +23,7 @@ pub const PAGE: &str = r##"<!DOCTYPE html>
 * { box-sizing: border-box; }
 body { margin: 0; padding: 1rem 1.25rem 3rem; background: var(--paper); color: var(--ink); }
 body, button, select { font: 15px/1.45 system-ui, "Segoe UI", Roboto, sans-serif; }
-textarea, code, td, .mono, svg text { font-family: ui-monospace, Menlo, Consolas, monospace; font-size: 13px; }
+textarea, code, td, tbody th, svg text { font-family: ui-monospace, Menlo, Consolas, monospace; font-size: 13px; }
 header { display: flex; flex-wrap: wrap; gap: .5rem 1.25rem; align-items: baseline; margin-bottom: 1rem; }
 h1 { font-size: 1.3rem; margin: 0; }
 h2 { font-size: 1.05rem; margin: 0 0 .5rem; }
@@ -49,9 +49,10 @@ textarea {
 .tall { max-height: 78vh; overflow: auto; border: 1px solid var(--line); border-radius: 4px; }
 table { border-collapse: collapse; }
 .tall table { width: 100%; }
-th { text-align: right; font-weight: 600; background: var(--panel); position: sticky; top: 0; z-index: 1; }
+thead th { font-weight: 600; background: var(--panel); position: sticky; top: 0; z-index: 1; }
 th, td { padding: .15rem .6rem; border-bottom: 1px solid var(--line); text-align: right; white-space: nowrap; }
-th:first-child, td:first-child, .left { text-align: left; }
+th:first-child, td:first-child, .texts :is(th, td) { text-align: left; }
+tbody th { font-weight: normal; }
 tfoot td { border-bottom: 0; font-weight: 600; }
 td.heat {
   background: linear-gradient(var(--ink) 0 0) left bottom / calc(var(--heat, 0) * 100%) 3px no-repeat
@@ -85,9 +86,10 @@ summary { cursor: pointer; }
 <body>
 <header>
   <h1>Pickbracken</h1>
-  <span id="state" role="status">asking for the nodes</span>
+  <span id="state" class="quiet">asking for the nodes</span>
+  <span id="trouble" class="bad" role="alert"></span>
   <span class="row asks">
-    <button id="follow" type="button" aria-pressed="true">Pause</button>
+    <button id="follow" type="button">Pause</button>
     <a href="/document" download="document.json">Save the document</a>
   </span>
 </header>
@@ -107,15 +109,17 @@ summary { cursor: pointer; }
       <th scope="col">record</th></tr></thead>
     <tbody id="nodes"></tbody>
   </table></div>
-  <p class="quiet hint">A click on a node, or Enter, writes <code>get</code> of it into the lists; the arrow keys go from node
-    to node.</p>
+  <p class="quiet hint">A click on a node, or Enter, writes <code>get</code> of it into the lists; the arrow keys go from
+    node to node.</p>
 </section>
 <section aria-labelledby="lists-title">
   <div class="asks">
   <h2 id="lists-title">Lists</h2>
-  <p id="help">One access a line: <code>get /a</code>, <code>set /a 5</code>, <code>add /a 1</code> or <code>take /a 2</code>,
-    and behind it how many slots it takes, if more than one. An empty line begins another list, and <code>#</code> a comment.</p>
-  <textarea id="lists" spellcheck="false" aria-labelledby="lists-title" aria-describedby="help"></textarea>
+  <p id="help">One access a line: <code>get /a</code>, <code>set /a 5</code>, <code>add /a 1</code> or
+    <code>take /a 2</code>, and behind it how many slots it takes, if more than one. An empty line begins another list,
+    and <code>#</code> a comment.</p>
+  <textarea id="lists" spellcheck="false" aria-labelledby="lists-title" aria-describedby="help"
+    placeholder="get /a&#10;add /a 1"></textarea>
   <div class="row">
     <button id="plan" type="button">Plan each list</button>
     <button id="batch" type="button">Run them as a batch</button>
@@ -133,7 +137,7 @@ const PAUSE = 1000, PATIENCE = 30000;
 
 // ---- what the server is asked
 
-/** JSON, in which a whole number that JavaScript would round stays a text. (No text of the server's has such a number in it.) */
+/** JSON, in which a whole number that JavaScript would round stays a text. (No text of the server's has one in it.) */
 function parsed(text) {
   return JSON.parse(text.replace(/([[:,])(-?\d{16,})(?=[,\]}])/g, '$1"$2"'));
 }
@@ -185,10 +189,10 @@ function filled(element, attributes, inside) {
 const make = (name, attributes = {}, ...inside) => filled(document.createElement(name), attributes, inside);
 const draw = (name, attributes = {}, ...inside) => filled(document.createElementNS(SVG, name), attributes, inside);
 
-function tableOf(heads, rows, foot) {
+function tableOf(heads, rows, foot, name = "") {
   const headRow = make("tr", {}, ...heads.map((head) => make("th", { scope: "col" }, head)));
   const line = (cells) => make("tr", {}, ...cells.map((cell) => make("td", {}, String(cell))));
-  const table = make("table", {}, make("thead", {}, headRow), make("tbody", {}, ...rows.map(line)));
+  const table = make("table", { class: name }, make("thead", {}, headRow), make("tbody", {}, ...rows.map(line)));
   if (foot) table.append(make("tfoot", {}, line(foot)));
   return make("div", { class: "wide", tabindex: "0" }, table);
 }
@@ -212,7 +216,7 @@ function rowOf(node, at) {
   button.addEventListener("click", () => writeAccess(node.path));
   const cells = ["weight", "waits", "record"].map((name) => [name, make("td")]);
   const row = { button, cells: Object.fromEntries(cells), path: node.path };
-  row.element = make("tr", {}, make("td", {}, button), ...cells.map(([, cell]) => cell));
+  row.element = make("tr", {}, make("th", { scope: "row" }, button), ...cells.map(([, cell]) => cell));
   return row;
 }
 
@@ -245,18 +249,17 @@ function showHeat() {
       cell.style.setProperty("--heat", name === by && most > 0 ? Number(node[name]) / most : 0);
     }
   });
-  byId("legend").textContent = `The longer the bar and the deeper the colour, the greater the ${by}; the greatest is ${most}. `
-    + "▲ and ▼ mark what rose and what fell since the last look.";
+  byId("legend").textContent = `The longer the bar and the deeper the colour, the greater its ${by}; the greatest`
+    + ` is ${most}. ▲ and ▼ mark what rose and what fell since the last look.`;
 }
 
 async function look() {
   try {
     showNodes(parsed(await answerOf("/nodes", {})).nodes);
     byId("state").textContent = `${nodes.length} nodes at ${new Date().toLocaleTimeString()}`;
-    byId("state").className = "";
+    byId("trouble").textContent = "";
   } catch (error) {
-    byId("state").textContent = error.message;
-    byId("state").className = "bad";
+    byId("trouble").textContent = error.message;
   }
 }
 
@@ -268,7 +271,6 @@ async function follow() {
 function toggleFollowing() {
   isFollowing = !isFollowing;
   byId("follow").textContent = isFollowing ? "Pause" : "Follow";
-  byId("follow").setAttribute("aria-pressed", isFollowing);
 }
 
 /** The arrow keys go from node to node, of which the tab key finds one. */
@@ -358,8 +360,8 @@ async function batched(lists) {
   await look();
   return [
     make("h3", {}, `Done in round ${reply.round}`),
-    make("p", {}, "Each list has a place in the round's serial order: the replies are those of the lists done whole, by places."),
-    tableOf(["list", "place", "access", "reply"], rows),
+    make("p", {}, "By their places in the round, the replies are those of lists that are done one after the other."),
+    tableOf(["list", "place", "access", "reply"], rows, undefined, "texts"),
   ];
 }
 
@@ -417,23 +419,29 @@ function planSection(list, reply, at) {
 }
 
 function picture(list, slots, bars, cost) {
-  const ROW = 24, LEFT = 16, TOP = 34, share = Math.min(640, slots.at(-1) * 14);
+  const ROW = 24, LEFT = 16, TOP = 34, COSTS = 220, COLUMN = 46;
   const depths = bars.map((bar) => depthOf(bar.node) - depthOf(bars[0].node));
   const names = bars.map((bar, at) => (at ? bar.node.slice(bar.node.lastIndexOf("/") + 1) : bar.node));
   const weightsEnd = LEFT + 70 + Math.max(40, ...names.map((name, at) => name.length * 8 + depths[at] * 14));
   const begin = weightsEnd + 20;
-  const x = (slot) => begin + slot * 46 + Math.round((slots[slot] / Math.max(1, slots.at(-1))) * share);
-  const end = x(list.length), width = Math.max(end + 220, 520), height = TOP + bars.length * ROW + 30;
+  // What is left of the page's width is shared by the accesses, by their lengths.
+  const left = byId("answers").clientWidth - begin - list.length * COLUMN - COSTS;
+  const share = Math.max(0, Math.min(left, slots.at(-1) * 14));
+  const x = (access) => begin + access * COLUMN + Math.round((slots[access] / Math.max(1, slots.at(-1))) * share);
+  const end = x(list.length), width = Math.max(end + COSTS, 520), height = TOP + bars.length * ROW + 30;
   const text = (x, y, words, name = "") => draw("text", { x, y, class: name }, words);
   const svg = draw("svg", { width, height, viewBox: `0 0 ${width} ${height}`, role: "img" });
   svg.setAttribute("aria-label", `A plan of cost ${cost}: a bar for each locked node, from its lock to its release`);
-  svg.append(text(LEFT, 16, "node"), text(weightsEnd, 16, "weight", "end"), text(end + 20, 16, "weight × slots = cost"));
+  svg.append(text(LEFT, 16, "node"), text(weightsEnd, 16, "weight", "end"));
+  svg.append(text(end + 20, 16, "weight × slots = cost"));
   slots.forEach((slot, at) => {
-    svg.append(text(x(at), 16, String(slot), "middle"), draw("path", { class: "grid", d: `M${x(at)} 22V${height - 30}` }));
+    const line = draw("path", { class: "grid", d: `M${x(at)} 22V${height - 30}` });
+    svg.append(text(x(at), 16, String(slot), "middle"), line);
   });
   bars.forEach((bar, at) => {
     const y = TOP + at * ROW;
-    const row = draw("g", {}, draw("title", {}, `${bar.node}: locked at slot ${slots[bar.lock]}, let go at slot ${slots[bar.release]}`));
+    const ends = `${bar.node}: locked at slot ${slots[bar.lock]}, let go at slot ${slots[bar.release]}`;
+    const row = draw("g", {}, draw("title", {}, ends));
     row.append(text(LEFT + depths[at] * 14, y + 9, names[at]), text(weightsEnd, y + 9, String(bar.weight), "end"));
     row.append(text(end + 20, y + 9, `${bar.weight} × ${bar.held} = ${bar.weight * bar.held}`));
     row.append(...barOf(bar, list, x, y));
@@ -444,7 +452,7 @@ function picture(list, slots, bars, cost) {
   return svg;
 }
 
-/** From the lock to the release; a node that is let go at the slot of its lock has a stroke. Within are its accesses. */
+/** From the lock to the release, with the node's accesses; where both are at one slot, a stroke. */
 function barOf(bar, list, x, y) {
   const left = x(bar.lock), right = x(bar.release);
   if (left === right) return [draw("path", { class: "stroke", d: `M${left} ${y - 4}V${y + 14}` })];
@@ -460,15 +468,16 @@ function barOf(bar, list, x, y) {
 
 function stepsDetails(steps) {
   const words = steps.map(([kind, what]) => make("li", {}, make("code", {}, `${kind} ${what}`)));
-  return make("details", {}, make("summary", {}, `The plan's ${steps.length} steps`), make("ol", { start: 0 }, ...words));
+  const title = make("summary", {}, `The plan's ${steps.length} steps`);
+  return make("details", {}, title, make("ol", { start: 0 }, ...words));
 }
 
 /** The flow, what each row adds to the bound, and a button that has the server's checker look at it. */
 function certificate(list, slots, weights, { plan, flow, cost }) {
-  const told = list.map((access) => access.path);
+  const paths = list.map((access) => access.path);
   let bound = 0n;
   const rows = flow.map((row) => {
-    const from = told.indexOf(row.node), to = told.lastIndexOf(row.node);
+    const from = paths.indexOf(row.node), to = paths.lastIndexOf(row.node);
     const adds = from < 0 ? 0n : BigInt(row.last) * BigInt(slots[to + 1]) - BigInt(row.first) * BigInt(slots[from]);
     const how = from < 0 ? "0" : `${row.last} × ${slots[to + 1]} − ${row.first} × ${slots[from]} = ${adds}`;
     bound += adds;
@@ -477,15 +486,15 @@ function certificate(list, slots, weights, { plan, flow, cost }) {
   const heads = ["node", "weight", "above", "held", "first", "last", "own", "adds to the bound"];
   const sum = `${bound} ${String(bound) === String(cost) ? "=" : "isn't"} the cost ${cost}`;
   const button = make("button", { type: "button", class: "asks" }, "Check it");
-  const told_of = make("span", { role: "status" });
+  const verdict = make("span", { role: "status" });
   const check = JSON.stringify({ flow, plan }).slice(1, -1);
   button.addEventListener("click", async () => {
-    told_of.textContent = await checked(`{"check":{"version":2,"list":${jsonOf(list)},${check}}}`);
+    verdict.textContent = await checked(`{"check":{"version":2,"list":${jsonOf(list)},${check}}}`);
   });
   return make("details", { open: "" }, make("summary", {}, "The certificate: no legal plan costs less"),
-    make("p", {}, "The flow bounds what any legal plan for the list costs, with these weights. The bound is this plan's cost."),
+    make("p", {}, "The flow bounds what legal plans for the list cost, with these weights. The bound is this plan's cost."),
     tableOf(heads, rows, ["together", "", "", "", "", "", "", sum]),
-    make("div", { class: "row" }, button, told_of));
+    make("div", { class: "row" }, button, verdict));
 }
 
 async function checked(line) {
