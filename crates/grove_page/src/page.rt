@@ -109,8 +109,8 @@ summary { cursor: pointer; }
       <th scope="col">record</th></tr></thead>
     <tbody id="nodes"></tbody>
   </table></div>
-  <p class="quiet hint">A click on a node, or Enter, writes <code>get</code> of it into the lists; the arrow keys go from
-    node to node.</p>
+  <p class="quiet hint">A click on a node, or Enter, writes <code>get</code> of it into the lists; the arrow keys go
+    from node to node.</p>
 </section>
 <section aria-labelledby="lists-title">
   <div class="asks">
@@ -492,7 +492,7 @@ function certificate(list, slots, weights, { plan, flow, cost }) {
     verdict.textContent = await checked(`{"check":{"version":2,"list":${jsonOf(list)},${check}}}`);
   });
   return make("details", { open: "" }, make("summary", {}, "The certificate: no legal plan costs less"),
-    make("p", {}, "The flow bounds what legal plans for the list cost, with these weights. The bound is this plan's cost."),
+    make("p", {}, "The flow bounds what a legal plan costs with these weights, and the bound is this plan's cost."),
     tableOf(heads, rows, ["together", "", "", "", "", "", "", sum]),
     make("div", { class: "row" }, button, verdict));
 }
