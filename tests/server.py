@@ -87,10 +87,11 @@ class Server:
 class Serving(Server):
     """The program, serving a document that is given as bytes."""
 
-    def __init__(self, program, document, workers=1, port=None, further=(), **how):
+    def __init__(self, program, document, workers=1, port=None, further=(), command="serve", **how):
         self.room = tempfile.TemporaryDirectory(prefix="grove-serve-")
         (Path(self.room.name) / "tree.json").write_bytes(document)
-        words = ["serve", "--tree", "tree.json", "--port", str(free_port() if port is None else port), "--workers", str(workers), *further]
+        given = str(free_port() if port is None else port)
+        words = [command, "--tree", "tree.json", "--port", given, "--workers", str(workers), *further]
         super().__init__(program, words, self.room.name, **how)
 
     def __exit__(self, *_):

@@ -1,0 +1,92 @@
+"""What `grove page` has to answer, by docs/PAGE.md, over the store of store.py."""
+import copy
+import json
+import re
+from pathlib import Path
+
+from store import compact
+from web import HTML, JSON
+
+PAGE = Path(__file__).resolve().parents[1] / "crates/grove_page/page/page.html"
+MOST_BODY = 4_194_304
+# The methods of each path, as `allow` tells them.
+ALLOWED = {"/": {b"GET", b"HEAD", b"POST"}, "/document": {b"GET", b"HEAD"}, "/nodes": {b"GET", b"HEAD"}}
+
+
+def lines_in(body):
+    """The lines of a body: what stands after the last line feed is one unless it is empty."""
+    lines = body.split(b"\n")
+    return lines if lines[-1] else lines[:-1]
+
+
+def nodes_text(store, waits=None):
+    """What `GET /nodes` has to answer."""
+    names = ("path", "record", "waits", "weight")
+    each = zip(store.tree.paths, store.records, waits or [0] * len(store.records), store.tree.weights)
+    return compact({"nodes": [dict(zip(names, node)) for node in each]}) + b"\n"
+
+
+def document_text(store):
+    """What `GET /document` has to answer."""
+    each = zip(store.nodes, store.records, store.tree.weights)
+    rows = [{**row, "value": record, "weight": weight} for row, record, weight in each]
+    return compact({"nodes": rows, "version": 1}) + b"\n"
+
+
+def after(store, lines):
+    """Another store, which is what the lines leave of this one."""
+    left = copy.deepcopy(store)
+    for line in lines:
+        left.fault_of(line, b"")
+    return left
+
+
+def fault_of_response(store, method, path, body, response):
+    """What is wrong with the response to a request; `None` where it is right. The store is then what that leaves."""
+    if response is None:
+        return "there is no response"
+    if path not in ALLOWED:
+        return fault_of_plain(response, 404, {b"" if method == "HEAD" else b'{"error":"not-found"}\n'})
+    if method.encode() not in ALLOWED[path]:
+        told = set(re.split(rb"[ \t]*,[ \t]*", response.fields.get(b"allow", b"")))
+        fault = fault_of_plain(response, 405, {b'{"error":"method"}\n'})
+        return fault or (None if told == ALLOWED[path] else f"{told} are allowed, and not {ALLOWED[path]}")
+    if method == "POST":
+        return fault_of_replies(store, body, response)
+    return fault_of_look(response, text_at(store, path), HTML if path == "/" else JSON, method)
+
+
+def text_at(store, path):
+    """What a look at the path has to show."""
+    if path == "/":
+        return PAGE.read_bytes()
+    return document_text(store) if path == "/document" else nodes_text(store)
+
+
+def fault_of_look(response, wanted, kind, method):
+    if method == "HEAD":
+        length = response.fields.get(b"content-length", b"%d" % len(wanted))
+        is_well = response.body == b"" and length == b"%d" % len(wanted)
+        wanted = b"" if is_well else b"nothing"
+    return fault_of_plain(response, 200, {wanted}, kind)
+
+
+def fault_of_plain(response, status, bodies, kind=JSON):
+    if response.status != status or response.body not in bodies:
+        return f"wanted {status} {min(bodies)[:200]!r}; came {response}"
+    told = response.fields.get(b"content-type")
+    return None if told == kind or not response.body else f"wanted {kind!r}; came {told!r}"
+
+
+def fault_of_replies(store, body, response):
+    if len(body) > MOST_BODY:
+        return None if response.status == 413 else f"wanted 413; came {response}"
+    lines, replies = lines_in(body), response.body.split(b"\n")
+    if len(replies) != len(lines) + 1 or replies[-1]:
+        return f"{len(lines)} lines have the replies {response}"
+    for number, (line, reply) in enumerate(zip(lines, replies)):
+        fault = store.fault_of(line, reply)
+        if fault:
+            return f"line {number}: {fault}"
+    is_refused = len(lines) == 1 and json.loads(replies[0]).keys() == {"error"}
+    return fault_of_plain(response, 400 if is_refused else 200, {response.body})

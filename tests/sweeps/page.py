@@ -1,0 +1,369 @@
+"""The store over HTTP: each row of docs/PAGE.md, in pieces, cut off and among sixteen clients, a store that is kept and
+opened again, and hostile requests by a seeded generator, after which honest ones are answered as before."""
+
+from __future__ import annotations
+
+import json
+import socket
+import struct
+import time
+from concurrent.futures import ThreadPoolExecutor
+from contextlib import ExitStack
+from functools import partial
+from random import Random
+
+from history import fault_of_history
+from hostile import hostile
+from pages import MOST_BODY, document_text, fault_of_response, nodes_text
+from server import PIECE, BadServer, Serving, connected
+from store import MOST_LINE, Store, compact
+from web import BadResponse, Client, chunked, post, request, responses_in
+
+from sweeps.connections import ADD, GET, TEXT, TREE, WEIGHTS
+from sweeps.crowds import SEATS, is_silent
+from sweeps.documents import seeded
+from sweeps.program import Tally, Try
+
+TRIED = "requests, most of them hostile"
+SEEDED = 8
+# How many parts have hostile requests, and how many connections of them each; after so many comes an honest client.
+HOSTILE_PARTS, HOSTILE_EACH, HONEST_EVERY = 4, 1000, 50
+# How long sixteen clients ask.
+SECONDS = 3.0
+STATUSES = {100, 200, 400, 404, 405, 413, 414, 431, 501}
+PORT = 0
+REFUSED = b'{"batch":[[["get","/c"]]]}'
+LOOK = ("GET", "/nodes", None)
+ROWS = [
+    ("GET", "/", None),
+    ("HEAD", "/", None),
+    LOOK,
+    ("POST", "/", TEXT),
+    LOOK,
+    ("HEAD", "/nodes", None),
+    ("GET", "/document", None),
+    ("HEAD", "/document", None),
+    ("POST", "/", b""),
+    ("POST", "/", ADD.rstrip(b"\n")),
+    ("POST", "/", REFUSED),
+    ("POST", "/", REFUSED + b"\n"),
+    ("POST", "/", b"\n"),
+    ("POST", "/", b"\n\n"),
+    ("POST", "/", ADD + REFUSED),
+    ("POST", "/", b"\xff\n" + ADD + b"\n" + WEIGHTS),
+    ("POST", "/", b'{"reweigh":null}'),
+    ("GET", "/document", None),
+    ("GET", "/none", None),
+    ("HEAD", "/none", None),
+    ("POST", "/none", ADD),
+    ("GET", "/nodes/", None),
+    ("PUT", "/", ADD),
+    ("DELETE", "/nodes", None),
+    ("POST", "/nodes", ADD),
+    ("POST", "/document", b""),
+    ("PATCH", "/document", ADD),
+    ("OPTIONS", "/", None),
+    LOOK,
+]
+
+
+def tries(program: str, room: str) -> list[Try]:
+    parts = [Try(f"hostile requests {part}", partial(hostile_requests, program, part)) for part in range(HOSTILE_PARTS)]
+    return parts + [
+        Try("each row", partial(each_row, program)),
+        Try("each row in pieces", partial(in_pieces, program)),
+        Try("requests cut after each byte", partial(cut_after_each, program)),
+        Try("bodies", partial(bodies, program)),
+        Try("connections", partial(connections, program)),
+        Try("sixteen at once", partial(sixteen_at_once, program, SECONDS)),
+        Try("seventeen at once", partial(seventeen_at_once, program)),
+        *(Try(f"kept and opened again, {seed}", partial(kept, program, room, seed)) for seed in range(SEEDED)),
+    ]
+
+
+def serving(program: str, document: bytes, workers: int = 1, **how) -> Serving:
+    return Serving(program, document, workers, PORT, command="page", **how)
+
+
+def note_row(store: Store, row: tuple, response, where: str, tally: Tally) -> None:
+    fault = fault_of_response(store, *row, response)
+    tally.note(where, fault and f"{row[0]} {row[1]} {(row[2] or b'')[:80]!r}: {fault}")
+
+
+def note_rows(client: Client, store: Store, rows: list[tuple], where: str, tally: Tally) -> None:
+    for number, row in enumerate(rows):
+        note_row(store, row, client.ask(*row), f"{where}, request {number}", tally)
+
+
+# ---- the rows
+
+
+def each_row(program: str, tally: Tally) -> None:
+    """All on one connection, and each on one of its own."""
+    store = Store(json.loads(TREE))
+    with serving(program, TREE) as server:
+        with Client(server.port) as client:
+            note_rows(client, store, ROWS, "on one connection", tally)
+        for number, row in enumerate(ROWS):
+            with Client(server.port) as client:
+                note_rows(client, store, [row], f"connection {number}", tally)
+
+
+def in_pieces(program: str, tally: Tally) -> None:
+    """All rows are sent before a response is read."""
+    for piece in (1, 7, PIECE):
+        store = Store(json.loads(TREE))
+        with serving(program, TREE) as server, Client(server.port) as client, ThreadPoolExecutor(1) as pool:
+            sender = pool.submit(send_in_pieces, client, b"".join(request(*row) for row in ROWS), piece)
+            for number, row in enumerate(ROWS):
+                note_row(store, row, client.next(row[0]), f"pieces of {piece}, request {number}", tally)
+            sender.result()
+            tally.blame(f"pieces of {piece}", None if client.next() is None else "there is a response too many")
+
+
+def send_in_pieces(client: Client, data: bytes, piece: int) -> None:
+    for at in range(0, len(data), piece):
+        client.send(data[at : at + piece])
+    client.connection.shutdown(socket.SHUT_WR)
+
+
+def cut_after_each(program: str, tally: Tally) -> None:
+    """Each client sends some first bytes of four requests, and no more: those that are whole are answered, and of
+    another it may be said that it is none."""
+    rows = [LOOK, ("POST", "/", ADD), ("POST", "/", ADD + GET), ("GET", "/document", None)]
+    sent = [request(*rows[0]), request(*rows[1]), chunked([ADD[:5], ADD[5:] + GET]), request(*rows[3])]
+    ends = [sum(map(len, sent[: number + 1])) for number in range(len(sent))]
+    store = Store(json.loads(TREE))
+    with serving(program, TREE) as server:
+        for size in range(ends[-1] + 1):
+            with Client(server.port) as client:
+                send_in_pieces(client, b"".join(sent)[:size], PIECE)
+                whole = sum(end <= size for end in ends)
+                for row in rows[:whole]:
+                    note_row(store, row, client.next(row[0]), f"{size} bytes", tally)
+                last = client.next()
+                is_well = last is None or last.status == 400 and size not in ends and client.next() is None
+                tally.note(f"{size} bytes", None if is_well else f"after {whole} requests came {last}")
+
+
+def bodies(program: str, tally: Tally) -> None:
+    """Bodies and lines about as long as they may be, in chunks, and after a `100 Continue`."""
+    store = Store(json.loads(TREE))
+    lines = [WEIGHTS.rstrip(b"\n").ljust(size) for size in (MOST_LINE, MOST_LINE + 1)]
+    with serving(program, TREE) as server, Client(server.port) as client:
+        for body in [lines[0], lines[1], lines[1] + b"\n" + ADD, ADD * 500, GET * 1000]:
+            note_rows(client, store, [("POST", "/", body)], f"a body of {len(body)} bytes", tally)
+        full = b"\n".join([ADD.rstrip(b"\n").ljust(MOST_LINE - 1)] * 4) + b"\n"
+        note_rows(client, store, [("POST", "/", full)], f"{MOST_BODY} bytes", tally)
+        for sizes in (1, 7, 1000):
+            client.send(chunked([full[:2000][at : at + sizes] for at in range(0, 2000, sizes)]))
+            note_row(store, ("POST", "/", full[:2000]), client.next("POST"), f"chunks of {sizes}", tally)
+        client.send(post(ADD, "expect: 100-continue")[: -len(ADD)])
+        response = client.next()
+        tally.note("100", None if response.status == 100 else f"came {response}")
+        client.send(ADD)
+        note_row(store, ("POST", "/", ADD), client.next("POST"), "after a 100", tally)
+    for fields in (f"content-length: {MOST_BODY + 1}", "content-length: 99999999999"):
+        with serving(program, TREE) as server, Client(server.port) as client:
+            response = client.ask("POST", "/", None, fields)
+            is_well = response and response.status == 413 and client.next() is None
+            tally.note(fields, None if is_well else f"came {response}")
+    with serving(program, TREE) as server:
+        data = chunked([full, b"x"])
+        came = asked_and_ended(server.port, data, False)
+        tally.note("too many chunks", fault_of_answers(*came, data))
+
+
+def connections(program: str, tally: Tally) -> None:
+    """When a connection stays, and when it ends."""
+    last = "GET /nodes HTTP/1.1\r\nhost: a\r\nconnection: close\r\n\r\n", True
+    old = "GET /nodes HTTP/1.0\r\n\r\n", True
+    kept_old = "GET /nodes HTTP/1.0\r\nconnection: keep-alive\r\n\r\n", False
+    whole = "GET http://a/nodes HTTP/1.1\r\nhost: a\r\n\r\n", False
+    store = Store(json.loads(TREE))
+    with serving(program, TREE) as server:
+        for text, ends in (last, old, kept_old, whole):
+            with Client(server.port) as client:
+                client.send(text.encode())
+                note_row(store, LOOK, client.next(), repr(text), tally)
+                if ends:
+                    tally.blame(repr(text), None if client.next() is None else "the connection stays")
+                else:
+                    note_rows(client, store, [("POST", "/", ADD)], repr(text), tally)
+
+
+# ---- a store that is kept
+
+
+def kept(program: str, room: str, seed: int, tally: Tally) -> None:
+    """Some batches and new weights; what `GET /document` gives then opens a store that gives the same."""
+    random, document = Random(f"kept {seed}"), seeded(seed)
+    with serving(program, document, 2) as server, Client(server.port) as client:
+        for _ in range(5):
+            paths = [node["path"] for node in json.loads(client.get("/nodes").body)["nodes"]]
+            lists = [[["add", random.choice(paths), random.randint(-(2**62), 2**62)]] for _ in range(20)]
+            client.post(compact({"batch": lists}))
+            client.post(b'{"reweigh":null}')
+        document = client.get("/document").body
+        nodes = json.loads(client.get("/nodes").body)["nodes"]
+    store = Store(json.loads(document))
+    tally.note("the document", None if document == document_text(store) else f"it is {document!r}")
+    known = [(node["path"], node["record"], node["weight"]) for node in nodes]
+    wanted = list(zip(store.tree.paths, store.records, store.tree.weights))
+    tally.note("the nodes", None if known == wanted else f"wanted {wanted}; came {known}")
+    with serving(program, document) as server, Client(server.port) as client:
+        again = client.get("/document").body
+        tally.note("the document again", None if again == document else f"wanted {document!r}; came {again!r}")
+        came = client.get("/nodes").body
+        tally.note("the nodes again", None if came == nodes_text(store) else f"came {came!r}")
+
+
+# ---- many at once
+
+
+def market() -> bytes:
+    """A root, a record that all clients add to, and eight among which they move numbers."""
+    rows = [{"parent": None, "name": "", "weight": 9}, {"parent": 0, "name": "all", "weight": 5}]
+    rows += [{"parent": 0, "name": f"stall{number}", "weight": 1, "value": 100} for number in range(8)]
+    return json.dumps({"nodes": rows}).encode()
+
+
+def sixteen_at_once(program: str, seconds: float, tally: Tally) -> None:
+    """Clients that move numbers, and look at the whole meanwhile: no look finds a move half done."""
+    with serving(program, market(), 2) as server, ThreadPoolExecutor(SEATS) as pool:
+        ends = time.monotonic() + seconds
+        came = list(pool.map(lambda number: browse(server.port, number, ends), range(SEATS)))
+        with Client(server.port) as client:
+            left = json.loads(client.get("/nodes").body)["nodes"]
+    batches = [pair for pairs, _, _ in came for pair in pairs]
+    for number, (pairs, looks, fault) in enumerate(came):
+        tally.tried += len(pairs) + looks
+        tally.blame(f"client {number}", fault or (None if pairs and looks else "it did nothing"))
+    tally.blame("all batches", fault_of_history(json.loads(market()), batches))
+    done = len(batches)
+    tally.note("the sum", None if left[1]["record"] == done else f"{left[1]['record']} after {done} batches")
+
+
+def browse(port: int, number: int, ends: float) -> tuple[list, int, str | None]:
+    """One client's batches with their replies, how often it looked, and what was wrong."""
+    random = Random(f"browser {number}")
+    pairs, looks = [], 0
+    with Client(port) as client:
+        while time.monotonic() < ends:
+            if random.randrange(3) == 0:
+                looks += 1
+                fault = fault_of_moment(client.get(random.choice(["/nodes", "/document"])))
+            else:
+                lists = [a_move(random) for _ in range(random.randrange(3))] + [[["add", "/all", 1]]]
+                response = client.post(compact({"batch": lists}) + b"\n")
+                fault = None if response and response.status == 200 else f"a batch is answered {response}"
+                pairs += [] if fault else [(lists, json.loads(response.body))]
+            if fault:
+                return pairs, looks, fault
+    return pairs, looks, None
+
+
+def a_move(random: Random) -> list:
+    here, there = random.sample(range(8), 2)
+    size = random.randint(1, 50)
+    return [["add", f"/stall{here}", -size], ["get", "/"], ["add", f"/stall{there}", size]]
+
+
+def fault_of_moment(response) -> str | None:
+    if response is None or response.status != 200:
+        return f"a look is answered {response}"
+    rows = json.loads(response.body)["nodes"]
+    total = sum(row.get("record", row.get("value")) for row in rows[2:])
+    return None if total == 800 else f"a look finds {total} in all: {response}"
+
+
+def seventeen_at_once(program: str, tally: Tally) -> None:
+    """Sixteen clients stay. What a 17th one asks has no response until one of them has left."""
+    store = Store(json.loads(TREE))
+    with serving(program, TREE) as server, ExitStack() as room:
+        seated = [room.enter_context(Client(server.port)) for _ in range(SEATS)]
+        for number, client in enumerate(seated):
+            note_rows(client, store, [LOOK], f"client {number}", tally)
+        late = room.enter_context(Client(server.port))
+        late.send(request(*LOOK))
+        tally.note("the 17th while all stay", None if is_silent(late.connection) else "it has a response")
+        seated[SEATS // 2].close()
+        note_row(store, LOOK, late.next(), "the 17th once one has left", tally)
+
+
+# ---- hostile requests
+
+
+def hostile_requests(program: str, seed: object, tally: Tally, each: int = HOSTILE_EACH) -> None:
+    random = Random(f"hostile {seed}")
+    store = Store(json.loads(TREE))
+    with serving(program, TREE, 2) as server:
+        for number in range(each):
+            data = hostile(random)
+            came = asked_and_ended(server.port, data, random.randrange(20) == 0)
+            tally.note(f"number {number}", fault_of_answers(*came, data))
+            if number % HONEST_EVERY == 0:
+                honest_client(server, store, f"after number {number}", tally)
+        tally.blame("at the end", None if server.is_running() else "the server has ended")
+        with ExitStack() as room:
+            for _ in range(SEATS):
+                note_rows(room.enter_context(Client(server.port)), store, [LOOK], "at the end", tally)
+
+
+def honest_client(server: Serving, store: Store, where: str, tally: Tally) -> None:
+    with Client(server.port) as client:
+        note_rows(client, store, [("POST", "/", ADD), LOOK, ("GET", "/document", None)], where, tally)
+
+
+def asked_and_ended(port: int, data: bytes, leaves: bool) -> tuple[bytes, bool]:
+    """All that came back, and whether the other side broke off. One that leaves resets the connection at once."""
+    came = []
+    with connected(port) as connection:
+        try:
+            connection.sendall(data)
+            if leaves:
+                connection.setsockopt(socket.SOL_SOCKET, socket.SO_LINGER, struct.pack("ii", 1, 0))
+                return b"", True
+            connection.shutdown(socket.SHUT_WR)
+            is_broken = False
+        except OSError as error:
+            need_broken(error)
+            is_broken = True
+        try:
+            while piece := connection.recv(PIECE):
+                came.append(piece)
+        except OSError as error:
+            need_broken(error)
+            is_broken = True
+    return b"".join(came), is_broken
+
+
+def need_broken(error: OSError) -> None:
+    """The other side may have reset the connection, but it may not keep it without a word."""
+    if isinstance(error, TimeoutError):
+        raise BadServer("no answer, and no end") from None
+
+
+def fault_of_answers(came: bytes, is_broken: bool, sent: bytes) -> str | None:
+    """What is wrong with what came back to these bytes. (Whoever is broken off may lose what was said last.)"""
+    try:
+        responses = responses_in(came, b"HEAD" in sent)
+    except BadResponse as bad:
+        return None if is_broken else f"{bad}; to {sent[:300]!r}"
+    for number, response in enumerate(responses):
+        fault = fault_of_form(response, is_last=number == len(responses) - 1)
+        if fault:
+            return f"{fault}; to {sent[:300]!r}"
+    return None
+
+
+def fault_of_form(response, is_last: bool) -> str | None:
+    if response.status not in STATUSES:
+        return f"no such status: {response}"
+    if not is_last and response.fields.get(b"connection", b"").lower() == b"close":
+        return f"something comes after {response}"
+    if response.body and response.fields.get(b"content-type", b"").startswith(b"application/json"):
+        lines = response.body.split(b"\n")
+        is_well = lines[-1] == b"" and all(isinstance(json.loads(line), dict) for line in lines[:-1])
+        return None if is_well else f"a body of no lines: {response}"
+    return None

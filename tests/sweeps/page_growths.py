@@ -1,0 +1,99 @@
+"""Each growth of a server of pages refused, alone: it ends with `memory` before it listens, or one request is answered
+`{"error":"memory"}` or not at all. Those before it and after it have their answers, and what was answered isn't lost."""
+
+from __future__ import annotations
+
+import json
+from functools import partial
+
+from pages import after, fault_of_response, lines_in
+from server import NotListening
+from store import Store
+from web import Client
+
+from sweeps.connections import ADD, GET, TEXT, TREE, WEIGHTS
+from sweeps.growths import is_told, library_in, refusing
+from sweeps.page import LOOK, serving
+from sweeps.program import MEMORY, Ran, Tally, Try
+
+TRIED = "growths of a server of pages refused, each alone, and the requests asked after it"
+# No server here takes more growths for these requests.
+MOST_GROWTHS = 20_000
+# Each part has every growth of so many.
+PARTS = 8
+ROWS = [
+    LOOK,
+    ("GET", "/", None),
+    ("POST", "/", ADD + WEIGHTS),
+    ("POST", "/", GET),
+    ("GET", "/document", None),
+    ("POST", "/", b"hello"),
+    ("POST", "/", TEXT),
+    ("GET", "/none", None),
+    ("POST", "/", b'{"reweigh":null}\n' + ADD),
+    ("DELETE", "/", None),
+]
+
+
+def tries(program: str, room: str) -> list[Try]:
+    library = library_in(room)
+    firsts = range(1, PARTS + 1)
+    return [Try(f"each {PARTS}th growth from {at} on", partial(refuse_each, program, library, at)) for at in firsts]
+
+
+def refuse_each(program: str, library: str, first: int, tally: Tally) -> None:
+    for number in range(first, MOST_GROWTHS, PARTS):
+        with refusing(library, number) as (how, ends):
+            ask_all(program, how, f"growth {number} refused", tally)
+            if not is_told(ends):
+                return
+    tally.blame(f"growth {number} refused", "there are still more of them")
+
+
+def ask_all(program: str, how: dict, where: str, tally: Tally) -> None:
+    """Asks the rows on one connection, and on another one where it ends."""
+    lost = 0
+    try:
+        with serving(program, TREE, **how) as server:
+            store = Store(json.loads(TREE))
+            client = Client(server.port)
+            for row in ROWS:
+                response = answered(client, row)
+                if is_refused(response):
+                    lost += 1
+                    client.close()
+                    client = Client(server.port)
+                    store = store_left(store, row, response, answered(client, LOOK))
+                    if store is None:
+                        tally.blame(where, f"what is left after {row} and {response} isn't what its lines leave")
+                        return
+                else:
+                    fault = fault_of_response(store, *row, response)
+                    tally.note(where, fault and f"{row[0]} {row[1]} {row[2]!r}: {fault}")
+            client.close()
+        tally.note(where, None if lost <= 1 else f"{lost} requests have no answer")
+    except NotListening as ended:
+        tally.compare(where, Ran(*ended.ended), MEMORY)
+
+
+def answered(client: Client, row: tuple):
+    """The response; none where the connection ends."""
+    try:
+        return client.ask(*row)
+    except ConnectionError:
+        return None
+
+
+def is_refused(response) -> bool:
+    return response is None or response.status == 503 and response.body == b'{"error":"memory"}\n'
+
+
+def store_left(store: Store, row: tuple, response, look) -> Store | None:
+    """What the request left, by the nodes as they are afterwards: nothing has changed where memory was refused by name,
+    and else some first lines have had their effect."""
+    lines = lines_in(row[2] or b"") if row[0] == "POST" and response is None else []
+    for size in range(len(lines) + 1):
+        left = after(store, lines[:size])
+        if fault_of_response(left, *LOOK, look) is None:
+            return left
+    return None
