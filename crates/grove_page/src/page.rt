@@ -54,7 +54,7 @@ th, td { padding: .15rem .6rem; border-bottom: 1px solid var(--line); text-align
 th:first-child, td:first-child, .texts :is(th, td) { text-align: left; }
 tbody th { font-weight: normal; }
 tfoot td { border-bottom: 0; font-weight: 600; }
-td.heat {
+[data-by="weight"] .weight, [data-by="waits"] .waits {
   background: linear-gradient(var(--ink) 0 0) left bottom / calc(var(--heat, 0) * 100%) 3px no-repeat
     color-mix(in srgb, var(--hot) calc(var(--heat, 0) * 100%), var(--paper));
 }
@@ -104,7 +104,7 @@ summary { cursor: pointer; }
     <span id="reweighed" role="status"></span>
   </div>
   <p class="quiet" id="legend"></p>
-  <div class="tall"><table>
+  <div class="tall"><table id="table">
     <thead><tr><th scope="col">node</th><th scope="col">weight</th><th scope="col">waits</th>
       <th scope="col">record</th></tr></thead>
     <tbody id="nodes"></tbody>
@@ -214,40 +214,43 @@ function rowOf(node, at) {
   const button = make("button", { class: "path", type: "button", title: node.path, tabindex: at ? "-1" : "0" }, name);
   button.style.marginLeft = `${depthOf(node.path) * 1.1}rem`;
   button.addEventListener("click", () => writeAccess(node.path));
-  const cells = ["weight", "waits", "record"].map((name) => [name, make("td")]);
-  const row = { button, cells: Object.fromEntries(cells), path: node.path };
+  const cells = ["weight", "waits", "record"].map((name) => [name, make("td", { class: name })]);
+  const row = { button, cells: Object.fromEntries(cells), path: node.path, shown: {}, marked: new Set() };
   row.element = make("tr", {}, make("th", { scope: "row" }, button), ...cells.map(([, cell]) => cell));
   return row;
 }
 
-/** Shows the nodes: a cell is written only where its number isn't what stands there. */
 function showNodes(found) {
   if (found.length !== rows.length || found.some((node, at) => node.path !== rows[at].path)) {
     rows = found.map(rowOf);
     byId("nodes").replaceChildren(...rows.map((row) => row.element));
-    nodes = found;
   }
-  found.forEach((node, at) => {
-    for (const [name, cell] of Object.entries(rows[at].cells)) showNumber(cell, node[name], nodes[at][name]);
-  });
   nodes = found;
+  nodes.forEach((node, at) => showNumbers(rows[at], node));
   showHeat();
 }
 
-function showNumber(cell, now, before) {
-  if (cell.textContent !== String(now)) cell.textContent = now;
-  if (String(now) !== String(before)) cell.dataset.change = BigInt(now) > BigInt(before) ? "▲" : "▼";
-  else delete cell.dataset.change;
+/** Writes the numbers that have changed, with a mark, and takes the marks of the last look away. */
+function showNumbers(row, node) {
+  for (const [name, cell] of Object.entries(row.cells)) {
+    const before = row.shown[name], now = node[name];
+    if (row.marked.delete(name)) delete cell.dataset.change;
+    if (now === before) continue;
+    cell.textContent = row.shown[name] = now;
+    if (before === undefined) continue;
+    cell.dataset.change = BigInt(now) > BigInt(before) ? "▲" : "▼";
+    row.marked.add(name);
+  }
 }
 
 function showHeat() {
   const by = byId("by").value;
   const most = nodes.reduce((most, node) => Math.max(most, Number(node[by])), 0);
+  byId("table").dataset.by = by;
   nodes.forEach((node, at) => {
-    for (const [name, cell] of Object.entries(rows[at].cells)) {
-      cell.classList.toggle("heat", name === by);
-      cell.style.setProperty("--heat", name === by && most > 0 ? Number(node[name]) / most : 0);
-    }
+    const heat = Number(node[by]) / Math.max(1, most);
+    if (heat !== rows[at].heat) rows[at].element.style.setProperty("--heat", heat);
+    rows[at].heat = heat;
   });
   byId("legend").textContent = `The longer the bar and the deeper the colour, the greater its ${by}; the greatest`
     + ` is ${most}. ▲ and ▼ mark what rose and what fell since the last look.`;
