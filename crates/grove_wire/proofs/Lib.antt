@@ -13,3 +13,4 @@ pub mod Lengths
 pub mod Requests
 pub mod Slashes
 pub mod Stored
+pub mod DocumentTexts

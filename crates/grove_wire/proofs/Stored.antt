@@ -1,6 +1,7 @@
 -- A tree's rows with its records, told by the nodes' numbers, and what they read as.
-use Rattle.std.proofs.Common.{◌≡◌, ℕ, zero, suc, ◌+◌, ◌<◌, ◌≤◌, ◌^◌, ltb, ℤ, pos, negsuc, w64, List, [], ◌∷◌, ◌++◌, length, take, Option, Some, None, IfSome, refl, sym, ap, ◌∙◌, cond, arith, lt-ltb}
+use Rattle.std.proofs.Common.{◌≡◌, ℕ, zero, suc, ◌+◌, ◌<◌, ◌≤◌, ◌^◌, ltb, ℤ, pos, negsuc, w64, List, [], ◌∷◌, ◌++◌, length, take, Option, Some, None, IfSome, inl, inr, refl, sym, ap, ◌∙◌, cond, arith, lt-ltb}
 use Rattle.std.specs.Prelude.{map, codes, Ok, slice_get, FitsSigned}
+use Rattle.std.proofs.lemmas.Bool.{cases_eq}
 use Rattle.std.proofs.lemmas.List.{map_push, take_all}
 use Rattle.std.proofs.lemmas.Simd.{map-map}
 use Rattle.std.proofs.lemmas.Option.{slice_get_read}
@@ -85,7 +86,7 @@ row_is_read None name (negsuc n) weight few fits light place = rw (short_is_read
 row_is_read (Some parent) name (pos n) weight few fits light place = rw (short_is_read parent few, short_is_read weight light, lt-ltb n (2 ^ 63) fits.sfits) refl
 row_is_read (Some parent) name (negsuc n) weight few fits light place = rw (short_is_read parent few, short_is_read weight light) refl
 
-parent_few : (rows : Rows) → AreTreeRows rows → (node : ℕ) → node < length rows → (o : Option ℕ) → parent_of rows node ≡ o → IfSome o (λ p. p < 2 ^ 32)
+pub parent_few : (rows : Rows) → AreTreeRows rows → (node : ℕ) → node < length rows → (o : Option ℕ) → parent_of rows node ≡ o → IfSome o (λ p. p < 2 ^ 32)
 parent_few rows fit node within None own = tt
 parent_few rows (tree, limits) node within (Some parent) own = omega (arith, parent_lt rows tree node parent own, limits.few)
 
@@ -107,6 +108,14 @@ reads_next rows records fit items value n within fits is so_far =
     ap (row_at place) is ∙ row_is_read (parent_of rows n) (name_of rows n) (record_at records n) (weight_of rows n) (parent_few rows fit n within (parent_of rows n) refl) fits light place in
     ap (λ ds. each_from row_at 0 ds) (map_push view items value) ∙ each_pushed row_at (view value) (stored_row rows records n) (map view items) (stored_rows rows records n) read so_far
     ∙ ap Ok (sym (map_push (stored_row rows records) (numbers_below n) n)) ∙ ap (λ m. Ok (stored_rows rows records m)) more
+
+-- whose record is a number of 64 bits too
+pub fits_next : (records : List ℤ) (n : ℕ) → ((node : ℕ) → node < n → FitsSigned w64 (record_at records node)) → FitsSigned w64 (record_at records n)
+    → (node : ℕ) → node < n + 1 → FitsSigned w64 (record_at records node)
+fits_next records n before here node small = elim (cases_eq node n) [
+  | inl last ↦ rw last here
+  | inr other ↦ before node (omega arith)
+]
 
 -- a document with these rows reads as the tree with its records
 pub stored_tree : (rows : Rows) (records : List ℤ) → length records ≡ length rows → AreTreeRows rows → (n : ℕ) → n ≡ length rows → (d : Data) (ds : List Data) → form.items_of (codes "nodes") d ≡ Some ds

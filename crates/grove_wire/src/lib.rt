@@ -22,7 +22,7 @@ pub use reply_values::{
 };
 pub use request::{Request, read_request, request_laws};
 pub use standing::{Standing, read_standing};
-pub use tree_values::document_value;
+pub use tree_values::{document_text, document_value};
 
 mod accesses;
 mod document;

@@ -1,13 +1,14 @@
-ghost use Rattle.std.specs.Prelude.{◌≡◌, ◌<◌, FitsSigned, IfOk, Some, Ok, codes, length, string_bytes};
+ghost use Rattle.std.specs.Prelude.{◌≡◌, ◌≤◌, ◌<◌, FitsSigned, IfOk, Some, Ok, codes, length, string_bytes};
 ghost use Rattle.std.specs.Int.{w64};
 ghost use Rattle.serde_json.specs.Data.{Data};
 ghost use Rattle.serde_json.specs.Find.{get};
 ghost use Rattle.serde_json.specs.View.{view};
+ghost use Rattle.serde_json.specs.Written.{compact_text};
 ghost use Rattle.grove_tree.specs.Trees.{name_of};
 ghost use Rattle.grove_tree.specs.Rules.{AreTreeRows};
 ghost use Rattle.grove_access.specs.Effects.{record_at};
-ghost use Rattle.grove_wire.specs.Documents.{each_node, parent_data, row_data, document_data};
-ghost use Rattle.grove_wire.specs.Reading.{tree_in};
+ghost use Rattle.grove_wire.specs.Documents.{each_node, parent_data, row_data, document_data, document_text};
+ghost use Rattle.grove_wire.specs.Reading.{tree_in, document_of};
 
 use grove_access::Records;
 use grove_tree::{NoMemory, Node, Tree};
@@ -19,6 +20,7 @@ pub fn document_value(alloc: Global, tree: &Tree, records: &Records) -> Result<V
     requires fits { length records.now ≡ length tree.now }
     ensures value { IfOk result (λ value. view value ≡ document_data tree.now records.now) }
     ensures reads_back { IfOk result (λ value. tree_in (view value) ≡ Ok (tree.now, records.now)) }
+    ensures short { IfOk result (λ value. length (compact_text (view value)) ≤ 4194304) }
 {
     let mut members = Map::new(alloc);
     put(
@@ -31,12 +33,25 @@ pub fn document_value(alloc: Global, tree: &Tree, records: &Records) -> Result<V
     Ok(Value::Object(members))
 }
 
+/// The text of that document, on one line. It is read as the document, whoever reads it.
+#[tactic(auto, using(crate::proofs::DocumentTexts::document_has_no_float))]
+pub fn document_text(alloc: Global, tree: &Tree, records: &Records) -> Result<String, NoMemory>
+    requires fits { length records.now ≡ length tree.now }
+    ensures text { IfOk result (λ text. string_bytes text ≡ document_text tree.now records.now) }
+    ensures opens { IfOk result (λ text. document_of (string_bytes text) ≡ Ok (document_data tree.now records.now)) }
+    ensures reads_back { IfOk result (λ text. tree_in (document_data tree.now records.now) ≡ Ok (tree.now, records.now)) }
+{
+    let document = document_value(alloc, tree, records)?;
+    Ok(document.to_string(alloc)?)
+}
+
 /// The array of the rows of a tree with its records.
 fn rows_value(alloc: Global, tree: &Tree, records: &Records) -> Result<Value, NoMemory>
     requires fits { length records.now ≡ length tree.now }
     ensures value { IfOk result (λ value. view value ≡ each_node tree.now (row_data tree.now records.now)) }
     ensures reads_back { IfOk result (λ value. (document : Data) → get (codes "nodes") document ≡ Some (view value)
         → tree_in document ≡ Ok (tree.now, records.now)) }
+    ensures short { IfOk result (λ value. length (document_text tree.now records.now) ≤ 4194304) }
 {
     let mut items = Vec::new(alloc);
     for number in 0..tree.len() {

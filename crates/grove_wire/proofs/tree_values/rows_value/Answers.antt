@@ -4,7 +4,8 @@ use Rattle.serde_json.specs.View.{view}
 use Rattle.grove_tree.specs.Rules.{AreTreeRows}
 use Rattle.grove_access.specs.Effects.{record_at}
 use Rattle.grove_wire.specs.Documents.{row_data}
-use Rattle.grove_wire.proofs.Stored.{written_next, reads_next, stored_tree}
+use Rattle.grove_wire.proofs.DocumentTexts.{document_few}
+use Rattle.grove_wire.proofs.Stored.{fits_next, written_next, reads_next, stored_tree}
 use Rattle.grove_wire.proofs.Written.{member_items}
 use Rattle.grove_wire.proofs.tree_values.rows_value.Goals as goal
 
@@ -20,7 +21,15 @@ loop-number-preserved c =
     record {
       value = rw c.in_ok-push.ensures.items (written_next c.loop-number.items.items c.in_ok-row.row (row_data rows records) n c.loop-number.invariant.value is);
       reads_back = rw c.in_ok-push.ensures.items (reads_next rows records fit c.loop-number.items.items c.in_ok-row.row n within small is c.loop-number.invariant.reads_back);
+      records = fits_next records n c.loop-number.invariant.records small;
     }
+
+pub returns-clause-short : goal.returns-clause-short
+returns-clause-short c =
+    let rows = c.args.tree.now in
+    let fit : AreTreeRows rows = (c.len-number-end.ensures.tree, c.len-number-end.ensures.limits) in
+    let all : c.loop-number.number ≡ length rows = omega (arith, c.loop-number-test.false, c.loop-number.auto.number-end, c.len-number-end.ensures.number) in
+    document_few rows c.args.records.now fit (λ node within. c.loop-number.invariant.records node (omega (arith, within, all)))
 
 pub returns-clause-reads_back : goal.returns-clause-reads_back
 returns-clause-reads_back c document is =
