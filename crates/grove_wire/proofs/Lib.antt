@@ -11,3 +11,6 @@ pub mod Fitting
 pub mod Tokens
 pub mod Lengths
 pub mod Requests
+pub mod Slashes
+pub mod Stored
+pub mod DocumentTexts

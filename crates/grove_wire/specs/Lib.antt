@@ -7,4 +7,5 @@ pub mod Writing
 pub mod Texts
 pub mod Requests
 pub mod Replies
+pub mod Documents
 pub mod Names

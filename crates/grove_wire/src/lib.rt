@@ -9,6 +9,7 @@ pub use fault_texts::{plan_fault_text, proof_fault_text, run_fault_text, wire_fa
 pub use flows::read_flow;
 pub use jobs::{MOST_JOBS, read_jobs};
 pub use lists::{MOST_LISTS, read_list, read_lists};
+pub use node_values::nodes_value;
 pub use nodes::read_tree;
 pub use place::{Part, Place};
 pub use plan_values::{flow_value, plan_value};
@@ -21,6 +22,7 @@ pub use reply_values::{
 };
 pub use request::{Request, read_request, request_laws};
 pub use standing::{Standing, read_standing};
+pub use tree_values::{document_text, document_value};
 
 mod accesses;
 mod document;
@@ -32,6 +34,7 @@ mod flows;
 mod forms;
 mod jobs;
 mod lists;
+mod node_values;
 mod nodes;
 mod paths;
 mod place;
@@ -42,4 +45,5 @@ mod replies;
 mod reply_values;
 mod request;
 mod standing;
+mod tree_values;
 mod versions;
