@@ -258,6 +258,18 @@ not_shown words order asks (inr version) = not_both (fault_of grove_command word
 pub serves_found : (words : List Text) (order found : Order) → AskFor words order → AskFor words found → serves order.command ≡ true → serves found.command ≡ true
 serves_found words order found asks finds serving = ap serves (same_command words found order finds asks) ∙ serving
 
+-- a command that serves has a place
+pub serves_placed : (command : Command) → serves command ≡ true → has_place command ≡ true
+serves_placed Serve serving = refl
+serves_placed Page serving = refl
+serves_placed Ask serving = refl
+serves_placed Judge serving = absurd (cc)
+serves_placed Check serving = absurd (cc)
+serves_placed Plan serving = absurd (cc)
+serves_placed Draw serving = absurd (cc)
+serves_placed Run serving = absurd (cc)
+serves_placed Audit serving = absurd (cc)
+
 -- words for a command that has a place give it
 place_given : (command : Command) (words : List Text) (document : Option Text) → has_place command ≡ true → AreFor command words document → (place : Place) × GivePlace words place
 place_given Serve words document placed are = (are.1, are.2)
