@@ -1,9 +1,8 @@
 -- The answer to the order that was found is one to the order that the words ask for.
-use Rattle.std.proofs.Common.{◌≡◌, ◌≢◌, ℕ, subst, List, Option, Some, None, IfOk, IfSome, IsSomeAnd, Result, inl, inr, ◌⊎◌}
+use Rattle.std.proofs.Common.{◌≡◌, ◌≢◌, ℕ, subst, true, List, Option, Some, None, IfOk, IfSome, IsSomeAnd, Result, inl, inr, ◌⊎◌}
 use Rattle.grove_words.specs.declared.order.Command.{Command}
-use Rattle.grove_words.specs.declared.order.Command.TheVariants.{Serve}
 use Rattle.grove_words.specs.declared.order.Order.{Order}
-use Rattle.grove_words.specs.CommandLines.{AskFor, AskToServe, NameDevice}
+use Rattle.grove_words.specs.CommandLines.{has_place, serves, AskFor, AskToServe, NameDevice}
 use Rattle.grove_words.proofs.Orders.{same_command, same_name}
 use Rattle.grove.specs.declared.answer.Answer.{Answer}
 use Rattle.grove.specs.declared.answer.Answer.TheVariants.{Done, Refused, Usage, Listen}
@@ -23,19 +22,19 @@ said_of_asked words order found known answer asks finds none says =
 
 -- a stop of an order's own device
 pub blames_named : (Failed IsSound : Type 0) (words : List (List ℕ)) (found : Order) (stop : Stop) → AskFor words found
-    → Blames (Failed ⊎ ((found.document ≢ None) ⊎ (found.command ≡ Serve))) IsSound stop → Blames (Failed ⊎ NameDevice words) IsSound stop
+    → Blames (Failed ⊎ ((found.document ≢ None) ⊎ (has_place found.command ≡ true))) IsSound stop → Blames (Failed ⊎ NameDevice words) IsSound stop
 blames_named Failed IsSound words found Device finds (inl failed) = inl failed
 blames_named Failed IsSound words found Device finds (inr named) = inr (found, finds, named)
 blames_named Failed IsSound words found Memory finds sound = sound
 
 -- the place of the order that was found is the one that the words ask for
-pub found_place : (words : List (List ℕ)) (found : Order) (answer : Answer) → (found.command ≡ Serve → IsSomeAnd found.place (AskToServe words))
-    → Listens (λ place. (found.command ≡ Serve) × (found.place ≡ Some place)) answer → Listens (AskToServe words) answer
+pub found_place : (words : List (List ℕ)) (found : Order) (answer : Answer) → (serves found.command ≡ true → IsSomeAnd found.place (AskToServe words))
+    → Listens (λ place. (serves found.command ≡ true) × (found.place ≡ Some place)) answer → Listens (AskToServe words) answer
 found_place words found (Done text) asks _ = tt
 found_place words found (Refused text) asks _ = tt
 found_place words found (Usage text) asks _ = tt
-found_place words found (Listen line service) asks (place, (serves, at), said) =
-    (place, subst (λ p. IsSomeAnd p (AskToServe words)) at (asks serves), said)
+found_place words found (Listen line service) asks (place, (serving, at), said) =
+    (place, subst (λ p. IsSomeAnd p (AskToServe words)) at (asks serving), said)
 
 -- what the order that was found says of some bytes, the one that was asked for says
 pub read_of_asked : (words : List (List ℕ)) (order found : Order) (answer : Result Answer Stop) → AskFor words order → AskFor words found

@@ -15,9 +15,10 @@ use Rattle.grove.specs.declared.answer.Answer.TheVariants.{Done, Refused, Usage,
 use Rattle.grove.specs.declared.answer.Stop.{Stop}
 use Rattle.grove.specs.declared.answer.Stop.TheVariants.{Device, Memory}
 use Rattle.grove_words.specs.declared.order.Command.{Command}
-use Rattle.grove_words.specs.declared.order.Command.TheVariants.{Judge, Check, Plan, Draw, Run, Audit, Serve}
+use Rattle.grove_words.specs.declared.order.Command.TheVariants.{Judge, Check, Plan, Draw, Run, Audit, Serve, Page, Ask}
 use Rattle.grove_words.specs.declared.order.Place.{Place}
 use Rattle.grove_words.specs.CommandLines.{AskToServe, NameDevice}
+use Rattle.grove_words.proofs.Orders.{serves_placed}
 use Rattle.grove_answer.specs.Outcomes.{Outcome, ThenSays}
 use Rattle.grove.specs.Answers.{most_bytes, status_of, printed, AnswersBy, HasText, IsListen, Listens}
 use Rattle.grove.specs.Endings.{Blames, IsHintLine, MayHint, SaysListening, SaysSomething, SaysWhy}
@@ -36,6 +37,8 @@ over_most Draw bytes h = over_limit 4194304 bytes h
 over_most Run bytes h = over_limit 4194304 bytes h
 over_most Audit bytes h = over_limit 67108864 bytes h
 over_most Serve bytes h = over_limit 4194304 bytes h
+over_most Page bytes h = over_limit 4194304 bytes h
+over_most Ask bytes h = over_limit 4194304 bytes h
 
 -- too many bytes are read as the first of them that are too many
 same_document : (command : Command) (front rest : List ℕ) → most_bytes command < length front → document_for command (front ++ rest) ≡ document_for command front
@@ -184,7 +187,7 @@ asked_to_serve : (words : List (List ℕ)) (answer : Answer) → Listens (AskToS
 asked_to_serve words (Done text) named listens = absurd listens
 asked_to_serve words (Refused text) named listens = absurd listens
 asked_to_serve words (Usage text) named listens = absurd listens
-asked_to_serve words (Listen line service) (place, (order, asks, serves, at), said) listens = (order, asks, inr serves)
+asked_to_serve words (Listen line service) (place, (order, asks, serves, at), said) listens = (order, asks, inr (serves_placed order.command serves))
 
 -- what reading blames, serving and printing may blame besides
 pub blames_device : (words : List (List ℕ)) (answer : Result Answer Stop) (InFailed InSound OutFailed OutSound : Type 0) (old new : Option (List ℕ))

@@ -7,7 +7,7 @@ use Rattle.grove_store.specs.Stocks.{Stock, opened}
 use Rattle.grove_wire.specs.Reading.{tree_in}
 use Rattle.grove_words.specs.declared.order.Command.{Command}
 use Rattle.grove_words.specs.declared.order.Place.{Place}
-use Rattle.grove_words.specs.declared.order.Command.TheVariants.{Judge, Check, Plan, Draw, Run, Audit, Serve}
+use Rattle.grove_words.specs.declared.order.Command.TheVariants.{Judge, Check, Plan, Draw, Run, Audit, Serve, Page, Ask}
 use Rattle.grove_answer.specs.Outcomes.{Outcome}
 use Rattle.grove.specs.declared.answer.Answer.{Answer}
 use Rattle.grove.specs.declared.answer.Answer.TheVariants.{Done, Refused, Usage, Listen}
@@ -101,3 +101,5 @@ most_bytes Draw = 4194304
 most_bytes Run = 4194304
 most_bytes Audit = 67108864
 most_bytes Serve = 4194304
+most_bytes Page = 4194304
+most_bytes Ask = 4194304

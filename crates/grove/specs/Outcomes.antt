@@ -7,16 +7,16 @@ use Rattle.grove_tree.specs.Trees.{Rows}
 use Rattle.grove_wire.specs.declared.fault.WireFault.{WireFault}
 use Rattle.grove_wire.specs.Reading.{document_of, history_of, tree_in}
 use Rattle.grove_words.specs.declared.order.Command.{Command}
-use Rattle.grove_words.specs.declared.order.Command.TheVariants.{Judge, Check, Plan, Draw, Run, Audit, Serve}
+use Rattle.grove_words.specs.declared.order.Command.TheVariants.{Judge, Check, Plan, Draw, Run, Audit, Serve, Page, Ask}
 use Rattle.grove_answer.specs.Outcomes.{Outcome, ThenSays, task_in, trial_in, claim_in, sketch_in, batch_in, history_in, IsJudged, IsChecked, IsPlanned, IsDrawn, IsRunBatch, IsAudited}
 use Rattle.grove.specs.Endings.{listening_line, refusal_line}
 
--- ---- serve: the address and the port that are listened on
+-- ---- serve and page: the address and the port that are listened on
 
 abbrev pub IsServed : Rows × List ℤ → Outcome → Type 0
 IsServed (tree, records) outcome = (address : IpAddr) × (port : ℕ) × (outcome ≡ Ok (listening_line address port))
 
--- ---- what a command may say of a document, and of bytes
+-- ---- what a command may say of a document, and of bytes; `ask` says nothing of one
 
 abbrev pub MaySay : Command → Data → Outcome → Type 0
 MaySay Judge document = ThenSays (trial_in document) IsJudged
@@ -26,6 +26,8 @@ MaySay Draw document = ThenSays (sketch_in document) IsDrawn
 MaySay Run document = ThenSays (batch_in document) IsRunBatch
 MaySay Audit document = ThenSays (history_in document) IsAudited
 MaySay Serve document = ThenSays (tree_in document) IsServed
+MaySay Page document = ThenSays (tree_in document) IsServed
+MaySay Ask document = λ outcome. ⊥
 
 -- the document that bytes are for a command; an audit's may be longer
 abbrev pub document_for : Command → List ℕ → Result Data WireFault
@@ -36,6 +38,8 @@ document_for Draw bytes = document_of bytes
 document_for Run bytes = document_of bytes
 document_for Audit bytes = history_of bytes
 document_for Serve bytes = document_of bytes
+document_for Page bytes = document_of bytes
+document_for Ask bytes = document_of bytes
 
 abbrev pub IsOutcome : Command → List ℕ → Outcome → Type 0
 IsOutcome command bytes = ThenSays (document_for command bytes) (MaySay command)

@@ -4,7 +4,7 @@ ghost use Rattle.grove_wire.specs.Forms.{AreArraysShort, HasShortArrays};
 ghost use Rattle.grove_wire.specs.Outcomes.{Gives};
 ghost use Rattle.std.specs.Io.KnownBytes.{Consumes, IsAtEnd, Keeps};
 ghost use Rattle.grove.specs.Answers.{most_bytes, status_of, AnswersBy, HasText, IsListen, IsOpenedBy, IsOpenedFrom, IsRefusalLine, Listens, ServesStore};
-ghost use Rattle.grove_words.specs.CommandLines.{AreWrong, AskFor, AskForWorkers, AskToServe, AskToShow, NameDevice};
+ghost use Rattle.grove_words.specs.CommandLines.{has_place, serves, AreWrong, AskFor, AskForWorkers, AskToServe, AskToShow, NameDevice};
 ghost use Rattle.grove_words.specs.NoOrders.{HasText as IsToldText, TellsShown, TellsWrong};
 ghost use Rattle.grove.specs.Endings.{Blames, IsHintLine, MayHint, SaysListening, SaysRefusal, SaysSomething, SaysWhy};
 ghost use Rattle.grove.specs.Outcomes.{document_for, IsOutcome, MaySay, Prints, PrintsPart};
@@ -69,7 +69,7 @@ pub fn run_command<
         (E.contents err.old) (E.contents err.new) }
     ensures unprinted { result ≡ 3 → O.has_failed out.new ≡ false → Keeps (O.contents out.old) (O.contents out.new)
         ⊎ SaysListening (AskToServe (map string_bytes words.now)) (O.contents out.old) (O.contents out.new) }
-    ensures served { (order : Order) → AskFor (map string_bytes words.now) order → order.command ≡ Command.Serve → (result ≡ 1) ⊎ (result ≡ 3) }
+    ensures served { (order : Order) → AskFor (map string_bytes words.now) order → serves order.command ≡ true → (result ≡ 1) ⊎ (result ≡ 3) }
     ensures quiet_output { result ≡ 2 → Keeps (O.contents out.old) (O.contents out.new) }
     ensures hinted { result ≤ 1 → MayHint (E.has_failed err.old) (E.has_failed err.new) (E.contents err.old) (E.contents err.new) }
     ensures quiet_errors { AskToShow (map string_bytes words.now) → result ≤ 1 → Keeps (E.contents err.old) (E.contents err.new) }
@@ -97,6 +97,7 @@ pub fn say_what_is_awaited<E: Sink>(alloc: Global, words: &[String], err: &mut E
         Order {
             command,
             document: None,
+            place: None,
             ..
         },
     ) = order_of(alloc, words)
@@ -124,7 +125,7 @@ fn response<
     ensures wrong { AreWrong (map string_bytes words.now) → IfOk result.answer (λ answer. status_of answer ≡ 2) }
     ensures shown { AskToShow (map string_bytes words.now) → IfOk result.answer (λ answer. (status_of answer ≡ 0) × HasText answer) }
     ensures taken { (order : Order) → AskFor (map string_bytes words.now) order → IfOk result.answer (λ answer. status_of answer ≤ 1) }
-    ensures served { (order : Order) → AskFor (map string_bytes words.now) order → order.command ≡ Command.Serve
+    ensures served { (order : Order) → AskFor (map string_bytes words.now) order → serves order.command ≡ true
         → IfOk result.answer (λ answer. (status_of answer ≡ 1) ⊎ IsListen answer) }
     ensures place { IfOk result.answer (Listens (AskToServe (map string_bytes words.now))) }
     ensures usage { IfOk result.answer (λ answer. status_of answer ≡ 2 → HasText answer) }
@@ -159,11 +160,11 @@ fn order_response<
     ensures workers { IfOk result.answer (ServesStore (λ store. store.workers ≡ order.entry.workers)) }
     ensures refused { IfOk result.answer IsRefusalLine }
     ensures status { IfOk result.answer (λ answer. status_of answer ≤ 1) }
-    ensures served { order.entry.command ≡ Command.Serve → IfOk result.answer (λ answer. (status_of answer ≡ 1) ⊎ IsListen answer) }
-    ensures place { IfOk result.answer (Listens (λ place. (order.entry.command ≡ Command.Serve) × (order.entry.place ≡ Some place))) }
+    ensures served { serves order.entry.command ≡ true → IfOk result.answer (λ answer. (status_of answer ≡ 1) ⊎ IsListen answer) }
+    ensures place { IfOk result.answer (Listens (λ place. (serves order.entry.command ≡ true) × (order.entry.place ≡ Some place))) }
     ensures apart { order.entry.document ≢ None → input.new ≡ input.old }
     ensures sound { OnOk result.answer (I.has_failed input.new ≡ I.has_failed input.old) }
-    ensures blamed { IfErr result.answer (Blames ((I.has_failed input.new ≡ true) ⊎ ((order.entry.document ≢ None) ⊎ (order.entry.command ≡ Command.Serve)))
+    ensures blamed { IfErr result.answer (Blames ((I.has_failed input.new ≡ true) ⊎ ((order.entry.document ≢ None) ⊎ (has_place order.entry.command ≡ true)))
         (I.has_failed input.new ≡ I.has_failed input.old)) }
     ensures hinted { IfSome result.hint (λ line. IsHintLine (string_bytes line)) }
 {
@@ -183,9 +184,9 @@ fn bytes_response<
     ensures opened { IfOk result.answer (ServesStore (IsOpenedBy order.entry.command bytes.now order.entry.workers)) }
     ensures refused { IfOk result.answer IsRefusalLine }
     ensures status { IfOk result.answer (λ answer. status_of answer ≤ 1) }
-    ensures served { order.entry.command ≡ Command.Serve → IfOk result.answer (λ answer. (status_of answer ≡ 1) ⊎ IsListen answer) }
-    ensures place { IfOk result.answer (Listens (λ place. (order.entry.command ≡ Command.Serve) × (order.entry.place ≡ Some place))) }
-    ensures blamed { IfErr result.answer (Blames (order.entry.command ≡ Command.Serve) ⊤) }
+    ensures served { serves order.entry.command ≡ true → IfOk result.answer (λ answer. (status_of answer ≡ 1) ⊎ IsListen answer) }
+    ensures place { IfOk result.answer (Listens (λ place. (serves order.entry.command ≡ true) × (order.entry.place ≡ Some place))) }
+    ensures blamed { IfErr result.answer (Blames (has_place order.entry.command ≡ true) ⊤) }
     ensures hinted { IfSome result.hint (λ line. IsHintLine (string_bytes line)) }
 {
     let alloc = rt.alloc();
@@ -215,7 +216,9 @@ fn most_bytes(command: Command) -> usize
         | Command::Plan
         | Command::Draw
         | Command::Run
-        | Command::Serve => MOST_BYTES,
+        | Command::Serve
+        | Command::Page
+        | Command::Ask => MOST_BYTES,
     }
 }
 
@@ -232,7 +235,9 @@ fn read_for(alloc: Global, command: Command, bytes: &[u8]) -> Result<Value, Wire
         | Command::Plan
         | Command::Draw
         | Command::Run
-        | Command::Serve => read_document(alloc, bytes),
+        | Command::Serve
+        | Command::Page
+        | Command::Ask => read_document(alloc, bytes),
     }
 }
 
@@ -247,9 +252,9 @@ fn document_answer<
     ensures opened { IfOk result (ServesStore (IsOpenedFrom (view document.now) order.entry.workers)) }
     ensures refused { IfOk result IsRefusalLine }
     ensures status { IfOk result (λ answer. status_of answer ≤ 1) }
-    ensures served { order.entry.command ≡ Command.Serve → IfOk result (λ answer. (status_of answer ≡ 1) ⊎ IsListen answer) }
-    ensures place { IfOk result (Listens (λ place. (order.entry.command ≡ Command.Serve) × (order.entry.place ≡ Some place))) }
-    ensures blamed { IfErr result (Blames (order.entry.command ≡ Command.Serve) ⊤) }
+    ensures served { serves order.entry.command ≡ true → IfOk result (λ answer. (status_of answer ≡ 1) ⊎ IsListen answer) }
+    ensures place { IfOk result (Listens (λ place. (serves order.entry.command ≡ true) × (order.entry.place ≡ Some place))) }
+    ensures blamed { IfErr result (Blames (has_place order.entry.command ≡ true) ⊤) }
 {
     let alloc = rt.alloc();
     match order.command {
@@ -260,6 +265,8 @@ fn document_answer<
         Command::Run => answer_of(alloc, run_document(rt, alloc, document, order.workers)),
         Command::Audit => answer_of(alloc, audit_document(alloc, document)),
         Command::Serve => serve_document(rt, alloc, document, order.workers, order.place),
+        Command::Page => serve_document(rt, alloc, document, order.workers, order.place),
+        Command::Ask => Err(Stop::Device),
     }
 }
 

@@ -74,6 +74,6 @@ fn asked_by(command: Command) -> Asked {
         Command::Draw => Asked::Draw,
         Command::Run => Asked::Run,
         Command::Audit => Asked::Audit,
-        Command::Serve => Asked::Serve,
+        Command::Serve | Command::Page | Command::Ask => Asked::Serve,
     }
 }

@@ -4,12 +4,14 @@ ghost use Rattle.std.specs.Option.{option_to_list};
 ghost use Rattle.std.specs.Vec.{vec_capacity, vec_len};
 ghost use Rattle.grove_store.specs.Stocks.{Stock};
 ghost use Rattle.grove_desk.specs.Receipts.{IsAnswered};
+ghost use Rattle.grove_desk.specs.Histories.{Led};
 ghost use Rattle.grove_desk.specs.Boards.{KeepsState, Holds};
 
 use crate::ledger::Ledger;
 use crate::line::Line;
 use crate::slot::{Asked, Slot, State};
 use crate::{Opening, Receipt};
+use grove_store::Store;
 use grove_tree::NoMemory;
 use std::alloc::Global;
 use std::marker::Model;
@@ -24,6 +26,8 @@ pub(crate) struct Board<B: Opening> {
     ledger: Option<Ledger<B>>,
     slots: Vec<Slot>,
     tickets: u64,
+    /// How many callers wait for a copy of the store. While there are any, it isn't taken.
+    copies: u64,
 }
 
 impl<B: Opening> Model for Board<B> {
@@ -46,6 +50,7 @@ impl<B: Opening> Board<B> {
             ledger: Some(ledger),
             slots: Vec::new(alloc),
             tickets: 0,
+            copies: 0,
         }
     }
 
@@ -75,6 +80,21 @@ impl<B: Opening> Board<B> {
         self.waiting() >= MOST_LINES
     }
 
+    /// Keeps the store here, once it is back, until it was copied.
+    pub(crate) fn want_copy(&mut self) {
+        self.copies = self.copies.saturating_add(1);
+    }
+
+    /// A copy of the store, for a caller who wanted one, where the store is here.
+    pub(crate) fn store_copy(&mut self, alloc: Global) -> Option<Result<Store, NoMemory>>
+        ensures { IfSome result (λ copy. IfOk copy (Led B.store)) }
+    {
+        let ledger = self.ledger.as_ref()?;
+        let copy = ledger.store_copy(alloc);
+        self.copies = self.copies.saturating_sub(1);
+        Some(copy)
+    }
+
     /// What the line of this ticket was answered, where it was.
     pub(crate) fn collect(&mut self, ticket: u64) -> Option<Result<Receipt, NoMemory>>
         ensures { IfSome result (λ done. IfOk done (IsAnswered B.store B.kept)) }
@@ -97,7 +117,7 @@ impl<B: Opening> Board<B> {
         ensures none { IfNone result (taken.new.items ≡ []) }
         ensures room { vec_capacity taken.new ≡ vec_capacity taken.old }
     {
-        if self.ledger.is_none() {
+        if self.ledger.is_none() || self.copies > 0 {
             return None;
         }
         start_waiting(&mut self.slots, taken);

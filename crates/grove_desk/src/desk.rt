@@ -3,6 +3,7 @@ ghost use Rattle.std.specs.Option.{option_copied};
 ghost use Rattle.std.specs.Vec.{vec_capacity};
 ghost use Rattle.grove_session.specs.declared.answers.TheConstants.{LINE_LIMIT};
 ghost use Rattle.grove_tree.specs.Weights.{unweighed};
+ghost use Rattle.grove_desk.specs.Histories.{Led};
 ghost use Rattle.grove_desk.specs.Receipts.{ReceiptState, IsAllowed, IsAnswered, IsForeign, Follows};
 
 use crate::board::{Board, MOST_LINES};
@@ -89,6 +90,24 @@ impl<B: Opening> Desk<B> {
     /// How many lines wait: they were put, and are in no round yet.
     pub fn waiting<R: Wait>(&self, rt: &R) -> u32 {
         u32::try_from(self.board.lock(rt).waiting()).unwrap_or(u32::MAX)
+    }
+
+    /// A copy of the store as it stands between two rounds. It may wait for a round that runs; the next one begins after the
+    /// copies that were asked for by then.
+    pub fn snapshot<R: Wait>(&self, rt: &R, alloc: Global) -> Result<Store, NoMemory>
+        ensures { IfOk result (Led self.now.opening) }
+    {
+        self.board.lock(rt).want_copy();
+        for _ in rt.forever() {
+            let mut board = self.board.lock(rt);
+            if let Some(copy) = board.store_copy(alloc) {
+                drop(board);
+                self.moved.notify_all();
+                return copy;
+            }
+            let _again = self.moved.wait(rt, board);
+        }
+        unreachable!()
     }
 
     /// Puts a line and waits for what it was answered.

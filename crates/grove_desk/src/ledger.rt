@@ -60,6 +60,13 @@ impl<B: Opening> Ledger<B> {
         (store, journal)
     }
 
+    /// A copy of the store.
+    pub(crate) fn store_copy(&self, alloc: Global) -> Result<Store, NoMemory>
+        ensures { IfOk result (Led B.store) }
+    {
+        self.store.copy(alloc)
+    }
+
     /// Answers the first of the lines in one round, and notes it where a journal is kept. Each has a receipt, which takes the
     /// line; the others stay. Where memory is refused, store and journal are as they were.
     pub(crate) fn answer<R: Threads + Wait + Sync, G: Gate + Sync>(

@@ -75,6 +75,13 @@ impl Store {
         &self.records
     }
 
+    /// How often a lock of each node found it held since the weights changed last, held at 1,000.
+    pub fn waits(&self) -> &[u32]
+        ensures { result.now ≡ self.now.waits }
+    {
+        &self.waits
+    }
+
     /// How many rounds were run.
     pub fn rounds(&self) -> u64
         ensures { result ≡ self.now.rounds }

@@ -7,7 +7,7 @@ use Rattle.std.proofs.lemmas.Bool.{and_parts}
 use Rattle.std.proofs.lemmas.Option.{none-some}
 use Rattle.std.proofs.Math.Seq.{get_or-append_seam}
 use Rattle.grove_tree.specs.Trees.{Rows, parent_of, name_of, IsTree}
-use Rattle.grove_tree.specs.Rules.{is_name_byte, is_name, IsWithinLimits}
+use Rattle.grove_tree.specs.Rules.{is_name_byte, IsWithinLimits}
 use Rattle.grove_tree.specs.Paths.{or_slash, path_of}
 use Rattle.grove_tree.proofs.Names.{names_of, names_step, names_root}
 use Rattle.grove_tree.proofs.PathParts.{tail_same, name_bytes}

@@ -9,11 +9,11 @@ use Rattle.clap.specs.Walk.{subcommand_met, Names, walk, rows_after, Walk, idle,
 use Rattle.clap.specs.Faults.{word_fault, step_fault, entered_fault, level_fault, turn_fault, walk_fault}
 use Rattle.clap.specs.Kinds.{Kinds}
 use Rattle.clap.proofs.OnLiterals.{clap_on_literals}
-use Rattle.grove_words.specs.CommandLines.{command_named, grove_command, hyphens, is_option, AreCommand, AreDocument, AreFor, AskFor, IsPlaceIn, word_of, text_of}
-use Rattle.grove_words.proofs.Words.{IsFaulty, or_faulty, or_later, not_none, top_rules, leaf_rules, drawing_rules, batch_rules, port_rules, top_long, top_short, IsOption, option_refused, HasNoFlag, no_flag, no_bundle, differs, Kind, hyphens_kind, option_kind, plain_kind, kind_of}
-use Rattle.grove_words.proofs.Documents.{document_in, leaf, drawing_leaf, batch_leaf, port_leaf, leaf_fault, Reads, leaf_reads}
+use Rattle.grove_words.specs.CommandLines.{command_named, grove_command, has_place, hyphens, is_option, AreCommand, AreDocument, AreFor, AreTakenFor, AskFor, GivePlace, IsPlaceIn, word_of, text_of}
+use Rattle.grove_words.proofs.Words.{IsFaulty, or_faulty, or_later, not_none, top_rules, leaf_rules, planning_rules, drawing_rules, batch_rules, port_rules, asking_rules, top_long, top_short, IsOption, option_refused, HasNoFlag, no_flag, no_bundle, differs, Kind, hyphens_kind, option_kind, plain_kind, kind_of}
+use Rattle.grove_words.proofs.Documents.{document_in, leaf, planning_leaf, drawing_leaf, batch_leaf, port_leaf, asking_leaf, leaf_fault, Reads, leaf_reads}
 use Rattle.grove_words.specs.declared.order.Command.{Command}
-use Rattle.grove_words.specs.declared.order.Command.TheVariants.{Judge, Check, Plan, Draw, Run, Audit, Serve}
+use Rattle.grove_words.specs.declared.order.Command.TheVariants.{Judge, Check, Plan, Draw, Run, Audit, Serve, Page, Ask}
 use Rattle.grove_words.specs.declared.order.Order.{Order}
 use Rattle.grove_words.specs.declared.order.Place.{Place}
 
@@ -44,7 +44,7 @@ pub record IsFound (rows : Option (Text × List Row)) (found : Order) : Type 0 w
   pub bare : rows ≡ None → (found.command ≡ Judge) × (found.document ≡ None)
   pub command : (word : Text) (below : List Row) → rows ≡ Some (word, below) → found.command ≡ command_named word
   pub document : (word : Text) (below : List Row) → rows ≡ Some (word, below) → text_of found.document ≡ document_in below
-  pub place : found.command ≡ Serve → (place : Place) × IsPlaceIn rows place
+  pub place : has_place found.command ≡ true → (place : Place) × IsPlaceIn rows place
 
 -- a place that is told is one
 pub place_told : (found : Option (Text × List Row)) (place : Option Place) → IsSomeAnd place (IsPlaceIn found) → (p : Place) × IsPlaceIn found p
@@ -53,15 +53,21 @@ place_told found (Some p) is = (p, is)
 
 -- what clap reads the words after a command by
 abbrev pub shape_of : Command → Shape
+shape_of Plan = planning_leaf (word_of Plan)
 shape_of Draw = drawing_leaf (word_of Draw)
 shape_of Run = batch_leaf (word_of Run)
 shape_of Serve = port_leaf (word_of Serve)
+shape_of Page = port_leaf (word_of Page)
+shape_of Ask = asking_leaf (word_of Ask)
 shape_of command = leaf (word_of command)
 
 abbrev pub rules_of : Command → List Rule
+rules_of Plan = planning_rules
 rules_of Draw = drawing_rules
 rules_of Run = batch_rules
 rules_of Serve = port_rules
+rules_of Page = port_rules
+rules_of Ask = asking_rules
 rules_of command = leaf_rules
 
 abbrev pub below_fault : Command → List Text → Kinds
@@ -84,6 +90,8 @@ is_one_of Draw = record { met = refl; turns = refl; enters = λ rest. refl; fail
 is_one_of Run = record { met = refl; turns = refl; enters = λ rest. refl; fails = λ rest. refl; named = refl }
 is_one_of Audit = record { met = refl; turns = refl; enters = λ rest. refl; fails = λ rest. refl; named = refl }
 is_one_of Serve = record { met = refl; turns = refl; enters = λ rest. refl; fails = λ rest. refl; named = refl }
+is_one_of Page = record { met = refl; turns = refl; enters = λ rest. refl; fails = λ rest. refl; named = refl }
+is_one_of Ask = record { met = refl; turns = refl; enters = λ rest. refl; fails = λ rest. refl; named = refl }
 
 module _ (command : Command) (rest : List Text) where
   stop_is : (walk top_rules names nothing_held (word_of command ∷ rest)).stopped ≡ Some (word_of command, rest)
@@ -129,8 +137,10 @@ which word =
     by_word (codes "run") word (a_command Run) (λ run.
     by_word (codes "audit") word (a_command Audit) (λ audit.
     by_word (codes "serve") word (a_command Serve) (λ serve.
+    by_word (codes "page") word (a_command Page) (λ page.
+    by_word (codes "ask") word (a_command Ask) (λ ask.
     by_word (codes "help") word a_help (λ help.
-    neither (rw (judge, check, plan, draw, run, audit, serve, help) refl)))))))))
+    neither (rw (judge, check, plan, draw, run, audit, serve, page, ask, help) refl)))))))))))
 
 -- a word that is no command
 
@@ -190,20 +200,32 @@ document_reads command rest shape rules taken found is =
     is.document (word_of command) (rows_after (rules_of command) [] rest) (rows_are command rest) ∙ ap (λ r. document_in (rows_after r [] rest)) rules ∙ read.2 in
     (rest, refl, subst (AreDocument rest) (sym name) read.1)
 
+-- what follows the word of a command that has a place gives its document and the place
+with_place : (command : Command) (rest : List Text) → fault_of grove_command (word_of command ∷ rest) ≡ []
+    → (found : Order) → IsFound (subcommand_of grove_command (word_of command ∷ rest)) found → has_place found.command ≡ true
+    → AreTakenFor (word_of command) (word_of command ∷ rest) (text_of found.document) × (place : Place) × GivePlace (word_of command ∷ rest) place
+with_place command rest taken found is placed = (
+  (taken, rows_after (rules_of command) [] rest, rows_are command rest, sym (is.document (word_of command) (rows_after (rules_of command) [] rest) (rows_are command rest))),
+  (is.place placed).0,
+  (is.place placed).1,
+)
+
 -- the words after a command that are taken name the command's document
 names_document : (command : Command) (rest : List Text) → fault_of grove_command (word_of command ∷ rest) ≡ []
     → (found : Order) → IsFound (subcommand_of grove_command (word_of command ∷ rest)) found → found.command ≡ command
     → AreFor command (word_of command ∷ rest) (text_of found.document)
 names_document Judge rest taken found is same = document_reads Judge rest refl refl taken found is
 names_document Check rest taken found is same = document_reads Check rest refl refl taken found is
-names_document Plan rest taken found is same = document_reads Plan rest refl refl taken found is
+names_document Plan rest taken found is same =
+    (taken, rows_after planning_rules [] rest, rows_are Plan rest, sym (is.document (word_of Plan) (rows_after planning_rules [] rest) (rows_are Plan rest)))
 names_document Draw rest taken found is same =
     (taken, rows_after drawing_rules [] rest, rows_are Draw rest, sym (is.document (word_of Draw) (rows_after drawing_rules [] rest) (rows_are Draw rest)))
 names_document Run rest taken found is same =
     (taken, rows_after batch_rules [] rest, rows_are Run rest, sym (is.document (word_of Run) (rows_after batch_rules [] rest) (rows_are Run rest)))
 names_document Audit rest taken found is same = document_reads Audit rest refl refl taken found is
-names_document Serve rest taken found is same =
-    ((taken, rows_after port_rules [] rest, rows_are Serve rest, sym (is.document (word_of Serve) (rows_after port_rules [] rest) (rows_are Serve rest))), (is.place same).0, (is.place same).1)
+names_document Serve rest taken found is same = with_place Serve rest taken found is (ap has_place same)
+names_document Page rest taken found is same = with_place Page rest taken found is (ap has_place same)
+names_document Ask rest taken found is same = with_place Ask rest taken found is (ap has_place same)
 
 command_reads : (command : Command) (rest : List Text) → fault_of grove_command (word_of command ∷ rest) ≡ [] → IsReadLine (word_of command ∷ rest)
 command_reads command rest taken found is =

@@ -6,7 +6,7 @@ use Rattle.clap.specs.Walk.{rows_after, Walk, idle, nothing_held, walked, walk_f
 use Rattle.clap.specs.Faults.{word_fault, step_fault, turn_fault, walk_fault, level_fault}
 use Rattle.clap.specs.Kinds.{Kinds}
 use Rattle.clap.proofs.OnLiterals.{clap_on_literals}
-use Rattle.grove_words.specs.CommandLines.{batch_command, document_command, drawing_command, no_command, port_command, hyphens, is_option, AreDocument}
+use Rattle.grove_words.specs.CommandLines.{asking_command, batch_command, document_command, drawing_command, no_command, planning_command, port_command, hyphens, is_option, AreDocument}
 use Rattle.grove_words.proofs.Words.{IsFaulty, or_faulty, or_later, not_none, leaf_rules, leaf_long, leaf_short, held_with, IsOption, option_refused, HasNoFlag, no_flag, differs, met_plain, Kind, hyphens_kind, option_kind, plain_kind, kind_of}
 
 -- the document that rows name
@@ -19,11 +19,17 @@ leaf name = built_leaf (inherited no_command.top (document_command name).top)
 abbrev pub drawing_leaf : Text → Shape
 drawing_leaf name = built_leaf (inherited no_command.top (drawing_command name).top)
 
+abbrev pub planning_leaf : Text → Shape
+planning_leaf name = built_leaf (inherited no_command.top (planning_command name).top)
+
 abbrev pub batch_leaf : Text → Shape
 batch_leaf name = built_leaf (inherited no_command.top (batch_command name).top)
 
 abbrev pub port_leaf : Text → Shape
 port_leaf name = built_leaf (inherited no_command.top (port_command name).top)
+
+abbrev pub asking_leaf : Text → Shape
+asking_leaf name = built_leaf (inherited no_command.top (asking_command name).top)
 
 -- a word that is no document's name nor two hyphens
 module _ (name : Text) where

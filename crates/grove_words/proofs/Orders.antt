@@ -1,5 +1,5 @@
 -- Words that are an order are taken by clap, and are no second order.
-use Rattle.std.proofs.Common.{◌≡◌, ◌≢◌, ◌∙◌, ap, refl, sym, subst, false, List, [], ◌∷◌, length, Option, Some, None, IsSomeAnd, ◌⊎◌, inl, inr, codes, fold}
+use Rattle.std.proofs.Common.{◌≡◌, ◌≢◌, ◌∙◌, ap, refl, sym, subst, true, false, List, [], ◌∷◌, length, Option, Some, None, IsSomeAnd, ◌⊎◌, inl, inr, codes, fold}
 use Rattle.std.specs.Prelude.{is_some}
 use Rattle.clap.specs.Words.{Row, Text, fault_of, first_of, subcommand_of, built}
 use Rattle.clap.specs.Walk.{Walk, idle, nothing_held, walk, walked, walk_from, word_met, settled, finished, rows_after}
@@ -14,10 +14,10 @@ use Rattle.clap.proofs.OnLiterals.{clap_on_literals}
 use Rattle.clap.proofs.WalkLemmas.{walk_stopped}
 use Rattle.clap.proofs.FaultLemmas.{fault_ends, stopped_fault}
 use Rattle.grove_words.specs.declared.order.Command.{Command}
-use Rattle.grove_words.specs.declared.order.Command.TheVariants.{Judge, Check, Plan, Draw, Run, Audit, Serve}
+use Rattle.grove_words.specs.declared.order.Command.TheVariants.{Judge, Check, Plan, Draw, Run, Audit, Serve, Page, Ask}
 use Rattle.grove_words.specs.declared.order.Order.{Order}
 use Rattle.grove_words.specs.declared.order.Place.{Place}
-use Rattle.grove_words.specs.CommandLines.{command_named, grove_command, hyphens, IsPlain, AreCommand, AreDocument, AreFor, AreTakenFor, AskFor, AskToServe, AskToShow, AreWrong, GivePlace, IsPlaceIn, word_of, text_of}
+use Rattle.grove_words.specs.CommandLines.{command_named, grove_command, has_place, serves, hyphens, IsPlain, AreCommand, AreDocument, AreFor, AreTakenFor, AskFor, AskToServe, AskToShow, AreWrong, GivePlace, IsPlaceIn, word_of, text_of}
 use Rattle.grove_words.specs.Refusals.{IsNowhere}
 use Rattle.grove_words.proofs.Words.{top_rules, leaf_rules, HasNoFlag, no_flag, differs, met_plain}
 use Rattle.grove_words.proofs.Documents.{leaf, leaf_fault, walked_plain, hyphens_after}
@@ -113,11 +113,13 @@ document_taken command words document shape (rest, is, are) =
 taken_for : (command : Command) (words : List Text) (document : Option Text) → AreFor command words document → fault_of grove_command words ≡ []
 taken_for Judge words document are = document_taken Judge words document refl are
 taken_for Check words document are = document_taken Check words document refl are
-taken_for Plan words document are = document_taken Plan words document refl are
+taken_for Plan words document are = are.0
 taken_for Draw words document are = are.0
 taken_for Run words document are = are.0
 taken_for Audit words document are = document_taken Audit words document refl are
 taken_for Serve words document are = are.0.0
+taken_for Page words document are = are.0.0
+taken_for Ask words document are = are.0.0
 
 -- the words have this command's rows
 abbrev HasRows : Command → List Text → Type 0
@@ -131,11 +133,13 @@ rows_of_document command words document (rest, is, are) = (rows_after (rules_of 
 found_for : (command : Command) (words : List Text) (document : Option Text) → AreFor command words document → HasRows command words
 found_for Judge words document are = rows_of_document Judge words document are
 found_for Check words document are = rows_of_document Check words document are
-found_for Plan words document are = rows_of_document Plan words document are
+found_for Plan words document are = (are.1, are.2)
 found_for Draw words document are = (are.1, are.2)
 found_for Run words document are = (are.1, are.2)
 found_for Audit words document are = rows_of_document Audit words document are
 found_for Serve words document are = (are.0.1, are.0.2)
+found_for Page words document are = (are.0.1, are.0.2)
+found_for Ask words document are = (are.0.1, are.0.2)
 
 -- in a document's words alone it finds none
 nothing_found : (words : List Text) → AreDocument words None → subcommand_of grove_command words ≡ None
@@ -202,11 +206,13 @@ one_taken command words name (taken, rows, at, none) (again, others, be, some) =
 one_name : (command : Command) (words : List Text) (name : Text) → AreFor command words None → AreFor command words (Some name) → ⊥
 one_name Judge words name none some = one_document Judge words name none some
 one_name Check words name none some = one_document Check words name none some
-one_name Plan words name none some = one_document Plan words name none some
+one_name Plan words name none some = one_taken (word_of Plan) words name none some
 one_name Draw words name none some = one_taken (word_of Draw) words name none some
 one_name Run words name none some = one_taken (word_of Run) words name none some
 one_name Audit words name none some = one_document Audit words name none some
 one_name Serve words name none some = one_taken (word_of Serve) words name none.0 some.0
+one_name Page words name none some = one_taken (word_of Page) words name none.0 some.0
+one_name Ask words name none some = one_taken (word_of Ask) words name none.0 some.0
 
 -- two orders that the same words ask for have one command
 pub same_command : (words : List Text) (a b : Order) → AskFor words a → AskFor words b → a.command ≡ b.command
@@ -249,19 +255,43 @@ not_shown words order asks (inr version) = not_both (fault_of grove_command word
 -- ---- serving
 
 -- where words ask to serve, the order that was found does
-pub serves_found : (words : List Text) (order found : Order) → AskFor words order → AskFor words found → order.command ≡ Serve → found.command ≡ Serve
-serves_found words order found asks finds serves = same_command words found order finds asks ∙ serves
+pub serves_found : (words : List Text) (order found : Order) → AskFor words order → AskFor words found → serves order.command ≡ true → serves found.command ≡ true
+serves_found words order found asks finds serving = ap serves (same_command words found order finds asks) ∙ serving
 
--- words that ask to serve without a place are no order
+-- a command that serves has a place
+pub serves_placed : (command : Command) → serves command ≡ true → has_place command ≡ true
+serves_placed Serve serving = refl
+serves_placed Page serving = refl
+serves_placed Ask serving = refl
+serves_placed Judge serving = absurd (cc)
+serves_placed Check serving = absurd (cc)
+serves_placed Plan serving = absurd (cc)
+serves_placed Draw serving = absurd (cc)
+serves_placed Run serving = absurd (cc)
+serves_placed Audit serving = absurd (cc)
+
+-- words for a command that has a place give it
+place_given : (command : Command) (words : List Text) (document : Option Text) → has_place command ≡ true → AreFor command words document → (place : Place) × GivePlace words place
+place_given Serve words document placed are = (are.1, are.2)
+place_given Page words document placed are = (are.1, are.2)
+place_given Ask words document placed are = (are.1, are.2)
+place_given Judge words document placed are = absurd (cc)
+place_given Check words document placed are = absurd (cc)
+place_given Plan words document placed are = absurd (cc)
+place_given Draw words document placed are = absurd (cc)
+place_given Run words document placed are = absurd (cc)
+place_given Audit words document placed are = absurd (cc)
+
+-- words for such a command without a place are no order
 pub placeless : (words : List Text) → (subcommand_of grove_command words ≡ None → ⊥)
-    → ((word : Text) (rows : List Row) → subcommand_of grove_command words ≡ Some (word, rows) → command_named word ≡ Serve)
+    → ((word : Text) (rows : List Row) → subcommand_of grove_command words ≡ Some (word, rows) → has_place (command_named word) ≡ true)
     → ((place : Place) → GivePlace words place → ⊥) → (order : Order) → AskFor words order → ⊥
-placeless words some serves nowhere order (inr (none, judge, nameless)) = some (nothing_found words none)
-placeless words some serves nowhere order (inl are) =
+placeless words some placed nowhere order (inr (none, judge, nameless)) = some (nothing_found words none)
+placeless words some placed nowhere order (inl are) =
     let found : HasRows order.command words = found_for order.command words (text_of order.document) are in
-    let is : order.command ≡ Serve = sym (is_one_of order.command).named ∙ serves (word_of order.command) found.0 found.1 in
-    let served : AreFor Serve words (text_of order.document) = subst (λ c. AreFor c words (text_of order.document)) is are in
-    nowhere served.1 served.2
+    let is : has_place order.command ≡ true = ap has_place (sym (is_one_of order.command).named) ∙ placed (word_of order.command) found.0 found.1 in
+    let given = place_given order.command words (text_of order.document) is are in
+    nowhere given.0 given.1
 
 -- what words are told that aren't an order
 abbrev pub IsTold : List Text → Error → Type 0
@@ -299,7 +329,7 @@ shown_told words error (inl help) (inr nowhere) = absurd (not_both (fault_of gro
 shown_told words error (inr version) (inr nowhere) = absurd (not_both (fault_of grove_command words) DisplayVersion nowhere.1 version)
 
 -- and where they serve, they do at the place that was found
-pub served_at : (words : List Text) (found : Order) (place : Option Place) → AskFor words found → found.command ≡ Serve
+pub served_at : (words : List Text) (found : Order) (place : Option Place) → AskFor words found → serves found.command ≡ true
     → IsSomeAnd place (IsPlaceIn (subcommand_of grove_command words)) → IsSomeAnd place (AskToServe words)
 served_at words found None asks serves at = absurd at
 served_at words found (Some place) asks serves at = (found, asks, serves, at)

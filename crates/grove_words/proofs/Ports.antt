@@ -1,12 +1,13 @@
 -- The word that clap finds is the command's, and the place is the one that its texts write. It, the workers and the form are those of the command.
-use Rattle.std.proofs.Common.{◌≡◌, ◌∙◌, ℕ, ap, ◌<◌, ◌⊎◌, codes, List, Option, Some, None, Result, Ok, Err, IfSome, IsSomeAnd, inl, inr, option_map, refl, subst, sym, arith}
+use Rattle.std.proofs.Common.{◌≡◌, ◌∙◌, ℕ, ap, ◌<◌, ◌⊎◌, Bool, codes, List, [], unwrap_or, Option, Some, None, Result, Ok, Err, IfSome, IsSomeAnd, inl, inr, option_map, refl, subst, sym, arith}
 use Rattle.std.specs.Net.Grammar.{IsIpText, Parses}
 use Rattle.std.specs.Str.Parse.{ParsesUnsigned, digits_value, without_leading_plus}
 use Rattle.std.specs.declared.net.ip_addr.IpAddr.{IpAddr}
-use Rattle.clap.specs.Words.{ReadsOne, Row, Text, one_of}
+use Rattle.clap.specs.Words.{ReadsOne, Row, Text, all_of, one_of}
 use Rattle.grove_words.specs.declared.order.Form.{Form}
+use Rattle.grove_words.specs.declared.order.Patience.{Patience}
 use Rattle.grove_words.specs.declared.order.Place.{Place}
-use Rattle.grove_words.specs.CommandLines.{IsPlace, IsPlaceIn, AreWorkers, AreWorkersIn, IsForm, IsFormIn, Writes}
+use Rattle.grove_words.specs.CommandLines.{lines_in, IsPatience, IsPatienceIn, IsPlace, IsPlaceIn, AreWorkers, AreWorkersIn, IsForm, IsFormIn, IsSet, IsSetIn, Writes}
 
 -- an address that is read is what its text writes
 address_read : {E : Type 0} (gives : Text → Result IpAddr E → Type 0) (found : Option Text) (address : Option IpAddr) → (found ≡ None → address ≡ None)
@@ -80,25 +81,25 @@ place_unread gives offers bound ported address port text parses ported_text read
 
 -- among a command's rows the place is that of the command
 pub place_among : (found : Option (Text × List Row)) (rows : List Row) (place : Place) → Some rows ≡ option_map (λ f. f.1) found
-    → IsPlace (one_of (codes "bind") rows) (one_of (codes "port") rows) place → IsPlaceIn found place
+    → IsPlace (one_of (codes "address") rows) (one_of (codes "port") rows) place → IsPlaceIn found place
 place_among None rows place at is = absurd (cc)
 place_among (Some (word, below)) rows place at is =
     let same : rows ≡ below = cc in
-    subst (λ r. IsPlace (one_of (codes "bind") r) (one_of (codes "port") r) place) same is
+    subst (λ r. IsPlace (one_of (codes "address") r) (one_of (codes "port") r) place) same is
 
 pub places_among : (found : Option (Text × List Row)) (rows : List Row) (bound ported : Option Text) (place : Option Place) → Some rows ≡ option_map (λ f. f.1) found
-    → bound ≡ one_of (codes "bind") rows → ported ≡ one_of (codes "port") rows → IsSomeAnd place (IsPlace bound ported) → IsSomeAnd place (IsPlaceIn found)
+    → bound ≡ one_of (codes "address") rows → ported ≡ one_of (codes "port") rows → IsSomeAnd place (IsPlace bound ported) → IsSomeAnd place (IsPlaceIn found)
 places_among found rows bound ported None at address port is = absurd is
 places_among found rows bound ported (Some place) at address port is =
-    place_among found rows place at (subst (λ t. IsPlace (one_of (codes "bind") rows) t place) port (subst (λ t. IsPlace t ported place) address is))
+    place_among found rows place at (subst (λ t. IsPlace (one_of (codes "address") rows) t place) port (subst (λ t. IsPlace t ported place) address is))
 
 -- and none but that
 pub place_below : (found : Option (Text × List Row)) (rows : List Row) (place : Place) → Some rows ≡ option_map (λ f. f.1) found
-    → IsPlaceIn found place → IsPlace (one_of (codes "bind") rows) (one_of (codes "port") rows) place
+    → IsPlaceIn found place → IsPlace (one_of (codes "address") rows) (one_of (codes "port") rows) place
 place_below None rows place at is = absurd (cc)
 place_below (Some (word, below)) rows place at is =
     let same : below ≡ rows = cc in
-    subst (λ r. IsPlace (one_of (codes "bind") r) (one_of (codes "port") r) place) same is
+    subst (λ r. IsPlace (one_of (codes "address") r) (one_of (codes "port") r) place) same is
 
 -- and so are the workers among them
 pub workers_among : (found : Option (Text × List Row)) (rows : List Row) (workers : ℕ) → Some rows ≡ option_map (λ f. f.1) found
@@ -115,6 +116,30 @@ form_among None rows form at is = absurd (cc)
 form_among (Some (word, below)) rows form at is =
     let same : rows ≡ below = cc in
     subst (λ r. IsForm (one_of (codes "text") r) form) same is
+
+-- and so is a flag
+pub flag_among : (name : Text) (found : Option (Text × List Row)) (rows : List Row) (flag : Bool) → Some rows ≡ option_map (λ f. f.1) found
+    → IsSet (one_of name rows) flag → IsSetIn name found flag
+flag_among name None rows flag at is = absurd (cc)
+flag_among name (Some (word, below)) rows flag at is =
+    let same : rows ≡ below = cc in
+    subst (λ r. IsSet (one_of name r) flag) same is
+
+-- and so is the patience
+pub patience_among : (found : Option (Text × List Row)) (rows : List Row) (patience : Patience) → Some rows ≡ option_map (λ f. f.1) found
+    → IsPatience (one_of (codes "idle") rows) (one_of (codes "busy") rows) patience → IsPatienceIn found patience
+patience_among None rows patience at is = absurd (cc)
+patience_among (Some (word, below)) rows patience at is =
+    let same : rows ≡ below = cc in
+    subst (λ r. IsPatience (one_of (codes "idle") r) (one_of (codes "busy") r) patience) same is
+
+-- and so are the lines
+pub lines_below : (found : Option (Text × List Row)) (rows : List Row) → Some rows ≡ option_map (λ f. f.1) found
+    → unwrap_or (all_of (codes "LINE") rows) [] ≡ lines_in found
+lines_below None rows at = absurd (cc)
+lines_below (Some (word, below)) rows at =
+    let same : rows ≡ below = cc in
+    ap (λ r. unwrap_or (all_of (codes "LINE") r) []) same
 
 -- and so is the word
 pub word_among : {A B : Type 0} (name : A → Text) (below : A → B) (found : Option A) (word other : Text) (rows : B) → Some word ≡ option_map name found

@@ -9,7 +9,7 @@ use Rattle.clap.specs.Simple.{help_rule, version_rule, filled, with_index}
 use Rattle.clap.specs.Walk.{Held, idle, word_met, bundle_met, plain, value, arg_by_long, arg_by_short, settled, reacted}
 use Rattle.clap.specs.Faults.{flag_word_fault, long_fault, short_fault, flags_fault, settle_fault, use_fault, react_fault}
 use Rattle.clap.specs.Kinds.{or_else, Kinds}
-use Rattle.grove_words.specs.CommandLines.{address_rule, port_rule, text_rule, tree_rule, workers_rule, hyphens, is_option}
+use Rattle.grove_words.specs.CommandLines.{address_rule, busy_rule, document_rule, idle_rule, lines_rule, port_rule, server_address_rule, server_port_rule, text_rule, tree_rule, workers_rule, hyphens, is_option}
 
 -- some kind is among them
 abbrev pub IsFaulty : Kinds → Type 0
@@ -43,11 +43,17 @@ leaf_rules = document_argument ∷ help_option ∷ []
 abbrev pub drawing_rules : List Rule
 drawing_rules = document_argument ∷ filled text_rule ∷ help_option ∷ []
 
+abbrev pub planning_rules : List Rule
+planning_rules = document_argument ∷ filled document_rule ∷ help_option ∷ []
+
 abbrev pub batch_rules : List Rule
 batch_rules = document_argument ∷ with_index 1 (filled workers_rule) ∷ help_option ∷ []
 
 abbrev pub port_rules : List Rule
-port_rules = filled tree_rule ∷ filled port_rule ∷ filled address_rule ∷ filled workers_rule ∷ help_option ∷ []
+port_rules = filled tree_rule ∷ filled port_rule ∷ filled address_rule ∷ filled workers_rule ∷ filled idle_rule ∷ filled busy_rule ∷ help_option ∷ []
+
+abbrev pub asking_rules : List Rule
+asking_rules = filled server_port_rule ∷ filled server_address_rule ∷ with_index 1 (filled lines_rule) ∷ help_option ∷ []
 
 -- they are asked for, and no order is given
 

@@ -1,12 +1,12 @@
-ghost use Rattle.std.specs.Prelude.{◌≡◌, ◌≤◌, ◌⊎◌, ℕ, List, [], false, codes, map, Some, None, IfOk, IfErr, IfSome, IsErrAnd, IsSomeAnd, string_bytes};
+ghost use Rattle.std.specs.Prelude.{◌≡◌, ◌≤◌, ◌⊎◌, ℕ, List, [], false, true, codes, map, Some, None, IfOk, IfErr, IfSome, IsErrAnd, IsSomeAnd, string_bytes, unwrap_or};
 ghost use Rattle.clap.specs.declared.builder.command.Command.{out-Command};
-ghost use Rattle.clap.specs.Words.{App, HasKind, Row, app_of, fault_of, first_of, first_value, found_of, kind_of, one_text, rule_of, new_rule, subcommand_of, subcommand_rows_of, with_subcommand};
-ghost use Rattle.grove_words.specs.CommandLines.{batch_command, command_named, document_command, drawing_command, grove_command, no_command, port_command, address_rule, port_rule, text_rule, tree_rule, workers_rule, AreWorkers, AreWorkersIn, AreWrong, AskFor, AskForForm, AskForWorkers, AskToServe, AskToShow, IsForm, IsFormIn, IsPlace, IsPlaceIn, text_of};
+ghost use Rattle.clap.specs.Words.{App, HasKind, Row, all_of, app_of, rows_of, fault_of, first_of, first_value, found_of, kind_of, one_text, rule_of, new_rule, subcommand_of, subcommand_rows_of, with_subcommand};
+ghost use Rattle.grove_words.specs.CommandLines.{batch_command, command_named, document_command, drawing_command, grove_command, no_command, place_command, port_command, address_rule, port_rule, text_rule, tree_rule, workers_rule, AreWorkers, AreWorkersIn, asking_command, busy_rule, document_rule, has_place, idle_rule, lines_given, lines_in, lines_rule, planning_command, serves, server_address_rule, server_port_rule, AreWrong, AskFor, AskForDocument, AskForForm, AskForPatience, AskForWorkers, AskToServe, AskToShow, GivePlace, IsForm, IsFormIn, IsIdle, IsPatience, IsPatienceIn, IsPlace, IsPlaceIn, IsSet, IsSetIn, text_of};
 ghost use Rattle.grove_words.specs.NoOrders.{HasText, TellsShown, TellsWrong};
 ghost use Rattle.grove_words.specs.Refusals.{IsNowhere};
 
 use crate::no_order::{NoOrder, no_order};
-use crate::order::{Command, Form, Order, Place};
+use crate::order::{Command, Form, Order, Patience, Place};
 use clap::error::ErrorKind;
 use clap::{Arg, ArgAction, ArgMatches, Error, value_parser};
 use std::alloc::{AllocError, Global};
@@ -20,13 +20,20 @@ const FEW_WORKERS: u32 = 4;
 
 const MOST_WORKERS: u32 = 16;
 
+/// For how many seconds a connection may be let idle at most, where there is a limit: a day.
+const LONGEST_IDLE: u32 = 86_400;
+
 /// The order that the words after the program's name are, or what they are told. No words ask to judge standard input.
 pub fn order_of<'a>(alloc: Global, words: &'a [String]) -> Result<Order<'a>, NoOrder>
     ensures asked { IfOk result (AskFor (map string_bytes words.now)) }
     ensures workers { IfOk result (λ order. (1 ≤ order.workers) × (order.workers ≤ 16)) }
     ensures given { IfOk result (λ order. AskForWorkers (map string_bytes words.now) order.workers) }
     ensures form { IfOk result (λ order. AskForForm (map string_bytes words.now) order.form) }
-    ensures place { IfOk result (λ order. order.command ≡ Command.Serve → IsSomeAnd order.place (AskToServe (map string_bytes words.now))) }
+    ensures in_document { IfOk result (λ order. AskForDocument (map string_bytes words.now) order.in_document) }
+    ensures patience { IfOk result (λ order. AskForPatience (map string_bytes words.now) order.patience) }
+    ensures idle { IfOk result (λ order. IfSome order.patience.idle (λ seconds. (1 ≤ seconds) × (seconds ≤ 86400))) }
+    ensures place { IfOk result (λ order. serves order.command ≡ true → IsSomeAnd order.place (AskToServe (map string_bytes words.now))) }
+    ensures given_place { IfOk result (λ order. has_place order.command ≡ true → IsSomeAnd order.place (GivePlace (map string_bytes words.now))) }
     ensures taken { (order : Order) → AskFor (map string_bytes words.now) order → IfErr result (λ why. why ≡ NoOrder.Memory) }
     ensures wrong { AreWrong (map string_bytes words.now) → IsErrAnd result TellsWrong }
     ensures shown { AskToShow (map string_bytes words.now) → IsErrAnd result TellsShown }
@@ -38,13 +45,62 @@ pub fn order_of<'a>(alloc: Global, words: &'a [String]) -> Result<Order<'a>, NoO
     }
 }
 
+/// The lines that the words ask a server.
+pub fn lines_asked<'a>(alloc: Global, words: &'a [String]) -> Result<Vec<&'a str>, NoOrder>
+    ensures { IfOk result (λ lines. map (λ line. line.now) lines.items ≡ lines_given (map string_bytes words.now)) }
+{
+    match lines_among(alloc, words) {
+        Ok(lines) => Ok(lines),
+        Err(error) => Err(no_order(alloc, &error)),
+    }
+}
+
+/// The lines that clap finds in the words, or what they are told.
+fn lines_among<'a>(alloc: Global, words: &'a [String]) -> Result<Vec<&'a str>, Error>
+    ensures { IfOk result (λ lines. map (λ line. line.now) lines.items ≡ lines_given (map string_bytes words.now)) }
+{
+    let matches = command_line(alloc)?.try_get_matches_from(words)?;
+    Ok(lines_in(alloc, &matches)?)
+}
+
+/// The lines that were found.
+fn lines_in<'a>(alloc: Global, matches: &ArgMatches<'a>) -> Result<Vec<&'a str>, AllocError>
+    ensures { IfOk result (λ lines. map (λ line. line.now) lines.items ≡ lines_in (subcommand_rows_of matches.now)) }
+{
+    match matches.subcommand() {
+        Some((_word, given)) => lines_given(alloc, given),
+        None => Ok(Vec::new(alloc)),
+    }
+}
+
+/// The lines of a command.
+fn lines_given<'a>(alloc: Global, given: &ArgMatches<'a>) -> Result<Vec<&'a str>, AllocError>
+    ensures { IfOk result (λ lines. map (λ line. line.now) lines.items ≡ unwrap_or (all_of (codes "LINE") (rows_of (found_of given.now))) []) }
+{
+    match given.get_strs("LINE") {
+        Some(lines) => copied(alloc, lines),
+        None => Ok(Vec::new(alloc)),
+    }
+}
+
+fn copied<'a>(alloc: Global, lines: &[&'a str]) -> Result<Vec<&'a str>, AllocError>
+    ensures { IfOk result (λ copy. copy.items ≡ lines.now) }
+{
+    let mut copy = Vec::new(alloc);
+    copy.extend_from_slice(lines)?;
+    Ok(copy)
+}
+
 /// The order that clap finds in the words, or what they are told.
 fn order_among<'a>(alloc: Global, words: &'a [String]) -> Result<Order<'a>, Error>
     ensures asked { IfOk result (AskFor (map string_bytes words.now)) }
     ensures workers { IfOk result (λ order. (1 ≤ order.workers) × (order.workers ≤ 16)) }
     ensures given { IfOk result (λ order. AreWorkersIn (subcommand_of grove_command (map string_bytes words.now)) order.workers) }
     ensures form { IfOk result (λ order. IsFormIn (subcommand_of grove_command (map string_bytes words.now)) order.form) }
-    ensures place { IfOk result (λ order. order.command ≡ Command.Serve → IsSomeAnd order.place (IsPlaceIn (subcommand_of grove_command (map string_bytes words.now)))) }
+    ensures in_document { IfOk result (λ order. IsSetIn (codes "document") (subcommand_of grove_command (map string_bytes words.now)) order.in_document) }
+    ensures patience { IfOk result (λ order. IsPatienceIn (subcommand_of grove_command (map string_bytes words.now)) order.patience) }
+    ensures idle { IfOk result (λ order. IfSome order.patience.idle (λ seconds. (1 ≤ seconds) × (seconds ≤ 86400))) }
+    ensures place { IfOk result (λ order. has_place order.command ≡ true → IsSomeAnd order.place (IsPlaceIn (subcommand_of grove_command (map string_bytes words.now)))) }
     ensures refused { IfErr result (λ error. HasKind (fault_of grove_command (map string_bytes words.now)) error ⊎ IsNowhere (map string_bytes words.now) error) }
 {
     let matches = command_line(alloc)?.try_get_matches_from(words)?;
@@ -58,11 +114,11 @@ fn order_among<'a>(alloc: Global, words: &'a [String]) -> Result<Order<'a>, Erro
 fn nowhere(alloc: Global) -> Result<Error, AllocError>
     ensures { IfOk result (λ error. kind_of error ≡ ErrorKind.InvalidValue) }
 {
-    let message = "the value of '--bind <ADDRESS>' is no IP address";
+    let message = "the value of '<ADDRESS>' is no IP address";
     command_line(alloc)?.error(ErrorKind::InvalidValue, message)
 }
 
-/// The order that was found, but where it is to serve at what is no address.
+/// The order that was found, but where its place has what is no address.
 fn order_in<'a>(matches: &ArgMatches<'a>) -> Option<Order<'a>>
     ensures bare { subcommand_rows_of matches.now ≡ None → IsSomeAnd result (λ order. (order.command ≡ Command.Judge) × (order.document ≡ None)) }
     ensures command { (word : List ℕ) (rows : List Row) → subcommand_rows_of matches.now ≡ Some (word, rows)
@@ -72,9 +128,12 @@ fn order_in<'a>(matches: &ArgMatches<'a>) -> Option<Order<'a>>
     ensures workers { IfSome result (λ order. (1 ≤ order.workers) × (order.workers ≤ 16)) }
     ensures given { IfSome result (λ order. AreWorkersIn (subcommand_rows_of matches.now) order.workers) }
     ensures form { IfSome result (λ order. IsFormIn (subcommand_rows_of matches.now) order.form) }
-    ensures place { IfSome result (λ order. order.command ≡ Command.Serve → IsSomeAnd order.place (IsPlaceIn (subcommand_rows_of matches.now))) }
-    ensures serves { result ≡ None → (word : List ℕ) (rows : List Row) → subcommand_rows_of matches.now ≡ Some (word, rows)
-        → command_named word ≡ Command.Serve }
+    ensures in_document { IfSome result (λ order. IsSetIn (codes "document") (subcommand_rows_of matches.now) order.in_document) }
+    ensures patience { IfSome result (λ order. IsPatienceIn (subcommand_rows_of matches.now) order.patience) }
+    ensures idle { IfSome result (λ order. IfSome order.patience.idle (λ seconds. (1 ≤ seconds) × (seconds ≤ 86400))) }
+    ensures place { IfSome result (λ order. has_place order.command ≡ true → IsSomeAnd order.place (IsPlaceIn (subcommand_rows_of matches.now))) }
+    ensures placed { result ≡ None → (word : List ℕ) (rows : List Row) → subcommand_rows_of matches.now ≡ Some (word, rows)
+        → has_place (command_named word) ≡ true }
     ensures nowhere { result ≡ None → (place : Place) → ¬ IsPlaceIn (subcommand_rows_of matches.now) place }
 {
     match matches.subcommand() {
@@ -85,25 +144,33 @@ fn order_in<'a>(matches: &ArgMatches<'a>) -> Option<Order<'a>>
             workers: FEW_WORKERS,
             place: None,
             form: Form::Svg,
+            in_document: false,
+            patience: Patience {
+                idle: None,
+                tells_busy: false,
+            },
         }),
     }
 }
 
-/// The order of a command and of what was given with it, but where it is to serve at what is no address.
+/// The order of a command and of what was given with it, but where its place has what is no address.
 fn order_with<'a>(word: &str, given: &ArgMatches<'a>) -> Option<Order<'a>>
     ensures command { IfSome result (λ order. order.command ≡ command_named word.now) }
     ensures document { IfSome result (λ order. text_of order.document ≡ first_value (found_of given.now) (codes "DOC")) }
     ensures workers { IfSome result (λ order. (1 ≤ order.workers) × (order.workers ≤ 16)) }
     ensures given { IfSome result (λ order. AreWorkers (one_text (found_of given.now) (codes "workers")) order.workers) }
     ensures form { IfSome result (λ order. IsForm (one_text (found_of given.now) (codes "text")) order.form) }
-    ensures place { IfSome result (λ order. order.command ≡ Command.Serve
-        → IsSomeAnd order.place (IsPlace (one_text (found_of given.now) (codes "bind")) (one_text (found_of given.now) (codes "port")))) }
-    ensures serves { result ≡ None → command_named word.now ≡ Command.Serve }
-    ensures nowhere { result ≡ None → (place : Place) → ¬ IsPlace (one_text (found_of given.now) (codes "bind")) (one_text (found_of given.now) (codes "port")) place }
+    ensures in_document { IfSome result (λ order. IsSet (one_text (found_of given.now) (codes "document")) order.in_document) }
+    ensures patience { IfSome result (λ order. IsPatience (one_text (found_of given.now) (codes "idle")) (one_text (found_of given.now) (codes "busy")) order.patience) }
+    ensures idle { IfSome result (λ order. IfSome order.patience.idle (λ seconds. (1 ≤ seconds) × (seconds ≤ 86400))) }
+    ensures place { IfSome result (λ order. has_place order.command ≡ true
+        → IsSomeAnd order.place (IsPlace (one_text (found_of given.now) (codes "address")) (one_text (found_of given.now) (codes "port")))) }
+    ensures placed { result ≡ None → has_place (command_named word.now) ≡ true }
+    ensures nowhere { result ≡ None → (place : Place) → ¬ IsPlace (one_text (found_of given.now) (codes "address")) (one_text (found_of given.now) (codes "port")) place }
 {
     let command = command_named(word);
     let place = place_in(given);
-    if command == Command::Serve && place.is_none() {
+    if command.has_place() && place.is_none() {
         return None;
     }
     Some(Order {
@@ -112,16 +179,18 @@ fn order_with<'a>(word: &str, given: &ArgMatches<'a>) -> Option<Order<'a>>
         workers: workers_in(given),
         place,
         form: form_in(given),
+        in_document: is_set(given, "document"),
+        patience: patience_in(given),
     })
 }
 
-/// Where to listen, by the words of a command that is told it.
+/// The place that the words of a command give.
 fn place_in(given: &ArgMatches<'_>) -> Option<Place>
-    ensures some { IfSome result (IsPlace (one_text (found_of given.now) (codes "bind")) (one_text (found_of given.now) (codes "port"))) }
-    ensures none { result ≡ None → (place : Place) → ¬ IsPlace (one_text (found_of given.now) (codes "bind")) (one_text (found_of given.now) (codes "port")) place }
+    ensures some { IfSome result (IsPlace (one_text (found_of given.now) (codes "address")) (one_text (found_of given.now) (codes "port"))) }
+    ensures none { result ≡ None → (place : Place) → ¬ IsPlace (one_text (found_of given.now) (codes "address")) (one_text (found_of given.now) (codes "port")) place }
 {
     place_of(
-        given.get_one::<IpAddr>("bind"),
+        given.get_one::<IpAddr>("address"),
         given.get_one::<u16>("port"),
     )
 }
@@ -143,6 +212,33 @@ fn workers_in(given: &ArgMatches<'_>) -> u32
 {
     let workers = given.get_one::<u32>("workers").unwrap_or(FEW_WORKERS);
     workers.max(1).min(MOST_WORKERS)
+}
+
+/// The patience that the words of a command give.
+fn patience_in(given: &ArgMatches<'_>) -> Patience
+    ensures given { IsPatience (one_text (found_of given.now) (codes "idle")) (one_text (found_of given.now) (codes "busy")) result }
+    ensures within { IfSome result.idle (λ seconds. (1 ≤ seconds) × (seconds ≤ 86400)) }
+{
+    Patience {
+        idle: idle_in(given),
+        tells_busy: is_set(given, "busy"),
+    }
+}
+
+/// The seconds that a connection may idle. Clap lets none but those from 1 to 86,400 through.
+fn idle_in(given: &ArgMatches<'_>) -> Option<u32>
+    ensures given { IsIdle (one_text (found_of given.now) (codes "idle")) result }
+    ensures within { IfSome result (λ seconds. (1 ≤ seconds) × (seconds ≤ 86400)) }
+{
+    let seconds = given.get_one::<u32>("idle")?;
+    Some(seconds.max(1).min(LONGEST_IDLE))
+}
+
+/// Whether a flag is set.
+fn is_set(given: &ArgMatches<'_>, flag: &str) -> bool
+    ensures { IsSet (one_text (found_of given.now) flag.now) result }
+{
+    given.get_flag(flag)
 }
 
 /// The form of a drawing, for a command that has one.
@@ -167,6 +263,8 @@ fn command_named(word: &str) -> Command
         "run" => Command::Run,
         "audit" => Command::Audit,
         "serve" => Command::Serve,
+        "page" => Command::Page,
+        "ask" => Command::Ask,
         _judge => Command::Judge,
     }
 }
@@ -181,7 +279,9 @@ pub fn command_line<'a>(alloc: Global) -> Result<clap::Command<'a>, AllocError>
     let draws = add(plans, draw(alloc));
     let runs = add(draws, run(alloc));
     let audits = add(runs, audit(alloc));
-    add(audits, serve(alloc))
+    let serves = add(audits, serve(alloc));
+    let pages = add(serves, page(alloc));
+    add(pages, ask(alloc))
 }
 
 /// The program with one more command, where there was memory for both.
@@ -225,12 +325,13 @@ fn check<'a>(alloc: Global) -> Result<clap::Command<'a>, AllocError>
     on_document(alloc, "check", about)
 }
 
+/// A command that reads one document and may be told to write it again with its answer.
 fn plan<'a>(alloc: Global) -> Result<clap::Command<'a>, AllocError>
-    ensures app { IfOk result (λ command. app_of command ≡ document_command (codes "plan")) }
+    ensures app { IfOk result (λ command. app_of command ≡ planning_command (codes "plan")) }
     ensures local { IfOk result (λ command. (out-Command command).has_globals ≡ false) }
 {
     let about = "Plan a list: the cheapest plan, and the flow that proves it";
-    on_document(alloc, "plan", about)
+    on_document(alloc, "plan", about)?.arg(in_document(alloc))
 }
 
 /// A command that reads one document and may be told to write text.
@@ -260,18 +361,65 @@ fn audit<'a>(alloc: Global) -> Result<clap::Command<'a>, AllocError>
     on_document(alloc, "audit", about)
 }
 
-/// A command that serves a document's tree at a port, and may be told its address and how many workers there are.
 fn serve<'a>(alloc: Global) -> Result<clap::Command<'a>, AllocError>
     ensures app { IfOk result (λ command. app_of command ≡ port_command (codes "serve")) }
     ensures local { IfOk result (λ command. (out-Command command).has_globals ≡ false) }
 {
     let about = "Serve sessions with the records of a tree over TCP";
-    clap::Command::new(alloc, "serve")
+    at_port(alloc, "serve", about)
+}
+
+fn page<'a>(alloc: Global) -> Result<clap::Command<'a>, AllocError>
+    ensures app { IfOk result (λ command. app_of command ≡ port_command (codes "page")) }
+    ensures local { IfOk result (λ command. (out-Command command).has_globals ≡ false) }
+{
+    let about = "Serve the records of a tree over HTTP, with a page to look at them";
+    at_port(alloc, "page", about)
+}
+
+/// A command that asks the server at a port.
+fn ask<'a>(alloc: Global) -> Result<clap::Command<'a>, AllocError>
+    ensures app { IfOk result (λ command. app_of command ≡ asking_command (codes "ask")) }
+    ensures local { IfOk result (λ command. (out-Command command).has_globals ≡ false) }
+{
+    let about = "Ask a server: send it lines, and print its replies";
+    clap::Command::new(alloc, "ask")
+        .about(about)
+        .arg(server_port(alloc))?
+        .arg(server_address(alloc))?
+        .arg(lines(alloc))
+}
+
+/// A command that serves a document's tree at a port, and may be told how many workers there are, and what is done with
+/// connections that idle or find no seat.
+fn at_port<'a>(
+    alloc: Global,
+    name: &'static str,
+    about: &'static str,
+) -> Result<clap::Command<'a>, AllocError>
+    ensures app { IfOk result (λ command. app_of command ≡ port_command name.now) }
+    ensures local { IfOk result (λ command. (out-Command command).has_globals ≡ false) }
+{
+    on_tree(alloc, name, about)?
+        .arg(workers(alloc))?
+        .arg(idle(alloc))?
+        .arg(busy(alloc))
+}
+
+/// A command for a document's tree and a port, which may be told its address.
+fn on_tree<'a>(
+    alloc: Global,
+    name: &'static str,
+    about: &'static str,
+) -> Result<clap::Command<'a>, AllocError>
+    ensures app { IfOk result (λ command. app_of command ≡ place_command name.now) }
+    ensures local { IfOk result (λ command. (out-Command command).has_globals ≡ false) }
+{
+    clap::Command::new(alloc, name)
         .about(about)
         .arg(tree(alloc))?
         .arg(port(alloc))?
-        .arg(address(alloc))?
-        .arg(workers(alloc))
+        .arg(address(alloc))
 }
 
 /// A command that reads one document.
@@ -317,6 +465,16 @@ fn text<'a>(alloc: Global) -> Arg<'a>
         .help("Write lines for a terminal, and no SVG")
 }
 
+fn in_document<'a>(alloc: Global) -> Arg<'a>
+    ensures rule { rule_of result ≡ document_rule }
+    ensures local { result.global ≡ false }
+{
+    Arg::new(alloc, "document")
+        .long("document")
+        .action(ArgAction::SetTrue)
+        .help("Write the document with the plan and the flow in it")
+}
+
 fn tree<'a>(alloc: Global) -> Arg<'a>
     ensures rule { rule_of result ≡ tree_rule }
     ensures local { result.global ≡ false }
@@ -343,9 +501,62 @@ fn address<'a>(alloc: Global) -> Arg<'a>
     ensures rule { rule_of result ≡ address_rule }
     ensures local { result.global ≡ false }
 {
-    Arg::new(alloc, "bind")
+    Arg::new(alloc, "address")
         .long("bind")
         .value_name("ADDRESS")
         .default_value("127.0.0.1")
         .help("The IP address to listen at")
+}
+
+fn idle<'a>(alloc: Global) -> Arg<'a>
+    ensures rule { rule_of result ≡ idle_rule }
+    ensures local { result.global ≡ false }
+{
+    Arg::new(alloc, "idle")
+        .long("idle")
+        .value_name("SECONDS")
+        .value_parser(value_parser!(u32).range(1..=86400))
+        .help("End a connection that sends no whole line for so long; by default none is ended")
+}
+
+fn busy<'a>(alloc: Global) -> Arg<'a>
+    ensures rule { rule_of result ≡ busy_rule }
+    ensures local { result.global ≡ false }
+{
+    Arg::new(alloc, "busy")
+        .long("busy")
+        .action(ArgAction::SetTrue)
+        .help("Tell a connection that finds no seat so, and close it; by default it waits")
+}
+
+fn server_port<'a>(alloc: Global) -> Arg<'a>
+    ensures rule { rule_of result ≡ server_port_rule }
+    ensures local { result.global ≡ false }
+{
+    Arg::new(alloc, "port")
+        .long("port")
+        .value_name("P")
+        .required(true)
+        .value_parser(value_parser!(u16).range(1..=65535))
+        .help("The server's port")
+}
+
+fn server_address<'a>(alloc: Global) -> Arg<'a>
+    ensures rule { rule_of result ≡ server_address_rule }
+    ensures local { result.global ≡ false }
+{
+    Arg::new(alloc, "address")
+        .long("address")
+        .value_name("ADDRESS")
+        .default_value("127.0.0.1")
+        .help("The server's IP address")
+}
+
+fn lines<'a>(alloc: Global) -> Arg<'a>
+    ensures rule { rule_of result ≡ lines_rule }
+    ensures local { result.global ≡ false }
+{
+    Arg::new(alloc, "LINE").action(ArgAction::Append).help(
+        "The lines to send; without them, they are those of standard input",
+    )
 }

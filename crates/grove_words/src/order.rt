@@ -1,3 +1,6 @@
+ghost use Rattle.std.specs.Prelude.{◌≡◌};
+ghost use Rattle.grove_words.specs.CommandLines.{has_place, serves};
+
 use std::net::IpAddr;
 
 /// What the words of a command line ask for.
@@ -9,18 +12,31 @@ pub struct Order<'a> {
     pub document: Option<&'a str>,
     /// How many workers there are to run a batch.
     pub workers: u32,
-    /// Where to listen, if sessions are to be served.
+    /// Where to listen, if a store is to be served, or where a server is, if one is to be asked.
     pub place: Option<Place>,
     /// How a drawing is to be written.
     pub form: Form,
+    /// Whether a plan is to be written in its document.
+    pub in_document: bool,
+    /// What is done with connections that idle, and with those that find no seat.
+    pub patience: Patience,
 }
 
-/// Where sessions are asked for.
+/// Where a store is served.
 #[derive(Clone, Copy, Debug, PartialEq, Eq)]
 pub struct Place {
     pub address: IpAddr,
     /// 0 stands for any port that is free.
     pub port: u16,
+}
+
+/// What a server does with connections that idle, and with those that find no seat.
+#[derive(Clone, Copy, Debug, PartialEq, Eq)]
+pub struct Patience {
+    /// After how many seconds without a whole line a connection is ended; without it, never.
+    pub idle: Option<u32>,
+    /// Whether a connection that finds no seat is told so and closed; else it waits.
+    pub tells_busy: bool,
 }
 
 /// How a drawing is written.
@@ -32,7 +48,7 @@ pub enum Form {
     Text,
 }
 
-/// What is to be done with a document.
+/// What is to be done with a document, or with a server.
 #[derive(Clone, Copy, Debug, PartialEq, Eq)]
 pub enum Command {
     Judge,
@@ -42,4 +58,22 @@ pub enum Command {
     Run,
     Audit,
     Serve,
+    Page,
+    Ask,
+}
+
+impl Command {
+    /// The command listens at a place.
+    pub fn serves(self) -> bool
+        ensures { result ≡ serves self }
+    {
+        matches!(self, Command::Serve | Command::Page)
+    }
+
+    /// The command has a place.
+    pub fn has_place(self) -> bool
+        ensures { result ≡ has_place self }
+    {
+        matches!(self, Command::Serve | Command::Page | Command::Ask)
+    }
 }

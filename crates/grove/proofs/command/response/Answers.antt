@@ -16,7 +16,7 @@ returns-in-Ok-clause-apart g c order asks named =
     c.order_response.ensures.apart (λ none. named (same_name _ order c.in-Ok.order asks c.in-Ok.ensures.asked none))
 
 pub returns-in-Ok-clause-served : goal.returns-in-Ok-clause-served
-returns-in-Ok-clause-served g c order asks serves = c.order_response.ensures.served (serves_found _ order c.in-Ok.order asks c.in-Ok.ensures.asked serves)
+returns-in-Ok-clause-served g c order asks serving = c.order_response.ensures.served (serves_found _ order c.in-Ok.order asks c.in-Ok.ensures.asked serving)
 
 pub returns-in-Ok-clause-place : goal.returns-in-Ok-clause-place
 returns-in-Ok-clause-place g c =

@@ -1,7 +1,7 @@
-use Rattle.std.proofs.Common.{rules, [], IsSomeAnd, ◌≡◌, ◌∙◌, ap, inr, refl, sym, subst, map, string_bytes}
+use Rattle.std.proofs.Common.{rules, [], IsSomeAnd, ◌≡◌, ◌∙◌, ap, codes, inr, refl, sym, subst, map, string_bytes}
 use Rattle.clap.specs.Words.{App, HasKind, app_of, is_simple, is_simple_and_free, subcommand_of, subcommand_rows_of, fault_of}
 use Rattle.grove_words.specs.declared.order.Place.{Place}
-use Rattle.grove_words.specs.CommandLines.{grove_command, AreWorkersIn, IsFormIn, IsPlaceIn}
+use Rattle.grove_words.specs.CommandLines.{grove_command, AreWorkersIn, IsFormIn, IsPatienceIn, IsPlaceIn, IsSetIn}
 use Rattle.grove_words.proofs.Asking.{is_simple_line, is_free_line, line_reads, place_told}
 use Rattle.grove_words.proofs.Orders.{placeless}
 use Rattle.grove_words.proofs.command_line.order_among.Goals as goal
@@ -38,6 +38,22 @@ returns-in-Some-clause-form c =
     let rows : subcommand_rows_of c.in_ok-matches.matches ≡ subcommand_of grove_command words = matches.1 ∙ ap (λ (app : App). subcommand_of app words) line in
     subst (λ found. IsFormIn found c.in-Some.order.form) rows c.in-Some.ensures.form
 
+pub returns-in-Some-clause-in_document : goal.returns-in-Some-clause-in_document
+returns-in-Some-clause-in_document c =
+    let words = map string_bytes c.args.words.now in
+    let line : app_of c.in_ok-command_line.field-0 ≡ grove_command = c.in_ok-command_line.ensures in
+    let matches = c.in_ok-matches.ensures.matches (ap is_simple line ∙ is_simple_line) in
+    let rows : subcommand_rows_of c.in_ok-matches.matches ≡ subcommand_of grove_command words = matches.1 ∙ ap (λ (app : App). subcommand_of app words) line in
+    subst (λ found. IsSetIn (codes "document") found c.in-Some.order.in_document) rows c.in-Some.ensures.in_document
+
+pub returns-in-Some-clause-patience : goal.returns-in-Some-clause-patience
+returns-in-Some-clause-patience c =
+    let words = map string_bytes c.args.words.now in
+    let line : app_of c.in_ok-command_line.field-0 ≡ grove_command = c.in_ok-command_line.ensures in
+    let matches = c.in_ok-matches.ensures.matches (ap is_simple line ∙ is_simple_line) in
+    let rows : subcommand_rows_of c.in_ok-matches.matches ≡ subcommand_of grove_command words = matches.1 ∙ ap (λ (app : App). subcommand_of app words) line in
+    subst (λ found. IsPatienceIn found c.in-Some.order.patience) rows c.in-Some.ensures.patience
+
 pub returns-in-Some-clause-place : goal.returns-in-Some-clause-place
 returns-in-Some-clause-place c serves =
     let words = map string_bytes c.args.words.now in
@@ -57,7 +73,7 @@ returns-clause-refused c =
     inr (
       c.in_ok-nowhere-in-None.ensures,
       taken,
-      placeless words (λ none. c.in-None.ensures.bare (rows ∙ none)) (λ word below at. c.in-None.ensures.serves refl word below (rows ∙ at))
+      placeless words (λ none. c.in-None.ensures.bare (rows ∙ none)) (λ word below at. c.in-None.ensures.placed refl word below (rows ∙ at))
           (λ place is. c.in-None.ensures.nowhere refl place (subst (λ found. IsPlaceIn found place) (sym rows) is)),
     )
 

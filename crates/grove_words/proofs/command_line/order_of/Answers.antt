@@ -1,13 +1,13 @@
 use Rattle.std.proofs.Common.{inl, inr, subst, sym}
 use Rattle.grove_words.specs.NoOrders.{TellsShown}
-use Rattle.grove_words.proofs.Orders.{certain, no_help_told, no_version_told, not_shown, served_at, shown_told}
+use Rattle.grove_words.proofs.Orders.{certain, no_help_told, no_version_told, not_shown, served_at, serves_placed, shown_told}
 use Rattle.grove_words.proofs.command_line.order_of.Goals as goal
 
 pub returns-in-Ok-clause-shown : goal.returns-in-Ok-clause-shown
 returns-in-Ok-clause-shown c shown = not_shown _ c.in-Ok.order c.in-Ok.ensures.asked shown
 
 pub returns-in-Ok-clause-place : goal.returns-in-Ok-clause-place
-returns-in-Ok-clause-place c serves = served_at _ c.in-Ok.order c.in-Ok.order.place c.in-Ok.ensures.asked serves (c.in-Ok.ensures.place serves)
+returns-in-Ok-clause-place c serving = served_at _ c.in-Ok.order c.in-Ok.order.place c.in-Ok.ensures.asked serving (c.in-Ok.ensures.place (serves_placed c.in-Ok.order.command serving))
 
 pub returns-in-Err-clause-taken : goal.returns-in-Err-clause-taken
 returns-in-Err-clause-taken c order asks = c.no_order.ensures.memory (certain _ order c.in-Err.error asks c.in-Err.ensures.refused)

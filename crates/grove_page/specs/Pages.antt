@@ -1,0 +1,112 @@
+-- What is replied to a request: a page, the replies to lines, or what a store holds.
+use Rattle.std.specs.Prelude.{◌≡◌, ℕ, ◌==◌, ◌&&◌, ◌⊎◌, nat_eq, Bool, List, [], ◌∷◌, ◌++◌, Some, Result, Ok, Err, codes, if◌then◌else◌, All}
+use Rattle.std.specs.List.{starts_with}
+use Rattle.http.specs.declared.request.Request.{Request}
+use Rattle.http.specs.Request.{head_of, body_of}
+use Rattle.http_uri.specs.Uri.{uri_path}
+use Rattle.http1.specs.Fields.{Header}
+use Rattle.http_server.specs.declared.response.Response.{Response}
+use Rattle.http_server.specs.declared.state.Config.{Config}
+use Rattle.http_server.specs.Response.{IsResponse}
+use Rattle.http_server.specs.History.{History, IsServed}
+use Rattle.serde_json.specs.Written.{compact_text}
+use Rattle.grove_session.specs.declared.session_fault.SessionFault.{SessionFault}
+use Rattle.grove_session.specs.declared.session_fault.SessionFault.TheVariants.{Read, Write, Memory, Turns, Foreign}
+use Rattle.grove_session.specs.Sessions.{SessionEnds}
+use Rattle.grove_tree.specs.Weights.{unweighed}
+use Rattle.grove_wire.specs.Documents.{document_text, nodes_data}
+use Rattle.grove_store.specs.Stocks.{Stock}
+use Rattle.grove_desk.specs.Histories.{Led}
+use Rattle.grove_desk.specs.Desks.{Visited, IsShared}
+use Rattle.grove_page.specs.declared.route.Route.{Route}
+use Rattle.grove_page.specs.declared.route.Route.TheVariants.{Page, Lines, Document, Nodes, OnlyLook, LookOrSend, Nowhere}
+use Rattle.grove_page.specs.Routes.{route_of}
+
+-- a page's text, and the store that its desk was opened with
+pub record PageState : Type 0 where
+  pub page : List ℕ
+  pub opening : Stock
+
+-- ---- the parts of a reply
+
+-- its content is a page, or lines of JSON
+abbrev pub html : List Header
+html = (codes "content-type", codes "text/html; charset=utf-8") ∷ []
+
+abbrev pub json : List Header
+json = (codes "content-type", codes "application/json; charset=utf-8") ∷ []
+
+-- the methods that there are, and lines of JSON
+abbrev pub json_for : List ℕ → List Header
+json_for methods = (codes "allow", methods) ∷ json
+
+-- the line that says why nothing else is said
+abbrev pub error_line : List ℕ → List ℕ
+error_line name = codes "{\"error\":\"" ++ (name ++ codes "\"}\n")
+
+-- ---- lines
+
+-- a caller who has seen nothing yet
+abbrev pub visitor : Stock → Visited
+visitor opening = record { names = unweighed opening.rows; rounds = 0 }
+
+-- the replies are a single one, and it is an error
+abbrev pub is_error : ℕ → List ℕ → Bool
+is_error count out = (count == 1) && starts_with nat_eq out (codes "{\"error\":")
+
+-- the replies to all lines; those before the line for which there was no memory, or whose answer wasn't its; or no replies,
+-- where they had no room
+abbrev pub TellsSession : Result ℕ SessionFault → List ℕ → Response → Type 0
+TellsSession (Ok count) out r = IsResponse (if is_error count out then 400 else 200) json out r
+TellsSession (Err Memory) out r = IsResponse 503 json (out ++ error_line (codes "memory")) r
+TellsSession (Err Foreign) out r = IsResponse 500 json (out ++ error_line (codes "foreign")) r
+TellsSession (Err (Write n)) out r = IsResponse 500 json (error_line (codes "replies")) r
+TellsSession (Err Read) out r = IsResponse 500 json (out ++ error_line (codes "device")) r
+TellsSession (Err Turns) out r = IsResponse 500 json (out ++ error_line (codes "device")) r
+
+-- a session over the body, as far as it was read
+pub record VisitsDesk (opening : Stock) (body : List ℕ) (result : Result ℕ SessionFault) (out : List ℕ) : Type 0 where
+  pub input : List ℕ
+  pub left : List ℕ
+  pub new : Visited
+  pub read : body ≡ input ++ left
+  pub ends : SessionEnds IsShared (visitor opening) result (Some left) input out new
+
+-- the reply tells of a session over the body
+abbrev pub AnswersLines : Stock → List ℕ → Response → Type 0
+AnswersLines opening body r = (result : Result ℕ SessionFault) × (out : List ℕ) × VisitsDesk opening body result out × TellsSession result out r
+
+-- ---- stores
+
+-- a store as a document, which opens one of the same tree and records
+abbrev pub document_line : Stock → List ℕ
+document_line stock = document_text stock.rows stock.records ++ 10 ∷ []
+
+-- where each node is, its record, its waits and its weight
+abbrev pub nodes_line : Stock → List ℕ
+nodes_line stock = compact_text (nodes_data stock.rows stock.records stock.waits) ++ 10 ∷ []
+
+-- the reply tells of a store to which lawful rounds lead from the opening one, or that there is no memory for it
+abbrev pub TellsStore : (Stock → List ℕ) → Stock → Response → Type 0
+TellsStore line_of opening r =
+    ((stock : Stock) × Led opening stock × IsResponse 200 json (line_of stock) r) ⊎ IsResponse 503 json (error_line (codes "memory")) r
+
+-- ---- requests
+
+abbrev pub IsReplyTo : PageState → List ℕ → Route → Response → Type 0
+IsReplyTo state body Page r = IsResponse 200 html state.page r
+IsReplyTo state body Lines r = AnswersLines state.opening body r
+IsReplyTo state body Document r = TellsStore document_line state.opening r
+IsReplyTo state body Nodes r = TellsStore nodes_line state.opening r
+IsReplyTo state body OnlyLook r = IsResponse 405 (json_for (codes "GET, HEAD")) (error_line (codes "method")) r
+IsReplyTo state body LookOrSend r = IsResponse 405 (json_for (codes "GET, HEAD, POST")) (error_line (codes "method")) r
+IsReplyTo state body Nowhere r = IsResponse 404 json (error_line (codes "not-found")) r
+
+-- what is replied to a request
+abbrev pub IsPageReply : PageState → Request (List ℕ) → Response → Type 0
+IsPageReply state request r = IsReplyTo state (body_of request) (route_of (head_of request).method (uri_path (head_of request).uri)) r
+
+-- a connection that was served as HTTP asks, with such a reply to each request
+pub record IsPageHistory (state : PageState) (config : Config) (h : History) : Type 0 where
+  pub served : ∥ IsServed config h ∥₁
+  pub replied : All (λ call. IsPageReply state call.0 call.1) h.calls

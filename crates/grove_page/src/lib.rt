@@ -1,0 +1,17 @@
+//! The store over HTTP: a page to look at it, replies to lines, and the store as a document.
+#![tactic(auto)]
+
+pub use front::Front;
+pub use page::PAGE;
+pub use route::{Route, route_for};
+pub use service::MOST_REPLIES;
+pub use serving::{MOST_BODY, serve_page};
+
+mod desk_front;
+mod front;
+mod lines;
+mod page;
+mod replies;
+mod route;
+mod service;
+mod serving;

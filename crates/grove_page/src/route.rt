@@ -1,0 +1,54 @@
+ghost use Rattle.std.specs.Prelude.{◌≡◌};
+ghost use Rattle.grove_page.specs.Routes.{route_of, look_of, look_or_send_of};
+
+/// What a request asks for.
+#[derive(Clone, Copy, Debug, PartialEq, Eq)]
+pub enum Route {
+    /// The page to look at.
+    Page,
+    /// Replies to lines.
+    Lines,
+    /// The store as a document.
+    Document,
+    /// What there is of each node.
+    Nodes,
+    /// Something that is there, but by another method: it can only be looked at.
+    OnlyLook,
+    /// Something that is there, but by another method: it can be looked at, and lines can be sent to it.
+    LookOrSend,
+    /// Nothing.
+    Nowhere,
+}
+
+/// What a request by this method asks for at this path.
+pub fn route_for(method: &str, path: &str) -> Route
+    ensures { result ≡ route_of method.now path.now }
+{
+    match path {
+        "/" => look_or_send(method),
+        "/document" => look(method, Route::Document),
+        "/nodes" => look(method, Route::Nodes),
+        _ => Route::Nowhere,
+    }
+}
+
+/// Where lines can be sent, too.
+fn look_or_send(method: &str) -> Route
+    ensures { result ≡ look_or_send_of method.now }
+{
+    match method {
+        "POST" => Route::Lines,
+        "GET" | "HEAD" => Route::Page,
+        _ => Route::LookOrSend,
+    }
+}
+
+/// Where something can only be looked at.
+fn look(method: &str, seen: Route) -> Route
+    ensures { result ≡ look_of method.now seen }
+{
+    match method {
+        "GET" | "HEAD" => seen,
+        _ => Route::OnlyLook,
+    }
+}

@@ -1,0 +1,156 @@
+ghost use Rattle.std.specs.Prelude.{◌≡◌, ◌++◌, OnOk, OnErr, IfOk, codes, string_bytes};
+ghost use Rattle.http_server.specs.Response.{IsBlank, IsResponse};
+ghost use Rattle.grove_page.specs.Pages.{json, error_line, document_line, nodes_line, AnswersLines, TellsStore, TellsSession};
+
+use crate::Front;
+use crate::lines::{document_line, nodes_line};
+use crate::replies::{fill_allowed, fill_json, fill_page};
+use crate::route::{Route, route_for};
+use bytes::{BufMut, Bytes};
+use grove_session::{Fuse, SessionFault};
+use grove_tree::NoMemory;
+use http::{Request, StatusCode};
+use http_server::{Response, Service};
+use std::alloc::{AllocError, AllocGlobal};
+use std::marker::Model;
+
+/// So many bytes of replies go into one response.
+pub const MOST_REPLIES: usize = 16 * 1024 * 1024;
+
+const FAILED: StatusCode = StatusCode::INTERNAL_SERVER_ERROR;
+
+const NO_MEMORY: &[u8] = b"{\"error\":\"memory\"}\n";
+
+const NO_ROOM: &[u8] = b"{\"error\":\"replies\"}\n";
+
+const FOREIGN: &[u8] = b"{\"error\":\"foreign\"}\n";
+
+const DEVICE: &[u8] = b"{\"error\":\"device\"}\n";
+
+const NOT_FOUND: &[u8] = b"{\"error\":\"not-found\"}\n";
+
+/// Replies to the requests of a connection.
+#[derive(Drop)]
+pub(crate) struct PageService<'a, R, F: Front<R>> {
+    pub(crate) rt: &'a R,
+    pub(crate) front: &'a F,
+    pub(crate) page: &'static str,
+}
+
+impl<'a, R, F: Front<R>> Model for PageService<'a, R, F> {
+    ghost use Rattle.grove_page.specs.Pages.{PageState};
+
+    ghost Value = { PageState };
+
+    ghost view = { λ service. record { page = service.page.now; opening = F.opening service.front.now } };
+
+    ghost invariant = { λ service. F.asks };
+}
+
+impl<'a, R: AllocGlobal, F: Front<R>> Service for PageService<'a, R, F> {
+    ghost use Rattle.std.specs.Prelude.{◌≡◌};
+    ghost use Rattle.grove_page.specs.Pages.{IsPageReply};
+
+    ghost answers = { λ old request response new. IsPageReply old request response × (new ≡ old) };
+
+    fn call(
+        &mut self,
+        request: &Request<Bytes>,
+        response: &mut Response,
+    ) -> Result<(), AllocError> {
+        match route_for(request.method().as_str(), request.uri().path()) {
+            Route::Page => fill_page(response, self.page),
+            Route::Lines => self.answer_lines(request.body().as_slice(), response),
+            Route::Document => self.tell_document(response),
+            Route::Nodes => self.tell_nodes(response),
+            Route::OnlyLook => fill_allowed(response, "GET, HEAD"),
+            Route::LookOrSend => fill_allowed(response, "GET, HEAD, POST"),
+            Route::Nowhere => fill_json(response, StatusCode::NOT_FOUND, NOT_FOUND),
+        }
+    }
+}
+
+impl<'a, R: AllocGlobal, F: Front<R>> PageService<'a, R, F> {
+    /// The replies to the lines of a body.
+    fn answer_lines(&self, lines: &[u8], response: &mut Response) -> Result<(), AllocError>
+        requires { IsBlank response.old }
+        ensures { OnOk result (AnswersLines self.now.opening lines.now response.new) }
+    {
+        let mut sink = Fuse::new(self.rt.alloc(), MOST_REPLIES);
+        let ended = self.front.answer_lines(self.rt, lines, &mut sink);
+        fill_replies(response, ended, sink.bytes())
+    }
+
+    /// The store as a document.
+    fn tell_document(&self, response: &mut Response) -> Result<(), AllocError>
+        requires { IsBlank response.old }
+        ensures { OnOk result (TellsStore document_line self.now.opening response.new) }
+    {
+        match self.front.snapshot(self.rt) {
+            Ok(store) => fill_line(response, document_line(self.rt.alloc(), &store)),
+            Err(NoMemory) => fill_json(response, StatusCode::SERVICE_UNAVAILABLE, NO_MEMORY),
+        }
+    }
+
+    /// What there is of each node.
+    fn tell_nodes(&self, response: &mut Response) -> Result<(), AllocError>
+        requires { IsBlank response.old }
+        ensures { OnOk result (TellsStore nodes_line self.now.opening response.new) }
+    {
+        match self.front.snapshot(self.rt) {
+            Ok(store) => fill_line(response, nodes_line(self.rt.alloc(), &store)),
+            Err(NoMemory) => fill_json(response, StatusCode::SERVICE_UNAVAILABLE, NO_MEMORY),
+        }
+    }
+}
+
+/// A line that tells of a store, or that there is no memory for it.
+fn fill_line(response: &mut Response, line: Result<String, NoMemory>) -> Result<(), AllocError>
+    requires { IsBlank response.old }
+    ensures told { OnOk result (IfOk line (λ line. IsResponse 200 json (string_bytes line) response.new)) }
+    ensures refused { OnOk result (OnErr line (IsResponse 503 json (error_line (codes "memory")) response.new)) }
+{
+    match line {
+        Ok(line) => fill_json(response, StatusCode::OK, line.as_bytes()),
+        Err(NoMemory) => fill_json(response, StatusCode::SERVICE_UNAVAILABLE, NO_MEMORY),
+    }
+}
+
+/// What a session over the lines of a body came to.
+fn fill_replies(
+    response: &mut Response,
+    ended: Result<u64, SessionFault>,
+    replies: &[u8],
+) -> Result<(), AllocError>
+    requires { IsBlank response.old }
+    ensures { OnOk result (TellsSession ended replies.now response.new) }
+{
+    match ended {
+        Ok(1) if replies.starts_with(b"{\"error\":") => {
+            fill_json(response, StatusCode::BAD_REQUEST, replies)
+        }
+        Ok(_) => fill_json(response, StatusCode::OK, replies),
+        Err(SessionFault::Memory) => {
+            fill_broken(response, StatusCode::SERVICE_UNAVAILABLE, replies, NO_MEMORY)
+        }
+        Err(SessionFault::Foreign) => fill_broken(response, FAILED, replies, FOREIGN),
+        Err(SessionFault::Write(_)) => fill_json(response, FAILED, NO_ROOM),
+        Err(SessionFault::Read | SessionFault::Turns) => {
+            fill_broken(response, FAILED, replies, DEVICE)
+        }
+    }
+}
+
+/// The replies to the first lines, and a line that says why there are no others.
+fn fill_broken(
+    response: &mut Response,
+    status: StatusCode,
+    replies: &[u8],
+    why: &[u8],
+) -> Result<(), AllocError>
+    requires { IsBlank response.old }
+    ensures { OnOk result (IsResponse status json (replies.now ++ why.now) response.new) }
+{
+    fill_json(response, status, replies)?;
+    response.body.put_slice(why)
+}

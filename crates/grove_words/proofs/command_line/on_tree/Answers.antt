@@ -1,0 +1,17 @@
+use Rattle.std.proofs.Common.{◌≡◌, ◌∙◌, ap, ap₂}
+use Rattle.std.proofs.lemmas.Result.{IfOk-weaker}
+use Rattle.clap.specs.Words.{app_of, new_app, with_rule}
+use Rattle.clap.specs.Simple.{app_of_fields}
+use Rattle.grove_words.specs.CommandLines.{port_rule, tree_rule}
+use Rattle.grove_words.proofs.command_line.on_tree.Goals as goal
+
+pub returns-clause-app : goal.returns-clause-app
+returns-clause-app c =
+    let bare : app_of c.about.result ≡ new_app c.args.name.now = ap app_of_fields c.about.ensures ∙ c.new.ensures.app in
+    let with_tree : app_of c.in_ok-arg.field-0 ≡ with_rule (new_app c.args.name.now) tree_rule =
+    c.in_ok-arg.ensures.shape c.tree.ensures.local ∙ ap₂ with_rule bare c.tree.ensures.rule in
+    let with_port : app_of c.in_ok-arg-2.field-0 ≡ with_rule (with_rule (new_app c.args.name.now) tree_rule) port_rule =
+    c.in_ok-arg-2.ensures.shape c.port.ensures.local ∙ ap₂ with_rule with_tree c.port.ensures.rule in
+    IfOk-weaker c.arg-3.result _ _
+    (λ command added. added.shape c.address.ensures.local ∙ ap₂ with_rule with_port c.address.ensures.rule)
+    c.arg-3.ensures
