@@ -85,15 +85,23 @@ def answered(client: Client, row: tuple):
 
 
 def is_refused(response) -> bool:
-    return response is None or response.status == 503 and response.body == b'{"error":"memory"}\n'
+    return response is None or response.status == 503 and response.body.endswith(b'{"error":"memory"}\n')
 
 
 def store_left(store: Store, row: tuple, response, look) -> Store | None:
-    """What the request left, by the nodes as they are afterwards: nothing has changed where memory was refused by name,
-    and else some first lines have had their effect."""
-    lines = lines_in(row[2] or b"") if row[0] == "POST" and response is None else []
-    for size in range(len(lines) + 1):
+    """What the request left, by the nodes as they are afterwards. Where memory was refused by name, the lines have had
+    their effect whose replies came before it, and else some first lines."""
+    lines = lines_in(row[2] or b"") if row[0] == "POST" else []
+    sizes = range(len(lines) + 1) if response is None else [response.body.count(b"\n") - 1]
+    for size in sizes:
         left = after(store, lines[:size])
-        if fault_of_response(left, *LOOK, look) is None:
+        is_told = response is None or are_replies(store, lines[:size], response.body)
+        if is_told and fault_of_response(left, *LOOK, look) is None:
             return left
     return None
+
+
+def are_replies(store: Store, lines: list[bytes], body: bytes) -> bool:
+    """Are the first lines of the body the replies to these?"""
+    now = after(store, [])
+    return all(now.fault_of(line, reply) is None for line, reply in zip(lines, body.split(b"\n")))
