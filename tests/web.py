@@ -1,11 +1,12 @@
-"""HTTP/1.1 as a client sees it, to the byte: requests, and the responses to them, which have to be well-formed."""
+"""HTTP/1.1 as a client sees it, to the byte: requests, and the responses to them, which have to be well-formed. To a
+request of HTTP/1.0 they are of that version."""
 import io
 import re
 from typing import NamedTuple
 
 from server import HOST, connected
 
-STATUS_LINE = re.compile(rb"HTTP/1\.1 ([1-5][0-9][0-9]) [\x20-\x7e]*\r\n")
+STATUS_LINE = re.compile(rb"HTTP/1\.[01] ([1-5][0-9][0-9]) [\x20-\x7e]*\r\n")
 FIELD = re.compile(rb"([!#$%&'*+.^_`|~0-9A-Za-z-]+):[ \t]*([\x21-\x7e]?(?:[\x20-\x7e\t]*[\x21-\x7e])?)[ \t]*\r\n")
 JSON = b"application/json; charset=utf-8"
 HTML = b"text/html; charset=utf-8"
@@ -123,6 +124,6 @@ def responses_in(data, may_be_bodiless):
     stream, found = io.BytesIO(data), []
     while stream.tell() < len(data):
         behind = data.find(b"\r\n\r\n", stream.tell()) + 4
-        is_bodiless = may_be_bodiless and (behind == len(data) or data.startswith(b"HTTP/1.1 ", behind))
+        is_bodiless = may_be_bodiless and (behind == len(data) or data.startswith(b"HTTP/1.", behind))
         found.append(response_of(stream, "HEAD" if is_bodiless else "GET"))
     return found

@@ -21,6 +21,8 @@ TRIED = "growths of a server of pages refused, each alone, and the requests aske
 MOST_GROWTHS = 20_000
 # Each part has every growth of so many.
 PARTS = 8
+# What shows which lines had an effect: the records and weights, and how many rounds were run.
+LOOKS = [LOOK, ("POST", "/", b'{"batch":[]}')]
 ROWS = [
     LOOK,
     ("GET", "/", None),
@@ -63,7 +65,7 @@ def ask_all(program: str, how: dict, where: str, tally: Tally) -> None:
                     lost += 1
                     client.close()
                     client = Client(server.port)
-                    store = store_left(store, row, response, answered(client, LOOK))
+                    store = store_left(store, row, response, [(look, answered(client, look)) for look in LOOKS])
                     if store is None:
                         tally.blame(where, f"what is left after {row} and {response} isn't what its lines leave")
                         return
@@ -85,15 +87,23 @@ def answered(client: Client, row: tuple):
 
 
 def is_refused(response) -> bool:
-    return response is None or response.status == 503 and response.body == b'{"error":"memory"}\n'
+    return response is None or response.status == 503 and response.body.endswith(b'{"error":"memory"}\n')
 
 
-def store_left(store: Store, row: tuple, response, look) -> Store | None:
-    """What the request left, by the nodes as they are afterwards: nothing has changed where memory was refused by name,
-    and else some first lines have had their effect."""
-    lines = lines_in(row[2] or b"") if row[0] == "POST" and response is None else []
-    for size in range(len(lines) + 1):
+def store_left(store: Store, row: tuple, response, looks: list[tuple]) -> Store | None:
+    """What the request left, by what is found afterwards. Where memory was refused by name, the lines have had their
+    effect whose replies came before it, and else some first lines."""
+    lines = lines_in(row[2] or b"") if row[0] == "POST" else []
+    sizes = range(len(lines) + 1) if response is None else [response.body.count(b"\n") - 1]
+    for size in sizes:
         left = after(store, lines[:size])
-        if fault_of_response(left, *LOOK, look) is None:
+        is_told = response is None or are_replies(store, lines[:size], response.body)
+        if is_told and all(fault_of_response(left, *look, found) is None for look, found in looks):
             return left
     return None
+
+
+def are_replies(store: Store, lines: list[bytes], body: bytes) -> bool:
+    """Are the first lines of the body the replies to these?"""
+    now = after(store, [])
+    return all(now.fault_of(line, reply) is None for line, reply in zip(lines, body.split(b"\n")))
