@@ -8,3 +8,4 @@ pub mod Records
 pub mod SameReplies
 pub mod Saying
 pub mod OneLine
+pub mod PlannedDocuments

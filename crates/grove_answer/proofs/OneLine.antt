@@ -38,6 +38,7 @@ use Rattle.grove_wire.specs.Texts.{number_text, place_text, tree_text, wire_text
 use Rattle.grove_store.proofs.Feedless.{none_is, none_found, decimal_feedless, signed_feedless}
 use Rattle.grove_answer.specs.declared.reading.Task.{Task}
 use Rattle.grove_answer.specs.Outcomes.{Outcome, ThenSays, task_in, trial_in, claim_in, own_plan, sketch_in, batch_in, History, history_in, unless_faulty, own_fault, IsJudged, IsChecked, IsPlanned, IsDrawn, IsRunBatch, IsMisstated, IsAudited}
+use Rattle.grove_answer.specs.PlannedDocuments.{IsPlannedDocument}
 use Rattle.grove_answer.specs.Laws.{IsOneLine, RefusesInOneLine, FaultsAreOneLine, CommandsRefuseInOneLine}
 
 -- ---- of words and numbers
@@ -270,6 +271,9 @@ checked (task, steps, flow) faultless text (fault, other, is, told) = subst IsOn
 planned : (task : Task) → IsFaultless task.tree → RefusesInOneLine (IsPlanned task)
 planned task faultless text (steps, flow, settled, certified, told) = let never : ◌≡◌ {A = Outcome} (Err text) (Ok _) = told in cc
 
+planned_document : (document : Data) (task : Task) → IsFaultless task.tree → RefusesInOneLine (IsPlannedDocument document task)
+planned_document document task faultless text (steps, flow, settled, certified, claimed, (line, is_text, told)) = let never : ◌≡◌ {A = Outcome} (Err text) (Ok _) = told in cc
+
 drawn : (sketch : Task × Option (List Step)) → IsFaultless sketch.0.tree → RefusesInOneLine (IsDrawn sketch)
 drawn (task, own) faultless text (lines, says) = unless_legal task.tree faultless (own_fault task own) lines text says
 
@@ -291,6 +295,7 @@ commands_refuse_in_one_line = record {
   judge = λ document. then_says (λ trial. trial.0.tree) IsJudged (trial_in document) (trial_reads document) judged;
   check = λ document. then_says (λ claim. claim.0.tree) IsChecked (claim_in document) (claim_reads document) checked;
   plan = λ document. then_says (λ task. task.tree) IsPlanned (task_in document) (task_reads document) planned;
+  planned_document = λ document. then_says (λ task. task.tree) (IsPlannedDocument document) (task_in document) (task_reads document) (planned_document document);
   draw = λ document. then_says (λ sketch. sketch.0.tree) IsDrawn (sketch_in document) (sketch_reads document) drawn;
   run = λ document. then_says (λ batch. batch.0) IsRunBatch (batch_in document) (batch_reads document) run_batch;
   audit = λ document. then_says (λ history. history.tree) IsAudited (history_in document) (history_reads document) audited;

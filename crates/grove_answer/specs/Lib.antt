@@ -1,3 +1,4 @@
 pub mod Outcomes
 pub mod Says
+pub mod PlannedDocuments
 pub mod Laws

@@ -3,6 +3,7 @@
 
 pub use auditing::audit_document;
 pub use checking::check_document;
+pub use documents::planned_document;
 pub use drawing::{draw_document, drawing_of};
 pub use judging::judge_document;
 pub use laws::refusal_laws;
@@ -12,6 +13,7 @@ pub use running::run_document;
 
 mod auditing;
 mod checking;
+mod documents;
 mod drawing;
 mod judging;
 mod laws;
