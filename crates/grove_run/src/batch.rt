@@ -10,6 +10,7 @@ ghost use Rattle.grove_run.specs.FinishedRuns.{IsFinishedRun};
 use crate::bells::Bells;
 use crate::carries::carries_of;
 use crate::register::{Batch, Register};
+use crate::sleepers::SEATS;
 use crate::working::work_all;
 use crate::{Book, Finished, RunFault};
 use grove_access::Records;
@@ -20,8 +21,8 @@ use std::marker::Brand;
 use std::sync::{Mutex, Wait};
 use std::thread::Threads;
 
-/// Brings the jobs to a finished run over copies of the records, by at most so many threads, the caller's among them, and
-/// by no more than there are jobs; 0 is as 1. Before the first try of each step a worker calls `gate.at(job, step)` outside
+/// Brings the jobs to a finished run over copies of the records, by at most so many threads, the caller's among them, by
+/// no more than there are jobs, and by no more than 16; 0 is as 1. Before the first try of each step a worker calls `gate.at(job, step)` outside
 /// every lock.
 pub fn run_batch<'a, R: Threads + Wait + Sync, G: Gate + Sync>(
     rt: &R,
@@ -94,7 +95,8 @@ fn run_as<'a, B: Batch + Send + Sync, R: Threads + Wait + Sync, G: Gate + Sync>(
     let carries = carries_of(alloc, jobs)?;
     let register = Mutex::new(Register::<B>::new(Book::open(core), carries));
     let bells = Bells::new();
-    work_all(rt, jobs, &register, &bells, workers.min(jobs.len()), gate);
+    let workers = workers.min(jobs.len()).min(SEATS);
+    work_all(rt, jobs, &register, &bells, workers, gate);
     finished_of(register.into_inner(), order)
 }
 

@@ -1,42 +1,46 @@
-use crate::sleepers::Wake;
-use grove_tree::Node;
+use crate::sleepers::{SEATS, Woken};
 use std::array;
-use std::sync::Condvar;
+use std::sync::Wait;
+use std::thread::Parker;
 
-/// How many bells there are.
-pub const BELLS: usize = 16;
-
-/// Where workers sleep until a lock is let go: each node has one of a few bells, by its number.
+/// Where workers sleep: each seat has a bell.
 #[derive(Drop)]
 pub struct Bells {
-    bells: [Condvar; BELLS],
+    bells: [Parker; SEATS],
 }
 
 impl Bells {
     pub fn new() -> Bells {
         Bells {
-            bells: array::from_fn(|_| Condvar::new()),
+            bells: array::from_fn(|_| Parker::new()),
         }
     }
 
-    /// The bell of a node.
-    pub fn of(&self, node: Node) -> &Condvar {
-        &self.bells[node.number() as usize % BELLS]
+    /// Sleeps at a seat until its bell is rung. Where it was rung already, nobody sleeps.
+    pub fn wait<R: Wait>(&self, rt: &R, seat: usize) {
+        self.bells[seat % SEATS].park(rt);
     }
 
-    /// Wakes whom the letting go of a node concerns.
-    pub fn ring(&self, node: Node, whom: Wake) {
-        match whom {
-            Wake::Nobody => {}
-            Wake::One => self.of(node).notify_one(),
-            Wake::All => self.of(node).notify_all(),
+    /// Wakes the workers of these seats.
+    pub fn ring(&self, woken: &Woken) {
+        for seat in 0..SEATS {
+            if woken.has(seat) {
+                self.bells[seat].unpark();
+            }
         }
     }
 
     /// Wakes every worker that sleeps.
     pub fn ring_all(&self) {
         for bell in &self.bells {
-            bell.notify_all();
+            bell.unpark();
         }
     }
+}
+
+/// A worker's place at the bells.
+#[derive(Clone, Copy)]
+pub struct Seat<'b> {
+    pub bells: &'b Bells,
+    pub number: usize,
 }

@@ -14,6 +14,7 @@ use grove_tree::Node;
 use std::marker::Model;
 
 mod carrying_on;
+mod waiting;
 
 /// A core, and how many of its jobs are claimed: the jobs below that number.
 #[derive(Drop)]

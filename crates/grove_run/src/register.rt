@@ -1,9 +1,10 @@
 ghost use Rattle.grove_run.specs.Runs.{IsCoreOf};
 
-use crate::sleepers::{Sleepers, Wake};
+use crate::sleepers::{Sleep, Sleepers, Woken};
 use crate::{Book, CarryStep};
 use grove_access::Carry;
 use grove_core::Core;
+use grove_plan::Step;
 use grove_tree::Node;
 use std::marker::{Brand, Model, PhantomData};
 
@@ -85,19 +86,20 @@ impl<'a, B: Batch> Register<'a, B> {
         self.book.carry_on(carry)
     }
 
-    /// A worker falls asleep until the node is let go.
-    pub fn fall_asleep(&mut self, node: Node) {
-        self.sleepers.enter(node);
+    /// The worker of a seat falls asleep, whose carry's job is blocked at the lock of a node, with these steps ahead. One
+    /// that has nothing out sleeps for that node. Another sleeps for the last of the nodes in its way that the same job
+    /// holds: it can let nothing go before it has that one, and isn't woken at each of those before.
+    pub fn fall_asleep(&mut self, seat: usize, carry: &Carry, node: Node, ahead: &[Step]) {
+        let sleep = match self.book.last_blocked(node, ahead) {
+            Some(last) if last != node && !carry.known().is_empty() => Sleep::Later(last),
+            _ => Sleep::Next(node),
+        };
+        self.sleepers.enter(seat, sleep);
     }
 
-    /// A worker that slept for the node is awake.
-    pub fn wake_up(&mut self, node: Node) {
-        self.sleepers.leave(node);
-    }
-
-    /// Whom to wake when the node is let go.
-    pub fn whom_to_wake(&self, node: Node) -> Wake {
-        self.sleepers.wake(node)
+    /// Takes out whom to wake when the node is let go.
+    pub fn whom_to_wake(&mut self, node: Node) -> Option<Woken> {
+        self.sleepers.leave(node)
     }
 
     /// Can some worker not go on?

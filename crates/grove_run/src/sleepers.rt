@@ -1,105 +1,98 @@
-use crate::bells::BELLS;
 use grove_tree::Node;
 
-/// Whom to wake at a bell.
+/// No more workers do a batch. Each has a seat, at which it sleeps.
+pub const SEATS: usize = 16;
+
+/// How many counts of sleepers there are.
+const COUNTS: usize = 64;
+
+/// What the worker of a seat sleeps for.
 #[derive(Clone, Copy, Debug, PartialEq, Eq)]
-pub enum Wake {
-    Nobody,
-    One,
-    All,
+pub enum Sleep {
+    /// Nothing: it is awake.
+    Awake,
+    /// The node of its next lock.
+    Next(Node),
+    /// The node of a lock that comes later.
+    Later(Node),
 }
 
-/// Who sleeps at a bell.
+impl Sleep {
+    // The node that is slept for.
+    fn node(&self) -> Option<Node> {
+        match self {
+            Sleep::Awake => None,
+            Sleep::Next(node) | Sleep::Later(node) => Some(*node),
+        }
+    }
+}
+
+/// The seats of those to wake.
 #[derive(Clone, Copy, Debug)]
-enum AtBell {
-    Nobody,
-    /// So many, all for this node.
-    ForOne(Node, u32),
-    /// So many, for several nodes.
-    ForSeveral(u32),
+pub struct Woken {
+    seats: [bool; SEATS],
 }
 
-impl AtBell {
-    // With one more, who sleeps for this node.
-    fn and(self, node: Node) -> AtBell {
-        match self {
-            AtBell::Nobody => AtBell::ForOne(node, 1),
-            AtBell::ForOne(other, number) => {
-                let number = number.saturating_add(1);
-                if other == node {
-                    AtBell::ForOne(node, number)
-                } else {
-                    AtBell::ForSeveral(number)
-                }
-            }
-            AtBell::ForSeveral(number) => AtBell::ForSeveral(number.saturating_add(1)),
-        }
-    }
-
-    // With one less.
-    fn less_one(self) -> AtBell {
-        match self {
-            AtBell::Nobody => AtBell::Nobody,
-            AtBell::ForOne(node, number) => {
-                if number > 1 {
-                    AtBell::ForOne(node, number - 1)
-                } else {
-                    AtBell::Nobody
-                }
-            }
-            AtBell::ForSeveral(number) => {
-                if number > 1 {
-                    AtBell::ForSeveral(number - 1)
-                } else {
-                    AtBell::Nobody
-                }
-            }
-        }
-    }
-
-    // Whom to wake when this node is let go.
-    fn wake(self, node: Node) -> Wake {
-        match self {
-            AtBell::Nobody => Wake::Nobody,
-            AtBell::ForOne(other, _) => {
-                if other == node {
-                    Wake::One
-                } else {
-                    Wake::Nobody
-                }
-            }
-            AtBell::ForSeveral(_) => Wake::All,
-        }
+impl Woken {
+    /// Is the worker of this seat to be woken?
+    pub fn has(&self, seat: usize) -> bool {
+        self.seats[seat % SEATS]
     }
 }
 
-/// Who sleeps at each bell, as those know who have the register.
+/// Who sleeps, as those know who have the register.
 #[derive(Debug, Drop)]
 pub struct Sleepers {
-    sleepers: [AtBell; BELLS],
+    seats: [Sleep; SEATS],
+    /// How many sleep for nodes of these numbers, so that mostly no seat is looked at.
+    counts: [u8; COUNTS],
 }
 
 impl Sleepers {
     pub fn new() -> Sleepers {
         Sleepers {
-            sleepers: [AtBell::Nobody; BELLS],
+            seats: [Sleep::Awake; SEATS],
+            counts: [0; COUNTS],
         }
     }
 
-    /// A worker falls asleep until the node is let go.
-    pub fn enter(&mut self, node: Node) {
-        let bell = &mut self.sleepers[node.number() as usize % BELLS];
-        *bell = bell.and(node);
+    /// The worker of a seat falls asleep.
+    pub fn enter(&mut self, seat: usize, sleep: Sleep) {
+        if let Some(node) = sleep.node() {
+            let place = node.number() as usize % COUNTS;
+            self.counts[place] = self.counts[place].saturating_add(1);
+        }
+        self.seats[seat % SEATS] = sleep;
     }
 
-    /// A worker that slept for the node is awake.
-    pub fn leave(&mut self, node: Node) {
-        let bell = &mut self.sleepers[node.number() as usize % BELLS];
-        *bell = bell.less_one();
+    /// Takes out whom to wake when the node is let go: one of those whose next lock it is, and everybody who sleeps for it
+    /// as a later one, since they try another first.
+    pub fn leave(&mut self, node: Node) -> Option<Woken> {
+        let place = node.number() as usize % COUNTS;
+        if self.counts[place] == 0 {
+            return None;
+        }
+        let next = self.first_next(node);
+        let mut woken = Woken {
+            seats: [false; SEATS],
+        };
+        for seat in 0..SEATS {
+            if next == Some(seat) || self.seats[seat] == Sleep::Later(node) {
+                self.seats[seat] = Sleep::Awake;
+                self.counts[place] = self.counts[place].saturating_sub(1);
+                woken.seats[seat] = true;
+            }
+        }
+        Some(woken)
     }
 
-    /// Whom to wake when the node is let go.
-    pub fn wake(&self, node: Node) -> Wake {
-        self.sleepers[node.number() as usize % BELLS].wake(node)
+    // The first seat whose worker sleeps for the node as its next lock.
+    fn first_next(&self, node: Node) -> Option<usize> {
+        for seat in 0..SEATS {
+            if self.seats[seat] == Sleep::Next(node) {
+                return Some(seat);
+            }
+        }
+        None
     }
 }

@@ -1,7 +1,7 @@
 ghost use Rattle.std.specs.Thread.{IsSend, IsSync};
 
 use crate::CarryStep;
-use crate::bells::Bells;
+use crate::bells::{Bells, Seat};
 use crate::register::{Batch, Register};
 use grove_access::Carry;
 use grove_core::Job;
@@ -22,16 +22,20 @@ pub fn work_all<'a, B: Batch + Send + Sync, R: Threads + Wait + Sync, G: Gate + 
     workers: usize,
     gate: &G,
 ) {
-    if workers < 2 || !register.lock(rt).has_unclaimed() {
-        return work(rt, jobs, register, bells, gate);
+    let others = workers.saturating_sub(1);
+    let seat = Seat {
+        bells,
+        number: others,
+    };
+    if others == 0 || !register.lock(rt).has_unclaimed() {
+        return work(rt, jobs, register, &seat, gate);
     }
-    let others = workers - 1;
     join(
         rt,
         ||
             requires { IsSend B.row × IsSync B.row × IsSync R.row × IsSync G.row }
         { work_all(rt, jobs, register, bells, others, gate) },
-        || work(rt, jobs, register, bells, gate),
+        || work(rt, jobs, register, &seat, gate),
     );
 }
 
@@ -40,7 +44,7 @@ fn work<'a, B: Batch, R: Wait, G: Gate>(
     rt: &R,
     jobs: &'a [Job],
     register: &Mutex<Register<'a, B>>,
-    bells: &Bells,
+    seat: &Seat,
     gate: &G,
 ) {
     for _ in rt.forever() {
@@ -51,7 +55,7 @@ fn work<'a, B: Batch, R: Wait, G: Gate>(
         let Some(job) = jobs.get(carry.txn() as usize) else {
             break;
         };
-        if !do_job(rt, job, register, bells, &mut carry, gate) {
+        if !do_job(rt, job, register, seat, &mut carry, gate) {
             break;
         }
     }
@@ -62,20 +66,21 @@ fn do_job<'a, B: Batch, R: Wait, G: Gate>(
     rt: &R,
     job: &Job,
     register: &Mutex<Register<'a, B>>,
-    bells: &Bells,
+    seat: &Seat,
     carry: &mut Carry,
     gate: &G,
 ) -> bool {
     let txn = carry.txn();
-    for (place, step) in job.plan.steps().iter().enumerate() {
+    let steps = job.plan.steps();
+    for (place, step) in steps.iter().enumerate() {
         gate.at(txn, place as u32);
         let done = match *step {
             Step::Access(access) => {
                 let _ = carry.apply(&job.list, access);
                 true
             }
-            Step::Lock(node) => take_hold(rt, register, bells, carry, node),
-            Step::Unlock(node) => let_go(rt, register, bells, carry, node),
+            Step::Lock(node) => take_hold(rt, register, seat, carry, node, &steps[place..]),
+            Step::Unlock(node) => let_go(rt, register, seat.bells, carry, node),
         };
         if !done {
             return false;
@@ -84,7 +89,7 @@ fn do_job<'a, B: Batch, R: Wait, G: Gate>(
     true
 }
 
-// Lets a node go, and wakes who sleeps for it, if somebody does. False where this worker can't go on.
+// Lets a node go, and wakes whom that concerns. False where this worker can't go on.
 fn let_go<'a, B: Batch, R: Wait>(
     rt: &R,
     register: &Mutex<Register<'a, B>>,
@@ -98,33 +103,37 @@ fn let_go<'a, B: Batch, R: Wait>(
         bells.ring_all();
         return false;
     }
-    let whom = guard.whom_to_wake(node);
+    let woken = guard.whom_to_wake(node);
     drop(guard);
-    bells.ring(node, whom);
+    if let Some(woken) = woken {
+        bells.ring(&woken);
+    }
     true
 }
 
-// Does the lock that a job stands before, once it can be done. False where this worker or another can't go on.
+// Does the lock that a job stands before, with these steps ahead, once it can be done. False where this worker or another
+// can't go on.
 fn take_hold<'a, B: Batch, R: Wait>(
     rt: &R,
     register: &Mutex<Register<'a, B>>,
-    bells: &Bells,
+    seat: &Seat,
     carry: &mut Carry,
     node: Node,
+    ahead: &[Step],
 ) -> bool {
-    let mut guard = register.lock(rt);
     for _ in rt.forever() {
+        let mut guard = register.lock(rt);
         match guard.carry_step(carry) {
             CarryStep::Stepped => return true,
             CarryStep::Blocked if guard.is_foreign() => return false,
             CarryStep::Blocked => {
-                guard.fall_asleep(node);
-                guard = bells.of(node).wait(rt, guard);
-                guard.wake_up(node);
+                guard.fall_asleep(seat.number, carry, node, ahead);
+                drop(guard);
+                seat.bells.wait(rt, seat.number);
             }
             CarryStep::Ended | CarryStep::Foreign => {
                 guard.set_foreign();
-                bells.ring_all();
+                seat.bells.ring_all();
                 return false;
             }
         }

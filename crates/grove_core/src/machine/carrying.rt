@@ -93,8 +93,8 @@ impl<'a> Core<'a> {
         self.progress[txn as usize].steps_done
     }
 
-    // Does the job hold the node?
-    fn holds(&self, txn: u32, node: Node) -> bool
+    /// Does the job hold the node?
+    pub fn holds(&self, txn: u32, node: Node) -> bool
         ensures { result ≡ holds self.now.jobs (past_of self.now) txn node }
     {
         match self.owners.get(node.number() as usize) {
