@@ -11,3 +11,5 @@ pub mod Fitting
 pub mod Tokens
 pub mod Lengths
 pub mod Requests
+pub mod Sketching
+pub mod Sketches

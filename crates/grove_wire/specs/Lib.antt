@@ -8,3 +8,4 @@ pub mod Texts
 pub mod Requests
 pub mod Replies
 pub mod Names
+pub mod Sketches
