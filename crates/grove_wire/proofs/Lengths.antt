@@ -1,5 +1,5 @@
 -- An array in what a text reads as has no more items than the text has bytes.
-use Rattle.std.proofs.Common.{◌≡◌, ℕ, suc, ◌+◌, ◌<◌, ◌≤◌, List, [], ◌∷◌, ◌++◌, length, Option, Some, None, IfSome, option_map, option_and_then, Ordering, Less, Equal, Greater, refl, subst, arith, ap, ◌∙◌, length-append}
+use Rattle.std.proofs.Common.{◌≡◌, ℕ, zero, suc, take, ◌+◌, ◌<◌, ◌≤◌, List, [], ◌∷◌, ◌++◌, length, Option, Some, None, IfSome, option_map, option_and_then, Ordering, Less, Equal, Greater, refl, subst, arith, ap, ◌∙◌, length-append}
 use Rattle.std.specs.List.{All}
 use Rattle.std.specs.Ordering.{match_ordering}
 use Rattle.std.proofs.lemmas.List.Elements.{All-nil, All-cons}
@@ -10,6 +10,11 @@ use Rattle.json.specs.Tree.{json_tokens, items_tokens, members_tokens}
 use Rattle.json.proofs.Unique.Spelling.{value-json_tokens_back}
 use Rattle.serde_json.specs.Data.{Data, null, boolean, number, string, array, object, Items, no_items, item, Members, no_members, member, put}
 use Rattle.serde_json.specs.Find.{get, get_member}
+use Rattle.serde_json.specs.View as seen
+use Rattle.serde_json.specs.Data.{Num}
+use Rattle.grove_wire.specs.declared.sketch.Form.{Form}
+use Rattle.grove_wire.specs.declared.sketch.Form.TheVariants as form
+use Rattle.grove_wire.specs.Sketches.{item_form, most_items, member_form, leaf, number_data, cut, put_kept, drawn, drawn_items, drawn_members}
 use Rattle.serde_json.specs.Read.{number_of, of_json, of_items, of_members, max_depth, read}
 use Rattle.std.specs.Prelude.{Ok}
 use Rattle.grove_wire.specs.declared.fault.WireFault.TheVariants.{Shape}
@@ -246,3 +251,79 @@ items_within name d ds all is = subst (λ o. IfSome o (All AreArraysShort)) is (
 -- in a member all arrays are short
 pub member_within : (name : List ℕ) (d e : Data) → AreArraysShort d → get name d ≡ Some e → AreArraysShort e
 member_within name d e all is = subst (λ o. IfSome o AreArraysShort) is (few_found 67108864 name d all)
+
+-- the arrays in a member
+pub member_arrays : (n : ℕ) (name : List ℕ) (d e : Data) → n ≤ 67108864 → AllArraysWithin n d → get name d ≡ Some e → HasShortArrays e
+member_arrays n name d e short all at = arrays_of_short n 67108864 e short (arrays_within n e (subst (λ o. IfSome o (AllArraysWithin n)) at (few_found n name d all)))
+
+-- ---- what is kept of a value
+
+leaf_few : (n : ℕ) (f : Form) (d : Data) → AllArraysWithin n d → AllArraysWithin n (leaf f d)
+leaf_few n form.Nothing d few = tt
+leaf_few n form.Scalar d few = few
+leaf_few n form.Access d few = tt
+leaf_few n form.List d few = tt
+leaf_few n form.Batch d few = tt
+leaf_few n form.Step d few = tt
+leaf_few n form.Plan d few = tt
+leaf_few n form.Row d few = tt
+leaf_few n form.Flow d few = tt
+leaf_few n form.Check d few = tt
+leaf_few n form.Line d few = tt
+
+kept_number_few : (n : ℕ) (o : Option Num) → AllArraysWithin n (number_data o)
+kept_number_few n None = tt
+kept_number_few n (Some m) = tt
+
+take_few : (n most m : ℕ) (ds : List Data) → width (seen.items_of ds) ≤ m → width (seen.items_of (take most ds)) ≤ m
+take_few n zero m ds few = omega arith
+take_few n (suc most) m [] few = omega arith
+take_few n (suc most) zero (d ∷ ds) few = absurd (omega arith)
+take_few n (suc most) (suc m) (d ∷ ds) few = let rest = take_few n most m ds (omega arith) in omega (arith, rest)
+
+take_all_few : (n most : ℕ) (ds : List Data) → ItemsWithin n (seen.items_of ds) → ItemsWithin n (seen.items_of (take most ds))
+take_all_few n zero ds all = tt
+take_all_few n (suc most) [] all = tt
+take_all_few n (suc most) (d ∷ ds) all = (all.0, take_all_few n most ds all.1)
+
+cut_few : (n : ℕ) (most : Option ℕ) (ds : List Data) → width (seen.items_of ds) ≤ n → ItemsWithin n (seen.items_of ds) → AllArraysWithin n (array (seen.items_of (cut most ds)))
+cut_few n None ds few all = (few, all)
+cut_few n (Some most) ds few all = (take_few n most n ds few, take_all_few n most ds all)
+
+drawn_width : (f : Form) (js : json.Items) → width (seen.items_of (drawn_items f js)) ≤ count js
+drawn_width f json.no_items = omega arith
+drawn_width f (json.item j js) = omega (arith, drawn_width f js)
+
+put_kept_few : (n : ℕ) (name : List ℕ) (o : Option Form) (kept : Form → Data) (found : Members) → ((f : Form) → AllArraysWithin n (kept f)) → MembersWithin n found → MembersWithin n (put_kept name o kept found)
+put_kept_few n name None kept found few all = all
+put_kept_few n name (Some f) kept found few all = put_few n name (kept f) found (few f) all
+
+mutual
+  pub drawn_few : (n : ℕ) (f : Form) (j : json.Json) → length (json_tokens j) ≤ suc n → AllArraysWithin n (drawn f j)
+  drawn_few n f json.null h = tt
+  drawn_few n f (json.boolean b) h = tt
+  drawn_few n f (json.number s) h = leaf_few n f (number_data (number_of s)) (kept_number_few n (number_of s))
+  drawn_few n f (json.string s) h = leaf_few n f (string s) tt
+  drawn_few n f (json.array js) h =
+      cut_few n (most_items f) (drawn_items (item_form f) js) (omega (arith, count_within js, drawn_width (item_form f) js)) (drawn_items_few n (item_form f) js (omega arith))
+  drawn_few n f (json.object ms) h = drawn_members_few n f ms no_members (omega arith) tt
+
+  drawn_items_few : (n : ℕ) (f : Form) (js : json.Items) → length (items_tokens js) ≤ n → ItemsWithin n (seen.items_of (drawn_items f js))
+  drawn_items_few n f json.no_items h = tt
+  drawn_items_few n f (json.item j js) h =
+      let front : length (json_tokens j) ≤ suc n = omega (arith, length-append (json_tokens j) (items_tokens js)) in
+      let back : length (items_tokens js) ≤ n = omega (arith, length-append (json_tokens j) (items_tokens js)) in
+      (drawn_few n f j front, drawn_items_few n f js back)
+
+  drawn_members_few : (n : ℕ) (f : Form) (ms : json.Members) (found : Members) → length (members_tokens ms) ≤ n → MembersWithin n found → MembersWithin n (drawn_members f ms found)
+  drawn_members_few n f json.no_members found h all = all
+  drawn_members_few n f (json.member name j ms) found h all =
+      let front : length (json_tokens j) ≤ suc n = omega (arith, length-append (json_tokens j) (members_tokens ms)) in
+      let back : length (members_tokens ms) ≤ n = omega (arith, length-append (json_tokens j) (members_tokens ms)) in
+      drawn_members_few n f ms (put_kept name (member_form f name) (λ g. drawn g j) found) back (put_kept_few n name (member_form f name) (λ g. drawn g j) found (λ g. drawn_few n g j front) all)
+
+-- of what a text begins with
+pub drawn_within : (text : List ℕ) (f : Form) (depth : ℕ) (j : json.Json) (r : List Token) → json.value depth (tokens text) ≡ Some (j, r) → AllArraysWithin (length text) (drawn f j)
+drawn_within text f depth j r is =
+    let same : length (tokens text) ≡ length (json_tokens j) + length r = ap length (value-json_tokens_back depth (tokens text) r j is) ∙ length-append (json_tokens j) r in
+    drawn_few (length text) f j (omega (arith, same, tokens_within text))

@@ -14,3 +14,5 @@ pub mod Requests
 pub mod Slashes
 pub mod Stored
 pub mod DocumentTexts
+pub mod Sketching
+pub mod Sketches

@@ -9,3 +9,4 @@ pub mod Requests
 pub mod Replies
 pub mod Documents
 pub mod Names
+pub mod Sketches

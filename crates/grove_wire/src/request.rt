@@ -6,11 +6,11 @@ ghost use Rattle.grove_wire.specs.Forms.{HasArraysWithin, HasShortArrays};
 ghost use Rattle.grove_wire.specs.Outcomes.{Gives};
 ghost use Rattle.grove_wire.specs.Requests.{asked_of, AskedFits, RequestsFit, ReadingNeedsNoRoom, only_member, plan_of, check_of, batch_of, named_of, request_of};
 
-use crate::document::read_value;
 use crate::flows::read_flow;
 use crate::forms::list_items;
 use crate::lists::{list_on, lists_of, read_list};
 use crate::plans::read_plan;
+use crate::sketch::sketch_of;
 use crate::versions::Version;
 use crate::{Part, Place, WireFault};
 use grove_access::AccessList;
@@ -37,14 +37,13 @@ pub enum Request {
 
 /// The request that a line of at most 1,048,576 bytes is, over the tree. What isn't JSON is `BadJson`; what is no object of
 /// just one member with a name that there is, is `Shape` of the whole. A plan's and a batch's accesses may tell lengths, and
-/// a check has a version as a document has.
-#[tactic(auto, unfolding(crate::specs::Requests::request_of))]
+/// a check has a version as a document has. Of the line's value only what a request looks at is kept.
 pub fn read_request(alloc: Global, tree: &Tree, line: &[u8]) -> Result<Request, WireFault>
     requires { length line.now ≤ 1048576 }
     ensures read { Gives asked_of result (request_of tree.now line.now) }
     ensures fits { IfOk result (λ request. AskedFits tree.now (asked_of request)) }
 {
-    let value = read_value(alloc, line)?;
+    let value = sketch_of(alloc, line)?;
     match only_member(&value) {
         Some((name, asked)) => named_request(alloc, tree, name, asked),
         None => Err(WireFault::Shape(Place::whole(Part::Whole))),
