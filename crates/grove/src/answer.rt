@@ -8,6 +8,7 @@ use crate::serving::Service;
 use grove_session::{DeviceFault, ReadFault, Sink, write_whole};
 use std::alloc::{AllocError, AllocFailed, AllocGlobal};
 use std::io;
+use std::random::RandomSource;
 use std::sync::Wait;
 use std::thread::Threads;
 use std::time::Clock;
@@ -52,7 +53,7 @@ impl Response {
 }
 
 /// Prints the response, and gives the status of the process.
-pub fn end<R: AllocGlobal + Threads + Wait + Clock + Sync, O: Sink, E: Sink>(
+pub fn end<R: AllocGlobal + RandomSource + Threads + Wait + Clock + Sync, O: Sink, E: Sink>(
     rt: &R,
     response: Response,
     out: &mut O,
@@ -96,7 +97,7 @@ pub fn add<E: Sink>(line: &str, err: &mut E)
 }
 
 /// Prints the answer, or why there is none, and gives the status of the process.
-fn print<R: AllocGlobal + Threads + Wait + Clock + Sync, O: Sink, E: Sink>(
+fn print<R: AllocGlobal + RandomSource + Threads + Wait + Clock + Sync, O: Sink, E: Sink>(
     rt: &R,
     answer: Result<Answer, Stop>,
     out: &mut O,
@@ -162,7 +163,7 @@ fn complain<E: Sink>(text: &str, err: &mut E) -> u8
 
 /// Prints the line and serves, which ends only where a device fails.
 #[tactic(auto, using(crate::proofs::Printing::all_written, crate::proofs::Printing::cut_written))]
-fn say_and_serve<R: AllocGlobal + Threads + Wait + Clock + Sync, O: Sink, E: Sink>(
+fn say_and_serve<R: AllocGlobal + RandomSource + Threads + Wait + Clock + Sync, O: Sink, E: Sink>(
     rt: &R,
     line: &str,
     service: Service,

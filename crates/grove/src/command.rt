@@ -12,7 +12,7 @@ ghost use Rattle.grove.specs.Outcomes.{document_for, IsOutcome, MaySay, Prints, 
 use crate::answer::{Answer, Response, Stop, add, end};
 use crate::hinting::{awaited_by, hint_beside};
 use crate::refusal::answer_of;
-use crate::serving::serve_document;
+use crate::serving::{Talk, serve_document};
 use grove_answer::{
     Refusal, audit_document, check_document, draw_document, judge_document, plan_document,
     run_document,
@@ -25,6 +25,7 @@ use serde_json::Value;
 use std::alloc::Global;
 use std::fs;
 use std::net::{Net, TcpListener, TcpStream};
+use std::random::RandomSource;
 use std::rt::Files;
 use std::sync::Wait;
 use std::thread::Threads;
@@ -37,6 +38,7 @@ use std::time::Clock;
 pub fn run_command<
     R: Files
         + AllocGlobal
+        + RandomSource
         + Net<Listener = TcpListener, Stream = TcpStream>
         + Threads
         + Wait
@@ -264,8 +266,12 @@ fn document_answer<
         Command::Draw => answer_of(alloc, draw_document(alloc, document, form_of(order.form))),
         Command::Run => answer_of(alloc, run_document(rt, alloc, document, order.workers)),
         Command::Audit => answer_of(alloc, audit_document(alloc, document)),
-        Command::Serve => serve_document(rt, alloc, document, order.workers, order.place),
-        Command::Page => serve_document(rt, alloc, document, order.workers, order.place),
+        Command::Serve => {
+            serve_document(rt, alloc, document, order.workers, order.place, Talk::Lines)
+        }
+        Command::Page => {
+            serve_document(rt, alloc, document, order.workers, order.place, Talk::Requests)
+        }
         Command::Ask => Err(Stop::Device),
     }
 }

@@ -24,6 +24,16 @@ use std::net::{IpAddr, Net, TcpListener, TcpStream};
 pub struct Service {
     pub store: Store,
     pub listener: TcpListener,
+    pub talk: Talk,
+}
+
+/// What is talked over a connection.
+#[derive(Clone, Copy, Debug, PartialEq, Eq)]
+pub enum Talk {
+    /// Lines of a session, and their replies.
+    Lines,
+    /// Requests of HTTP, and their responses.
+    Requests,
 }
 
 /// A service with the document's tree and records, which listens already, or why there is none.
@@ -33,6 +43,7 @@ pub fn serve_document<R: Net<Listener = TcpListener, Stream = TcpStream>>(
     document: &Value,
     workers: u32,
     place: Option<Place>,
+    talk: Talk,
 ) -> Result<Answer, Stop>
     requires short { HasShortArrays (view document.now) }
     requires workers { (1 ≤ workers) × (workers ≤ 16) }
@@ -44,7 +55,7 @@ pub fn serve_document<R: Net<Listener = TcpListener, Stream = TcpStream>>(
     ensures opened { IfOk result (ServesStore (IsOpenedFrom (view document.now) workers)) }
 {
     match open_store(alloc, document, workers) {
-        Ok(store) => listening(rt, alloc, store, place),
+        Ok(store) => listening(rt, alloc, store, place, talk),
         Err(refusal) => answer_of(alloc, Err(refusal)),
     }
 }
@@ -69,6 +80,7 @@ fn listening<R: Net<Listener = TcpListener, Stream = TcpStream>>(
     alloc: Global,
     store: Store,
     place: Option<Place>,
+    talk: Talk,
 ) -> Result<Answer, Stop>
     ensures said { IfOk result (Listens (λ asked. place ≡ Some asked)) }
     ensures listens { IfOk result IsListen }
@@ -81,7 +93,11 @@ fn listening<R: Net<Listener = TcpListener, Stream = TcpStream>>(
     let line = line_for(alloc, place, port_of(&listener, place.port)?)?;
     Ok(Answer::Listen {
         line,
-        service: Service { store, listener },
+        service: Service {
+            store,
+            listener,
+            talk,
+        },
     })
 }
 

@@ -66,7 +66,7 @@ Slots-send = Vec-send Slot.the_row Slot-send
 BoardInside-send : (B : RattleType) (picked : opening.Ghosts B.Denot) → IsSend B → IsSync B → IsSend (BoardInside.the_row B picked)
 BoardInside-send B picked send sync =
     let ledger = Ledger-send B picked send sync in
-    let each : AllSend (shape (BoardInside.the_type B picked)).fields = (search (sendable, crosses, ledger) depth 60 fits 4000, (Slots-send, (search (sendable, crosses), tt))) in
+    let each : AllSend (shape (BoardInside.the_type B picked)).fields = (search (sendable, crosses, ledger) depth 60 fits 4000, (Slots-send, (search (sendable, crosses), (search (sendable, crosses), tt)))) in
     recorded_send _ _ _ (BoardInside.the_type B picked).to_one (struct_send (shape (BoardInside.the_type B picked)) each)
 
 Board-send : (B : RattleType) (picked : opening.Ghosts B.Denot) → IsSend B → IsSync B → IsSend (Board.the_row B picked)
