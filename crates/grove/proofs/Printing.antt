@@ -47,25 +47,25 @@ same_document command front rest h =
     over_most command (front ++ rest) (rw more (omega arith)) ∙ sym (over_most command front h)
 
 -- what is said of the bytes that were read is said of the whole input
-says_of_input : (command : Command) (known later : Option (List ℕ)) (bytes : List ℕ) (answer : Answer)
-    → Consumes known later bytes → (length bytes ≤ most_bytes command → IsAtEnd later) → AnswersBy (IsOutcome command bytes) answer
-    → IfSome known (λ document. AnswersBy (IsOutcome command document) answer)
-says_of_input command None later bytes answer read end says = tt
-says_of_input command (Some document) None bytes answer read end says = absurd read
-says_of_input command (Some document) (Some rest) bytes answer read end says =
-    let P : Result Data WireFault → Type 0 = λ r. AnswersBy (ThenSays r (MaySay command)) answer in
+says_of_input : (command : Command) (in_document : Bool) (known later : Option (List ℕ)) (bytes : List ℕ) (answer : Answer)
+    → Consumes known later bytes → (length bytes ≤ most_bytes command → IsAtEnd later) → AnswersBy (IsOutcome command in_document bytes) answer
+    → IfSome known (λ document. AnswersBy (IsOutcome command in_document document) answer)
+says_of_input command in_document None later bytes answer read end says = tt
+says_of_input command in_document (Some document) None bytes answer read end says = absurd read
+says_of_input command in_document (Some document) (Some rest) bytes answer read end says =
+    let P : Result Data WireFault → Type 0 = λ r. AnswersBy (ThenSays r (MaySay command in_document)) answer in
     elim (cases_lt (most_bytes command) (length bytes)) [
       | inl over ↦ subst P (sym (ap (document_for command) read ∙ same_document command bytes rest over)) says
       | inr within ↦ subst P (sym (ap (document_for command) (read ∙ ap (λ xs. bytes ++ xs) (end within) ∙ append-nil bytes))) says
     ]
 
 -- an answer of the bytes that were read is one of the whole input
-pub answers_input : (command : Command) (known later : Option (List ℕ)) (bytes read : List ℕ) (answer : Result Answer Stop)
+pub answers_input : (command : Command) (in_document : Bool) (known later : Option (List ℕ)) (bytes read : List ℕ) (answer : Result Answer Stop)
     → Consumes known later read → (length read ≤ most_bytes command → IsAtEnd later) → bytes ≡ read
-    → IfOk answer (AnswersBy (IsOutcome command bytes)) → IfOk answer (λ a. IfSome known (λ document. AnswersBy (IsOutcome command document) a))
-answers_input command known later bytes read answer consumed end same says =
-    let Q : List ℕ → Type 0 = λ b. IfOk answer (AnswersBy (IsOutcome command b)) in
-    IfOk-weaker answer _ _ (λ a it. says_of_input command known later read a consumed end it) (subst Q same says)
+    → IfOk answer (AnswersBy (IsOutcome command in_document bytes)) → IfOk answer (λ a. IfSome known (λ document. AnswersBy (IsOutcome command in_document document) a))
+answers_input command in_document known later bytes read answer consumed end same says =
+    let Q : List ℕ → Type 0 = λ b. IfOk answer (AnswersBy (IsOutcome command in_document b)) in
+    IfOk-weaker answer _ _ (λ a it. says_of_input command in_document known later read a consumed end it) (subst Q same says)
 
 -- what is said of an input is printed, where its bytes are known
 pub prints_input : (Said : List ℕ → Outcome → Type 0) (known : Option (List ℕ)) (answer : Result Answer Stop) (status : ℕ)
@@ -79,13 +79,13 @@ prints_input Said (Some document) (Ok a) status old new Also (outcome, may, is) 
 prints_input Said (Some document) (Err why) status old new Also says done = λ h. absurd (done h)
 
 -- what is said of some bytes is printed, else nothing is
-pub prints_read : (command : Command) (answer : Result Answer Stop) (status : ℕ) (old new : Option (List ℕ)) (Also : Answer → Type 0)
-    → IfOk answer (λ a. (bytes : List ℕ) × AnswersBy (IsOutcome command bytes) a)
+pub prints_read : (Said : List ℕ → Outcome → Type 0) (answer : Result Answer Stop) (status : ℕ) (old new : Option (List ℕ)) (Also : Answer → Type 0)
+    → IfOk answer (λ a. (bytes : List ℕ) × AnswersBy (Said bytes) a)
     → (status ≤ 2 → IsOkAnd answer (λ a. (status ≡ status_of a) × Appends old new (printed a) × Also a))
-    → (bytes : List ℕ) × Prints (IsOutcome command bytes) status old new
-prints_read command (Ok a) status old new Also (bytes, (outcome, may, is)) done =
+    → (bytes : List ℕ) × Prints (Said bytes) status old new
+prints_read Said (Ok a) status old new Also (bytes, (outcome, may, is)) done =
     (bytes, λ h. (outcome, may, (done h).0 ∙ is.0, subst (λ text. Appends old new text) is.1 (done h).1))
-prints_read command (Err why) status old new Also says done = ([], λ h. absurd (done h))
+prints_read Said (Err why) status old new Also says done = ([], λ h. absurd (done h))
 
 -- a whole text is a first part of it
 pub all_written : (text : List ℕ) (old new : Option (List ℕ)) → Appends old new text → (count : ℕ) × Appends old new (take count text)
@@ -132,13 +132,13 @@ part_of_input Said (Some document) (Ok a) old new says out = elim out [ inl kept
 part_of_input Said (Some document) (Err why) old new says out = elim out [ inl kept ↦ inl kept | inr part ↦ absurd part ]
 
 -- the same of some bytes
-pub part_of_read : (command : Command) (answer : Result Answer Stop) (old new : Option (List ℕ))
-    → IfOk answer (λ a. (bytes : List ℕ) × AnswersBy (IsOutcome command bytes) a)
+pub part_of_read : (Said : List ℕ → Outcome → Type 0) (answer : Result Answer Stop) (old new : Option (List ℕ))
+    → IfOk answer (λ a. (bytes : List ℕ) × AnswersBy (Said bytes) a)
     → Keeps old new ⊎ IsOkAnd answer (λ a. (count : ℕ) × Appends old new (take count (printed a)))
-    → (bytes : List ℕ) × PrintsPart (IsOutcome command bytes) old new
-part_of_read command (Ok a) old new says out =
-    (says.0, elim out [ inl kept ↦ inl kept | inr part ↦ inr (part_said (IsOutcome command says.0) a old new says.1 part) ])
-part_of_read command (Err why) old new says out = ([], elim out [ inl kept ↦ inl kept | inr part ↦ absurd part ])
+    → (bytes : List ℕ) × PrintsPart (Said bytes) old new
+part_of_read Said (Ok a) old new says out =
+    (says.0, elim out [ inl kept ↦ inl kept | inr part ↦ inr (part_said (Said says.0) a old new says.1 part) ])
+part_of_read Said (Err why) old new says out = ([], elim out [ inl kept ↦ inl kept | inr part ↦ absurd part ])
 
 -- an answer with a text says something
 says_text : (answer : Answer) (old new : Option (List ℕ)) → status_of answer ≡ 0 → HasText answer → Appends old new (printed answer) → SaysSomething old new

@@ -1,5 +1,5 @@
 -- What a command says of what is read, once the reading's fault or the calls' own is told.
-use Rattle.std.proofs.Common.{[], ◌∷◌, ◌++◌, append_assoc, ◌∙◌, ◌≡◌, ◌≢◌, ℕ, ℤ, ap, List, Result, Ok, Err, IfOk, IsOkAnd, IsSomeAnd, String, refl, string_bytes, subst, sym}
+use Rattle.std.proofs.Common.{Bool, [], ◌∷◌, ◌++◌, append_assoc, ◌∙◌, ◌≡◌, ◌≢◌, ℕ, ℤ, ap, List, Result, Ok, Err, IfOk, IsOkAnd, IsSomeAnd, String, refl, string_bytes, subst, sym}
 use Rattle.std.specs.Prelude.{codes, decimal}
 use Rattle.std.proofs.lemmas.Result.{IfOk-weaker}
 use Rattle.serde_json.specs.Data.{Data}
@@ -51,10 +51,10 @@ names_no_place IsAsked (Ok (Listen line service)) other = absurd (other tt)
 names_no_place IsAsked (Err why) other = tt
 
 -- what a command says of a document it says of the bytes that are read as it
-pub says_document : (command : Command) (bytes : List ℕ) (document : Data) (answer : Result Answer Stop) → document_for command bytes ≡ Ok document
-    → IfOk answer (AnswersBy (MaySay command document)) → IfOk answer (AnswersBy (IsOutcome command bytes))
-says_document command bytes document answer read says =
-    subst (λ (r : Result Data WireFault). IfOk answer (AnswersBy (ThenSays r (MaySay command)))) (sym read) says
+pub says_document : (command : Command) (in_document : Bool) (bytes : List ℕ) (document : Data) (answer : Result Answer Stop) → document_for command bytes ≡ Ok document
+    → IfOk answer (AnswersBy (MaySay command in_document document)) → IfOk answer (AnswersBy (IsOutcome command in_document bytes))
+says_document command in_document bytes document answer read says =
+    subst (λ (r : Result Data WireFault). IfOk answer (AnswersBy (ThenSays r (MaySay command in_document)))) (sym read) says
 
 -- a reading that fails for anything but want of memory has the fault that is told
 unread : (fault : WireFault) (read : Result Data WireFault) → Fails fault read → fault ≢ wire.Memory → read ≡ Err fault
@@ -67,19 +67,19 @@ unread (wire.Tree fault) read is other = is
 unread wire.Memory read is other = absurd (other refl)
 
 -- what is said of bytes that aren't read as a document
-pub says_unread : (command : Command) (bytes : List ℕ) (fault : WireFault) (refusal : Refusal) (answer : Result Answer Stop) → Fails fault (document_for command bytes)
+pub says_unread : (command : Command) (in_document : Bool) (bytes : List ℕ) (fault : WireFault) (refusal : Refusal) (answer : Result Answer Stop) → Fails fault (document_for command bytes)
     → IsTold (wire_text fault) refusal → (fault ≡ wire.Memory → refusal ≡ Memory) → IfOk answer (λ a. IsSomeAnd (refusal_outcome refusal) (IsAnswerTo a))
-    → IfOk answer (AnswersBy (IsOutcome command bytes))
-says_unread command bytes fault (Fault text) answer fails told memory is =
+    → IfOk answer (AnswersBy (IsOutcome command in_document bytes))
+says_unread command in_document bytes fault (Fault text) answer fails told memory is =
     let other : fault ≢ wire.Memory = λ here. not_both (memory here) in
-    let says : IsOutcome command bytes (Err (string_bytes text)) =
-    subst (λ (r : Result Data WireFault). ThenSays r (MaySay command) (Err (string_bytes text))) (sym (unread fault (document_for command bytes) fails other)) (ap Err told) in
+    let says : IsOutcome command in_document bytes (Err (string_bytes text)) =
+    subst (λ (r : Result Data WireFault). ThenSays r (MaySay command in_document) (Err (string_bytes text))) (sym (unread fault (document_for command bytes) fails other)) (ap Err told) in
     IfOk-weaker answer _ _ (λ a it. (Err (string_bytes text), says, it)) is
   where
     not_both : Fault text ≡ Memory → ⊥
     not_both is = cc
-says_unread command bytes fault Memory (Ok a) fails told memory is = absurd is
-says_unread command bytes fault Memory (Err why) fails told memory is = tt
+says_unread command in_document bytes fault Memory (Ok a) fails told memory is = absurd is
+says_unread command in_document bytes fault Memory (Err why) fails told memory is = tt
 
 -- what holds of a store that is served holds of it by a weaker word too
 pub serves_weaker : (P Q : Stock → Type 0) → ((store : Stock) → P store → Q store) → (answer : Answer) → ServesStore P answer → ServesStore Q answer

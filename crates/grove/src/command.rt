@@ -1,4 +1,5 @@
 ghost use Rattle.std.specs.Prelude.{◌≡◌, ◌≢◌, ◌≤◌, ◌⊎◌, ℕ, List, length, map, true, false, [], None, Some, IfOk, IfErr, IfSome, OnOk, string_bytes, ⊤};
+ghost use Rattle.serde_json.specs.Data.{depth};
 ghost use Rattle.serde_json.specs.View.{view};
 ghost use Rattle.grove_wire.specs.Forms.{AreArraysShort, HasShortArrays};
 ghost use Rattle.grove_wire.specs.Outcomes.{Gives};
@@ -7,7 +8,8 @@ ghost use Rattle.grove.specs.Answers.{most_bytes, status_of, AnswersBy, HasText,
 ghost use Rattle.grove_words.specs.CommandLines.{has_place, serves, AreWrong, AskFor, AskForWorkers, AskToServe, AskToShow, NameDevice};
 ghost use Rattle.grove_words.specs.NoOrders.{HasText as IsToldText, TellsShown, TellsWrong};
 ghost use Rattle.grove.specs.Endings.{Blames, IsHintLine, MayHint, SaysListening, SaysRefusal, SaysSomething, SaysWhy};
-ghost use Rattle.grove.specs.Outcomes.{document_for, IsOutcome, MaySay, Prints, PrintsPart};
+ghost use Rattle.grove_answer.specs.Says.{Says};
+ghost use Rattle.grove.specs.Outcomes.{document_for, IsOutcome, IsOutcomeFor, MaySay, Prints, PrintsPart};
 
 use crate::answer::{Answer, Response, Stop, add, end};
 use crate::hinting::{awaited_by, hint_beside};
@@ -15,7 +17,7 @@ use crate::refusal::answer_of;
 use crate::serving::{Talk, serve_document};
 use grove_answer::{
     Refusal, audit_document, check_document, draw_document, judge_document, plan_document,
-    run_document,
+    planned_document, run_document,
 };
 use grove_draw::Form;
 use grove_session::{ReaderSource, Sink, Source, read_whole};
@@ -49,13 +51,13 @@ pub fn run_command<
     E: Sink,
 >(rt: &R, words: &[String], input: &mut I, out: &mut O, err: &mut E) -> u8
     ensures answered { (order : Order) → AskFor (map string_bytes words.now) order → order.document ≡ None
-        → IfSome (I.remaining input.old) (λ document. Prints (IsOutcome order.command document) result (O.contents out.old) (O.contents out.new)) }
+        → IfSome (I.remaining input.old) (λ document. Prints (IsOutcomeFor (map string_bytes words.now) order.command document) result (O.contents out.old) (O.contents out.new)) }
     ensures read { (order : Order) → AskFor (map string_bytes words.now) order
-        → (bytes : List ℕ) × Prints (IsOutcome order.command bytes) result (O.contents out.old) (O.contents out.new) }
+        → (bytes : List ℕ) × Prints (IsOutcomeFor (map string_bytes words.now) order.command bytes) result (O.contents out.old) (O.contents out.new) }
     ensures cut { (order : Order) → AskFor (map string_bytes words.now) order → order.document ≡ None
-        → IfSome (I.remaining input.old) (λ document. PrintsPart (IsOutcome order.command document) (O.contents out.old) (O.contents out.new)) }
+        → IfSome (I.remaining input.old) (λ document. PrintsPart (IsOutcomeFor (map string_bytes words.now) order.command document) (O.contents out.old) (O.contents out.new)) }
     ensures cut_read { (order : Order) → AskFor (map string_bytes words.now) order
-        → (bytes : List ℕ) × PrintsPart (IsOutcome order.command bytes) (O.contents out.old) (O.contents out.new) }
+        → (bytes : List ℕ) × PrintsPart (IsOutcomeFor (map string_bytes words.now) order.command bytes) (O.contents out.old) (O.contents out.new) }
     ensures status { result ≤ 3 }
     ensures refused { result ≡ 1 → SaysRefusal (O.contents out.old) (O.contents out.new) }
     ensures wrong { AreWrong (map string_bytes words.now) → (result ≡ 2) ⊎ (result ≡ 3) }
@@ -120,8 +122,8 @@ fn response<
     I: Source,
 >(rt: &R, words: &[String], input: &mut I) -> Response
     ensures said { (order : Order) → AskFor (map string_bytes words.now) order → order.document ≡ None → IfOk result.answer (λ answer.
-        IfSome (I.remaining input.old) (λ document. AnswersBy (IsOutcome order.command document) answer)) }
-    ensures read { (order : Order) → AskFor (map string_bytes words.now) order → IfOk result.answer (λ answer. (bytes : List ℕ) × AnswersBy (IsOutcome order.command bytes) answer) }
+        IfSome (I.remaining input.old) (λ document. AnswersBy (IsOutcomeFor (map string_bytes words.now) order.command document) answer)) }
+    ensures read { (order : Order) → AskFor (map string_bytes words.now) order → IfOk result.answer (λ answer. (bytes : List ℕ) × AnswersBy (IsOutcomeFor (map string_bytes words.now) order.command bytes) answer) }
     ensures workers { IfOk result.answer (ServesStore (λ store. AskForWorkers (map string_bytes words.now) store.workers)) }
     ensures refused { IfOk result.answer IsRefusalLine }
     ensures wrong { AreWrong (map string_bytes words.now) → IfOk result.answer (λ answer. status_of answer ≡ 2) }
@@ -157,8 +159,8 @@ fn order_response<
 >(rt: &R, order: Order<'_>, input: &mut I) -> Response
     requires { (1 ≤ order.workers) × (order.workers ≤ 16) }
     ensures said { order.entry.document ≡ None → IfOk result.answer (λ answer.
-        IfSome (I.remaining input.old) (λ document. AnswersBy (IsOutcome order.entry.command document) answer)) }
-    ensures read { IfOk result.answer (λ answer. (bytes : List ℕ) × AnswersBy (IsOutcome order.entry.command bytes) answer) }
+        IfSome (I.remaining input.old) (λ document. AnswersBy (IsOutcome order.entry.command order.entry.in_document document) answer)) }
+    ensures read { IfOk result.answer (λ answer. (bytes : List ℕ) × AnswersBy (IsOutcome order.entry.command order.entry.in_document bytes) answer) }
     ensures workers { IfOk result.answer (ServesStore (λ store. store.workers ≡ order.entry.workers)) }
     ensures refused { IfOk result.answer IsRefusalLine }
     ensures status { IfOk result.answer (λ answer. status_of answer ≤ 1) }
@@ -182,7 +184,7 @@ fn bytes_response<
     R: AllocGlobal + Net<Listener = TcpListener, Stream = TcpStream> + Threads + Wait + Sync,
 >(rt: &R, order: Order<'_>, bytes: &[u8]) -> Response
     requires { (1 ≤ order.workers) × (order.workers ≤ 16) }
-    ensures said { IfOk result.answer (AnswersBy (IsOutcome order.entry.command bytes.now)) }
+    ensures said { IfOk result.answer (AnswersBy (IsOutcome order.entry.command order.entry.in_document bytes.now)) }
     ensures opened { IfOk result.answer (ServesStore (IsOpenedBy order.entry.command bytes.now order.entry.workers)) }
     ensures refused { IfOk result.answer IsRefusalLine }
     ensures status { IfOk result.answer (λ answer. status_of answer ≤ 1) }
@@ -225,10 +227,12 @@ fn most_bytes(command: Command) -> usize
 }
 
 /// The document that the bytes are for a command.
+#[tactic(auto, using(crate::proofs::Levels::shallow_for))]
 fn read_for(alloc: Global, command: Command, bytes: &[u8]) -> Result<Value, WireFault>
     ensures read { Gives (λ document. view document) result (document_for command bytes.now) }
     ensures short { IfOk result (λ document. HasShortArrays (view document)) }
     ensures all_short { IfOk result (λ document. AreArraysShort (view document)) }
+    ensures shallow { IfOk result (λ document. depth (view document) ≤ 127) }
 {
     match command {
         Command::Audit => read_history(alloc, bytes),
@@ -249,8 +253,9 @@ fn document_answer<
 >(rt: &R, order: Order<'_>, document: &Value) -> Result<Answer, Stop>
     requires short { HasShortArrays (view document.now) }
     requires all_short { AreArraysShort (view document.now) }
+    requires shallow { depth (view document.now) ≤ 127 }
     requires workers { (1 ≤ order.workers) × (order.workers ≤ 16) }
-    ensures said { IfOk result (AnswersBy (MaySay order.entry.command (view document.now))) }
+    ensures said { IfOk result (AnswersBy (MaySay order.entry.command order.entry.in_document (view document.now))) }
     ensures opened { IfOk result (ServesStore (IsOpenedFrom (view document.now) order.entry.workers)) }
     ensures refused { IfOk result IsRefusalLine }
     ensures status { IfOk result (λ answer. status_of answer ≤ 1) }
@@ -262,7 +267,7 @@ fn document_answer<
     match order.command {
         Command::Judge => answer_of(alloc, judge_document(alloc, document)),
         Command::Check => answer_of(alloc, check_document(alloc, document)),
-        Command::Plan => answer_of(alloc, plan_document(alloc, document)),
+        Command::Plan => answer_of(alloc, plan_for(alloc, document, order.in_document)),
         Command::Draw => answer_of(alloc, draw_document(alloc, document, form_of(order.form))),
         Command::Run => answer_of(alloc, run_document(rt, alloc, document, order.workers)),
         Command::Audit => answer_of(alloc, audit_document(alloc, document)),
@@ -273,6 +278,19 @@ fn document_answer<
             serve_document(rt, alloc, document, order.workers, order.place, Talk::Requests)
         }
         Command::Ask => Err(Stop::Device),
+    }
+}
+
+/// What is said of the settled plan: its lines, or the document with it.
+fn plan_for(alloc: Global, document: &Value, in_document: bool) -> Result<String, Refusal>
+    requires short { HasShortArrays (view document.now) }
+    requires shallow { depth (view document.now) ≤ 127 }
+    ensures { Says (MaySay Command.Plan in_document (view document.now)) result }
+{
+    if in_document {
+        planned_document(alloc, document)
+    } else {
+        plan_document(alloc, document)
     }
 }
 

@@ -5,7 +5,7 @@ use Rattle.grove.proofs.command.order_response.Goals as goal
 
 pub returns-in-Ok-clause-said : goal.returns-in-Ok-clause-said
 returns-in-Ok-clause-said g c none =
-    answers_input c.args.order.command _ _ c.deref.result.now c.in-Ok.bytes.items c.bytes_response.result.answer
+    answers_input c.args.order.command c.args.order.in_document _ _ c.deref.result.now c.in-Ok.bytes.items c.bytes_response.result.answer
     (c.in-Ok.ensures.input none) (λ few. c.in-Ok.ensures.end none (rw c.most_bytes-most.ensures.most few)) c.deref.ensures.value c.bytes_response.ensures.said
 
 pub returns-in-Ok-clause-read : goal.returns-in-Ok-clause-read

@@ -9,7 +9,7 @@ use Rattle.grove.proofs.command.response.Goals as goal
 
 pub returns-in-Ok-clause-said : goal.returns-in-Ok-clause-said
 returns-in-Ok-clause-said g c order asks none =
-    said_of_asked _ order c.in-Ok.order _ c.order_response.result.answer asks c.in-Ok.ensures.asked none c.order_response.ensures.said
+    said_of_asked _ order c.in-Ok.order _ c.order_response.result.answer asks c.in-Ok.ensures.asked none c.in-Ok.ensures.in_document c.order_response.ensures.said
 
 pub returns-in-Ok-clause-apart : goal.returns-in-Ok-clause-apart
 returns-in-Ok-clause-apart g c order asks named =
@@ -42,7 +42,7 @@ returns-in-Ok-clause-blamed g c =
     IfErr-weaker c.order_response.result.answer _ _ (λ stop. blames_named _ _ _ c.in-Ok.order stop c.in-Ok.ensures.asked) c.order_response.ensures.blamed
 
 pub returns-in-Ok-clause-read : goal.returns-in-Ok-clause-read
-returns-in-Ok-clause-read g c order asks = read_of_asked _ order c.in-Ok.order c.order_response.result.answer asks c.in-Ok.ensures.asked c.order_response.ensures.read
+returns-in-Ok-clause-read g c order asks = read_of_asked _ order c.in-Ok.order c.order_response.result.answer asks c.in-Ok.ensures.asked c.in-Ok.ensures.in_document c.order_response.ensures.read
 
 pub returns-in-Err-clause-read : goal.returns-in-Err-clause-read
 returns-in-Err-clause-read g c order asks =
