@@ -1,3 +1,4 @@
 pub mod Answers
+pub mod Askings
 pub mod Endings
 pub mod Outcomes

@@ -182,7 +182,7 @@ fn say_and_serve<R: AllocGlobal + RandomSource + Threads + Wait + Clock + Sync, 
 }
 
 /// Says on standard error why there is no answer.
-fn report<E: Sink>(why: Stop, err: &mut E) -> u8
+pub fn report<E: Sink>(why: Stop, err: &mut E) -> u8
     ensures status { result ≡ 3 }
     ensures told { E.has_failed err.new ≡ false → Appends (E.contents err.old) (E.contents err.new) (stop_line why) }
     ensures failed { E.has_failed err.old ≡ true → E.has_failed err.new ≡ true }

@@ -272,10 +272,26 @@ fn document_answer<
         Command::Run => answer_of(alloc, run_document(rt, alloc, document, order.workers)),
         Command::Audit => answer_of(alloc, audit_document(alloc, document)),
         Command::Serve => {
-            serve_document(rt, alloc, document, order.workers, order.place, Talk::Lines)
+            serve_document(
+                rt,
+                alloc,
+                document,
+                order.workers,
+                order.place,
+                Talk::Lines,
+                order.patience,
+            )
         }
         Command::Page => {
-            serve_document(rt, alloc, document, order.workers, order.place, Talk::Requests)
+            serve_document(
+                rt,
+                alloc,
+                document,
+                order.workers,
+                order.place,
+                Talk::Requests,
+                order.patience,
+            )
         }
         Command::Ask => Err(Stop::Device),
     }

@@ -2,17 +2,19 @@ ghost use Rattle.std.specs.Prelude.{◌≡◌, ◌<◌, ◌^◌, false};
 
 use crate::seats::Seats;
 use crate::serving::{Service, Talk};
+use crate::timed_stream::TimedStream;
 use grove_desk::{Desk, Opening, desk_session};
 use grove_page::{PAGE, serve_page};
-use grove_session::{ReaderSource, Sink, Source, WriterSink};
+use grove_session::{ReaderSource, Sink, Source, WriterSink, write_whole};
+use grove_words::Patience;
 use std::alloc::AllocGlobal;
 use std::hash::RandomState;
 use std::marker::Brand;
-use std::net::{TcpListener, TcpStream};
+use std::net::{Shutdown, TcpListener, TcpStream};
 use std::random::RandomSource;
 use std::sync::Wait;
 use std::thread::Threads;
-use std::time::Clock;
+use std::time::{Clock, Duration};
 use std::{io, thread};
 
 /// The system's numbers of the errors that there is no descriptor left for this process, and none for any.
@@ -20,17 +22,23 @@ const NO_DESCRIPTOR_HERE: i32 = 24;
 
 const NO_DESCRIPTOR_AT_ALL: i32 = 23;
 
+/// What a connection is told that there is no seat for.
+const BUSY_LINE: &[u8] = b"{\"error\":\"busy\"}\n";
+
 /// Serves connections, as many at once as there are seats, until one can't be accepted and the others have ended. A
 /// connection that there is no descriptor for waits for one; one that no thread can be started for is closed.
-pub fn serve<R: Threads + Wait + Clock + Sync + AllocGlobal + RandomSource>(rt: &R, service: Service) {
+pub fn serve<R: Threads + Wait + Clock + Sync + AllocGlobal + RandomSource>(
+    rt: &R,
+    service: Service,
+) {
     serve_as::<Brand, R>(rt, service);
 }
 
 /// Serves connections at a desk over the service's store, which keeps no journal.
-fn serve_as<B: Opening + Send + Sync, R: Threads + Wait + Clock + Sync + AllocGlobal + RandomSource>(
-    rt: &R,
-    service: Service,
-)
+fn serve_as<
+    B: Opening + Send + Sync,
+    R: Threads + Wait + Clock + Sync + AllocGlobal + RandomSource,
+>(rt: &R, service: Service)
     requires store { service.store ≡ B.store }
     requires kept { B.kept ≡ false }
 {
@@ -38,40 +46,79 @@ fn serve_as<B: Opening + Send + Sync, R: Threads + Wait + Clock + Sync + AllocGl
         store,
         listener,
         talk,
+        patience,
     } = service;
     let desk = Desk::<B>::open(rt.alloc(), store, false);
     let seats = Seats::new();
-    serve_at(rt, &desk, &seats, talk, &listener);
+    serve_at(rt, &desk, &seats, &listener, talk, patience);
 }
 
 /// Serves the listener's connections at the desk, each in its seat.
-fn serve_at<B: Opening + Send + Sync, R: Threads + Wait + Clock + Sync + AllocGlobal + RandomSource>(
-    rt: &R,
-    desk: &Desk<B>,
-    seats: &Seats,
-    talk: Talk,
-    listener: &TcpListener,
-) {
+fn serve_at<
+    B: Opening + Send + Sync,
+    R: Threads + Wait + Clock + Sync + AllocGlobal + RandomSource,
+>(rt: &R, desk: &Desk<B>, seats: &Seats, listener: &TcpListener, talk: Talk, patience: Patience) {
     thread::scope(thread::scope_env(), rt, |scope| {
         for _ in rt.forever() {
-            seats.take(rt);
-            match listener.accept() {
-                Ok((stream, _)) => {
-                    let spawned =
-                        scope.spawn(move || serve_connection(rt, desk, seats, talk, stream));
+            match next_seated(rt, seats, listener, patience.tells_busy) {
+                Ok(Some(stream)) => {
+                    let spawned = scope.spawn(move || {
+                        serve_connection(rt, desk, seats, stream, talk, patience.idle)
+                    });
                     if spawned.is_err() {
                         seats.leave(rt);
                     }
                 }
-                Err(error) => {
-                    if !wants_descriptor(&error) {
-                        break;
-                    }
-                    seats.leave_and_wait(rt);
-                }
+                Ok(None) => {}
+                Err(_) => break,
             }
         }
     });
+}
+
+/// The next connection, in a seat; nobody, where there was no seat or no descriptor for it, which is waited for then. A
+/// connection that isn't told of seats isn't accepted until it has one.
+fn next_seated<R: Wait + Clock>(
+    rt: &R,
+    seats: &Seats,
+    listener: &TcpListener,
+    tells_busy: bool,
+) -> io::Result<Option<TcpStream>> {
+    if !tells_busy {
+        seats.take(rt);
+    }
+    match listener.accept() {
+        Ok((stream, _)) => Ok(seated_stream(rt, seats, stream, tells_busy)),
+        Err(error) if wants_descriptor(&error) => {
+            if !tells_busy {
+                seats.leave(rt);
+            }
+            seats.wait(rt);
+            Ok(None)
+        }
+        Err(error) => Err(error),
+    }
+}
+
+/// The stream, in a seat that it has or takes. Where there is none for it, it is told so.
+fn seated_stream<R: Wait>(
+    rt: &R,
+    seats: &Seats,
+    stream: TcpStream,
+    tells_busy: bool,
+) -> Option<TcpStream> {
+    if !tells_busy || seats.take_free(rt) {
+        return Some(stream);
+    }
+    tell_busy(&stream);
+    None
+}
+
+/// Says that there is no seat. Nobody waits for a client that takes nothing.
+fn tell_busy(stream: &TcpStream) {
+    let _at_once = stream.set_nonblocking(true);
+    let _told = write_whole(&mut WriterSink::new(stream), BUSY_LINE);
+    let _ended = stream.shutdown(Shutdown::Write);
 }
 
 /// Whether a descriptor is all that was wanting.
@@ -83,44 +130,73 @@ fn wants_descriptor(error: &io::Error) -> bool {
 }
 
 /// A session, or requests, over the connection, which is closed then and leaves its seat.
-fn serve_connection<B: Opening, R: Threads + Wait + Sync + AllocGlobal + RandomSource>(
+fn serve_connection<B: Opening, R: Threads + Wait + Clock + Sync + AllocGlobal + RandomSource>(
     rt: &R,
     desk: &Desk<B>,
     seats: &Seats,
-    talk: Talk,
     stream: TcpStream,
+    talk: Talk,
+    idle: Option<u32>,
 ) {
     // No reply is to wait until the one before it has arrived.
     let _at_once = stream.set_nodelay(true);
     match talk {
-        Talk::Lines => answer_connection(rt, desk, &stream),
-        Talk::Requests => answer_requests(rt, desk, &stream),
+        Talk::Lines => answer_connection(rt, desk, &stream, idle),
+        Talk::Requests => answer_requests(rt, desk, &stream, idle),
     }
     // Whoever waits for the seat may wait for the descriptor.
     drop(stream);
     seats.leave(rt);
 }
 
-/// A session over the stream.
-fn answer_connection<B: Opening, R: Threads + Wait + Sync + AllocGlobal>(
+/// A session over the stream, which may idle for so many seconds, or for ever.
+fn answer_connection<B: Opening, R: Threads + Wait + Clock + Sync + AllocGlobal>(
     rt: &R,
     desk: &Desk<B>,
     stream: &TcpStream,
+    idle: Option<u32>,
 ) {
-    let mut source = ReaderSource::new(stream);
+    match idle {
+        Some(seconds) => answer_in_time(rt, desk, stream, seconds),
+        None => {
+            let mut source = ReaderSource::new(stream);
+            let mut sink = WriterSink::new(stream);
+            answer_lines(rt, desk, &mut source, &mut sink);
+        }
+    }
+}
+
+/// A session over the stream, which may idle for so many seconds. A client that takes nothing of its replies idles too.
+fn answer_in_time<B: Opening, R: Threads + Wait + Clock + Sync + AllocGlobal>(
+    rt: &R,
+    desk: &Desk<B>,
+    stream: &TcpStream,
+    seconds: u32,
+) {
+    let longest = Duration::from_secs(u64::from(seconds));
+    if stream.set_write_timeout(Some(longest)).is_err() {
+        return;
+    }
+    let mut source = ReaderSource::new(TimedStream::new(rt, stream, longest));
     let mut sink = WriterSink::new(stream);
     answer_lines(rt, desk, &mut source, &mut sink);
 }
 
-/// Requests of HTTP over the stream. What ends them ends them alone, and nobody is left there to be told of it.
+/// Requests of HTTP over the stream, which may send nothing for so many seconds, or for ever. What ends them ends them alone,
+/// and nobody is left there to be told of it.
 fn answer_requests<B: Opening, R: Threads + Wait + Sync + AllocGlobal + RandomSource>(
     rt: &R,
     desk: &Desk<B>,
     stream: &TcpStream,
+    idle: Option<u32>,
 ) {
     let Ok(keys) = RandomState::new(rt) else {
         return;
     };
+    let longest = idle.map(|seconds| Duration::from_secs(u64::from(seconds)));
+    if stream.set_read_timeout(longest).is_err() || stream.set_write_timeout(longest).is_err() {
+        return;
+    }
     let mut reader = stream;
     let mut writer = stream;
     let _ended = serve_page(rt, desk, PAGE, keys, &mut reader, &mut writer);

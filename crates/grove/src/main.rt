@@ -2,20 +2,31 @@
 #![tactic(auto)]
 
 use answer::{Response, Stop, end};
+use asking::ask;
 use command::{refused_words, run_command, say_what_is_awaited};
-use grove_session::{ReaderSource, WriterSink};
-use std::alloc::Global;
+use grove_session::{ReaderSource, Sink, Source, WriterSink};
+use grove_words::{Command, NoOrder, Order, order_of};
+use std::alloc::{AllocGlobal, Global};
 use std::env;
 use std::io::{ErrorKind, IsTerminal};
+use std::net::{Net, TcpListener, TcpStream};
 use std::process::ExitCode;
+use std::random::RandomSource;
+use std::rt::Files;
+use std::sync::Wait;
+use std::thread::Threads;
+use std::time::Clock;
 
 mod answer;
+mod asking;
 mod command;
 mod connections;
 mod hinting;
 mod refusal;
 mod seats;
+mod server;
 mod serving;
+mod timed_stream;
 
 /// As large a block as the C library's allocator takes a sign from.
 const KEPT: usize = 1 << 24;
@@ -34,7 +45,7 @@ fn main(rt: HostRuntime) -> ExitCode {
                 if is_typed {
                     say_what_is_awaited(rt.alloc(), &words, &mut err);
                 }
-                run_command(&rt, &words, &mut input, &mut out, &mut err)
+                obey(&rt, &words, &mut input, &mut out, &mut err)
             }
             Err(_) => end(&rt, no_memory, &mut out, &mut err),
         },
@@ -44,6 +55,33 @@ fn main(rt: HostRuntime) -> ExitCode {
         Err(_) => end(&rt, refused_words(rt.alloc()), &mut out, &mut err),
     };
     ExitCode::from(status)
+}
+
+/// Does what the words ask, of a server or of a document.
+fn obey<
+    R: Files
+        + AllocGlobal
+        + RandomSource
+        + Net<Listener = TcpListener, Stream = TcpStream>
+        + Threads
+        + Wait
+        + Clock
+        + Sync,
+    I: Source,
+    O: Sink,
+    E: Sink,
+>(rt: &R, words: &[String], input: &mut I, out: &mut O, err: &mut E) -> u8 {
+    match order_of(rt.alloc(), words) {
+        Ok(
+            Order {
+                command: Command::Ask,
+                place: Some(place),
+                ..
+            },
+        ) => ask(rt, place, words, input, out, err),
+        Err(NoOrder::Memory) => end(rt, Response::plain(Err(Stop::Memory)), out, err),
+        _ => run_command(rt, words, input, out, err),
+    }
 }
 
 /// Lets the C library's allocator keep what is freed, else threads wait for each other at the system's memory. It keeps

@@ -32,10 +32,21 @@ impl Seats {
         *free -= 1;
     }
 
-    /// Gives back a seat that was taken in vain, and waits until another one is left, but not for long.
-    pub fn leave_and_wait<R: Wait + Clock>(&self, rt: &R) {
+    /// Takes a seat where one is free.
+    pub fn take_free<R: Wait>(&self, rt: &R) -> bool {
         let mut free = self.free.lock(rt);
-        *free = free.saturating_add(1);
+        match free.checked_sub(1) {
+            Some(left) => {
+                *free = left;
+                true
+            }
+            None => false,
+        }
+    }
+
+    /// Waits until a seat is left, but not for long.
+    pub fn wait<R: Wait + Clock>(&self, rt: &R) {
+        let free = self.free.lock(rt);
         let before = *free;
         let most = Duration::from_millis(LONGEST_WAIT);
         let _left = self

@@ -14,7 +14,7 @@ use crate::refusal::answer_of;
 use grove_answer::{Refusal, or_refuse};
 use grove_store::{NoStore, Store};
 use grove_wire::read_tree;
-use grove_words::Place;
+use grove_words::{Patience, Place};
 use serde_json::Value;
 use std::alloc::{AllocError, Global};
 use std::net::{IpAddr, Net, TcpListener, TcpStream};
@@ -25,6 +25,7 @@ pub struct Service {
     pub store: Store,
     pub listener: TcpListener,
     pub talk: Talk,
+    pub patience: Patience,
 }
 
 /// What is talked over a connection.
@@ -44,6 +45,7 @@ pub fn serve_document<R: Net<Listener = TcpListener, Stream = TcpStream>>(
     workers: u32,
     place: Option<Place>,
     talk: Talk,
+    patience: Patience,
 ) -> Result<Answer, Stop>
     requires short { HasShortArrays (view document.now) }
     requires workers { (1 ≤ workers) × (workers ≤ 16) }
@@ -55,7 +57,7 @@ pub fn serve_document<R: Net<Listener = TcpListener, Stream = TcpStream>>(
     ensures opened { IfOk result (ServesStore (IsOpenedFrom (view document.now) workers)) }
 {
     match open_store(alloc, document, workers) {
-        Ok(store) => listening(rt, alloc, store, place, talk),
+        Ok(store) => listening(rt, alloc, store, place, talk, patience),
         Err(refusal) => answer_of(alloc, Err(refusal)),
     }
 }
@@ -81,6 +83,7 @@ fn listening<R: Net<Listener = TcpListener, Stream = TcpStream>>(
     store: Store,
     place: Option<Place>,
     talk: Talk,
+    patience: Patience,
 ) -> Result<Answer, Stop>
     ensures said { IfOk result (Listens (λ asked. place ≡ Some asked)) }
     ensures listens { IfOk result IsListen }
@@ -97,6 +100,7 @@ fn listening<R: Net<Listener = TcpListener, Stream = TcpStream>>(
             store,
             listener,
             talk,
+            patience,
         },
     })
 }

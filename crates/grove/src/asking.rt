@@ -1,0 +1,86 @@
+ghost use Rattle.std.specs.Prelude.{◌≡◌, ◌<◌, ◌≤◌, ◌^◌, ◌⊎◌, ℕ, List, false, IfOk};
+ghost use Rattle.std.specs.Io.KnownBytes.{Appends, Consumes, IsAtEnd};
+ghost use Rattle.grove_session.specs.Sessions.{lines_of, IsAnswered};
+ghost use Rattle.grove.specs.Askings.{NotesErrors};
+
+use crate::answer::{Stop, report};
+use crate::server::Server;
+use grove_session::{BytesSource, SessionFault, Sink, Source, session};
+use grove_words::{Place, lines_asked};
+use std::alloc::{AllocGlobal, Global};
+use std::net::{Net, TcpListener, TcpStream};
+
+/// Sources that were read as often aren't read for a session.
+const MOST_READS: u64 = 1 << 63;
+
+/// Asks the server at the place the lines of the words, or those of the input where the words have none, and prints its
+/// replies. Gives the status of the process: 0, 1 where a reply was an error, 3 where the server isn't there or is lost.
+pub fn ask<
+    R: AllocGlobal + Net<Listener = TcpListener, Stream = TcpStream>,
+    I: Source,
+    O: Sink,
+    E: Sink,
+>(rt: &R, place: Place, words: &[String], input: &mut I, out: &mut O, err: &mut E) -> u8
+    ensures status { (result ≤ 1) ⊎ (result ≡ 3) }
+{
+    match ask_at(rt, place, words, input, out) {
+        Ok(false) => 0,
+        Ok(true) => 1,
+        Err(stop) => report(stop, err),
+    }
+}
+
+/// The same; gives whether a reply was an error.
+fn ask_at<R: AllocGlobal + Net<Listener = TcpListener, Stream = TcpStream>, I: Source, O: Sink>(
+    rt: &R,
+    place: Place,
+    words: &[String],
+    input: &mut I,
+    out: &mut O,
+) -> Result<bool, Stop> {
+    let lines = text_asked(rt.alloc(), words)?;
+    let stream = TcpStream::connect(rt, (place.address, place.port))?;
+    // No line is to wait until the reply before it has arrived.
+    let _at_once = stream.set_nodelay(true);
+    if lines.is_empty() {
+        ask_lines(rt, &stream, input, out)
+    } else {
+        ask_lines(rt, &stream, &mut BytesSource::new(lines.as_bytes()), out)
+    }
+}
+
+/// The lines of the words, each with a line feed.
+fn text_asked(alloc: Global, words: &[String]) -> Result<String, Stop> {
+    let mut text = String::new(alloc);
+    let Ok(lines) = lines_asked(alloc, words) else {
+        return Err(Stop::Memory);
+    };
+    for line in lines.iter() {
+        text.push_str(line)?;
+        text.push('\n')?;
+    }
+    Ok(text)
+}
+
+/// Asks the server at the other end of the stream the lines of the source, and writes its replies. Gives whether one was an
+/// error.
+fn ask_lines<R: AllocGlobal, I: Source, O: Sink>(
+    rt: &R,
+    stream: &TcpStream,
+    source: &mut I,
+    sink: &mut O,
+) -> Result<bool, Stop>
+    ensures replied { IfOk result (λ refused. (input out : List ℕ) × Consumes (I.remaining source.old) (I.remaining source.new) input
+        × IsAtEnd (I.remaining source.new) × Appends (O.contents sink.old) (O.contents sink.new) out
+        × IsAnswered NotesErrors false (lines_of input) out refused) }
+{
+    if source.failed() || sink.failed() || source.reads() >= MOST_READS {
+        return Err(Stop::Device);
+    }
+    let mut server = Server::new(stream);
+    match session(rt, &mut server, source, sink) {
+        Ok(_) => Ok(server.has_refused()),
+        Err(SessionFault::Memory) => Err(Stop::Memory),
+        Err(_) => Err(Stop::Device),
+    }
+}

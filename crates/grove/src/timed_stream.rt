@@ -1,0 +1,49 @@
+use std::io::{self, Read};
+use std::net::TcpStream;
+use std::time::{Clock, Duration, Instant};
+
+/// A connection that may idle for so long and no longer: a read of it fails once a line has been waited for all that time.
+/// Bytes without a line feed win none, and the time in which a line is answered doesn't count.
+#[derive(Drop)]
+pub struct TimedStream<'a, R> {
+    clock: &'a R,
+    stream: &'a TcpStream,
+    longest: Duration,
+    /// Since when a line has been waited for; nothing, where the last one has just come.
+    since: Option<Instant>,
+}
+
+impl<'a, R: Clock> TimedStream<'a, R> {
+    pub fn new(clock: &'a R, stream: &'a TcpStream, longest: Duration) -> TimedStream<'a, R> {
+        TimedStream {
+            clock,
+            stream,
+            longest,
+            since: None,
+        }
+    }
+
+    /// Lets the next read wait as long as there is time left. Where there is none, the system refuses to.
+    fn wait_no_longer(&mut self) -> io::Result<()> {
+        let now = Instant::now(self.clock)?;
+        let since = match self.since {
+            Some(since) => since,
+            None => now,
+        };
+        self.since = Some(since);
+        let left = self.longest.saturating_sub(now.duration_since(since));
+        self.stream.set_read_timeout(Some(left))
+    }
+}
+
+impl<R: Clock> Read for TimedStream<'_, R> {
+    fn read(&mut self, buffer: &mut [u8]) -> io::Result<usize> {
+        self.wait_no_longer()?;
+        let mut stream = self.stream;
+        let count = stream.read(buffer)?;
+        if buffer[..count].contains(&b'\n') {
+            self.since = None;
+        }
+        Ok(count)
+    }
+}
