@@ -17,7 +17,7 @@ pub struct Server<'a> {
     has_refused: bool,
 }
 
-impl Model for Server<'_> {
+impl<'a> Model for Server<'a> {
     ghost use Rattle.std.specs.Prelude.{Bool};
 
     ghost Value = { Bool };
@@ -43,7 +43,7 @@ impl<'a> Server<'a> {
     }
 }
 
-impl<R: AllocGlobal> Answers<R> for Server<'_> {
+impl<'a, R: AllocGlobal> Answers<R> for Server<'a> {
     ghost use Rattle.std.specs.Prelude.{true, ⊤};
     ghost use Rattle.grove.specs.Askings.{NotesErrors};
 

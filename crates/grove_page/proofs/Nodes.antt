@@ -11,9 +11,9 @@ use Rattle.grove_wire.specs.Writing.{number_data, count_data}
 use Rattle.grove_wire.specs.Documents.{node_data, nodes_data}
 use Rattle.grove_wire.proofs.Floatless.{array_has_no_float}
 
-node_by : (path : List ℕ) (record : ℤ) (waits weight : ℕ) → has_float (object
+node_by : (path : List ℕ) (value : ℤ) (waits weight : ℕ) → has_float (object
     (member (codes "path") (string path)
-    (member (codes "record") (number_data record)
+    (member (codes "record") (number_data value)
     (member (codes "waits") (count_data waits)
     (member (codes "weight") (count_data weight) no_members))))) ≡ false
 node_by path (pos n) waits weight = refl

@@ -13,7 +13,7 @@ pub all_replied : {S : Type 0} (P : S → Request (List ℕ) → Response → Ty
 all_replied P old new [] chain = All-nil _
 all_replied {S} P old new (call ∷ calls) chain =
     let later = all_replied P chain.0 new calls chain.2 in
-    All-cons _ _ _ chain.1.0 (subst (λ (s : S). All (λ (c : Call). P s c.0 c.1) calls) chain.1.1 later)
+    All-cons (λ (c : Call). P old c.0 c.1) call calls chain.1.0 (subst (λ (s : S). All (λ (c : Call). P s c.0 c.1) calls) chain.1.1 later)
 
 -- the calls of a connection that had none before
 pub all_called : {S : Type 0} (P : S → Request (List ℕ) → Response → Type 0) (old new : S) (before after : List Call) → before ≡ []
@@ -21,4 +21,4 @@ pub all_called : {S : Type 0} (P : S → Request (List ℕ) → Response → Typ
     → All (λ (call : Call). P old call.0 call.1) after
 all_called P old new before after none calls =
     subst (λ (cs : List Call). All (λ (call : Call). P old call.0 call.1) cs) (sym (calls.1 ∙ ap (λ (cs : List Call). cs ++ calls.0) none))
-        (all_replied P old new calls.0 calls.2)
+    (all_replied P old new calls.0 calls.2)

@@ -19,7 +19,11 @@ pub(crate) fn fill_page(response: &mut Response, page: &'static str) -> Result<(
 }
 
 /// Lines of JSON.
-pub(crate) fn fill_json(response: &mut Response, status: StatusCode, lines: &[u8]) -> Result<(), AllocError>
+pub(crate) fn fill_json(
+    response: &mut Response,
+    status: StatusCode,
+    lines: &[u8],
+) -> Result<(), AllocError>
     requires { IsBlank response.old }
     ensures { OnOk result (IsResponse status json lines.now response.new) }
 {

@@ -131,7 +131,12 @@ fn fill_replies(
         }
         Ok(_) => fill_json(response, StatusCode::OK, replies),
         Err(SessionFault::Memory) => {
-            fill_broken(response, StatusCode::SERVICE_UNAVAILABLE, replies, NO_MEMORY)
+            fill_broken(
+                response,
+                StatusCode::SERVICE_UNAVAILABLE,
+                replies,
+                NO_MEMORY,
+            )
         }
         Err(SessionFault::Foreign) => fill_broken(response, FAILED, replies, FOREIGN),
         Err(SessionFault::Write(_)) => fill_json(response, FAILED, NO_ROOM),
