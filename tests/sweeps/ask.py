@@ -1,0 +1,125 @@
+"""`grove ask` at a server, at none, and at ones that are lost: what it prints is what came, and its status is right for it."""
+
+from __future__ import annotations
+
+import json
+import socket
+import threading
+from functools import partial
+
+from server import HOST, Serving, free_port
+from store import Store
+
+from sweeps.connections import ADD, REPLIES, TEXT, TREE, WEIGHTS
+from sweeps.program import DEVICE, Ran, Tally, Try, run
+from sweeps.talks import lines_of, look, note_replies
+
+TRIED = "runs of the client, and lines that they asked"
+BAD = b'{"batch":3}\n'
+OK, REFUSED = 0, 1
+SECONDS = 20.0
+
+
+def tries(program: str, room: str) -> list[Try]:
+    return [
+        Try("ten lines", partial(ten_lines, program)),
+        Try("lines as words", partial(as_words, program)),
+        Try("statuses", partial(statuses, program)),
+        Try("many lines", partial(many, program)),
+        Try("no server", partial(nobody, program)),
+        Try("servers that are lost", partial(lost, program)),
+        Try("bytes as they come", partial(exact, program)),
+    ]
+
+
+def ask(program: str, port: int, *lines: str, text: bytes = b"") -> Ran:
+    return run(program, "ask", "--port", str(port), *lines, text=text)
+
+
+def has_error(replies: bytes) -> bool:
+    return any("error" in json.loads(line) for line in lines_of(replies))
+
+
+def ten_lines(program: str, tally: Tally) -> None:
+    """The ten lines of docs/SESSIONS.md on standard input, with the last line feed and without."""
+    for text in (TEXT, TEXT.rstrip(b"\n")):
+        with Serving(program, TREE) as server:
+            wanted = Ran(REFUSED if has_error(REPLIES) else OK, REPLIES, b"")
+            tally.compare(f"{len(text)} bytes", ask(program, server.port, text=text), wanted)
+
+
+def as_words(program: str, tally: Tally) -> None:
+    """The same as words. Then nothing is read of standard input."""
+    with Serving(program, TREE) as server:
+        words = [line.decode() for line in lines_of(TEXT)]
+        wanted = Ran(REFUSED if has_error(REPLIES) else OK, REPLIES, b"")
+        tally.compare("ten words", ask(program, server.port, *words, text=ADD), wanted)
+
+
+def statuses(program: str, tally: Tally) -> None:
+    """No line at all, lines that are all answered, and one among them that isn't."""
+    store = Store(json.loads(TREE))
+    with Serving(program, TREE) as server:
+        tally.compare("no line", ask(program, server.port), Ran(OK, b"", b""))
+        for text in (ADD, ADD + WEIGHTS, BAD, ADD + BAD + ADD, b"\n", look(store)):
+            ran = ask(program, server.port, text=text)
+            note_replies(store, text, ran.out, f"{text!r}", tally)
+            status = REFUSED if has_error(ran.out) else OK
+            tally.note(f"status of {text!r}", None if (ran.status, ran.err) == (status, b"") else f"{ran}")
+
+
+def many(program: str, tally: Tally) -> None:
+    """Lines with long replies, more of them than any pipe holds."""
+    store = Store(json.loads(TREE))
+    text = 3000 * WEIGHTS + 20 * ADD + look(store)
+    with Serving(program, TREE) as server:
+        note_replies(store, text, ask(program, server.port, text=text).out, "many", tally)
+
+
+def nobody(program: str, tally: Tally) -> None:
+    for lines in ((), (ADD.decode(),)):
+        tally.compare(f"{len(lines)} lines", ask(program, free_port(), *lines, text=ADD), DEVICE)
+
+
+class Canned:
+    """A server that reads a line for each of some texts, sends that text, and closes in the end."""
+
+    def __init__(self, *texts: bytes):
+        self.texts = texts
+        self.listener = socket.create_server((HOST, 0))
+        self.port = self.listener.getsockname()[1]
+        self.thread = threading.Thread(target=self.serve)
+
+    def __enter__(self) -> Canned:
+        self.thread.start()
+        return self
+
+    def __exit__(self, *_) -> None:
+        self.listener.close()
+        self.thread.join(SECONDS)
+
+    def serve(self) -> None:
+        self.listener.settimeout(SECONDS)
+        connection, _ = self.listener.accept()
+        with connection, connection.makefile("rb") as lines:
+            connection.settimeout(SECONDS)
+            for text in self.texts:
+                if lines.readline():
+                    connection.sendall(text)
+
+
+def lost(program: str, tally: Tally) -> None:
+    """Servers that close before a reply, within one, or behind one. Of a reply that isn't whole nothing is printed."""
+    text = 3 * ADD
+    for texts in ((), (b"",), (b'{"a',), (b'{"a":1}\n', b'{"b'), (b'{"a":1}\n', b'{"b":2}\n')):
+        whole = b"".join(reply for reply in texts if reply.endswith(b"\n"))
+        with Canned(*texts) as server:
+            tally.compare(f"{texts!r}", ask(program, server.port, text=text), Ran(3, whole, b"device\n"))
+
+
+def exact(program: str, tally: Tally) -> None:
+    """Replies of any bytes are printed as they are; those that begin as an error does give status 1."""
+    for replies in ((b" \t\x00\xff\r\n",), (b"\n",), (b'{"error":"busy"}\n',), (b'{"error" :1}\n',), (b"x" * 100_000 + b"\n",)):
+        status = REFUSED if replies[0].startswith(b'{"error":') else OK
+        with Canned(*replies) as server:
+            tally.compare(f"{replies[0][:40]!r}", ask(program, server.port, text=len(replies) * ADD), Ran(status, b"".join(replies), b""))
