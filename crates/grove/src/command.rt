@@ -227,7 +227,7 @@ fn most_bytes(command: Command) -> usize
 }
 
 /// The document that the bytes are for a command.
-#[tactic(auto, using(crate::proofs::Levels::shallow_for))]
+#[tactic(auto, using(crate::proofs::Levels::shallow_document, crate::proofs::Levels::shallow_history))]
 fn read_for(alloc: Global, command: Command, bytes: &[u8]) -> Result<Value, WireFault>
     ensures read { Gives (λ document. view document) result (document_for command bytes.now) }
     ensures short { IfOk result (λ document. HasShortArrays (view document)) }

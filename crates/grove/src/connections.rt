@@ -6,7 +6,6 @@ use crate::timed_stream::TimedStream;
 use grove_desk::{Desk, Opening, desk_session};
 use grove_page::{PAGE, serve_page};
 use grove_session::{ReaderSource, Sink, Source, WriterSink, write_whole};
-use grove_words::Patience;
 use std::alloc::AllocGlobal;
 use std::hash::RandomState;
 use std::marker::Brand;
@@ -49,22 +48,20 @@ fn serve_as<
         patience,
     } = service;
     let desk = Desk::<B>::open(rt.alloc(), store, false);
-    let seats = Seats::new();
-    serve_at(rt, &desk, &seats, &listener, talk, patience);
+    let seats = Seats::new(talk, patience);
+    serve_at(rt, &desk, &seats, &listener);
 }
 
 /// Serves the listener's connections at the desk, each in its seat.
 fn serve_at<
     B: Opening + Send + Sync,
     R: Threads + Wait + Clock + Sync + AllocGlobal + RandomSource,
->(rt: &R, desk: &Desk<B>, seats: &Seats, listener: &TcpListener, talk: Talk, patience: Patience) {
+>(rt: &R, desk: &Desk<B>, seats: &Seats, listener: &TcpListener) {
     thread::scope(thread::scope_env(), rt, |scope| {
         for _ in rt.forever() {
-            match next_seated(rt, seats, listener, patience.tells_busy) {
+            match next_seated(rt, seats, listener) {
                 Ok(Some(stream)) => {
-                    let spawned = scope.spawn(move || {
-                        serve_connection(rt, desk, seats, stream, talk, patience.idle)
-                    });
+                    let spawned = scope.spawn(move || serve_connection(rt, desk, seats, stream));
                     if spawned.is_err() {
                         seats.leave(rt);
                     }
@@ -82,8 +79,8 @@ fn next_seated<R: Wait + Clock>(
     rt: &R,
     seats: &Seats,
     listener: &TcpListener,
-    tells_busy: bool,
 ) -> io::Result<Option<TcpStream>> {
+    let tells_busy = seats.patience().tells_busy;
     if !tells_busy {
         seats.take(rt);
     }
@@ -135,12 +132,11 @@ fn serve_connection<B: Opening, R: Threads + Wait + Clock + Sync + AllocGlobal +
     desk: &Desk<B>,
     seats: &Seats,
     stream: TcpStream,
-    talk: Talk,
-    idle: Option<u32>,
 ) {
     // No reply is to wait until the one before it has arrived.
     let _at_once = stream.set_nodelay(true);
-    match talk {
+    let idle = seats.patience().idle;
+    match seats.talk() {
         Talk::Lines => answer_connection(rt, desk, &stream, idle),
         Talk::Requests => answer_requests(rt, desk, &stream, idle),
     }

@@ -1,3 +1,5 @@
+use crate::serving::Talk;
+use grove_words::Patience;
 use std::sync::{Condvar, Mutex, Wait};
 use std::time::{Clock, Duration};
 
@@ -7,21 +9,35 @@ const MOST_CONNECTIONS: usize = 16;
 /// For how many milliseconds a seat to be left is waited for, where what is wanted may come from elsewhere too.
 const LONGEST_WAIT: u64 = 100;
 
-/// The seats of connections, as many as are served at once.
+/// The seats of connections, as many as are served at once, and how whoever has one is served.
 #[derive(Drop)]
 pub struct Seats {
     free: Mutex<usize>,
     /// A seat was left.
     left: Condvar,
+    talk: Talk,
+    patience: Patience,
 }
 
 impl Seats {
     /// All seats, free.
-    pub fn new() -> Seats {
+    pub fn new(talk: Talk, patience: Patience) -> Seats {
         Seats {
             free: Mutex::new(MOST_CONNECTIONS),
             left: Condvar::new(),
+            talk,
+            patience,
         }
+    }
+
+    /// What is talked over a connection.
+    pub fn talk(&self) -> Talk {
+        self.talk
+    }
+
+    /// How long a connection may idle, and whether one without a seat is told.
+    pub fn patience(&self) -> Patience {
+        self.patience
     }
 
     /// Takes a seat, once one is free.

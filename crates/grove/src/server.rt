@@ -1,5 +1,4 @@
-ghost use Rattle.std.specs.Prelude.{◌≡◌, ◌++◌, ◌∷◌, [], false, IfOk};
-ghost use Rattle.std.specs.Io.KnownBytes.{Consumes};
+ghost use Rattle.std.specs.Prelude.{◌≡◌, false};
 
 use grove_session::{AnswerFault, Answers, ReaderSource, Source, WriterSink, write_whole};
 use std::alloc::{AllocGlobal, Global};
@@ -73,9 +72,7 @@ fn asked(alloc: Global, stream: &TcpStream, line: &[u8]) -> Result<Vec<u8>, Answ
 }
 
 /// The reply, which is all that comes up to a line feed. Nothing may have come behind it.
-fn reply_of<S: Source>(alloc: Global, source: &mut S) -> Result<Vec<u8>, AnswerFault>
-    ensures { IfOk result (λ reply. Consumes (S.remaining source.old) (S.remaining source.new) (reply.items ++ 10 ∷ [])) }
-{
+fn reply_of<S: Source>(alloc: Global, source: &mut S) -> Result<Vec<u8>, AnswerFault> {
     let mut reply = read_line(alloc, source)?;
     match reply.pop() {
         Some(b'\n') if !reply.contains(&b'\n') => Ok(reply),
@@ -84,9 +81,7 @@ fn reply_of<S: Source>(alloc: Global, source: &mut S) -> Result<Vec<u8>, AnswerF
 }
 
 /// What is read until a line feed has come.
-fn read_line<S: Source>(alloc: Global, source: &mut S) -> Result<Vec<u8>, AnswerFault>
-    ensures { IfOk result (λ line. Consumes (S.remaining source.old) (S.remaining source.new) line.items) }
-{
+fn read_line<S: Source>(alloc: Global, source: &mut S) -> Result<Vec<u8>, AnswerFault> {
     let mut line = Vec::new(alloc);
     let mut buffer = [0u8; 16_384];
     for _ in 0..u64::MAX {
