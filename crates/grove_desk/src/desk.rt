@@ -22,6 +22,9 @@ use std::thread::Threads;
 
 mod closing;
 
+/// A line with more bytes than this is put once no other such line is being answered.
+const LARGE_LINE: usize = 64 * 1024;
+
 /// A store that many callers share. Each puts a line and waits for its receipt; one of them, whoever finds the store there,
 /// takes it with the first lines that wait, answers them as one round, and puts it back. What it was opened with is known by
 /// its type: so no other store gets behind its lock.
@@ -31,6 +34,8 @@ pub struct Desk<B: Opening> {
     board: Mutex<Board<B>>,
     /// Something on the board has moved for which others may wait.
     moved: Condvar,
+    /// Taken by the one large line that is answered.
+    large: Mutex<()>,
 }
 
 impl<B: Opening> Model for Desk<B> {
@@ -56,11 +61,13 @@ impl<B: Opening> Desk<B> {
             kept,
             board: Mutex::new(Board::new(alloc, ledger)),
             moved: Condvar::new(),
+            large: Mutex::new(()),
         }
     }
 
     /// Answers a line of at most 1,048,576 bytes, alone or in a round with others that wait, and gives its receipt. It may wait
-    /// for others, and while 16 lines wait it puts none. `seen` is a receipt that the new one has to come after. This
+    /// for others, and while 16 lines wait it puts none; one of more than 65,536 bytes waits until none such is answered, so that no
+    /// line waits for several of them. `seen` is a receipt that the new one has to come after. This
     /// caller's gate is called only in a round that it runs itself. `Memory`: the line had no effect. `Foreign`: it may have had
     /// one.
     pub fn answer<R: Threads + Wait + Sync, G: Gate + Sync>(
@@ -110,7 +117,7 @@ impl<B: Opening> Desk<B> {
         unreachable!()
     }
 
-    /// Puts a line and waits for what it was answered.
+    /// Puts a line, a large one in its turn, and waits for what it was answered.
     fn receipt<R: Threads + Wait + Sync, G: Gate + Sync>(
         &self,
         rt: &R,
@@ -121,6 +128,11 @@ impl<B: Opening> Desk<B> {
         requires { length line.now ≤ LINE_LIMIT }
         ensures { IfOk result (IsAnswered B.store B.kept) }
     {
+        let _turn = if line.len() > LARGE_LINE {
+            Some(self.large.lock(rt))
+        } else {
+            None
+        };
         let mut taken = Vec::with_capacity(alloc, MOST_LINES)?;
         let ticket = self.put(rt, Line::new(alloc, line)?)?;
         self.attend(rt, alloc, ticket, &mut taken, gate)

@@ -58,7 +58,7 @@ impl<'a, B: Opening, R: Threads + Wait + Sync + AllocGlobal> Answers<R> for Visi
             .answer(rt, alloc, self.seen.as_ref(), line, &OpenGate)
         {
             Ok(receipt) => {
-                let (seen, reply) = without_reply(alloc, receipt);
+                let (seen, reply) = parted(alloc, receipt);
                 self.seen = Some(seen);
                 Ok(reply)
             }
@@ -67,21 +67,21 @@ impl<'a, B: Opening, R: Threads + Wait + Sync + AllocGlobal> Answers<R> for Visi
     }
 }
 
-/// The receipt without its reply, and the reply.
-fn without_reply(alloc: Global, receipt: Receipt) -> (Receipt, Vec<u8>)
+/// What the next receipt is to come after, without line and reply, and the reply.
+fn parted(alloc: Global, receipt: Receipt) -> (Receipt, Vec<u8>)
     ensures rounds { result.0.rounds ≡ receipt.rounds }
     ensures number { result.0.number ≡ receipt.number }
     ensures reply { result.1.items ≡ receipt.reply }
 {
     let Receipt {
         number,
-        line,
         reply,
         rounds,
+        ..
     } = receipt;
     let seen = Receipt {
         number,
-        line,
+        line: Vec::new(alloc),
         reply: Vec::new(alloc),
         rounds,
     };
