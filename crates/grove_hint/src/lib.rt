@@ -1,8 +1,9 @@
-//! What a person is told beside the refusal of a document: one line on what is amiss, and where.
+//! What a person is told beside the refusal of a document or of a session's line: one line on what is amiss, and where.
 #![tactic(auto)]
 
 pub use asked::Asked;
 pub use hinting::{awaited, hint, oversight};
+pub use session::hint_of_line;
 
 mod accesses;
 mod amiss;
@@ -18,6 +19,7 @@ mod paths;
 mod place;
 mod plans;
 mod scanning;
+mod session;
 mod shapes;
 mod shown;
 mod steps;
