@@ -2,6 +2,7 @@ ghost use Rattle.std.specs.Prelude.{◌≤◌, ◌<◌};
 
 use crate::again::values::{access, job_of, list_of};
 use crate::branches::BRANCHES;
+use crate::rows;
 use crate::running::{self, DEPTH};
 use crate::steps::{lock, unlock};
 use anyhow::{Result, bail};
@@ -11,7 +12,7 @@ use grove_core::{Job, all_fit, judge_all};
 use grove_meter::reweigh;
 use grove_plan::Step;
 use grove_run::{Finished, run_legal};
-use grove_tree::{OpenGate, Row, Tree};
+use grove_tree::{Gate, OpenGate, Row, Tree};
 use std::alloc::Global;
 use std::io;
 use std::rt::Runtime;
@@ -178,27 +179,28 @@ fn time_each_run<R: Runtime + Threads + Wait + Sync>(
     jobs: &[Job],
 ) -> Result<()> {
     for workers in [1, 2, 4] {
-        let (spent, steps) = time_run(rt, alloc, tree, records, jobs, workers)?;
+        let (spent, steps) = time_run(rt, alloc, tree, records, jobs, workers, &OpenGate)?;
         println!(rt; "{what} {workers} {} of {steps} events", spent.as_micros())?;
     }
     Ok(())
 }
 
 /// How long a run takes of jobs whose plans were judged before, and how many events it has.
-fn time_run<R: Runtime + Threads + Wait + Sync>(
+pub fn time_run<R: Runtime + Threads + Wait + Sync, G: Gate + Sync>(
     rt: &R,
     alloc: Global,
     tree: &Tree,
     records: &Records,
     jobs: &[Job],
     workers: usize,
+    gate: &G,
 ) -> Result<(Duration, usize)> {
     if !records.fits(tree) || !all_fit(tree, jobs) || jobs.len() > BATCH as usize {
         bail!("the jobs don't fit");
     }
     judge_all(alloc, tree, jobs)?;
     let since = Instant::now(rt)?;
-    let finished = run_legal(rt, alloc, tree, records, jobs, workers, &OpenGate)?;
+    let finished = run_legal(rt, alloc, tree, records, jobs, workers, gate)?;
     measured(since.elapsed(rt), &finished)
 }
 
@@ -227,15 +229,7 @@ fn push_shop(alloc: Global, rows: &mut Vec<Row>, shop: u32) -> Result<()>
 }
 
 fn row(alloc: Global, parent: Option<u32>, number: u32) -> Result<Row> {
-    let name = match parent {
-        Some(_) => format!(in alloc; "n{number}")?,
-        None => String::new(alloc),
-    };
-    Ok(Row {
-        parent,
-        name,
-        weight: 1 + number % 1000,
-    })
+    rows::row(alloc, parent, number, 1 + number % 1000)
 }
 
 /// Lists that add 1 to 64 nodes all over the tree, each list's nodes so many numbers after those of the one before.

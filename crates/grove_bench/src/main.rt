@@ -4,10 +4,12 @@
 mod again;
 mod batches;
 mod branches;
+mod hot;
 mod laps;
 mod listing;
 mod networks;
 mod planning;
+mod rows;
 mod running;
 mod steps;
 mod watch;
@@ -26,6 +28,7 @@ fn main(rt: HostRuntime) -> Result<()> {
             "plan" => planning::time(&rt),
             "core" => running::time(&rt),
             "batches" => batches::time(&rt, rt.alloc()),
+            "hot" => hot::time(&rt, rt.alloc()),
             "solve" => networks::solve_each(&rt),
             other => again::call(&rt, other),
         };
