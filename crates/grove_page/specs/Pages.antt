@@ -55,7 +55,7 @@ abbrev pub is_error : ℕ → List ℕ → Bool
 is_error count out = (count == 1) && starts_with nat_eq out (codes "{\"error\":")
 
 -- the replies to all lines; those before the line for which there was no memory, or whose answer wasn't its; or no replies,
--- where they had no room
+-- where they have more bytes than go into a response
 abbrev pub TellsSession : Result ℕ SessionFault → List ℕ → Response → Type 0
 TellsSession (Ok count) out r = IsResponse (if is_error count out then 400 else 200) json out r
 TellsSession (Err Memory) out r = IsResponse 503 json (out ++ error_line (codes "memory")) r
@@ -71,6 +71,8 @@ pub record VisitsDesk (opening : Stock) (body : List ℕ) (result : Result ℕ S
   pub new : Visited
   pub read : body ≡ input ++ left
   pub ends : SessionEnds IsShared (visitor opening) result (Some left) input out new
+  -- a reply that doesn't go out whole is one that these bytes end in
+  pub cut : (written : ℕ) → result ≡ Err (Write written) → written ≡ 16777216
 
 -- the reply tells of a session over the body
 abbrev pub AnswersLines : Stock → List ℕ → Response → Type 0

@@ -3,8 +3,8 @@
 
 pub use front::Front;
 pub use page::PAGE;
+pub use replies_sink::{MOST_REPLIES, RepliesSink};
 pub use route::{Route, route_for};
-pub use service::MOST_REPLIES;
 pub use serving::{MOST_BODY, serve_page};
 
 mod desk_front;
@@ -12,6 +12,7 @@ mod front;
 mod lines;
 mod page;
 mod replies;
+mod replies_sink;
 mod route;
 mod service;
 mod serving;
