@@ -1,9 +1,8 @@
 -- A body of which no line is read, since there is no memory for replies.
-use Rattle.std.proofs.Common.{◌≡◌, ℕ, List, [], ◌++◌, codes, refl, ap, Result, Err, arith, rules}
+use Rattle.std.proofs.Common.{ℕ, List, [], codes, refl, ap, Err, arith, rules}
 use Rattle.http_server.specs.declared.response.Response.{Response}
 use Rattle.http_server.specs.Response.{IsResponse}
-use Rattle.grove_session.specs.declared.session_fault.SessionFault.{SessionFault}
-use Rattle.grove_session.specs.declared.session_fault.SessionFault.TheVariants.{Memory, Write}
+use Rattle.grove_session.specs.declared.session_fault.SessionFault.TheVariants.{Memory}
 use Rattle.grove_session.specs.Sessions.{is_write}
 use Rattle.grove_store.specs.Stocks.{Stock}
 use Rattle.grove_page.specs.Pages.{json, error_line, visitor, AnswersLines}

@@ -19,7 +19,7 @@ use Rattle.grove_store.specs.Stocks.{Stock}
 use Rattle.grove_desk.specs.Histories.{Led}
 use Rattle.grove_desk.specs.Desks.{Visited, IsShared}
 use Rattle.grove_page.specs.declared.route.Route.{Route}
-use Rattle.grove_page.specs.declared.route.Route.TheVariants.{Page, Lines, Document, Nodes, OnlyLook, LookOrSend, Nowhere}
+use Rattle.grove_page.specs.declared.route.Route.TheVariants.{Page, Lines, Document, Nodes, OnlyLook, LookOrSend, ForeignPage, Nowhere}
 use Rattle.grove_page.specs.Routes.{route_of}
 
 -- a page's text, and the store that its desk was opened with
@@ -102,11 +102,13 @@ IsReplyTo state body Document r = TellsStore document_line state.opening r
 IsReplyTo state body Nodes r = TellsStore nodes_line state.opening r
 IsReplyTo state body OnlyLook r = IsResponse 405 (json_for (codes "GET, HEAD")) (error_line (codes "method")) r
 IsReplyTo state body LookOrSend r = IsResponse 405 (json_for (codes "GET, HEAD, POST")) (error_line (codes "method")) r
+IsReplyTo state body ForeignPage r = IsResponse 403 json (error_line (codes "origin")) r
 IsReplyTo state body Nowhere r = IsResponse 404 json (error_line (codes "not-found")) r
 
 -- what is replied to a request
 abbrev pub IsPageReply : PageState → Request (List ℕ) → Response → Type 0
-IsPageReply state request r = IsReplyTo state (body_of request) (route_of (head_of request).method (uri_path (head_of request).uri)) r
+IsPageReply state request r =
+    IsReplyTo state (body_of request) (route_of (head_of request).method (uri_path (head_of request).uri) (head_of request).headers) r
 
 -- a connection that was served as HTTP asks, with such a reply to each request
 pub record IsPageHistory (state : PageState) (config : Config) (h : History) : Type 0 where

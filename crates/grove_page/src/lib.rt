@@ -10,6 +10,7 @@ pub use serving::{MOST_BODY, serve_page};
 mod desk_front;
 mod front;
 mod lines;
+mod origin;
 mod page;
 mod replies;
 mod replies_sink;

@@ -24,6 +24,8 @@ const FOREIGN: &[u8] = b"{\"error\":\"foreign\"}\n";
 
 const DEVICE: &[u8] = b"{\"error\":\"device\"}\n";
 
+const ORIGIN: &[u8] = b"{\"error\":\"origin\"}\n";
+
 const NOT_FOUND: &[u8] = b"{\"error\":\"not-found\"}\n";
 
 /// Replies to the requests of a connection.
@@ -55,13 +57,15 @@ impl<'a, R: AllocGlobal, F: Front<R>> Service for PageService<'a, R, F> {
         request: &Request<Bytes>,
         response: &mut Response,
     ) -> Result<(), AllocError> {
-        match route_for(request.method().as_str(), request.uri().path()) {
+        let path = request.uri().path();
+        match route_for(request.method().as_str(), path, request.headers()) {
             Route::Page => fill_page(response, self.page),
             Route::Lines => self.answer_lines(request.body().as_slice(), response),
             Route::Document => self.tell_document(response),
             Route::Nodes => self.tell_nodes(response),
             Route::OnlyLook => fill_allowed(response, "GET, HEAD"),
             Route::LookOrSend => fill_allowed(response, "GET, HEAD, POST"),
+            Route::ForeignPage => fill_json(response, StatusCode::FORBIDDEN, ORIGIN),
             Route::Nowhere => fill_json(response, StatusCode::NOT_FOUND, NOT_FOUND),
         }
     }
