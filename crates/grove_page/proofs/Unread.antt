@@ -10,15 +10,15 @@ use Rattle.grove_page.specs.Pages.{json, error_line, visitor, AnswersLines}
 pub no_line_is_read : (opening : Stock) (body : List ℕ) (r : Response)
     → IsResponse 503 json (error_line (codes "memory")) r → AnswersLines opening body r
 no_line_is_read opening body r said = (
-    Err Memory,
-    [],
-    record {
-      input = [];
-      left = body;
-      new = visitor opening;
-      read = refl;
-      ends = (0, omega arith, (refl, refl));
-      cut = λ (written : ℕ) is. search (rules, ap is_write is);
-    },
-    said,
-  )
+  Err Memory,
+  [],
+  record {
+    input = [];
+    left = body;
+    new = visitor opening;
+    read = refl;
+    ends = (0, omega arith, (refl, refl));
+    cut = λ (written : ℕ) is. search (rules, ap is_write is);
+  },
+  said,
+)

@@ -54,8 +54,8 @@ visitor opening = record { names = unweighed opening.rows; rounds = 0 }
 abbrev pub is_error : ℕ → List ℕ → Bool
 is_error count out = (count == 1) && starts_with nat_eq out (codes "{\"error\":")
 
--- the replies to all lines; those before the line for which there was no memory, or whose answer wasn't its; or no replies,
--- where they have more bytes than go into a response
+-- the replies to all lines; those before the line for which there was no memory, or whose answer wasn't its; or none, where
+-- they have more bytes than go into a response
 abbrev pub TellsSession : Result ℕ SessionFault → List ℕ → Response → Type 0
 TellsSession (Ok count) out r = IsResponse (if is_error count out then 400 else 200) json out r
 TellsSession (Err Memory) out r = IsResponse 503 json (out ++ error_line (codes "memory")) r
@@ -108,7 +108,8 @@ IsReplyTo state body Nowhere r = IsResponse 404 json (error_line (codes "not-fou
 -- what is replied to a request
 abbrev pub IsPageReply : PageState → Request (List ℕ) → Response → Type 0
 IsPageReply state request r =
-    IsReplyTo state (body_of request) (route_of (head_of request).method (uri_path (head_of request).uri) (head_of request).headers) r
+    let head = head_of request in
+    IsReplyTo state (body_of request) (route_of head.method (uri_path head.uri) head.headers) r
 
 -- a connection that was served as HTTP asks, with such a reply to each request
 pub record IsPageHistory (state : PageState) (config : Config) (h : History) : Type 0 where

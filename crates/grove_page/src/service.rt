@@ -2,10 +2,10 @@ ghost use Rattle.std.specs.Prelude.{◌≡◌, ◌++◌, OnOk, OnErr, IfOk, code
 ghost use Rattle.http_server.specs.Response.{IsBlank, IsResponse};
 ghost use Rattle.grove_page.specs.Pages.{json, error_line, document_line, nodes_line, AnswersLines, TellsStore, TellsSession};
 
-use crate::{Front, RepliesSink};
 use crate::lines::{document_line, nodes_line};
 use crate::replies::{fill_allowed, fill_json, fill_page};
 use crate::route::{Route, route_for};
+use crate::{Front, RepliesSink};
 use bytes::{BufMut, Bytes};
 use grove_session::SessionFault;
 use grove_tree::NoMemory;
