@@ -12,6 +12,7 @@ VERSIONS = ["HTTP/1.0", "HTTP/1.2", "HTTP/0.9", "HTTP/2.0", "HTTP/1.1 ", "http/1
 VERSIONS += ["HTTP/1.1\x0b"]
 FIELDS = ["nocolon", "a : b", ": b", "a: \x00", "a: \x7f", "a: b\r\n folded: c", " a: b", "a\tb: c", "é: é", "a: \rb"]
 FIELDS += ["host: b", "host: a b", "host: [::1", "host: a:99999999", "connection: close"]
+FIELDS += ["origin: null", "origin: http://a", "origin: http://b\r\norigin: http://b"]
 FIELDS += ["connection: upgrade, close, keep-alive", "upgrade: websocket\r\nconnection: upgrade"]
 FIELDS += ["upgrade: h2c\r\nconnection: upgrade, http2-settings", "a: " + "b" * 20000, "expect: 100-continue"]
 FIELDS += ["expect: 200-ok", "expect: ", "accept-encoding: " + "gzip," * 500, "range: bytes=0-9999999999"]
@@ -87,7 +88,7 @@ def strange_chunk(random):
 def strange_body(random):
     lines = random.choices(LINES, k=random.randrange(1, 5))
     long = b" " * random.choice([0, 10, 70_000, 1_048_577])
-    fields = random.choice([[], ["expect: 100-continue"], ["content-type: text/html; charset=utf-7"]])
+    fields = random.choice([[], ["expect: 100-continue"], ["origin: null"], ["content-type: text/html; charset=utf-7"]])
     return post(b"\n".join([*lines, long]), *fields)
 
 

@@ -5,7 +5,7 @@ import re
 from pathlib import Path
 
 from store import compact
-from web import HTML, JSON
+from web import HOST, HTML, JSON, values_of
 
 PAGE = Path(__file__).resolve().parents[1] / "crates/grove_page/page/page.html"
 MOST_BODY = 4_194_304
@@ -41,8 +41,16 @@ def after(store, lines):
     return left
 
 
-def fault_of_response(store, method, path, body, response):
-    """What is wrong with the response to a request; `None` where it is right. The store is then what that leaves."""
+def is_from_here(fields):
+    """Does no page send these fields, or one of the host that the request names?"""
+    host = values_of(fields, "host") or [HOST]
+    return values_of(fields, "origin") in ([], [f"http://{host[0]}"])
+
+
+def fault_of_response(store, row, response):
+    """What is wrong with the response to a request of this method, path and body, and these fields; `None` where it is
+    right. The store is then what that leaves."""
+    method, path, body, *fields = row
     if response is None:
         return "there is no response"
     if path not in ALLOWED:
@@ -51,6 +59,8 @@ def fault_of_response(store, method, path, body, response):
         told = set(re.split(rb"[ \t]*,[ \t]*", response.fields.get(b"allow", b"")))
         fault = fault_of_plain(response, 405, {b'{"error":"method"}\n'})
         return fault or (None if told == ALLOWED[path] else f"{told} are allowed, and not {ALLOWED[path]}")
+    if method == "POST" and not is_from_here(fields):
+        return fault_of_plain(response, 403, {b'{"error":"origin"}\n'})
     if method == "POST":
         return fault_of_replies(store, body, response)
     return fault_of_look(response, text_at(store, path), HTML if path == "/" else JSON, method)

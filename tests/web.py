@@ -30,10 +30,17 @@ class Response(NamedTuple):
 
 
 def request(method, path, body=None, *fields):
-    """The bytes of a request; with a body it tells how long it is."""
+    """The bytes of a request; with a body it tells how long it is, and its host where the fields don't."""
     length = [] if body is None else [f"content-length: {len(body)}"]
-    head = [f"{method} {path} HTTP/1.1", f"host: {HOST}", *fields, *length]
+    host = [] if values_of(fields, "host") else [f"host: {HOST}"]
+    head = [f"{method} {path} HTTP/1.1", *host, *fields, *length]
     return "\r\n".join([*head, "", ""]).encode() + (body or b"")
+
+
+def values_of(fields, name):
+    """The values of the fields of this name, which is in small letters."""
+    parted = [field.split(":", 1) for field in fields]
+    return [value.strip() for known, value in parted if known.lower() == name]
 
 
 def post(body, *fields):

@@ -15,7 +15,7 @@ from random import Random
 from history import fault_of_history
 from hostile import hostile
 from pages import MOST_BODY, document_text, fault_of_response, nodes_text
-from server import PIECE, BadServer, Serving, connected
+from server import HOST, PIECE, BadServer, Serving, connected
 from store import MOST_LINE, Store, compact
 from web import BadResponse, Client, chunked, post, request, responses_in
 
@@ -30,10 +30,28 @@ SEEDED = 8
 HOSTILE_PARTS, HOSTILE_EACH, HONEST_EVERY = 4, 1000, 50
 # How long sixteen clients ask.
 SECONDS = 3.0
-STATUSES = {100, 200, 400, 404, 405, 413, 414, 431, 501}
+STATUSES = {100, 200, 400, 403, 404, 405, 413, 414, 431, 501}
 PORT = 0
 REFUSED = b'{"batch":[[["get","/c"]]]}'
 LOOK = ("GET", "/nodes", None)
+# The fields of requests that a page sends: the first three are of a page of the server.
+ORIGINS = [
+    (f"origin: http://{HOST}",),
+    (f"Origin:http://{HOST} ",),
+    ("origin: http://localhost:8080", "host: localhost:8080"),
+    ("origin: http://localhost", "host: localhost:8080"),
+    ("origin: http://localhost:8080", "host: localhost"),
+    (f"origin: https://{HOST}",),
+    (f"origin: http://{HOST}.elsewhere.example",),
+    (f"origin: http://{HOST[:-1]}",),
+    (f"origin: {HOST}",),
+    ("origin: http://",),
+    ("origin: http://elsewhere.example",),
+    ("origin: null",),
+    ("origin:",),
+    (f"origin: http://{HOST}", f"origin: http://{HOST}"),
+    (f"origin: http://{HOST}, http://{HOST}",),
+]
 ROWS = [
     ("GET", "/", None),
     ("HEAD", "/", None),
@@ -63,6 +81,12 @@ ROWS = [
     ("POST", "/document", b""),
     ("PATCH", "/document", ADD),
     ("OPTIONS", "/", None),
+    *[("POST", "/", ADD, *fields) for fields in ORIGINS],
+    ("GET", "/", None, "origin: null"),
+    ("GET", "/nodes", None, "origin: http://elsewhere.example"),
+    ("PUT", "/", ADD, "origin: null"),
+    ("POST", "/nodes", ADD, "origin: null"),
+    ("POST", "/none", ADD, "origin: null"),
     LOOK,
 ]
 
@@ -86,8 +110,8 @@ def serving(program: str, document: bytes, workers: int = 1, **how) -> Serving:
 
 
 def note_row(store: Store, row: tuple, response, where: str, tally: Tally) -> None:
-    fault = fault_of_response(store, *row, response)
-    tally.note(where, fault and f"{row[0]} {row[1]} {(row[2] or b'')[:80]!r}: {fault}")
+    fault = fault_of_response(store, row, response)
+    tally.note(where, fault and f"{row[0]} {row[1]} {(row[2] or b'')[:80]!r} {row[3:]}: {fault}")
 
 
 def note_rows(client: Client, store: Store, rows: list[tuple], where: str, tally: Tally) -> None:

@@ -70,7 +70,7 @@ def ask_all(program: str, how: dict, where: str, tally: Tally) -> None:
                         tally.blame(where, f"what is left after {row} and {response} isn't what its lines leave")
                         return
                 else:
-                    fault = fault_of_response(store, *row, response)
+                    fault = fault_of_response(store, row, response)
                     tally.note(where, fault and f"{row[0]} {row[1]} {row[2]!r}: {fault}")
             client.close()
         tally.note(where, None if lost <= 1 else f"{lost} requests have no answer")
@@ -98,7 +98,7 @@ def store_left(store: Store, row: tuple, response, looks: list[tuple]) -> Store 
     for size in sizes:
         left = after(store, lines[:size])
         is_told = response is None or are_replies(store, lines[:size], response.body)
-        if is_told and all(fault_of_response(left, *look, found) is None for look, found in looks):
+        if is_told and all(fault_of_response(left, look, found) is None for look, found in looks):
             return left
     return None
 

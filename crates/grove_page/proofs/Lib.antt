@@ -1,3 +1,4 @@
 pub mod Nodes
 pub mod Replied
 pub mod Told
+pub mod Unread

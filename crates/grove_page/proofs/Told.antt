@@ -1,5 +1,5 @@
 -- What is told of a store: its line, or that there is no memory for it.
-use Rattle.std.proofs.Common.{◌≡◌, ℕ, List, codes, subst, Result, Ok, Err, IfOk, OnOk, OnErr, ◌⊎◌, inl, inr}
+use Rattle.std.proofs.Common.{◌≡◌, ℕ, List, codes, subst, Result, Ok, Err, IfOk, OnOk, OnErr, inl, inr}
 use Rattle.http_server.specs.declared.response.Response.{Response}
 use Rattle.http_server.specs.Response.{IsResponse}
 use Rattle.grove_store.specs.Stocks.{Stock}

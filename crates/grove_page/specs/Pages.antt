@@ -19,7 +19,7 @@ use Rattle.grove_store.specs.Stocks.{Stock}
 use Rattle.grove_desk.specs.Histories.{Led}
 use Rattle.grove_desk.specs.Desks.{Visited, IsShared}
 use Rattle.grove_page.specs.declared.route.Route.{Route}
-use Rattle.grove_page.specs.declared.route.Route.TheVariants.{Page, Lines, Document, Nodes, OnlyLook, LookOrSend, Nowhere}
+use Rattle.grove_page.specs.declared.route.Route.TheVariants.{Page, Lines, Document, Nodes, OnlyLook, LookOrSend, ForeignPage, Nowhere}
 use Rattle.grove_page.specs.Routes.{route_of}
 
 -- a page's text, and the store that its desk was opened with
@@ -54,8 +54,8 @@ visitor opening = record { names = unweighed opening.rows; rounds = 0 }
 abbrev pub is_error : ℕ → List ℕ → Bool
 is_error count out = (count == 1) && starts_with nat_eq out (codes "{\"error\":")
 
--- the replies to all lines; those before the line for which there was no memory, or whose answer wasn't its; or no replies,
--- where they had no room
+-- the replies to all lines; those before the line for which there was no memory, or whose answer wasn't its; or none, where
+-- they have more bytes than go into a response
 abbrev pub TellsSession : Result ℕ SessionFault → List ℕ → Response → Type 0
 TellsSession (Ok count) out r = IsResponse (if is_error count out then 400 else 200) json out r
 TellsSession (Err Memory) out r = IsResponse 503 json (out ++ error_line (codes "memory")) r
@@ -71,6 +71,8 @@ pub record VisitsDesk (opening : Stock) (body : List ℕ) (result : Result ℕ S
   pub new : Visited
   pub read : body ≡ input ++ left
   pub ends : SessionEnds IsShared (visitor opening) result (Some left) input out new
+  -- a reply that doesn't go out whole is one that these bytes end in
+  pub cut : (written : ℕ) → result ≡ Err (Write written) → written ≡ 16777216
 
 -- the reply tells of a session over the body
 abbrev pub AnswersLines : Stock → List ℕ → Response → Type 0
@@ -100,11 +102,14 @@ IsReplyTo state body Document r = TellsStore document_line state.opening r
 IsReplyTo state body Nodes r = TellsStore nodes_line state.opening r
 IsReplyTo state body OnlyLook r = IsResponse 405 (json_for (codes "GET, HEAD")) (error_line (codes "method")) r
 IsReplyTo state body LookOrSend r = IsResponse 405 (json_for (codes "GET, HEAD, POST")) (error_line (codes "method")) r
+IsReplyTo state body ForeignPage r = IsResponse 403 json (error_line (codes "origin")) r
 IsReplyTo state body Nowhere r = IsResponse 404 json (error_line (codes "not-found")) r
 
 -- what is replied to a request
 abbrev pub IsPageReply : PageState → Request (List ℕ) → Response → Type 0
-IsPageReply state request r = IsReplyTo state (body_of request) (route_of (head_of request).method (uri_path (head_of request).uri)) r
+IsPageReply state request r =
+    let head = head_of request in
+    IsReplyTo state (body_of request) (route_of head.method (uri_path head.uri) head.headers) r
 
 -- a connection that was served as HTTP asks, with such a reply to each request
 pub record IsPageHistory (state : PageState) (config : Config) (h : History) : Type 0 where

@@ -1,6 +1,6 @@
-use crate::Front;
+use crate::{Front, RepliesSink};
 use grove_desk::{Desk, Opening, Visit};
-use grove_session::{BytesSource, Fuse, SessionFault, session};
+use grove_session::{BytesSource, SessionFault, session};
 use grove_store::Store;
 use grove_tree::NoMemory;
 use std::alloc::AllocGlobal;
@@ -14,7 +14,12 @@ impl<B: Opening, R: Threads + Wait + Sync + AllocGlobal> Front<R> for Desk<B> {
 
     ghost asks = { IsSync R.row };
 
-    fn answer_lines(&self, rt: &R, lines: &[u8], sink: &mut Fuse) -> Result<u64, SessionFault> {
+    fn answer_lines(
+        &self,
+        rt: &R,
+        lines: &[u8],
+        sink: &mut RepliesSink,
+    ) -> Result<u64, SessionFault> {
         let mut visit = Visit::new(self);
         let mut source = BytesSource::new(lines);
         session(rt, &mut visit, &mut source, sink)

@@ -3,7 +3,8 @@ ghost use Rattle.grove_store.specs.Stocks.{Stock};
 ghost use Rattle.grove_desk.specs.Histories.{Led};
 ghost use Rattle.grove_page.specs.Pages.{VisitsDesk};
 
-use grove_session::{Fuse, SessionFault, Sink};
+use crate::RepliesSink;
+use grove_session::{SessionFault, Sink};
 use grove_store::Store;
 use grove_tree::NoMemory;
 
@@ -16,11 +17,16 @@ pub trait Front<R> {
     ghost asks: { Type 0 };
 
     /// Answers the lines of the bytes, one after the other, each with its reply and a line feed, and gives their number.
-    fn answer_lines(&self, rt: &R, lines: &[u8], sink: &mut Fuse) -> Result<u64, SessionFault>
+    fn answer_lines(
+        &self,
+        rt: &R,
+        lines: &[u8],
+        sink: &mut RepliesSink,
+    ) -> Result<u64, SessionFault>
         requires asks { asks }
-        requires empty { ⟦<Fuse as Sink>⟧.contents sink.old ≡ Some [] }
-        requires sound { ⟦<Fuse as Sink>⟧.has_failed sink.old ≡ false }
-        ensures { (out : List ℕ) × (⟦<Fuse as Sink>⟧.contents sink.new ≡ Some out) × VisitsDesk (opening self.now) lines.now result out };
+        requires empty { ⟦<RepliesSink as Sink>⟧.contents sink.old ≡ Some [] }
+        requires sound { ⟦<RepliesSink as Sink>⟧.has_failed sink.old ≡ false }
+        ensures { (out : List ℕ) × (⟦<RepliesSink as Sink>⟧.contents sink.new ≡ Some out) × VisitsDesk (opening self.now) lines.now result out };
 
     /// A copy of the store of one moment.
     fn snapshot(&self, rt: &R) -> Result<Store, NoMemory>

@@ -3,15 +3,17 @@
 
 pub use front::Front;
 pub use page::PAGE;
+pub use replies_sink::{MOST_REPLIES, RepliesSink};
 pub use route::{Route, route_for};
-pub use service::MOST_REPLIES;
 pub use serving::{MOST_BODY, serve_page};
 
 mod desk_front;
 mod front;
 mod lines;
+mod origin;
 mod page;
 mod replies;
+mod replies_sink;
 mod route;
 mod service;
 mod serving;

@@ -1,6 +1,9 @@
 ghost use Rattle.std.specs.Prelude.{◌≡◌};
 ghost use Rattle.grove_page.specs.Routes.{route_of, look_of, look_or_send_of};
 
+use crate::origin::is_from_here;
+use http::{HeaderMap, HeaderValue};
+
 /// What a request asks for.
 #[derive(Clone, Copy, Debug, PartialEq, Eq)]
 pub enum Route {
@@ -16,16 +19,18 @@ pub enum Route {
     OnlyLook,
     /// Something that is there, but by another method: it can be looked at, and lines can be sent to it.
     LookOrSend,
+    /// Replies to lines that a page of another origin sends.
+    ForeignPage,
     /// Nothing.
     Nowhere,
 }
 
-/// What a request by this method asks for at this path.
-pub fn route_for(method: &str, path: &str) -> Route
-    ensures { result ≡ route_of method.now path.now }
+/// What a request by this method and with these fields asks for at this path.
+pub fn route_for(method: &str, path: &str, fields: &HeaderMap<HeaderValue>) -> Route
+    ensures { result ≡ route_of method.now path.now fields.now }
 {
     match path {
-        "/" => look_or_send(method),
+        "/" => look_or_send(method, fields),
         "/document" => look(method, Route::Document),
         "/nodes" => look(method, Route::Nodes),
         _ => Route::Nowhere,
@@ -33,11 +38,12 @@ pub fn route_for(method: &str, path: &str) -> Route
 }
 
 /// Where lines can be sent, too.
-fn look_or_send(method: &str) -> Route
-    ensures { result ≡ look_or_send_of method.now }
+fn look_or_send(method: &str, fields: &HeaderMap<HeaderValue>) -> Route
+    ensures { result ≡ look_or_send_of method.now fields.now }
 {
     match method {
-        "POST" => Route::Lines,
+        "POST" if is_from_here(fields) => Route::Lines,
+        "POST" => Route::ForeignPage,
         "GET" | "HEAD" => Route::Page,
         _ => Route::LookOrSend,
     }

@@ -2,20 +2,17 @@ ghost use Rattle.std.specs.Prelude.{◌≡◌, ◌++◌, OnOk, OnErr, IfOk, code
 ghost use Rattle.http_server.specs.Response.{IsBlank, IsResponse};
 ghost use Rattle.grove_page.specs.Pages.{json, error_line, document_line, nodes_line, AnswersLines, TellsStore, TellsSession};
 
-use crate::Front;
 use crate::lines::{document_line, nodes_line};
 use crate::replies::{fill_allowed, fill_json, fill_page};
 use crate::route::{Route, route_for};
+use crate::{Front, RepliesSink};
 use bytes::{BufMut, Bytes};
-use grove_session::{Fuse, SessionFault};
+use grove_session::SessionFault;
 use grove_tree::NoMemory;
 use http::{Request, StatusCode};
 use http_server::{Response, Service};
 use std::alloc::{AllocError, AllocGlobal};
 use std::marker::Model;
-
-/// So many bytes of replies go into one response.
-pub const MOST_REPLIES: usize = 16 * 1024 * 1024;
 
 const FAILED: StatusCode = StatusCode::INTERNAL_SERVER_ERROR;
 
@@ -26,6 +23,8 @@ const NO_ROOM: &[u8] = b"{\"error\":\"replies\"}\n";
 const FOREIGN: &[u8] = b"{\"error\":\"foreign\"}\n";
 
 const DEVICE: &[u8] = b"{\"error\":\"device\"}\n";
+
+const ORIGIN: &[u8] = b"{\"error\":\"origin\"}\n";
 
 const NOT_FOUND: &[u8] = b"{\"error\":\"not-found\"}\n";
 
@@ -58,13 +57,15 @@ impl<'a, R: AllocGlobal, F: Front<R>> Service for PageService<'a, R, F> {
         request: &Request<Bytes>,
         response: &mut Response,
     ) -> Result<(), AllocError> {
-        match route_for(request.method().as_str(), request.uri().path()) {
+        let path = request.uri().path();
+        match route_for(request.method().as_str(), path, request.headers()) {
             Route::Page => fill_page(response, self.page),
             Route::Lines => self.answer_lines(request.body().as_slice(), response),
             Route::Document => self.tell_document(response),
             Route::Nodes => self.tell_nodes(response),
             Route::OnlyLook => fill_allowed(response, "GET, HEAD"),
             Route::LookOrSend => fill_allowed(response, "GET, HEAD, POST"),
+            Route::ForeignPage => fill_json(response, StatusCode::FORBIDDEN, ORIGIN),
             Route::Nowhere => fill_json(response, StatusCode::NOT_FOUND, NOT_FOUND),
         }
     }
@@ -72,13 +73,18 @@ impl<'a, R: AllocGlobal, F: Front<R>> Service for PageService<'a, R, F> {
 
 impl<'a, R: AllocGlobal, F: Front<R>> PageService<'a, R, F> {
     /// The replies to the lines of a body.
+    #[tactic(auto, using(crate::proofs::Unread::no_line_is_read))]
     fn answer_lines(&self, lines: &[u8], response: &mut Response) -> Result<(), AllocError>
         requires { IsBlank response.old }
         ensures { OnOk result (AnswersLines self.now.opening lines.now response.new) }
     {
-        let mut sink = Fuse::new(self.rt.alloc(), MOST_REPLIES);
-        let ended = self.front.answer_lines(self.rt, lines, &mut sink);
-        fill_replies(response, ended, sink.bytes())
+        match RepliesSink::new(self.rt.alloc()) {
+            Ok(mut sink) => {
+                let ended = self.front.answer_lines(self.rt, lines, &mut sink);
+                fill_replies(response, ended, sink.bytes())
+            }
+            Err(NoMemory) => fill_json(response, StatusCode::SERVICE_UNAVAILABLE, NO_MEMORY),
+        }
     }
 
     /// The store as a document.

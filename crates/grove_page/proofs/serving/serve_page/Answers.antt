@@ -1,12 +1,10 @@
-use Rattle.std.proofs.Common.{◌≡◌, ℕ, List, ◌++◌, sym, ap, subst, ◌∙◌}
-use Rattle.std.specs.Prelude.{All}
+use Rattle.std.proofs.Common.{ℕ, List, ◌++◌, sym, ap, subst, ◌∙◌}
 use Rattle.std.specs.Io.KnownBytes.{Appends, Consumes}
 use Rattle.http_server.specs.Connection.{config_of, history}
 use Rattle.http_server.specs.declared.state.Config.{Config}
 use Rattle.http_server.specs.History.{History}
-use Rattle.http_server.specs.Exchange.{Call}
 use Rattle.http_server.proofs.Theorems.{always_served}
-use Rattle.grove_page.specs.Pages.{PageState, IsPageReply}
+use Rattle.grove_page.specs.Pages.{IsPageReply}
 use Rattle.grove_page.proofs.Replied.{all_called}
 use Rattle.grove_page.proofs.serving.serve_page.Goals as goal
 

@@ -1,0 +1,24 @@
+-- A body of which no line is read, since there is no memory for replies.
+use Rattle.std.proofs.Common.{ℕ, List, [], codes, refl, ap, Err, arith, rules}
+use Rattle.http_server.specs.declared.response.Response.{Response}
+use Rattle.http_server.specs.Response.{IsResponse}
+use Rattle.grove_session.specs.declared.session_fault.SessionFault.TheVariants.{Memory}
+use Rattle.grove_session.specs.Sessions.{is_write}
+use Rattle.grove_store.specs.Stocks.{Stock}
+use Rattle.grove_page.specs.Pages.{json, error_line, visitor, AnswersLines}
+
+pub no_line_is_read : (opening : Stock) (body : List ℕ) (r : Response)
+    → IsResponse 503 json (error_line (codes "memory")) r → AnswersLines opening body r
+no_line_is_read opening body r said = (
+  Err Memory,
+  [],
+  record {
+    input = [];
+    left = body;
+    new = visitor opening;
+    read = refl;
+    ends = (0, omega arith, (refl, refl));
+    cut = λ (written : ℕ) is. search (rules, ap is_write is);
+  },
+  said,
+)
