@@ -4,6 +4,7 @@ use crate::steps::{Step, step_in};
 use grove_base::NoMemory;
 use serde_json::Value;
 use std::alloc::Global;
+use std::collections::BTreeMap;
 
 impl<'d> Planned<'d> {
     /// What is amiss with a plan of which only the first rule that it breaks is known, and not where.
@@ -32,7 +33,7 @@ impl<'d> Planned<'d> {
         walk: &Walk,
         rule: &str,
     ) -> Result<Option<String>, NoMemory> {
-        match (rule, walk.held.first()) {
+        match (rule, walk.first_held()) {
             ("access-missing", _) => Ok(Some(self.access_missing(alloc, walk.done)?)),
             ("still-held", Some(path)) => Ok(Some(self.still_held(alloc, path)?)),
             _ => Ok(None),
@@ -48,12 +49,12 @@ fn items_of<'v>(object: &'v Value, name: &str) -> &'v [Value] {
     }
 }
 
-/// What the steps of a plan have done so far, by the paths of the nodes.
+/// What the steps of a plan have done so far.
 #[derive(Drop)]
 struct Walk<'v> {
     list: &'v [Value],
-    locked: Vec<&'v str>,
-    held: Vec<&'v str>,
+    /// For the path of each node that was locked, whether it is held still.
+    locked: BTreeMap<&'v str, bool>,
     /// The number of accesses that are done.
     done: u32,
 }
@@ -62,8 +63,7 @@ impl<'v> Walk<'v> {
     fn new(alloc: Global, list: &'v [Value]) -> Walk<'v> {
         Walk {
             list,
-            locked: Vec::new(alloc),
-            held: Vec::new(alloc),
+            locked: BTreeMap::new(alloc),
             done: 0,
         }
     }
@@ -72,31 +72,28 @@ impl<'v> Walk<'v> {
     fn take(&mut self, step: Step<'v>) -> Result<Option<&'static str>, NoMemory> {
         match step {
             Step::Lock(path) => self.lock(path),
-            Step::Unlock(path) => Ok(self.unlock(path)),
+            Step::Unlock(path) => self.unlock(path),
             Step::Access(access) => Ok(self.access(access)),
         }
     }
 
     fn lock(&mut self, path: &'v str) -> Result<Option<&'static str>, NoMemory> {
-        if self.locked.contains(&path) {
+        if self.locked.contains_key(&path) {
             return Ok(Some("relock"));
         }
         if !self.locked.is_empty() && !self.holds_parent_of(path) {
             return Ok(Some("parent-not-held"));
         }
-        self.locked.push(path)?;
-        self.held.push(path)?;
+        self.locked.insert(path, true)?;
         Ok(None)
     }
 
-    fn unlock(&mut self, path: &str) -> Option<&'static str> {
-        match self.held.iter().position(|held| *held == path) {
-            Some(at) => {
-                let _released = self.held.swap_remove(at);
-                None
-            }
-            None => Some("not-held"),
+    fn unlock(&mut self, path: &'v str) -> Result<Option<&'static str>, NoMemory> {
+        if !self.holds(path) {
+            return Ok(Some("not-held"));
         }
+        self.locked.insert(path, false)?;
+        Ok(None)
     }
 
     fn access(&mut self, access: u32) -> Option<&'static str> {
@@ -107,7 +104,7 @@ impl<'v> Walk<'v> {
             return Some("wrong-access");
         }
         match path_in(item) {
-            Some(path) if self.held.contains(&path) => {
+            Some(path) if self.holds(path) => {
                 self.done = self.done.saturating_add(1);
                 None
             }
@@ -115,11 +112,21 @@ impl<'v> Walk<'v> {
         }
     }
 
+    fn holds(&self, path: &str) -> bool {
+        self.locked.get(path).copied() == Some(true)
+    }
+
     fn holds_parent_of(&self, path: &str) -> bool {
         match path.rsplit_once('/') {
             Some((_, "")) | None => false,
-            Some(("", _)) => self.held.contains(&"/"),
-            Some((parent, _)) => self.held.contains(&parent),
+            Some(("", _)) => self.holds("/"),
+            Some((parent, _)) => self.holds(parent),
         }
+    }
+
+    /// The path of a node that is held.
+    fn first_held(&self) -> Option<&'v str> {
+        let (path, _) = self.locked.iter().find(|(_, held)| **held)?;
+        Some(*path)
     }
 }
