@@ -8,6 +8,30 @@ use std::alloc::Global;
 /// The operations of accesses.
 const OPERATIONS: [&str; 4] = ["get", "set", "add", "take"];
 
+/// Is the value an access that may tell its length?
+pub(crate) fn is_access(value: &Value) -> bool {
+    let Some([word, path, operands @ ..]) = value.as_array().map(Vec::as_slice) else {
+        return false;
+    };
+    let lengths = match (word.as_str(), operands) {
+        (Some("get"), lengths) => lengths,
+        (Some("set" | "add" | "take"), [number, lengths @ ..]) if number.is_i64() => lengths,
+        _ => return false,
+    };
+    path.is_string()
+        && matches!(lengths, [] | [Value::Number(_)])
+        && lengths.iter().all(Value::is_u64)
+}
+
+/// The length that an access tells, if it tells one.
+pub(crate) fn length_told(access: &Value) -> Option<u64> {
+    let items = access.as_array()?;
+    match items.first()?.as_str()? {
+        "get" => items.get(2)?.as_u64(),
+        _ => items.get(3)?.as_u64(),
+    }
+}
+
 /// Why a value is no access.
 pub(crate) fn access_amiss(
     alloc: Global,

@@ -4,7 +4,13 @@ use std::alloc::Global;
 
 /// The rule of flows that a row breaks.
 pub(crate) fn flow_amiss(alloc: Global, rule: &str, row: &str) -> Result<String, NoMemory> {
-    let broken = match rule {
+    let broken = flow_rule(rule);
+    Ok(format!(in alloc; "flow {row} {broken}")?)
+}
+
+/// What is said of a row that breaks the rule.
+pub(crate) fn flow_rule(rule: &str) -> &'static str {
+    match rule {
         "rows" => {
             "should be the next forced node, in the tree's order: one that is above an accessed node, and not above the lowest node that has all the accesses at or below it"
         }
@@ -18,8 +24,7 @@ pub(crate) fn flow_amiss(alloc: Global, rule: &str, row: &str) -> Result<String,
         _ => {
             "isn't in balance: its node's weight has to be the \"held\" of its children and its own \"last\" and \"own\", added up"
         }
-    };
-    Ok(format!(in alloc; "flow {row} {broken}")?)
+    }
 }
 
 /// A bound that isn't the plan's cost.

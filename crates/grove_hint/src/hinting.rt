@@ -6,7 +6,7 @@ use crate::asked::Asked;
 use crate::limits::bytes_beyond;
 use crate::line::hint_line;
 use crate::strays::stray_member;
-use crate::syntax::syntax_amiss;
+use crate::syntax::{Whole, syntax_amiss};
 use grove_base::NoMemory;
 use serde_json::Value;
 use std::alloc::Global;
@@ -17,7 +17,7 @@ pub fn hint(alloc: Global, asked: Asked, bytes: &[u8], refusal: &str) -> Result<
 {
     let words: Vec<&str> = refusal.split(' ').collect(alloc)?;
     let told = match words.as_slice() {
-        ["bad-json"] => syntax_amiss(alloc, bytes)?,
+        ["bad-json"] => syntax_amiss(alloc, Whole::Document, bytes)?,
         ["limit", "whole"] => bytes_beyond(alloc, asked)?,
         words => read_amiss(alloc, asked, bytes, words)?,
     };
@@ -59,7 +59,7 @@ fn read_amiss(
             with_stray(alloc, asked, &document, refusal, told)
         }
         Err(error) if error.is_memory() => Err(NoMemory),
-        Err(_) => syntax_amiss(alloc, bytes),
+        Err(_) => syntax_amiss(alloc, Whole::Document, bytes),
     }
 }
 

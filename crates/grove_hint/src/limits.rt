@@ -6,7 +6,7 @@ use serde_json::Value;
 use std::alloc::Global;
 
 /// The greatest number of accesses of a list.
-const MOST_ACCESSES: usize = 64;
+pub(crate) const MOST_ACCESSES: usize = 64;
 
 /// A document of too many bytes.
 pub(crate) fn bytes_beyond(alloc: Global, asked: Asked) -> Result<String, NoMemory> {

@@ -23,17 +23,55 @@ pub(crate) fn path_amiss(
     rows: &[Value],
     path: &str,
 ) -> Result<String, NoMemory> {
+    if let Some(told) = slash_amiss(alloc, place, path)? {
+        return Ok(told);
+    }
     let shown = quoted(alloc, path)?;
-    if path.is_empty() || !path.starts_with('/') {
-        return Ok(format!(in alloc;
-            "the path {shown} of {place} doesn't begin with a slash; the root is \"/\""
-        )?);
-    }
-    if path.ends_with('/') {
-        return Ok(format!(in alloc; "the path {shown} of {place} ends with a slash")?);
-    }
     let deepest = Deepest::of(alloc, rows, path)?;
     deepest.told(alloc, place, rows, &shown)
+}
+
+/// Why a path is that of no node of any tree, if its form shows it.
+pub(crate) fn path_unfit(
+    alloc: Global,
+    place: &str,
+    path: &str,
+) -> Result<Option<String>, NoMemory> {
+    if path == "/" {
+        return Ok(None);
+    }
+    if let Some(told) = slash_amiss(alloc, place, path)? {
+        return Ok(Some(told));
+    }
+    match path.split('/').skip(1).find(|name| !is_name(name)) {
+        Some(name) => {
+            let (shown, name) = (quoted(alloc, path)?, quoted(alloc, name)?);
+            Ok(Some(format!(in alloc;
+                "the path {shown} of {place} has the name {name}, but names are 1 to 32 of a to z, 0 to 9, _ and -"
+            )?))
+        }
+        None => Ok(None),
+    }
+}
+
+/// May a node below the root have the name?
+fn is_name(name: &str) -> bool {
+    matches!(name.len(), 1..=32)
+        && name.bytes().all(|byte| matches!(byte, b'a'..=b'z' | b'0'..=b'9' | b'_' | b'-'))
+}
+
+/// Why a path other than the root's is none, if its slashes show it.
+fn slash_amiss(alloc: Global, place: &str, path: &str) -> Result<Option<String>, NoMemory> {
+    let shown = quoted(alloc, path)?;
+    if !path.starts_with('/') {
+        return Ok(Some(format!(in alloc;
+            "the path {shown} of {place} doesn't begin with a slash; the root is \"/\""
+        )?));
+    }
+    if path.ends_with('/') {
+        return Ok(Some(format!(in alloc; "the path {shown} of {place} ends with a slash")?));
+    }
+    Ok(None)
 }
 
 /// The deepest node on the way down a path.

@@ -19,18 +19,17 @@ impl<'d> Planned<'d> {
         match told {
             ["step", step, rule] => self.step_amiss(alloc, number_of(step).unwrap_or(0), rule),
             ["access", access, _] => self.access_missing(alloc, number_of(access).unwrap_or(0)),
-            ["node", path, _] => {
-                let plan = self.plan(alloc)?;
-                let path = quoted(alloc, path)?;
-                Ok(format!(in alloc;
-                    "{plan} ends while {path} is held; what is locked has to be unlocked"
-                )?)
-            }
+            ["node", path, _] => self.still_held(alloc, path),
             _ => words(alloc, "the plan isn't legal for its list"),
         }
     }
 
-    fn step_amiss(self, alloc: Global, step: u32, rule: &str) -> Result<String, NoMemory> {
+    pub(crate) fn step_amiss(
+        self,
+        alloc: Global,
+        step: u32,
+        rule: &str,
+    ) -> Result<String, NoMemory> {
         let place = self.step_place(step);
         let value = value_at(self.document, place);
         let path = quoted(alloc, value.and_then(path_in).unwrap_or(""))?;
@@ -72,7 +71,15 @@ impl<'d> Planned<'d> {
         }
     }
 
-    fn access_missing(self, alloc: Global, access: u32) -> Result<String, NoMemory> {
+    pub(crate) fn still_held(self, alloc: Global, path: &str) -> Result<String, NoMemory> {
+        let plan = self.plan(alloc)?;
+        let path = quoted(alloc, path)?;
+        Ok(format!(in alloc;
+            "{plan} ends while {path} is held; what is locked has to be unlocked"
+        )?)
+    }
+
+    pub(crate) fn access_missing(self, alloc: Global, access: u32) -> Result<String, NoMemory> {
         let plan = self.plan(alloc)?;
         let path = quoted(alloc, self.path_accessed(u64::from(access)).unwrap_or(""))?;
         Ok(format!(in alloc;

@@ -140,8 +140,28 @@ fn row_amiss(alloc: Global, place: &str, value: &Value) -> Result<String, NoMemo
     }
 }
 
+/// Is the value a row of a flow?
+pub(crate) fn is_flow_row(value: &Value) -> bool {
+    FLOW_ROW.iter().all(|name| match value.get(*name) {
+        Some(member) => flow_row_kind(name).fits(member),
+        None => false,
+    })
+}
+
+/// What a member of a row of a flow has to be.
+fn flow_row_kind(name: &str) -> Kind {
+    match name {
+        "node" => Kind::Text,
+        _ => Kind::Amount,
+    }
+}
+
 /// Why a value is no row of a flow.
-fn flow_row_amiss(alloc: Global, place: &str, value: &Value) -> Result<String, NoMemory> {
+pub(crate) fn flow_row_amiss(
+    alloc: Global,
+    place: &str,
+    value: &Value,
+) -> Result<String, NoMemory> {
     let Some(row) = value.as_object() else {
         return unfit(
             alloc,
@@ -151,11 +171,7 @@ fn flow_row_amiss(alloc: Global, place: &str, value: &Value) -> Result<String, N
         );
     };
     for name in FLOW_ROW {
-        let kind = if name == "node" {
-            Kind::Text
-        } else {
-            Kind::Amount
-        };
+        let kind = flow_row_kind(name);
         if let Some(told) = member_amiss(alloc, place, row, name, kind, &FLOW_ROW)? {
             return Ok(told);
         }

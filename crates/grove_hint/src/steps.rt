@@ -5,6 +5,27 @@ use grove_base::NoMemory;
 use serde_json::Value;
 use std::alloc::Global;
 
+/// A step as it stands in a plan.
+#[derive(Clone, Copy)]
+pub(crate) enum Step<'v> {
+    Lock(&'v str),
+    Unlock(&'v str),
+    Access(u32),
+}
+
+/// The step that a value is.
+pub(crate) fn step_in(value: &Value) -> Option<Step<'_>> {
+    let [word, operand] = value.as_array()?.as_slice() else {
+        return None;
+    };
+    match word.as_str()? {
+        "lock" => Some(Step::Lock(operand.as_str()?)),
+        "unlock" => Some(Step::Unlock(operand.as_str()?)),
+        "access" => Some(Step::Access(u32::try_from(operand.as_u64()?).ok()?)),
+        _ => None,
+    }
+}
+
 /// Why a value is no step of a plan.
 pub(crate) fn step_amiss(alloc: Global, place: &str, value: &Value) -> Result<String, NoMemory> {
     let form = r#"a step, as ["lock","/a"], ["access",0] or ["unlock","/a"],"#;

@@ -7,23 +7,45 @@ use serde_json::Value;
 use std::alloc::Global;
 use std::str;
 
+/// What bytes are that have to be JSON.
+#[derive(Clone, Copy, Debug, PartialEq, Eq)]
+pub(crate) enum Whole {
+    Document,
+    /// A line of a session.
+    Line,
+}
+
+impl Whole {
+    fn words(self) -> &'static str {
+        match self {
+            Whole::Document => "the document",
+            Whole::Line => "the line",
+        }
+    }
+
+    /// What may be wrong where the bytes end too early.
+    fn words_at_end(self) -> &'static str {
+        match self {
+            Whole::Document => "",
+            Whole::Line => "; a request stands on one line",
+        }
+    }
+}
+
 /// Why bytes are no JSON.
-pub(crate) fn syntax_amiss(alloc: Global, bytes: &[u8]) -> Result<String, NoMemory> {
+pub(crate) fn syntax_amiss(alloc: Global, whole: Whole, bytes: &[u8]) -> Result<String, NoMemory> {
+    let named = whole.words();
     if bytes.starts_with(b"\xef\xbb\xbf") {
-        return words(
-            alloc,
-            "the document begins with a byte-order mark, which JSON has none of; save it as UTF-8 without one",
-        );
+        return Ok(format!(in alloc;
+            "{named} begins with a byte-order mark, which JSON has none of; save it as UTF-8 without one"
+        )?);
     }
     if bytes.starts_with(b"\xff\xfe") || bytes.starts_with(b"\xfe\xff") {
-        return words(alloc, "the document is UTF-16; save it as UTF-8");
+        return Ok(format!(in alloc; "{named} is UTF-16; save it as UTF-8")?);
     }
     if let Err(error) = str::from_utf8(bytes) {
-        let place = Spot::of(bytes, error.valid_up_to());
-        let (line, column) = (place.line, place.column);
-        return Ok(format!(in alloc;
-            "line {line}, column {column}: what begins there isn't UTF-8"
-        )?);
+        let place = Spot::of(bytes, error.valid_up_to()).shown(alloc, whole)?;
+        return Ok(format!(in alloc; "{place}: what begins there isn't UTF-8")?);
     }
     match first_wrong(alloc, bytes)? {
         Some(
@@ -31,9 +53,9 @@ pub(crate) fn syntax_amiss(alloc: Global, bytes: &[u8]) -> Result<String, NoMemo
                 at: _,
                 wrong: Wrong::End(Next::Value),
             },
-        ) if is_blank(bytes) => { words(alloc, "the document is empty") }
-        Some(stopped) => stopped_amiss(alloc, bytes, stopped),
-        None => unread_amiss(alloc, bytes),
+        ) if is_blank(bytes) => { Ok(format!(in alloc; "{named} is empty")?) }
+        Some(stopped) => stopped_amiss(alloc, whole, bytes, stopped),
+        None => unread_amiss(alloc, whole, bytes),
     }
 }
 
@@ -64,13 +86,27 @@ impl Spot {
         }
         Spot { line, column }
     }
+
+    fn shown(self, alloc: Global, whole: Whole) -> Result<String, NoMemory> {
+        let Spot { line, column } = self;
+        match whole {
+            Whole::Document => Ok(format!(in alloc; "line {line}, column {column}")?),
+            Whole::Line => Ok(format!(in alloc; "column {column}")?),
+        }
+    }
 }
 
-fn stopped_amiss(alloc: Global, bytes: &[u8], stopped: Stopped) -> Result<String, NoMemory> {
-    let Spot { line, column } = Spot::of(bytes, stopped.at);
+fn stopped_amiss(
+    alloc: Global,
+    whole: Whole,
+    bytes: &[u8],
+    stopped: Stopped,
+) -> Result<String, NoMemory> {
+    let place = Spot::of(bytes, stopped.at).shown(alloc, whole)?;
     let (_, rest) = bytes.split_at(stopped.at.min(bytes.len()));
+    let (named, at_end) = (whole.words(), whole.words_at_end());
     let why = match stopped.wrong {
-        Wrong::Unawaited(next) => unawaited(alloc, next, rest)?,
+        Wrong::Unawaited(next) => unawaited(alloc, whole, next, rest)?,
         Wrong::Control => words(
             alloc,
             "a text isn't closed on its line, or has a tab in it; \\n and \\t stand for a line feed and a tab",
@@ -81,26 +117,25 @@ fn stopped_amiss(alloc: Global, bytes: &[u8], stopped: Stopped) -> Result<String
         )?,
         Wrong::Word => word_amiss(alloc, rest)?,
         Wrong::Deep => words(alloc, "values nest 128 deep there")?,
-        Wrong::OpenText => words(
-            alloc,
-            "the document ends within a text, which a \" has to close",
-        )?,
+        Wrong::OpenText => {
+            format!(in alloc; "{named} ends within a text, which a \" has to close{at_end}")?
+        }
         Wrong::End(next) => {
             let awaited = awaited(next);
-            format!(in alloc; "the document ends, but {awaited} has to come")?
+            format!(in alloc; "{named} ends, but {awaited} has to come{at_end}")?
         }
     };
-    Ok(format!(in alloc; "line {line}, column {column}: {why}")?)
+    Ok(format!(in alloc; "{place}: {why}")?)
 }
 
 /// Something else may come than what is there.
-fn unawaited(alloc: Global, next: Next, rest: &[u8]) -> Result<String, NoMemory> {
-    let awaited = awaited(next);
+fn unawaited(alloc: Global, whole: Whole, next: Next, rest: &[u8]) -> Result<String, NoMemory> {
+    let (awaited, named) = (awaited(next), whole.words());
     match (next, rest) {
         (Next::Item, [b']', ..]) | (Next::Name, [b'}', ..]) => {
             words(alloc, "no comma may stand before a closing bracket")
         }
-        (Next::Nothing, _) => words(alloc, "the document has ended there, but more comes"),
+        (Next::Nothing, _) => Ok(format!(in alloc; "{named} has ended there, but more comes")?),
         (_, [b'\'', ..]) => words(alloc, "texts and names stand in double quotes"),
         (_, [b'/' | b'#', ..]) => words(alloc, "JSON has no comments"),
         (_, [0x80..=0xff, ..]) => {
@@ -162,14 +197,18 @@ fn word_length(rest: &[u8]) -> usize
 }
 
 /// What is refused though each byte is in place.
-fn unread_amiss(alloc: Global, bytes: &[u8]) -> Result<String, NoMemory> {
+fn unread_amiss(alloc: Global, whole: Whole, bytes: &[u8]) -> Result<String, NoMemory> {
     match Value::from_slice(alloc, bytes) {
-        Ok(_) => words(alloc, "the document is JSON"),
+        Ok(_) => {
+            let named = whole.words();
+            Ok(format!(in alloc; "{named} is JSON")?)
+        }
         Err(error) if error.is_memory() => Err(NoMemory),
         Err(error) => {
             let (line, column) = (error.line(), error.column());
+            let place = Spot { line, column }.shown(alloc, whole)?;
             Ok(format!(in alloc;
-                "line {line}, column {column}: a number is too large there, or half of a \\u pair stands alone"
+                "{place}: a number is too large there, or half of a \\u pair stands alone"
             )?)
         }
     }
