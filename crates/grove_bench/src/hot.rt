@@ -24,9 +24,9 @@ use work::Work;
 /// Of so many runs the least time is told.
 const RUNS: u32 = 3;
 
-/// Times 64 jobs of 8 accesses of a millisecond each, in each shape and by 1 to 16 workers. Each line has the shape, the
-/// workers, the milliseconds by settled plans and by plans that lock everything first, and how many times as long those
-/// take.
+/// Times 64 jobs of 8 accesses of a millisecond each, in each shape and by 1 to 16 workers. Of each shape a line has
+/// what the jobs' plans cost together, settled and locking everything first. Each other line has the workers, the
+/// milliseconds in both ways, and how many times as long the second one takes.
 pub fn time<R: Runtime + Threads + Wait + Sync>(rt: &R, alloc: Global) -> Result<()> {
     for shape in SHAPES {
         time_shape(rt, alloc, shape)?;
@@ -34,11 +34,18 @@ pub fn time<R: Runtime + Threads + Wait + Sync>(rt: &R, alloc: Global) -> Result
     Ok(())
 }
 
-fn time_shape<R: Runtime + Threads + Wait + Sync>(rt: &R, alloc: Global, shape: Shape) -> Result<()> {
+fn time_shape<R: Runtime + Threads + Wait + Sync>(
+    rt: &R,
+    alloc: Global,
+    shape: Shape,
+) -> Result<()> {
     let tree = shape.tree(alloc)?;
     let settled = jobs_by(alloc, &tree, shape, Way::Settled)?;
     let all_first = jobs_by(alloc, &tree, shape, Way::AllFirst)?;
-    let costs = (cost_of(alloc, &tree, &settled)?, cost_of(alloc, &tree, &all_first)?);
+    let costs = (
+        cost_of(alloc, &tree, &settled)?,
+        cost_of(alloc, &tree, &all_first)?,
+    );
     println!(rt; "{} costs {} {}", shape.name(), costs.0, costs.1)?;
     time_ways(rt, alloc, shape.name(), &tree, &settled, &all_first)
 }
@@ -69,11 +76,23 @@ fn time_ways<R: Runtime + Threads + Wait + Sync>(
     Ok(())
 }
 
-fn tell<R: Print>(rt: &R, name: &str, workers: usize, settled: Duration, all_first: Duration) -> Result<()> {
+fn tell<R: Print>(
+    rt: &R,
+    name: &str,
+    workers: usize,
+    settled: Duration,
+    all_first: Duration,
+) -> Result<()> {
     let (settled, all_first) = (settled.as_micros(), all_first.as_micros());
     let tenths = all_first.saturating_mul(10) / settled.max(1);
     let ratio = (tenths / 10, tenths % 10);
-    println!(rt; "{name} {workers} {} {} {}.{}", settled / 1000, all_first / 1000, ratio.0, ratio.1)?;
+    println!(rt;
+        "{name} {workers} {} {} {}.{}",
+        settled / 1000,
+        all_first / 1000,
+        ratio.0,
+        ratio.1
+    )?;
     Ok(())
 }
 

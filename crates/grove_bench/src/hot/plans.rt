@@ -1,3 +1,4 @@
+ghost use Rattle.std.specs.Prelude.{IfOk};
 ghost use Rattle.grove_access.specs.Lists.{nodes_of, AreNodes};
 
 use crate::again::values::{access, list_of};

@@ -13,15 +13,16 @@ pub const ACCESSES: u32 = 8;
 /// How many shops hang below the root, each with a shelf for each access of a job.
 const SHOPS: u32 = 64;
 
-/// What a node weighs through which all jobs go. A node weighs as many jobs as go through it.
+/// What the root weighs, and each node of the chain: as much as there are jobs, which all go through it. So a shop
+/// weighs as much as jobs visit it where they are apart, and a shelf 1.
 const HOT: u32 = JOBS;
 
 /// Where the jobs have their accesses. In each shape all jobs go through the root.
 #[derive(Clone, Copy)]
 pub enum Shape {
-    /// At shelves of their own in 8 shops each: two jobs share the root, and mostly a shop or two.
+    /// At shelves of their own, in 8 shops that they share with some of the others: each shop is visited by 8 jobs.
     Apart,
-    /// At the shops themselves, the same ones: each is visited by 8 jobs.
+    /// At these shops themselves.
     Crossing,
     /// At the same 8 shops in the same order: all jobs share all nodes, and lock them all before they let the root go.
     Same,
@@ -45,8 +46,8 @@ impl Shape {
     /// The tree of the jobs.
     pub fn tree(self, alloc: Global) -> Result<Tree> {
         let rows = match self {
+            Shape::Apart | Shape::Crossing | Shape::Same => shops(alloc)?,
             Shape::Down => chain(alloc)?,
-            _ => shops(alloc)?,
         };
         Ok(Tree::build(alloc, &rows)?)
     }

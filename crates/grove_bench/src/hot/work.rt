@@ -8,8 +8,8 @@ use std::time::Duration;
 /// How many milliseconds an access takes.
 const SLOT: u64 = 1;
 
-/// A gate at which each access takes a while: its job sleeps before it, outside every lock, and holds its nodes meanwhile.
-/// Locks and unlocks take no time.
+/// A gate at which each access takes a while: its worker sleeps before it. The job holds its nodes meanwhile, and the
+/// worker no lock of the run's own. Before locks and unlocks nobody sleeps.
 #[derive(Drop)]
 pub struct Work<'a, R> {
     pub rt: &'a R,
