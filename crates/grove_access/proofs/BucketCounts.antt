@@ -1,6 +1,6 @@
 -- How many of the nodes that are out fall into a bucket.
-use Rattle.std.proofs.Common.{◌≡◌, ◌≢◌, ℕ, ◌+◌, ◌-◌, ◌<◌, ◌%◌, ℤ, eqb, List, [], ◌∷◌, ◌++◌, length, set, replicate, slice_get, Some, None, refl, ap, sym, ◌∙◌, inl, inr, arith}
-use Rattle.std.proofs.lemmas.Option.{none-some, same_Some}
+use Rattle.std.proofs.Common.{◌≡◌, ◌≢◌, ℕ, ◌+◌, ◌-◌, ◌<◌, ◌≤◌, ◌%◌, ℤ, eqb, List, [], ◌∷◌, ◌++◌, length, set, replicate, slice_get, Some, None, refl, ap, sym, ◌∙◌, inl, inr, arith}
+use Rattle.std.proofs.lemmas.Option.{none-some, same_Some, slice_get_within}
 use Rattle.std.proofs.lemmas.Bool.{cond-true, cond-false, eq-eqb, ne_eqb, cases_eq}
 use Rattle.grove_base.proofs.Lists.{get_set_same, get_set_other, replicate_got}
 use Rattle.grove_access.specs.declared.known.Known.{Known}
@@ -57,6 +57,18 @@ counts_settled counts entries known new is right = λ bucket count at few. right
 pub counts_none : (counts : List ℕ) (n : ℕ) → counts ≡ replicate n 0 → Counts counts []
 counts_none counts n is = λ bucket count at few. sym (replicate_got n 0 bucket count (sym (ap (λ (cs : List ℕ). slice_get cs bucket) is) ∙ at))
 
+-- the other buckets have as many as before
+other_more : (known : List Known) (item : Known) (place bucket : ℕ) → place ≡ item.node % 256 → bucket ≢ place → in_bucket (known ++ item ∷ []) bucket ≡ in_bucket known bucket
+other_more known item place bucket own other =
+    let more : in_bucket (known ++ item ∷ []) bucket ≡ in_bucket known bucket + in_bucket (item ∷ []) bucket = in_more known item bucket in
+    let none : in_bucket (item ∷ []) bucket ≡ 0 = in_other item bucket (λ e. other (sym e ∙ sym own)) in omega arith
+
+other_less : (known : List Known) (item : Known) (value : ℤ) (place bucket : ℕ) → known_at known item.node ≡ Some value → place ≡ item.node % 256 → bucket ≢ place
+    → in_bucket (without known item.node) bucket ≡ in_bucket known bucket
+other_less known item value place bucket out own other =
+    let less : in_bucket known bucket ≡ in_bucket (without known item.node) bucket + in_bucket (item ∷ []) bucket = in_without known item value bucket out in
+    let none : in_bucket (item ∷ []) bucket ≡ 0 = in_other item bucket (λ e. other (sym e ∙ sym own)) in omega arith
+
 -- counts are right again once that of the one bucket is that has changed
 pub counts_changed : (counts new : List ℕ) (known changed : List Known) (place made : ℕ) → place < length counts → new ≡ set counts place made
     → (made < 255 → made ≡ in_bucket changed place) → ((bucket : ℕ) → bucket ≢ place → in_bucket changed bucket ≡ in_bucket known bucket)
@@ -70,6 +82,21 @@ counts_changed counts new known changed place made within is here others right =
       right bucket count (sym (get_set_other counts place bucket made other) ∙ sym (ap (λ (cs : List ℕ). slice_get cs bucket) is) ∙ at) few ∙ sym (others bucket other)
 ]
 
+-- a bucket that isn't counted may change
+counts_past : (counts : List ℕ) (known changed : List Known) (place : ℕ) → length counts ≤ place
+    → ((bucket : ℕ) → bucket ≢ place → in_bucket changed bucket ≡ in_bucket known bucket) → Counts counts known → Counts counts changed
+counts_past counts known changed place past others right = λ bucket count at few.
+    let within : bucket < length counts = slice_get_within counts bucket count at in
+    right bucket count at few ∙ sym (others bucket (λ same. absurd (omega (arith, same, within, past))))
+
+pub counts_past_more : (counts : List ℕ) (known : List Known) (item : Known) (place : ℕ) → place ≡ item.node % 256 → length counts ≤ place → Counts counts known → Counts counts (known ++ item ∷ [])
+counts_past_more counts known item place own past right =
+    counts_past counts known (known ++ item ∷ []) place past (λ bucket other. other_more known item place bucket own other) right
+
+pub counts_past_less : (counts : List ℕ) (known : List Known) (item : Known) (value : ℤ) (place : ℕ) → known_at known item.node ≡ Some value → place ≡ item.node % 256 → length counts ≤ place → Counts counts known → Counts counts (without known item.node)
+counts_past_less counts known item value place out own past right =
+    counts_past counts known (without known item.node) place past (λ bucket other. other_less known item value place bucket out own other) right
+
 -- one node more is counted
 pub counts_more : (counts new : List ℕ) (known : List Known) (item : Known) (place count made : ℕ) → place ≡ item.node % 256 → place < length counts → slice_get counts place ≡ Some count
     → new ≡ set counts place made → (made < 255 → (count < 255) × (made ≡ count + 1)) → Counts counts known → Counts new (known ++ item ∷ [])
@@ -80,8 +107,7 @@ counts_more counts new known item place count made own within at is one right =
     let mine : in_bucket (item ∷ []) place ≡ 1 = ap (in_bucket (item ∷ [])) own ∙ in_own item item.node refl in
     let made_is : made ≡ count + 1 = (one few).1 in
     omega arith)
-    (λ bucket other. let more : in_bucket (known ++ item ∷ []) bucket ≡ in_bucket known bucket + in_bucket (item ∷ []) bucket = in_more known item bucket in
-    let none : in_bucket (item ∷ []) bucket ≡ 0 = in_other item bucket (λ e. other (sym e ∙ sym own)) in omega arith)
+    (λ bucket other. other_more known item place bucket own other)
     right
 
 -- one node less is counted
@@ -94,6 +120,5 @@ counts_less counts new known item value place count made out own within at is on
     let mine : in_bucket (item ∷ []) place ≡ 1 = ap (in_bucket (item ∷ [])) own ∙ in_own item item.node refl in
     let made_is : made ≡ count - 1 = (one few).1 in
     omega arith)
-    (λ bucket other. let less : in_bucket known bucket ≡ in_bucket (without known item.node) bucket + in_bucket (item ∷ []) bucket = in_without known item value bucket out in
-    let none : in_bucket (item ∷ []) bucket ≡ 0 = in_other item bucket (λ e. other (sym e ∙ sym own)) in omega arith)
+    (λ bucket other. other_less known item value place bucket out own other)
     right

@@ -1,56 +1,66 @@
-ghost use Rattle.std.specs.Prelude.{◌≡◌, ◌+◌, ◌-◌, ◌%◌, ◌<◌, ℤ, List, [], ◌∷◌, ◌++◌, Some, None, true};
+ghost use Rattle.std.specs.Prelude.{◌≡◌, ◌+◌, ◌-◌, ◌%◌, ◌<◌, ℤ, List, [], ◌∷◌, ◌++◌, Some, None, true, IfOk};
 ghost use Rattle.grove_access.specs.declared.known.Known.{Known};
 ghost use Rattle.grove_access.specs.Carries.{known_at, without};
 ghost use Rattle.grove_access.specs.KnownPlaces.{Counts};
 
 use grove_tree::Node;
+use std::alloc::{AllocError, Global};
 
 /// How many buckets there are: more than a plan mostly has out at once, so most of them are empty.
 const BUCKETS: usize = 256;
+
+/// So many nodes are looked at one by one, and not counted.
+const FEW: usize = 16;
 
 /// How many nodes fall into each of a few buckets, by their numbers, so that most nodes that aren't among them are known
 /// not to be without a look at each. A count that reached 255 stays there.
 #[derive(Debug, Drop)]
 pub struct Buckets {
-    counts: [u8; BUCKETS],
+    /// Empty where there are never more than a few nodes.
+    counts: Vec<u8>,
 }
 
 impl Buckets {
-    pub fn new() -> Buckets
-        ensures { Counts result.counts [] }
+    /// For so many nodes at most, and none yet.
+    pub fn new(alloc: Global, most_nodes: usize) -> Result<Buckets, AllocError>
+        ensures { IfOk result (λ buckets. Counts buckets.counts.items []) }
     {
-        Buckets {
-            counts: [0; BUCKETS],
-        }
+        let buckets = if most_nodes > FEW { BUCKETS } else { 0 };
+        let counts = Vec::from_elem(alloc, 0, buckets)?;
+        Ok(Buckets { counts })
     }
 
     /// Is it known that the node isn't among those counted?
     pub fn rule_out(&self, node: Node) -> bool
-        ensures { result ≡ true → (known : List Known) → Counts self.now.counts known → known_at known node ≡ None }
+        ensures { result ≡ true → (known : List Known) → Counts self.now.counts.items known → known_at known node ≡ None }
     {
-        self.counts[bucket_of(node)] == 0
+        let bucket = bucket_of(node);
+        bucket < self.counts.len() && self.counts[bucket] == 0
     }
 
     /// Counts a node more.
     pub fn add(&mut self, node: Node)
-        ensures { (known : List Known) (value : ℤ) → Counts self.old.counts known → Counts self.new.counts (known ++ record { node = node; value = value } ∷ []) }
+        ensures { (known : List Known) (value : ℤ) → Counts self.old.counts.items known → Counts self.new.counts.items (known ++ record { node = node; value = value } ∷ []) }
     {
         let bucket = bucket_of(node);
-        self.counts[bucket] = one_more(self.counts[bucket]);
+        if bucket < self.counts.len() {
+            self.counts[bucket] = one_more(self.counts[bucket]);
+        }
     }
 
     /// Counts a node less.
     pub fn remove(&mut self, node: Node)
-        ensures { (known : List Known) (value : ℤ) → known_at known node ≡ Some value → Counts self.old.counts known → Counts self.new.counts (without known node) }
+        ensures { (known : List Known) (value : ℤ) → known_at known node ≡ Some value → Counts self.old.counts.items known → Counts self.new.counts.items (without known node) }
     {
         let bucket = bucket_of(node);
-        self.counts[bucket] = one_less(self.counts[bucket]);
+        if bucket < self.counts.len() {
+            self.counts[bucket] = one_less(self.counts[bucket]);
+        }
     }
 }
 
 fn bucket_of(node: Node) -> usize
-    ensures bucket { result ≡ node % 256 }
-    ensures within { result < 256 }
+    ensures { result ≡ node % 256 }
 {
     node.number() as usize % BUCKETS
 }

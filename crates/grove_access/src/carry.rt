@@ -17,7 +17,7 @@ pub struct Carry {
     most_entries: usize,
     known: Vec<Known>,
     entries: Vec<Entry>,
-    /// How many of the nodes that are out are in each bucket.
+    /// How many of the nodes that are out are in each bucket, where many may be out.
     buckets: Buckets,
 }
 
@@ -30,7 +30,7 @@ impl Model for Carry {
 
     ghost view = { λ carry. record { txn = carry.txn; most_nodes = carry.most_nodes; most_entries = carry.most_entries; known = carry.known.items; entries = carry.entries.items } };
 
-    ghost invariant = { λ carry. IsSound carry.known.items carry.entries.items × (length carry.known.items ≤ carry.most_nodes) × (carry.most_nodes ≤ vec_capacity carry.known) × (length carry.entries.items ≤ carry.most_entries) × (carry.most_entries ≤ vec_capacity carry.entries) × (carry.most_entries ≤ 64) × Counts carry.buckets.counts carry.known.items };
+    ghost invariant = { λ carry. IsSound carry.known.items carry.entries.items × (length carry.known.items ≤ carry.most_nodes) × (carry.most_nodes ≤ vec_capacity carry.known) × (length carry.entries.items ≤ carry.most_entries) × (carry.most_entries ≤ vec_capacity carry.entries) × (carry.most_entries ≤ 64) × Counts carry.buckets.counts.items carry.known.items };
 }
 
 impl Carry {
@@ -40,13 +40,14 @@ impl Carry {
     {
         let known = Vec::with_capacity(alloc, locks as usize)?;
         let entries = Vec::with_capacity(alloc, list.len() as usize)?;
+        let buckets = Buckets::new(alloc, locks as usize)?;
         Ok(Carry {
             txn,
             most_nodes: locks as usize,
             most_entries: list.len() as usize,
             known,
             entries,
-            buckets: Buckets::new(),
+            buckets,
         })
     }
 
@@ -59,6 +60,22 @@ impl Carry {
         ensures few { self.now.most_entries ≤ 64 }
     {
         self.txn
+    }
+
+    /// A further transaction takes the carry over, once nothing is out.
+    pub fn begin(&mut self, txn: u32)
+        requires nothing { self.old.known ≡ [] }
+        requires done { self.old.entries ≡ [] }
+        ensures { self.new ≡ record self.old { txn = txn } }
+    {
+        self.txn = txn;
+    }
+
+    /// Is nothing out, and no entry left?
+    pub fn is_empty(&self) -> bool
+        ensures { IsTrue result ↔ ((self.now.known ≡ []) × (self.now.entries ≡ [])) }
+    {
+        self.known.is_empty() && self.entries.is_empty()
     }
 
     /// The nodes that are out, with their known values.

@@ -1,11 +1,11 @@
 -- The loops that open a core, a job further.
-use Rattle.std.proofs.Common.{◌≡◌, ℕ, zero, suc, ◌+◌, ◌*◌, ◌^◌, ◌<◌, ◌≤◌, ℤ, List, [], ◌∷◌, ◌++◌, length, replicate, Some, None, refl, sym, ◌∙◌, ap, subst, inl, inr, arith, add-one}
+use Rattle.std.proofs.Common.{◌≡◌, ℕ, zero, suc, true, false, ◌+◌, ◌^◌, ◌<◌, ◌≤◌, ℤ, List, [], ◌∷◌, ◌++◌, length, replicate, Some, None, refl, sym, ◌∙◌, ap, subst, inl, inr, arith, add-one}
 use Rattle.std.specs.List.{slice_get}
 use Rattle.std.proofs.lemmas.Option.{none-some, same_Some, slice_get_within}
 use Rattle.std.proofs.lemmas.List.{length-replicate}
-use Rattle.grove_base.specs.Numbers.{sum_below}
+use Rattle.grove_base.specs.Numbers.{count_below, sum_below}
 use Rattle.grove_tree.specs.Trees.{Rows, IsTree}
-use Rattle.grove_base.proofs.Counting.{count_le}
+use Rattle.grove_base.proofs.Counting.{count_le, count_hit, count_miss}
 use Rattle.grove_base.proofs.Lists.{get_append_cases, replicate_got}
 use Rattle.grove_plan.specs.declared.step.Step.{Step}
 use Rattle.grove_plan.specs.Plans.{is_lock}
@@ -23,14 +23,30 @@ use Rattle.grove_core.specs.Openings.{job_fault, IsFirstFault}
 use Rattle.grove_core.proofs.CountChanges.{count_zero}
 use Rattle.grove_core.proofs.RunSteps.{plan_of_at}
 
--- a plan's steps and lock steps are at most twice its steps
-pub room_more : (jobs : List Job) (n room steps : ℕ) (job : Job) → slice_get jobs n ≡ Some job → steps ≡ length job.plan
+-- room for a plan's steps and lock steps
+pub room_more : (jobs : List Job) (n room steps locks : ℕ) (job : Job) → slice_get jobs n ≡ Some job → steps ≡ length job.plan → locks ≡ lock_steps job.plan
     → sum_below n (λ t. length (plan_of jobs t) + lock_steps (plan_of jobs t)) ≤ room
-    → sum_below (n + 1) (λ t. length (plan_of jobs t) + lock_steps (plan_of jobs t)) ≤ room + 2 * steps
-room_more jobs n room steps job at size le =
+    → sum_below (n + 1) (λ t. length (plan_of jobs t) + lock_steps (plan_of jobs t)) ≤ room + (steps + locks)
+room_more jobs n room steps locks job at size number le =
     let e : length (plan_of jobs n) ≡ length job.plan = ap (λ (p : List Step). length p) (plan_of_at jobs n job at) in
-    let few : lock_steps (plan_of jobs n) ≤ length (plan_of jobs n) = count_le (length (plan_of jobs n)) (λ i. is_lock (slice_get (plan_of jobs n) i)) in
+    let f : lock_steps (plan_of jobs n) ≡ lock_steps job.plan = ap lock_steps (plan_of_at jobs n job at) in
     rw add-one (omega arith)
+
+-- one step more that is a lock, or none
+pub locks_counted : (plan : List Step) (n locks : ℕ) → locks ≡ count_below n (λ i. is_lock (slice_get plan i)) → is_lock (slice_get plan n) ≡ true
+    → suc locks ≡ count_below (n + 1) (λ i. is_lock (slice_get plan i))
+locks_counted plan n locks is here =
+    let e : count_below (suc n) (λ i. is_lock (slice_get plan i)) ≡ suc (count_below n (λ i. is_lock (slice_get plan i))) = count_hit n (λ i. is_lock (slice_get plan i)) here in
+    rw add-one (omega arith)
+
+pub locks_passed : (plan : List Step) (n locks : ℕ) → locks ≡ count_below n (λ i. is_lock (slice_get plan i)) → is_lock (slice_get plan n) ≡ false
+    → locks ≡ count_below (n + 1) (λ i. is_lock (slice_get plan i))
+locks_passed plan n locks is here =
+    let e : count_below (suc n) (λ i. is_lock (slice_get plan i)) ≡ count_below n (λ i. is_lock (slice_get plan i)) = count_miss n (λ i. is_lock (slice_get plan i)) here in
+    rw add-one (omega arith)
+
+pub locks_few : (plan : List Step) (locks : ℕ) → locks ≡ lock_steps plan → locks ≤ length plan
+locks_few plan locks is = let few : lock_steps plan ≤ length plan = count_le (length plan) (λ i. is_lock (slice_get plan i)) in omega arith
 
 -- the fault of a job that is read is that of its number
 pub job_fault_at : (rows : Rows) (jobs : List Job) (t : ℕ) (job : Job) → slice_get jobs t ≡ Some job → job_fault rows jobs t ≡ fault_of rows job

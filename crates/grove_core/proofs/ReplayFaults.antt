@@ -1,5 +1,5 @@
 -- The first reason why events are no finished run is one, and a finished run has none.
-use Rattle.std.proofs.Common.{◌≡◌, ℕ, zero, suc, ◌+◌, ◌<◌, ◌≤◌, List, [], ◌∷◌, length, reverse, take, Some, None, refl, sym, ◌∙◌, ap, subst, inl, inr, arith, add-one}
+use Rattle.std.proofs.Common.{◌≡◌, ℕ, zero, suc, ◌<◌, ◌≤◌, List, ◌∷◌, length, reverse, take, Some, refl, sym, ◌∙◌, ap, subst, inl, inr, arith}
 use Rattle.std.specs.List.{slice_get}
 use Rattle.std.proofs.lemmas.Bool.{cases_order}
 use Rattle.std.proofs.lemmas.List.{take_all}
@@ -16,7 +16,7 @@ use Rattle.grove_core.specs.declared.fault.OpenFault.TheVariants as opening
 use Rattle.grove_core.specs.declared.fault.OpenFault.{OpenFault}
 use Rattle.grove_core.specs.declared.fault.ReplayFault.{ReplayFault}
 use Rattle.grove_core.specs.declared.fault.ReplayFault.TheVariants.{BadPlan, BadEvent, Unfinished, Memory}
-use Rattle.grove_core.specs.Runs.{list_of, plan_of, steps_done, AllLegal, IsRun, IsFinished, IsRefused, MayHappen}
+use Rattle.grove_core.specs.Runs.{list_of, plan_of, steps_done, AllLegal, IsRun, IsRefused, MayHappen}
 use Rattle.grove_core.specs.Openings.{IsFirstFault}
 use Rattle.grove_core.specs.Replays.{past_after, IsFirstRefused, IsFirstUnfinished, ReplayFaultIsOne, FinishedIsFaultless}
 use Rattle.grove_core.proofs.Refusals.{refused_may_not, refused_for_one, first_fault_is_one}

@@ -1,14 +1,14 @@
 ghost use Rattle.std.specs.Prelude.{◌≡◌, ℕ, ◌^◌, ◌<◌, ◌≤◌, length, slice_get, None, Some, IfOk, OnOk, IfErr, slice_index_or};
 ghost use Rattle.grove_access.specs.Lists.{nodes_of, AreNodes};
-ghost use Rattle.grove_plan.specs.Plans.{IsLegal};
+ghost use Rattle.grove_plan.specs.Plans.{is_lock, IsLegal};
 ghost use Rattle.grove_core.specs.declared.progress.Progress.{Progress};
-ghost use Rattle.grove_core.specs.Runs.{list_of, plan_of, AllLegal, most_events};
+ghost use Rattle.grove_core.specs.Runs.{list_of, plan_of, lock_steps, AllLegal, most_events};
 ghost use Rattle.grove_core.specs.Openings.{AllFit, IsFirstFault};
 ghost use Rattle.grove_core.specs.Starts.{fault_of, IsFaultOf, HasStarted};
 
 use crate::progress::Progress;
 use crate::{Job, OpenFault};
-use grove_plan::{PlanFault, judge};
+use grove_plan::{PlanFault, Step, judge};
 use grove_tree::Tree;
 use std::alloc::{AllocError, Global};
 
@@ -40,7 +40,7 @@ fn judge_job(alloc: Global, tree: &Tree, txn: u32, job: &Job) -> Result<(), Open
     }
 }
 
-/// Room for every event that can happen: each step is done once, and marked at most once before.
+/// Room for every event that can happen: each step is done once, and each lock marked at most once before.
 pub fn room(jobs: &[Job]) -> usize
     requires { length jobs.now ≤ 256 }
     ensures enough { most_events jobs.now ≤ result }
@@ -48,9 +48,30 @@ pub fn room(jobs: &[Job]) -> usize
 {
     let mut room = 0;
     for txn in 0..jobs.len() {
-        room += 2 * jobs[txn].plan.steps().len();
+        let steps = jobs[txn].plan.steps();
+        room += steps.len() + lock_steps(steps);
     }
     room
+}
+
+/// How many steps are locks.
+fn lock_steps(steps: &[Step]) -> usize
+    ensures number { result ≡ lock_steps steps.now }
+    ensures few { result ≤ length steps.now }
+{
+    let mut locks = 0;
+    for step in steps {
+        if is_lock(*step) {
+            locks += 1;
+        }
+    }
+    locks
+}
+
+fn is_lock(step: Step) -> bool
+    ensures { result ≡ is_lock (Some step) }
+{
+    matches!(step, Step::Lock(_))
 }
 
 /// The jobs' progress before the first event.

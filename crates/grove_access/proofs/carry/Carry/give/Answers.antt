@@ -14,5 +14,5 @@ invariant_of-self-2 c =
       c.self.invariant.3,
       c.self.invariant.4,
       c.self.invariant.5,
-      subst (Counts c.remove.new.self.counts) (sym c.release.ensures.items) (c.remove.ensures c.self.inside.known.items _ (sym c.in_ok-value.ensures.value) c.self.invariant.6),
+      subst (Counts c.remove.new.self.counts.items) (sym c.release.ensures.items) (c.remove.ensures c.self.inside.known.items _ (sym c.in_ok-value.ensures.value) c.self.invariant.6),
     )

@@ -13,5 +13,5 @@ invariant_of-self c =
       c.self.invariant.3,
       c.self.invariant.4,
       c.self.invariant.5,
-      subst (Counts c.add.new.self.counts) (sym c.hold.ensures.items) (c.add.ensures c.self.inside.known.items _ c.self.invariant.6),
+      subst (Counts c.add.new.self.counts.items) (sym c.hold.ensures.items) (c.add.ensures c.self.inside.known.items _ c.self.invariant.6),
     )

@@ -16,5 +16,5 @@ invariant_of-self c =
       omega arith,
       omega (arith, c.self.invariant.4, c.clear.ensures.capacity),
       c.self.invariant.5,
-      counts_settled c.self.inside.buckets.counts c.self.inside.entries.items c.self.inside.known.items c.settle_all.new.known.items items c.self.invariant.6,
+      counts_settled c.self.inside.buckets.counts.items c.self.inside.entries.items c.self.inside.known.items c.settle_all.new.known.items items c.self.invariant.6,
     )

@@ -1,4 +1,4 @@
-use Rattle.std.proofs.Common.{◌≡◌, ℕ, List, get_or, Some, ap, subst}
+use Rattle.std.proofs.Common.{◌≡◌, List, get_or, ap, subst}
 use Rattle.std.proofs.lemmas.List.{take_all}
 use Rattle.std.proofs.lemmas.Option.{slice_get-get_or}
 use Rattle.grove_core.specs.declared.event.Event.{Event}
