@@ -3,6 +3,7 @@
 
 pub use asked::Asked;
 pub use hinting::{awaited, hint, oversight};
+pub use line::said;
 
 mod accesses;
 mod amiss;
