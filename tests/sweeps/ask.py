@@ -2,7 +2,9 @@
 
 from __future__ import annotations
 
+import errno
 import json
+import os
 import socket
 import threading
 from functools import partial
@@ -79,6 +81,10 @@ def many(program: str, tally: Tally) -> None:
 def nobody(program: str, tally: Tally) -> None:
     for lines in ((), (ADD.decode(),)):
         tally.compare(f"{len(lines)} lines", ask(program, free_port(), *lines, text=ADD), DEVICE)
+    port = free_port()
+    reason = f"cannot reach {HOST}:{port}: {os.strerror(errno.ECONNREFUSED)} (os error {errno.ECONNREFUSED})\n"
+    wanted = Ran(DEVICE.status, b"", reason.encode() + DEVICE.err)
+    tally.compare("explained", ask(program, port, "--explain", text=ADD), wanted)
 
 
 class Canned:

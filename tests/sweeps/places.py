@@ -1,9 +1,11 @@
 """Servers at addresses of both kinds, at ports of their own and at any that is free: each says where it is, and answers there.
-At an address that isn't this machine's: `device`."""
+At an address that isn't this machine's, and at a port in use: `device`, and before it the reason where `--explain` asks for it."""
 
 from __future__ import annotations
 
+import errno
 import json
+import os
 import socket
 from contextlib import ExitStack
 from functools import partial
@@ -67,18 +69,27 @@ def serve_twice(program: str, tally: Tally) -> None:
     """At the address that another one has, but no other."""
     with Serving(program, TREE, port=0) as server:
         tally.compare("the same address", ended(program, server.port, "127.0.0.1"), DEVICE)
+        wanted = because(f"127.0.0.1:{server.port}", errno.EADDRINUSE)
+        tally.compare("the same address, explained", ended(program, server.port, "127.0.0.1", "--explain"), wanted)
         with Serving(program, TREE, port=server.port, further=["--bind", "127.0.0.2"]) as other:
             tally.note("another address", None if other.is_running() else "it has ended")
 
 
 def serve_nowhere(program: str, tally: Tally) -> None:
     tally.compare(NOWHERE, ended(program, 0, NOWHERE), DEVICE)
+    wanted = because(f"{NOWHERE}:0", errno.EADDRNOTAVAIL)
+    tally.compare(f"{NOWHERE}, explained", ended(program, 0, NOWHERE, "--explain"), wanted)
 
 
-def ended(program: str, port: int, address: str) -> Ran:
+def because(place: str, number: int) -> Ran:
+    """What is said of a place that can't be listened on for this error."""
+    return Ran(3, b"", f"cannot listen on {place}: {os.strerror(number)} (os error {number})\ndevice\n".encode())
+
+
+def ended(program: str, port: int, address: str, *further: str) -> Ran:
     """How a server that can't listen ends."""
     try:
-        with Serving(program, TREE, port=port, further=["--bind", address]):
+        with Serving(program, TREE, port=port, further=["--bind", address, *further]):
             return Ran(None, b"", b"")
     except NotListening as why:
         return Ran(*why.ended)

@@ -3,6 +3,7 @@ use Rattle.std.proofs.Common.{rules, ◌≡◌, ℕ, Bool, ◌+◌, ◌<◌, ◌
 use Rattle.std.proofs.lemmas.Bool.{cases_lt, cond-true}
 use Rattle.std.proofs.lemmas.Result.{IfOk-weaker}
 use Rattle.std.specs.Io.KnownBytes.{Appends, Consumes, IsAtEnd, Keeps}
+use Rattle.std.proofs.KnownBytes.{Appends-trans}
 use Rattle.serde_json.specs.Data.{Data}
 use Rattle.grove_session.specs.declared.fault.DeviceFault.{DeviceFault}
 use Rattle.grove_wire.specs.declared.fault.WireFault.{WireFault}
@@ -21,7 +22,7 @@ use Rattle.grove_words.specs.CommandLines.{AskToServe, NameDevice}
 use Rattle.grove_words.proofs.Orders.{serves_placed}
 use Rattle.grove_answer.specs.Outcomes.{Outcome, ThenSays}
 use Rattle.grove.specs.Answers.{most_bytes, status_of, printed, AnswersBy, HasText, IsListen, Listens}
-use Rattle.grove.specs.Endings.{Blames, IsHintLine, MayHint, SaysListening, SaysSomething, SaysWhy}
+use Rattle.grove.specs.Endings.{stop_line, Blames, IsHintLine, IsReasonLine, MayHint, SaysListening, SaysSomething, SaysStop, SaysWhy}
 use Rattle.grove.specs.Outcomes.{document_for, MaySay, IsOutcome, Prints, PrintsPart, outcome_text}
 
 over_limit : (most : ℕ) (bytes : List ℕ) → most < length bytes → document_within most bytes ≡ Err (Limit (whole_of Whole))
@@ -109,6 +110,15 @@ pub hint_out : (failed fails : Bool) (line : List ℕ) (old new : Option (List �
 hint_out failed fails line old new (Ok done) is whole cut same = inl (same ∙ or_false failed, inr (line, is, whole))
 hint_out failed fails line old new (Err fault) is whole (count, less, out) same = inr (same ∙ or_true failed, line, is, count, out)
 
+-- what went out whole is followed by the line of a stop, where standard error is sound at the end
+pub stop_after : (failed between fails : Bool) (old middle new : Option (List ℕ)) (line : List ℕ) (why : Stop) (result : Result (Unit {0}) DeviceFault) → OnOk result (Appends old middle line)
+    → between ≡ (failed || is_err result) → (between ≡ true → fails ≡ true) → (fails ≡ false → Appends middle new (stop_line why))
+    → fails ≡ false → Appends old new (line ++ stop_line why)
+stop_after failed between fails old middle new line why (Ok done) whole same keeps told sound = Appends-trans old middle new line (stop_line why) whole (told sound)
+stop_after failed between fails old middle new line why (Err fault) whole same keeps told sound =
+    let fail : fails ≡ true = keeps (same ∙ or_true failed) in
+    absurd (cc)
+
 -- a hint comes after nothing
 pub hint_after : (failed between fails : Bool) (old middle new : Option (List ℕ)) → between ≡ failed → Keeps old middle → MayHint between fails middle new → MayHint failed fails old new
 hint_after failed between fails None middle new same kept (inl (sound, out)) = inl (sound ∙ same, inl tt)
@@ -189,19 +199,32 @@ asked_to_serve words (Refused text) named listens = absurd listens
 asked_to_serve words (Usage text) named listens = absurd listens
 asked_to_serve words (Listen line service) (place, (order, asks, serves, at), said) listens = (order, asks, inr (serves_placed order.command serves))
 
--- what reading blames, serving and printing may blame besides
-pub blames_device : (words : List (List ℕ)) (answer : Result Answer Stop) (InFailed InSound OutFailed OutSound : Type 0) (old new : Option (List ℕ))
+-- which of them a stop blames
+blames_one : (words : List (List ℕ)) (answer : Result Answer Stop) (InFailed InSound OutFailed OutSound : Type 0) (why : Stop)
     → IfErr answer (Blames (InFailed ⊎ NameDevice words) InSound) → IfOk answer (Listens (AskToServe words))
-    → SaysWhy ((answer ≡ Err Device) ⊎ (IsOkAnd answer IsListen ⊎ OutFailed)) ((answer ≡ Err Memory) × OutSound) old new
-    → SaysWhy (InFailed ⊎ (OutFailed ⊎ NameDevice words)) (InSound × OutSound) old new
-blames_device words (Ok answer) InFailed InSound OutFailed OutSound old new blames named (Device, said, inl same) = let e : Ok answer ≡ Err Device = same in absurd (cc)
-blames_device words (Ok answer) InFailed InSound OutFailed OutSound old new blames named (Device, said, inr (inl listens)) = (Device, said, inr (inr (asked_to_serve words answer named listens)))
-blames_device words (Ok answer) InFailed InSound OutFailed OutSound old new blames named (Device, said, inr (inr failed)) = (Device, said, inr (inl failed))
-blames_device words (Ok answer) InFailed InSound OutFailed OutSound old new blames named (Memory, said, (same, sound)) = let e : Ok answer ≡ Err Memory = same in absurd (cc)
-blames_device words (Err Device) InFailed InSound OutFailed OutSound old new (inl failed) named (Device, said, inl same) = (Device, said, inl failed)
-blames_device words (Err Device) InFailed InSound OutFailed OutSound old new (inr device) named (Device, said, inl same) = (Device, said, inr (inr device))
-blames_device words (Err Memory) InFailed InSound OutFailed OutSound old new sound named (Device, said, inl same) = let e : ◌≡◌ {A = Result Answer Stop} (Err Memory) (Err Device) = same in absurd (cc)
-blames_device words (Err why) InFailed InSound OutFailed OutSound old new blames named (Device, said, inr (inl listens)) = absurd listens
-blames_device words (Err why) InFailed InSound OutFailed OutSound old new blames named (Device, said, inr (inr failed)) = (Device, said, inr (inl failed))
-blames_device words (Err Device) InFailed InSound OutFailed OutSound old new blames named (Memory, said, (same, sound)) = let e : ◌≡◌ {A = Result Answer Stop} (Err Device) (Err Memory) = same in absurd (cc)
-blames_device words (Err Memory) InFailed InSound OutFailed OutSound old new kept named (Memory, said, (same, sound)) = (Memory, said, (kept, sound))
+    → Blames ((answer ≡ Err Device) ⊎ (IsOkAnd answer IsListen ⊎ OutFailed)) ((answer ≡ Err Memory) × OutSound) why
+    → Blames (InFailed ⊎ (OutFailed ⊎ NameDevice words)) (InSound × OutSound) why
+blames_one words (Ok answer) InFailed InSound OutFailed OutSound Device blames named (inl same) = let e : Ok answer ≡ Err Device = same in absurd (cc)
+blames_one words (Ok answer) InFailed InSound OutFailed OutSound Device blames named (inr (inl listens)) = inr (inr (asked_to_serve words answer named listens))
+blames_one words (Ok answer) InFailed InSound OutFailed OutSound Device blames named (inr (inr failed)) = inr (inl failed)
+blames_one words (Ok answer) InFailed InSound OutFailed OutSound Memory blames named (same, sound) = let e : Ok answer ≡ Err Memory = same in absurd (cc)
+blames_one words (Err Device) InFailed InSound OutFailed OutSound Device (inl failed) named (inl same) = inl failed
+blames_one words (Err Device) InFailed InSound OutFailed OutSound Device (inr device) named (inl same) = inr (inr device)
+blames_one words (Err Memory) InFailed InSound OutFailed OutSound Device sound named (inl same) = let e : ◌≡◌ {A = Result Answer Stop} (Err Memory) (Err Device) = same in absurd (cc)
+blames_one words (Err stopped) InFailed InSound OutFailed OutSound Device blames named (inr (inl listens)) = absurd listens
+blames_one words (Err stopped) InFailed InSound OutFailed OutSound Device blames named (inr (inr failed)) = inr (inl failed)
+blames_one words (Err Device) InFailed InSound OutFailed OutSound Memory blames named (same, sound) = let e : ◌≡◌ {A = Result Answer Stop} (Err Device) (Err Memory) = same in absurd (cc)
+blames_one words (Err Memory) InFailed InSound OutFailed OutSound Memory kept named (same, sound) = (kept, sound)
+
+-- what is asked for one thing is asked for another that follows from it
+says_stop_for : (IsAsked IsWanted : Type 0) (why : Stop) (old new : Option (List ℕ)) → (IsAsked → IsWanted) → SaysStop IsAsked why old new → SaysStop IsWanted why old new
+says_stop_for IsAsked IsWanted why old new follows (inl said) = inl said
+says_stop_for IsAsked IsWanted why old new follows (inr (asked, line, is, said)) = inr (follows asked, line, is, said)
+
+-- what reading blames, serving and printing may blame besides
+pub blames_device : (words : List (List ℕ)) (answer : Result Answer Stop) (IsTold IsAsked InFailed InSound OutFailed OutSound : Type 0) (old new : Option (List ℕ))
+    → (IsTold → IsAsked) → IfErr answer (Blames (InFailed ⊎ NameDevice words) InSound) → IfOk answer (Listens (AskToServe words))
+    → SaysWhy IsTold ((answer ≡ Err Device) ⊎ (IsOkAnd answer IsListen ⊎ OutFailed)) ((answer ≡ Err Memory) × OutSound) old new
+    → SaysWhy IsAsked (InFailed ⊎ (OutFailed ⊎ NameDevice words)) (InSound × OutSound) old new
+blames_device words answer IsTold IsAsked InFailed InSound OutFailed OutSound old new asked blames named (why, said, blame) =
+    (why, says_stop_for IsTold IsAsked why old new asked said, blames_one words answer InFailed InSound OutFailed OutSound why blames named blame)

@@ -5,7 +5,7 @@ use Rattle.std.specs.Net.Addr.{ipv4_octets, ipv6_segments}
 use Rattle.std.specs.Net.Text.{ipv4_text, ipv6_text}
 use Rattle.std.specs.declared.net.ip_addr.IpAddr.{IpAddr}
 use Rattle.std.specs.declared.net.ip_addr.IpAddr.TheVariants.{V4, V6}
-use Rattle.grove_hint.specs.Hints.{IsHint}
+use Rattle.grove_hint.specs.Hints.{IsHint, IsSaid}
 use Rattle.grove_words.specs.declared.order.Place.{Place}
 use Rattle.grove.specs.declared.answer.Stop.{Stop}
 use Rattle.grove.specs.declared.answer.Stop.TheVariants.{Device, Memory}
@@ -20,9 +20,18 @@ abbrev pub Blames : Type 0 → Type 0 → Stop → Type 0
 Blames HasFailed IsSound Device = HasFailed
 Blames HasFailed IsSound Memory = IsSound
 
--- standard error got the line of such a stop
-abbrev pub SaysWhy : Type 0 → Type 0 → Option (List ℕ) → Option (List ℕ) → Type 0
-SaysWhy HasFailed IsSound old new = (why : Stop) × Appends old new (stop_line why) × Blames HasFailed IsSound why
+-- the line of the reason that the system gives for it
+abbrev pub IsReasonLine : List ℕ → Type 0
+IsReasonLine line = (reason : List ℕ) × IsSaid reason × (line ≡ reason ++ 10 ∷ [])
+
+-- standard error got the line of a stop, or, only where that is asked for, the line of a reason and then that of the stop
+abbrev pub SaysStop : Type 0 → Stop → Option (List ℕ) → Option (List ℕ) → Type 0
+SaysStop IsAsked why old new =
+    Appends old new (stop_line why) ⊎ (IsAsked × (line : List ℕ) × IsReasonLine line × Appends old new (line ++ stop_line why))
+
+-- and the stop is such a one
+abbrev pub SaysWhy : Type 0 → Type 0 → Type 0 → Option (List ℕ) → Option (List ℕ) → Type 0
+SaysWhy IsAsked HasFailed IsSound old new = (why : Stop) × SaysStop IsAsked why old new × Blames HasFailed IsSound why
 
 -- an output got some text
 abbrev pub SaysSomething : Option (List ℕ) → Option (List ℕ) → Type 0

@@ -1,7 +1,7 @@
-ghost use Rattle.std.specs.Prelude.{◌≡◌, ◌≤◌, ◌⊎◌, ℕ, true, false, None, take, IfOk, IfSome, IsOkAnd, string_bytes};
+ghost use Rattle.std.specs.Prelude.{◌≡◌, ◌≢◌, ◌≤◌, ◌⊎◌, ◌++◌, ℕ, true, false, None, take, IfOk, IfSome, IsOkAnd, string_bytes};
 ghost use Rattle.std.specs.Io.KnownBytes.{Appends, Keeps};
 ghost use Rattle.grove.specs.Answers.{status_of, printed, complained, IsListen, IsRefusalLine};
-ghost use Rattle.grove.specs.Endings.{stop_line, IsHintLine, MayHint, SaysRefusal, SaysWhy};
+ghost use Rattle.grove.specs.Endings.{stop_line, IsHintLine, IsReasonLine, MayHint, SaysRefusal, SaysStop, SaysWhy};
 
 use crate::connections::serve;
 use crate::serving::Service;
@@ -41,14 +41,20 @@ pub struct Response {
     pub answer: Result<Answer, Stop>,
     /// A line for standard error beside an answer of status 0 or 1.
     pub hint: Option<String>,
+    /// A line for standard error before that of a stop.
+    pub reason: Option<String>,
 }
 
 impl Response {
-    /// A response without a hint.
+    /// A response without a hint or a reason.
     pub fn plain(answer: Result<Answer, Stop>) -> Response
-        ensures { (result.answer ≡ answer) × (result.hint ≡ None) }
+        ensures { (result.answer ≡ answer) × (result.hint ≡ None) × (result.reason ≡ None) }
     {
-        Response { answer, hint: None }
+        Response {
+            answer,
+            hint: None,
+            reason: None,
+        }
     }
 }
 
@@ -59,7 +65,8 @@ pub fn end<R: AllocGlobal + RandomSource + Threads + Wait + Clock + Sync, O: Sin
     out: &mut O,
     err: &mut E,
 ) -> u8
-    requires { IfSome response.hint (λ line. IsHintLine (string_bytes line)) }
+    requires hint { IfSome response.hint (λ line. IsHintLine (string_bytes line)) }
+    requires reason { IfSome response.reason (λ line. IsReasonLine (string_bytes line)) }
     ensures status { result ≤ 3 }
     ensures answered { result ≤ 2 → IsOkAnd response.answer (λ answer. (result ≡ status_of answer)
         × Appends (O.contents out.old) (O.contents out.new) (printed answer)
@@ -73,14 +80,18 @@ pub fn end<R: AllocGlobal + RandomSource + Threads + Wait + Clock + Sync, O: Sin
     ensures sound_output { result ≤ 2 → O.has_failed out.new ≡ O.has_failed out.old }
     ensures sound_errors { result ≡ 2 → E.has_failed err.new ≡ E.has_failed err.old }
     ensures blamed { result ≡ 3 → E.has_failed err.new ≡ false
-        → SaysWhy ((response.answer ≡ Err Stop.Device) ⊎ (IsOkAnd response.answer IsListen ⊎ (O.has_failed out.new ≡ true)))
+        → SaysWhy (response.reason ≢ None) ((response.answer ≡ Err Stop.Device) ⊎ (IsOkAnd response.answer IsListen ⊎ (O.has_failed out.new ≡ true)))
         ((response.answer ≡ Err Stop.Memory) × (O.has_failed out.new ≡ O.has_failed out.old)) (E.contents err.old) (E.contents err.new) }
     ensures unprinted { result ≡ 3 → O.has_failed out.new ≡ false → Keeps (O.contents out.old) (O.contents out.new)
         ⊎ IsOkAnd response.answer (λ answer. IsListen answer × Appends (O.contents out.old) (O.contents out.new) (printed answer)) }
     ensures served { IsOkAnd response.answer IsListen → result ≡ 3 }
 {
-    let Response { answer, hint } = response;
-    let status = print(rt, answer, out, err);
+    let Response {
+        answer,
+        hint,
+        reason,
+    } = response;
+    let status = print(rt, answer, reason, out, err);
     match hint {
         Some(line) if status <= 1 => add(&line, err),
         _ => {}
@@ -100,9 +111,11 @@ pub fn add<E: Sink>(line: &str, err: &mut E)
 fn print<R: AllocGlobal + RandomSource + Threads + Wait + Clock + Sync, O: Sink, E: Sink>(
     rt: &R,
     answer: Result<Answer, Stop>,
+    reason: Option<String>,
     out: &mut O,
     err: &mut E,
 ) -> u8
+    requires { IfSome reason (λ line. IsReasonLine (string_bytes line)) }
     ensures status { result ≤ 3 }
     ensures answered { result ≤ 2 → IsOkAnd answer (λ answer. (result ≡ status_of answer)
         × Appends (O.contents out.old) (O.contents out.new) (printed answer)
@@ -115,7 +128,7 @@ fn print<R: AllocGlobal + RandomSource + Threads + Wait + Clock + Sync, O: Sink,
     ensures sound_output { result ≤ 2 → O.has_failed out.new ≡ O.has_failed out.old }
     ensures sound_errors { result ≤ 2 → E.has_failed err.new ≡ E.has_failed err.old }
     ensures blamed { result ≡ 3 → E.has_failed err.new ≡ false
-        → SaysWhy ((answer ≡ Err Stop.Device) ⊎ (IsOkAnd answer IsListen ⊎ (O.has_failed out.new ≡ true)))
+        → SaysWhy (reason ≢ None) ((answer ≡ Err Stop.Device) ⊎ (IsOkAnd answer IsListen ⊎ (O.has_failed out.new ≡ true)))
         ((answer ≡ Err Stop.Memory) × (O.has_failed out.new ≡ O.has_failed out.old)) (E.contents err.old) (E.contents err.new) }
     ensures unprinted { result ≡ 3 → O.has_failed out.new ≡ false → Keeps (O.contents out.old) (O.contents out.new)
         ⊎ IsOkAnd answer (λ answer. IsListen answer × Appends (O.contents out.old) (O.contents out.new) (printed answer)) }
@@ -126,8 +139,29 @@ fn print<R: AllocGlobal + RandomSource + Threads + Wait + Clock + Sync, O: Sink,
         Ok(Answer::Refused(text)) => tell(&text, 1, out, err),
         Ok(Answer::Usage(text)) => complain(&text, err),
         Ok(Answer::Listen { line, service }) => say_and_serve(rt, &line, service, out, err),
-        Err(why) => report(why, err),
+        Err(why) => say_stop(why, reason, err),
     }
+}
+
+/// Says on standard error why there is no answer, after the system's reason where there is one.
+pub fn say_stop<E: Sink>(why: Stop, reason: Option<String>, err: &mut E) -> u8
+    requires { IfSome reason (λ line. IsReasonLine (string_bytes line)) }
+    ensures status { result ≡ 3 }
+    ensures told { E.has_failed err.new ≡ false → SaysStop (reason ≢ None) why (E.contents err.old) (E.contents err.new) }
+{
+    match reason {
+        Some(line) => report_after(&line, why, err),
+        None => report(why, err),
+    }
+}
+
+/// Says the line and why there is no answer.
+fn report_after<E: Sink>(line: &str, why: Stop, err: &mut E) -> u8
+    ensures status { result ≡ 3 }
+    ensures told { E.has_failed err.new ≡ false → Appends (E.contents err.old) (E.contents err.new) (line.now ++ stop_line why) }
+{
+    let _told = write_whole(err, line.as_bytes());
+    report(why, err)
 }
 
 /// Prints the text on standard output, and gives the status if that is done.

@@ -1,9 +1,10 @@
 ghost use Rattle.std.specs.Prelude.{◌≡◌, ◌≤◌, ◌⊎◌};
 
-use crate::answer::{Stop, report};
+use crate::answer::{Stop, say_stop};
+use crate::failure::{Failure, reason_of};
 use crate::server::Server;
 use grove_session::{BytesSource, SessionFault, Sink, Source, session};
-use grove_words::{Place, lines_asked};
+use grove_words::{Order, Place, lines_asked};
 use std::alloc::{AllocGlobal, Global};
 use std::net::{Net, TcpListener, TcpStream};
 
@@ -12,18 +13,28 @@ const MOST_READS: u64 = 1 << 63;
 
 /// Asks the server at the place the lines of the words, or those of the input where the words have none, and prints its
 /// replies. Gives the status of the process: 0, 1 where a reply was an error, 3 where the server isn't there or is lost.
+/// `order` is the one of the words.
 pub fn ask<
     R: AllocGlobal + Net<Listener = TcpListener, Stream = TcpStream>,
     I: Source,
     O: Sink,
     E: Sink,
->(rt: &R, place: Place, words: &[String], input: &mut I, out: &mut O, err: &mut E) -> u8
+>(
+    rt: &R,
+    order: Order<'_>,
+    place: Place,
+    words: &[String],
+    input: &mut I,
+    out: &mut O,
+    err: &mut E,
+) -> u8
     ensures status { (result ≤ 1) ⊎ (result ≡ 3) }
 {
-    match ask_at(rt, place, words, input, out) {
+    let mut failure = None;
+    match ask_at(rt, place, words, input, out, &mut failure) {
         Ok(false) => 0,
         Ok(true) => 1,
-        Err(stop) => report(stop, err),
+        Err(why) => say_stop(why, reason_of(rt.alloc(), order, failure), err),
     }
 }
 
@@ -34,9 +45,16 @@ fn ask_at<R: AllocGlobal + Net<Listener = TcpListener, Stream = TcpStream>, I: S
     words: &[String],
     input: &mut I,
     out: &mut O,
+    failure: &mut Option<Failure>,
 ) -> Result<bool, Stop> {
     let lines = text_asked(rt.alloc(), words)?;
-    let stream = TcpStream::connect(rt, (place.address, place.port))?;
+    let stream = match TcpStream::connect(rt, (place.address, place.port)) {
+        Ok(stream) => stream,
+        Err(error) => {
+            *failure = Some(Failure::Reach(error));
+            return Err(Stop::from(error));
+        }
+    };
     // No line is to wait until the reply before it has arrived.
     let _at_once = stream.set_nodelay(true);
     if lines.is_empty() {

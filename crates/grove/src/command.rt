@@ -5,13 +5,15 @@ ghost use Rattle.grove_wire.specs.Forms.{AreArraysShort, HasShortArrays};
 ghost use Rattle.grove_wire.specs.Outcomes.{Gives};
 ghost use Rattle.std.specs.Io.KnownBytes.{Consumes, IsAtEnd, Keeps};
 ghost use Rattle.grove.specs.Answers.{most_bytes, status_of, AnswersBy, HasText, IsListen, IsOpenedBy, IsOpenedFrom, IsRefusalLine, Listens, ServesStore};
-ghost use Rattle.grove_words.specs.CommandLines.{has_place, serves, AreWrong, AskFor, AskForWorkers, AskToServe, AskToShow, NameDevice};
+ghost use Rattle.grove_words.specs.CommandLines.{has_place, serves, AreWrong, AskFor, AskForWorkers, AskToExplain, AskToServe, AskToShow, NameDevice};
 ghost use Rattle.grove_words.specs.NoOrders.{HasText as IsToldText, TellsShown, TellsWrong};
-ghost use Rattle.grove.specs.Endings.{Blames, IsHintLine, MayHint, SaysListening, SaysRefusal, SaysSomething, SaysWhy};
+ghost use Rattle.grove.specs.Endings.{Blames, IsHintLine, IsReasonLine, MayHint, SaysListening, SaysRefusal, SaysSomething, SaysWhy};
 ghost use Rattle.grove_answer.specs.Says.{Says};
 ghost use Rattle.grove.specs.Outcomes.{document_for, IsOutcome, IsOutcomeFor, MaySay, Prints, PrintsPart};
 
 use crate::answer::{Answer, Response, Stop, add, end};
+use crate::failure::{Failure, reason_of};
+use crate::file_source::FileSource;
 use crate::hinting::{awaited_by, hint_beside};
 use crate::refusal::answer_of;
 use crate::serving::{Talk, serve_document};
@@ -20,7 +22,7 @@ use grove_answer::{
     planned_document, run_document,
 };
 use grove_draw::Form;
-use grove_session::{ReaderSource, Sink, Source, read_whole};
+use grove_session::{Sink, Source, read_whole};
 use grove_wire::{MOST_BYTES, MOST_HISTORY_BYTES, WireFault, read_document, read_history};
 use grove_words::{Command, Form as WrittenForm, NoOrder, Order, not_text, order_of};
 use serde_json::Value;
@@ -68,7 +70,7 @@ pub fn run_command<
     ensures unread { result ≡ 2 → input.new ≡ input.old }
     ensures apart { (order : Order) → AskFor (map string_bytes words.now) order → order.document ≢ None → input.new ≡ input.old }
     ensures blamed { result ≡ 3 → E.has_failed err.new ≡ false
-        → SaysWhy ((I.has_failed input.new ≡ true) ⊎ ((O.has_failed out.new ≡ true) ⊎ NameDevice (map string_bytes words.now)))
+        → SaysWhy (AskToExplain (map string_bytes words.now) true) ((I.has_failed input.new ≡ true) ⊎ ((O.has_failed out.new ≡ true) ⊎ NameDevice (map string_bytes words.now)))
         ((I.has_failed input.new ≡ I.has_failed input.old) × (O.has_failed out.new ≡ O.has_failed out.old))
         (E.contents err.old) (E.contents err.new) }
     ensures unprinted { result ≡ 3 → O.has_failed out.new ≡ false → Keeps (O.contents out.old) (O.contents out.new)
@@ -89,6 +91,7 @@ pub fn refused_words(alloc: Global) -> Response
     ensures usage { IfOk result.answer (λ answer. status_of answer ≡ 2) }
     ensures stopped { IfErr result.answer (λ stop. stop ≡ Stop.Memory) }
     ensures unhinted { result.hint ≡ None }
+    ensures unexplained { result.reason ≡ None }
 {
     Response::plain(words_answer(not_text(alloc)))
 }
@@ -140,6 +143,8 @@ fn response<
         (I.has_failed input.new ≡ I.has_failed input.old)) }
     ensures hinted { IfSome result.hint (λ line. IsHintLine (string_bytes line)) }
     ensures unhinted { AskToShow (map string_bytes words.now) → result.hint ≡ None }
+    ensures reason { IfSome result.reason (λ line. IsReasonLine (string_bytes line)) }
+    ensures explained { result.reason ≢ None → AskToExplain (map string_bytes words.now) true }
 {
     match order_of(rt.alloc(), words) {
         Ok(order) => order_response(rt, order, input),
@@ -171,11 +176,18 @@ fn order_response<
     ensures blamed { IfErr result.answer (Blames ((I.has_failed input.new ≡ true) ⊎ ((order.entry.document ≢ None) ⊎ (has_place order.entry.command ≡ true)))
         (I.has_failed input.new ≡ I.has_failed input.old)) }
     ensures hinted { IfSome result.hint (λ line. IsHintLine (string_bytes line)) }
+    ensures reason { IfSome result.reason (λ line. IsReasonLine (string_bytes line)) }
+    ensures explained { result.reason ≢ None → order.entry.explain ≡ true }
 {
     let most = most_bytes(order.command);
-    match document_bytes(rt, order.document, most, input) {
+    let mut failure = None;
+    match document_bytes(rt, order.document, most, input, &mut failure) {
         Ok(bytes) => bytes_response(rt, order, &bytes),
-        Err(stop) => Response::plain(Err(stop)),
+        Err(stop) => Response {
+            answer: Err(stop),
+            hint: None,
+            reason: reason_of(rt.alloc(), order, failure),
+        },
     }
 }
 
@@ -192,18 +204,30 @@ fn bytes_response<
     ensures place { IfOk result.answer (Listens (λ place. (serves order.entry.command ≡ true) × (order.entry.place ≡ Some place))) }
     ensures blamed { IfErr result.answer (Blames (has_place order.entry.command ≡ true) ⊤) }
     ensures hinted { IfSome result.hint (λ line. IsHintLine (string_bytes line)) }
+    ensures reason { IfSome result.reason (λ line. IsReasonLine (string_bytes line)) }
+    ensures explained { result.reason ≢ None → order.entry.explain ≡ true }
 {
     let alloc = rt.alloc();
     match read_for(alloc, order.command, bytes) {
         Ok(document) => {
-            let answer = document_answer(rt, order, &document);
+            let mut failure = None;
+            let answer = document_answer(rt, order, &document, &mut failure);
             let hint = hint_beside(alloc, order.command, bytes, Some(&document), &answer);
-            Response { answer, hint }
+            let reason = reason_of(alloc, order, failure);
+            Response {
+                answer,
+                hint,
+                reason,
+            }
         }
         Err(fault) => {
             let answer = answer_of(alloc, Err(Refusal::of_wire(alloc, &fault)));
             let hint = hint_beside(alloc, order.command, bytes, None, &answer);
-            Response { answer, hint }
+            Response {
+                answer,
+                hint,
+                reason: None,
+            }
         }
     }
 }
@@ -250,7 +274,7 @@ fn read_for(alloc: Global, command: Command, bytes: &[u8]) -> Result<Value, Wire
 /// What an order says of the document.
 fn document_answer<
     R: AllocGlobal + Net<Listener = TcpListener, Stream = TcpStream> + Threads + Wait + Sync,
->(rt: &R, order: Order<'_>, document: &Value) -> Result<Answer, Stop>
+>(rt: &R, order: Order<'_>, document: &Value, failure: &mut Option<Failure>) -> Result<Answer, Stop>
     requires short { HasShortArrays (view document.now) }
     requires all_short { AreArraysShort (view document.now) }
     requires shallow { depth (view document.now) ≤ 127 }
@@ -280,6 +304,7 @@ fn document_answer<
                 order.place,
                 Talk::Lines,
                 order.patience,
+                failure,
             )
         }
         Command::Page => {
@@ -291,6 +316,7 @@ fn document_answer<
                 order.place,
                 Talk::Requests,
                 order.patience,
+                failure,
             )
         }
         Command::Ask => Err(Stop::Device),
@@ -326,6 +352,7 @@ fn document_bytes<R: Files + AllocGlobal, I: Source>(
     name: Option<&str>,
     most: usize,
     input: &mut I,
+    failure: &mut Option<Failure>,
 ) -> Result<Vec<u8>, Stop>
     requires { most ≤ 67108864 }
     ensures input { name.entry ≡ None → IfOk result (λ bytes. Consumes (I.remaining input.old) (I.remaining input.new) bytes.items) }
@@ -336,11 +363,33 @@ fn document_bytes<R: Files + AllocGlobal, I: Source>(
         (I.has_failed input.new ≡ I.has_failed input.old)) }
 {
     match name {
-        Some(name) => {
-            let mut file = ReaderSource::new(fs::open(rt, name)?);
-            Ok(read_whole(rt.alloc(), &mut file, most)?)
-        }
+        Some(name) => file_bytes(rt, name, most, failure),
         None => Ok(read_whole(rt.alloc(), input, most)?),
+    }
+}
+
+fn file_bytes<R: Files + AllocGlobal>(
+    rt: &R,
+    name: &str,
+    most: usize,
+    failure: &mut Option<Failure>,
+) -> Result<Vec<u8>, Stop>
+    requires { most ≤ 67108864 }
+{
+    let file = match fs::open(rt, name) {
+        Ok(file) => file,
+        Err(error) => {
+            *failure = Some(Failure::Open(error));
+            return Err(Stop::from(error));
+        }
+    };
+    let mut source = FileSource::new(file);
+    match read_whole(rt.alloc(), &mut source, most) {
+        Ok(bytes) => Ok(bytes),
+        Err(fault) => {
+            *failure = source.error().map(Failure::Read);
+            Err(Stop::from(fault))
+        }
     }
 }
 

@@ -21,6 +21,8 @@ mod answer;
 mod asking;
 mod command;
 mod connections;
+mod failure;
+mod file_source;
 mod hinting;
 mod refusal;
 mod seats;
@@ -73,12 +75,12 @@ fn obey<
 >(rt: &R, words: &[String], input: &mut I, out: &mut O, err: &mut E) -> u8 {
     match order_of(rt.alloc(), words) {
         Ok(
-            Order {
+            order @ Order {
                 command: Command::Ask,
                 place: Some(place),
                 ..
             },
-        ) => ask(rt, place, words, input, out, err),
+        ) => ask(rt, order, place, words, input, out, err),
         Err(NoOrder::Memory) => end(rt, Response::plain(Err(Stop::Memory)), out, err),
         _ => run_command(rt, words, input, out, err),
     }

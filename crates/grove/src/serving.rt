@@ -10,6 +10,7 @@ ghost use Rattle.grove.specs.Endings.{address_text, listening_line, Blames, IsPo
 ghost use Rattle.grove.specs.Outcomes.{IsServed};
 
 use crate::answer::{Answer, Stop};
+use crate::failure::Failure;
 use crate::refusal::answer_of;
 use grove_answer::{Refusal, or_refuse};
 use grove_store::{NoStore, Store};
@@ -37,7 +38,8 @@ pub enum Talk {
     Requests,
 }
 
-/// A service with the document's tree and records, which listens already, or why there is none.
+/// A service with the document's tree and records, which listens already, or why there is none; where the system wouldn't
+/// have the port, that is the failure.
 pub fn serve_document<R: Net<Listener = TcpListener, Stream = TcpStream>>(
     rt: &R,
     alloc: Global,
@@ -46,6 +48,7 @@ pub fn serve_document<R: Net<Listener = TcpListener, Stream = TcpStream>>(
     place: Option<Place>,
     talk: Talk,
     patience: Patience,
+    failure: &mut Option<Failure>,
 ) -> Result<Answer, Stop>
     requires short { HasShortArrays (view document.now) }
     requires workers { (1 ≤ workers) × (workers ≤ 16) }
@@ -57,7 +60,7 @@ pub fn serve_document<R: Net<Listener = TcpListener, Stream = TcpStream>>(
     ensures opened { IfOk result (ServesStore (IsOpenedFrom (view document.now) workers)) }
 {
     match open_store(alloc, document, workers) {
-        Ok(store) => listening(rt, alloc, store, place, talk, patience),
+        Ok(store) => listening(rt, alloc, store, place, talk, patience, failure),
         Err(refusal) => answer_of(alloc, Err(refusal)),
     }
 }
@@ -84,6 +87,7 @@ fn listening<R: Net<Listener = TcpListener, Stream = TcpStream>>(
     place: Option<Place>,
     talk: Talk,
     patience: Patience,
+    failure: &mut Option<Failure>,
 ) -> Result<Answer, Stop>
     ensures said { IfOk result (Listens (λ asked. place ≡ Some asked)) }
     ensures listens { IfOk result IsListen }
@@ -92,7 +96,13 @@ fn listening<R: Net<Listener = TcpListener, Stream = TcpStream>>(
     let Some(place) = place else {
         return Err(Stop::Device);
     };
-    let listener = TcpListener::bind(rt, (place.address, place.port))?;
+    let listener = match TcpListener::bind(rt, (place.address, place.port)) {
+        Ok(listener) => listener,
+        Err(error) => {
+            *failure = Some(Failure::Listen(error));
+            return Err(Stop::from(error));
+        }
+    };
     let line = line_for(alloc, place, port_of(&listener, place.port)?)?;
     Ok(Answer::Listen {
         line,

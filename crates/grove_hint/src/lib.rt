@@ -3,6 +3,7 @@
 
 pub use asked::Asked;
 pub use hinting::{awaited, hint, oversight};
+pub use line::said;
 pub use session::hint_of_line;
 
 mod accesses;

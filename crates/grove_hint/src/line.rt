@@ -7,7 +7,7 @@ use std::alloc::Global;
 /// The greatest number of characters of a hint.
 const MOST: usize = 400;
 
-/// The text as a hint. What can't be shown is shown as `?`, and what is too long is cut off.
+/// The text as a hint.
 pub(crate) fn hint_line(alloc: Global, text: &str) -> Result<String, NoMemory>
     ensures { IfOk result (λ line. IsHint (string_bytes line)) }
 {
@@ -15,8 +15,9 @@ pub(crate) fn hint_line(alloc: Global, text: &str) -> Result<String, NoMemory>
     Ok(format!(in alloc; "hint: {said}")?)
 }
 
-/// What can be said of the text, and a `?` of an empty one.
-fn said(alloc: Global, text: &str) -> Result<String, NoMemory>
+/// The text as one that can stand in a line: what can't be shown is shown as `?`, what is too long is cut off, and an empty
+/// one is a `?`.
+pub fn said(alloc: Global, text: &str) -> Result<String, NoMemory>
     ensures { IfOk result (λ said. IsSaid (string_bytes said)) }
 {
     let printable = printable(alloc, text)?;

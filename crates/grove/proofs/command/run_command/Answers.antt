@@ -15,7 +15,7 @@ returns-clause-unprinted g c three sound = prints_place _ c.response.result.answ
 
 pub returns-clause-blamed : goal.returns-clause-blamed
 returns-clause-blamed g c three sound =
-    blames_device _ c.response.result.answer _ _ _ _ _ _ c.response.ensures.blamed c.response.ensures.place (c.end.ensures.blamed three sound)
+    blames_device _ c.response.result.answer _ _ _ _ _ _ _ _ c.response.ensures.explained c.response.ensures.blamed c.response.ensures.place (c.end.ensures.blamed three sound)
 
 pub returns-clause-read : goal.returns-clause-read
 returns-clause-read g c order asks = prints_read (IsOutcomeFor (map string_bytes c.args.words.now) order.command) c.response.result.answer _ _ _ _ (c.response.ensures.read order asks) c.end.ensures.answered

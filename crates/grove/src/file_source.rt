@@ -1,0 +1,71 @@
+ghost use Rattle.std.specs.Prelude.{◌≤◌, length, IfOk};
+ghost use Rattle.std.specs.Io.KnownBytes.{ReadConsumes};
+
+use grove_session::{DeviceFault, Source};
+use std::io;
+use std::io::{ErrorKind, Read};
+
+/// A source over a reader of std, which keeps the error of the read that failed. An interrupted read is tried again.
+#[derive(Debug, Drop)]
+pub struct FileSource<R> {
+    reader: R,
+    error: Option<io::Error>,
+    reads: u64,
+}
+
+impl<R: Read> FileSource<R> {
+    pub fn new(reader: R) -> FileSource<R> {
+        FileSource {
+            reader,
+            error: None,
+            reads: 0,
+        }
+    }
+
+    /// The error of the latest read that failed.
+    pub fn error(&self) -> Option<io::Error> {
+        self.error
+    }
+}
+
+impl<R: Read> Source for FileSource<R> {
+    ghost use Rattle.std.specs.Prelude.{is_some};
+
+    ghost remaining = { λ source. R.remaining source.reader };
+
+    ghost has_failed = { λ source. is_some source.error };
+
+    ghost read_count = { λ source. source.reads };
+
+    fn read(&mut self, buffer: &mut [u8]) -> Result<usize, DeviceFault> {
+        self.reads = self.reads.saturating_add(1);
+        match read_through(&mut self.reader, buffer) {
+            Ok(count) => Ok(count),
+            Err(error) => {
+                self.error = Some(error);
+                Err(DeviceFault)
+            }
+        }
+    }
+
+    fn failed(&self) -> bool {
+        self.error.is_some()
+    }
+
+    fn reads(&self) -> u64 {
+        self.reads
+    }
+}
+
+fn read_through<R: Read>(reader: &mut R, buffer: &mut [u8]) -> io::Result<usize>
+    ensures bound { IfOk result (λ count. count ≤ length buffer.new) }
+    ensures bytes { ReadConsumes (R.remaining reader.old) (R.remaining reader.new) result buffer.new }
+{
+    for _ in 0..u64::MAX {
+        match reader.read(buffer) {
+            Err(error) if error.kind() == ErrorKind::Interrupted => {}
+            result => return result,
+        }
+    }
+    Err(io::Error::from(ErrorKind::Interrupted))
+}
