@@ -21,12 +21,19 @@ mod answer;
 mod asking;
 mod command;
 mod connections;
+mod ending;
+mod guest;
 mod hinting;
+mod log;
+mod minutes;
 mod refusal;
 mod seats;
 mod server;
 mod serving;
+mod talking;
 mod timed_stream;
+mod watched_sink;
+mod watching;
 
 /// As large a block as the C library's allocator takes a sign from.
 const KEPT: usize = 1 << 24;
@@ -66,6 +73,7 @@ fn obey<
         + Threads
         + Wait
         + Clock
+        + Eprint
         + Sync,
     I: Source,
     O: Sink,
