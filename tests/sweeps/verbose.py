@@ -313,7 +313,7 @@ def pages(program: str, tally: Tally) -> None:
 
 
 def minutes(program: str, tally: Tally) -> None:
-    """A minute in which lines were answered is told of, and the next one, in which none was, isn't."""
+    """A minute in which lines were answered is told of, once it is over."""
     text = ADD + SHAPE + GET + NO_PATH + WEIGHTS
     with Telling(program) as server:
         started = time.monotonic()

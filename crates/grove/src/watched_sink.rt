@@ -32,7 +32,7 @@ impl<'a, R, O: Sink> WatchedSink<'a, R, O> {
 
     /// What it writes to.
     pub fn into_inner(self) -> O
-        ensures { result ≡ self.sink }
+        ensures { result ≡ self.entry.sink }
     {
         let WatchedSink { sink, .. } = self;
         sink

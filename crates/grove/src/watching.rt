@@ -1,5 +1,6 @@
 //! Sessions of a guest whose lines are counted, and told of where they are refused.
 ghost use Rattle.std.specs.Prelude.{◌≡◌, ◌<◌, ◌^◌, false};
+ghost use Rattle.grove_tree.specs.Weights.{unweighed};
 
 use crate::guest::Guest;
 use crate::watched_sink::WatchedSink;
@@ -28,6 +29,18 @@ impl<'a, B: Opening> Model for WatchedVisit<'a, B> {
     ghost Value = { Visited };
 
     ghost view = { λ watched. watched.visit };
+}
+
+impl<'a, B: Opening> WatchedVisit<'a, B> {
+    /// A visitor who has seen nothing yet.
+    fn new(desk: &'a Desk<B>, guest: &'a Guest<'a>) -> Self
+        ensures { result ≡ record { names = unweighed desk.entry.now.opening.rows; rounds = 0 } }
+    {
+        WatchedVisit {
+            visit: Visit::new(desk),
+            guest,
+        }
+    }
 }
 
 impl<'a, B: Opening, R: Threads + Wait + Eprint + Sync + AllocGlobal> Answers<R>
@@ -68,10 +81,7 @@ pub fn watched_session<
     requires sound_sink { O.has_failed sink ≡ false }
     requires reads { I.read_count source.old < 2 ^ 63 }
 {
-    let mut visit = WatchedVisit {
-        visit: Visit::new(desk),
-        guest,
-    };
+    let mut visit = WatchedVisit::new(desk, guest);
     let mut watched = WatchedSink::new(rt, guest, sink);
     session(rt, &mut visit, source, &mut watched)
 }
@@ -106,10 +116,7 @@ impl<'a, B: Opening, R: Threads + Wait + Eprint + Sync + AllocGlobal> Front<R>
     ghost asks = { IsSync R.row };
 
     fn answer_lines(&self, rt: &R, lines: &[u8], sink: &mut Fuse) -> Result<u64, SessionFault> {
-        let mut visit = WatchedVisit {
-            visit: Visit::new(self.desk),
-            guest: self.guest,
-        };
+        let mut visit = WatchedVisit::new(self.desk, self.guest);
         let mut source = BytesSource::new(lines);
         let taken = mem::replace(sink, Fuse::new(rt.alloc(), 0));
         let mut watched = WatchedSink::new(rt, self.guest, taken);
