@@ -49,8 +49,8 @@ class Server:
     def __init__(self, program, words, folder=None, **how):
         self.port = int(words[words.index("--port") + 1])
         self.host = words[words.index("--bind") + 1] if "--bind" in words else HOST
-        streams = {"stdin": subprocess.DEVNULL, "stdout": subprocess.PIPE, "stderr": subprocess.PIPE}
-        self.started = subprocess.Popen([program, *words], cwd=folder, **streams, **how)
+        streams = {"stdin": subprocess.DEVNULL, "stdout": subprocess.PIPE, "stderr": subprocess.PIPE, **how}
+        self.started = subprocess.Popen([program, *words], cwd=folder, **streams)
 
     def __enter__(self):
         watch = threading.Timer(SECONDS, self.started.kill)

@@ -59,12 +59,11 @@ impl Response {
 }
 
 /// Prints the response, and gives the status of the process.
-pub fn end<R: AllocGlobal + RandomSource + Threads + Wait + Clock + Sync, O: Sink, E: Sink>(
-    rt: &R,
-    response: Response,
-    out: &mut O,
-    err: &mut E,
-) -> u8
+pub fn end<
+    R: AllocGlobal + RandomSource + Threads + Wait + Clock + Eprint + Sync,
+    O: Sink,
+    E: Sink,
+>(rt: &R, response: Response, out: &mut O, err: &mut E) -> u8
     requires hint { IfSome response.hint (λ line. IsHintLine (string_bytes line)) }
     requires reason { IfSome response.reason (λ line. IsReasonLine (string_bytes line)) }
     ensures status { result ≤ 3 }
@@ -108,7 +107,7 @@ pub fn add<E: Sink>(line: &str, err: &mut E)
 }
 
 /// Prints the answer, or why there is none, and gives the status of the process.
-fn print<R: AllocGlobal + RandomSource + Threads + Wait + Clock + Sync, O: Sink, E: Sink>(
+fn print<R: AllocGlobal + RandomSource + Threads + Wait + Clock + Eprint + Sync, O: Sink, E: Sink>(
     rt: &R,
     answer: Result<Answer, Stop>,
     reason: Option<String>,
@@ -197,13 +196,11 @@ fn complain<E: Sink>(text: &str, err: &mut E) -> u8
 
 /// Prints the line and serves, which ends only where a device fails.
 #[tactic(auto, using(crate::proofs::Printing::all_written, crate::proofs::Printing::cut_written))]
-fn say_and_serve<R: AllocGlobal + RandomSource + Threads + Wait + Clock + Sync, O: Sink, E: Sink>(
-    rt: &R,
-    line: &str,
-    service: Service,
-    out: &mut O,
-    err: &mut E,
-) -> u8
+fn say_and_serve<
+    R: AllocGlobal + RandomSource + Threads + Wait + Clock + Eprint + Sync,
+    O: Sink,
+    E: Sink,
+>(rt: &R, line: &str, service: Service, out: &mut O, err: &mut E) -> u8
     ensures status { result ≡ 3 }
     ensures said { O.has_failed out.new ≡ false → Appends (O.contents out.old) (O.contents out.new) line.now }
     ensures part { (count : ℕ) × Appends (O.contents out.old) (O.contents out.new) (take count line.now) }

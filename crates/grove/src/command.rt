@@ -16,7 +16,7 @@ use crate::failure::{Failure, reason_of};
 use crate::file_source::FileSource;
 use crate::hinting::{awaited_by, hint_beside};
 use crate::refusal::answer_of;
-use crate::serving::{Talk, serve_document};
+use crate::serving::{Manner, Talk, serve_document};
 use grove_answer::{
     Refusal, audit_document, check_document, draw_document, judge_document, plan_document,
     planned_document, run_document,
@@ -47,6 +47,7 @@ pub fn run_command<
         + Threads
         + Wait
         + Clock
+        + Eprint
         + Sync,
     I: Source,
     O: Sink,
@@ -296,30 +297,26 @@ fn document_answer<
         Command::Run => answer_of(alloc, run_document(rt, alloc, document, order.workers)),
         Command::Audit => answer_of(alloc, audit_document(alloc, document)),
         Command::Serve => {
-            serve_document(
-                rt,
-                alloc,
-                document,
-                order.workers,
-                order.place,
-                Talk::Lines,
-                order.patience,
-                failure,
-            )
+            let manner = manner_of(order, Talk::Lines);
+            serve_document(rt, alloc, document, order.workers, manner, failure)
         }
         Command::Page => {
-            serve_document(
-                rt,
-                alloc,
-                document,
-                order.workers,
-                order.place,
-                Talk::Requests,
-                order.patience,
-                failure,
-            )
+            let manner = manner_of(order, Talk::Requests);
+            serve_document(rt, alloc, document, order.workers, manner, failure)
         }
         Command::Ask => Err(Stop::Device),
+    }
+}
+
+/// Where the words ask for a store to be served, and how.
+fn manner_of(order: Order<'_>, talk: Talk) -> Manner
+    ensures { result.place ≡ order.entry.place }
+{
+    Manner {
+        place: order.place,
+        talk,
+        patience: order.patience,
+        is_verbose: order.verbose,
     }
 }
 

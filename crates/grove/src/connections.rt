@@ -1,19 +1,18 @@
-ghost use Rattle.std.specs.Prelude.{◌≡◌, ◌<◌, ◌^◌, false};
+ghost use Rattle.std.specs.Prelude.{◌≡◌, false};
 
+use crate::minutes::tell_minutes;
 use crate::seats::Seats;
-use crate::serving::{Service, Talk};
-use crate::timed_stream::TimedStream;
-use grove_desk::{Desk, Opening, desk_session};
-use grove_page::{PAGE, serve_page};
-use grove_session::{ReaderSource, Sink, Source, WriterSink, write_whole};
+use crate::serving::Service;
+use crate::talking::{Caller, serve_caller};
+use grove_desk::{Desk, Opening};
+use grove_session::{WriterSink, write_whole};
 use std::alloc::AllocGlobal;
-use std::hash::RandomState;
 use std::marker::Brand;
-use std::net::{Shutdown, TcpListener, TcpStream};
+use std::net::{Shutdown, SocketAddr, TcpListener, TcpStream};
 use std::random::RandomSource;
 use std::sync::Wait;
 use std::thread::Threads;
-use std::time::{Clock, Duration};
+use std::time::Clock;
 use std::{io, thread};
 
 /// The system's numbers of the errors that there is no descriptor left for this process, and none for any.
@@ -26,7 +25,7 @@ const BUSY_LINE: &[u8] = b"{\"error\":\"busy\"}\n";
 
 /// Serves connections, as many at once as there are seats, until one can't be accepted and the others have ended. A
 /// connection that there is no descriptor for waits for one; one that no thread can be started for is closed.
-pub fn serve<R: Threads + Wait + Clock + Sync + AllocGlobal + RandomSource>(
+pub fn serve<R: Threads + Wait + Clock + Eprint + Sync + AllocGlobal + RandomSource>(
     rt: &R,
     service: Service,
 ) {
@@ -36,7 +35,7 @@ pub fn serve<R: Threads + Wait + Clock + Sync + AllocGlobal + RandomSource>(
 /// Serves connections at a desk over the service's store, which keeps no journal.
 fn serve_as<
     B: Opening + Send + Sync,
-    R: Threads + Wait + Clock + Sync + AllocGlobal + RandomSource,
+    R: Threads + Wait + Clock + Eprint + Sync + AllocGlobal + RandomSource,
 >(rt: &R, service: Service)
     requires store { service.store ≡ B.store }
     requires kept { B.kept ≡ false }
@@ -44,25 +43,29 @@ fn serve_as<
     let Service {
         store,
         listener,
-        talk,
-        patience,
+        manner,
     } = service;
     let desk = Desk::<B>::open(rt.alloc(), store, false);
-    let seats = Seats::new(talk, patience);
+    let seats = Seats::new(manner);
     serve_at(rt, &desk, &seats, &listener);
 }
 
 /// Serves the listener's connections at the desk, each in its seat.
 fn serve_at<
     B: Opening + Send + Sync,
-    R: Threads + Wait + Clock + Sync + AllocGlobal + RandomSource,
+    R: Threads + Wait + Clock + Eprint + Sync + AllocGlobal + RandomSource,
 >(rt: &R, desk: &Desk<B>, seats: &Seats, listener: &TcpListener) {
     thread::scope(thread::scope_env(), rt, |scope| {
+        if seats.log().is_some() {
+            let _told = scope.spawn(move || tell_minutes(rt, desk, seats));
+        }
         for _ in rt.forever() {
             match next_seated(rt, seats, listener) {
-                Ok(Some(stream)) => {
-                    let spawned = scope.spawn(move || serve_connection(rt, desk, seats, stream));
+                Ok(Some(caller)) => {
+                    let number = caller.number;
+                    let spawned = scope.spawn(move || serve_caller(rt, desk, seats, caller));
                     if spawned.is_err() {
+                        tell_threadless(rt, seats, number);
                         seats.leave(rt);
                     }
                 }
@@ -70,23 +73,32 @@ fn serve_at<
                 Err(_) => break,
             }
         }
+        if let Some(log) = seats.log() {
+            log.close(rt);
+        }
     });
 }
 
 /// The next connection, in a seat; nobody, where there was no seat or no descriptor for it, which is waited for then. A
 /// connection that isn't told of seats isn't accepted until it has one.
-fn next_seated<R: Wait + Clock>(
+fn next_seated<R: Wait + Clock + Eprint>(
     rt: &R,
     seats: &Seats,
     listener: &TcpListener,
-) -> io::Result<Option<TcpStream>> {
+) -> io::Result<Option<Caller>> {
     let tells_busy = seats.patience().tells_busy;
     if !tells_busy {
         seats.take(rt);
     }
     match listener.accept() {
-        Ok((stream, _)) => Ok(seated_stream(rt, seats, stream, tells_busy)),
+        Ok((stream, address)) => {
+            let number = tell_arrival(rt, seats, address);
+            Ok(seated(rt, seats, Caller { stream, number }, tells_busy))
+        }
         Err(error) if wants_descriptor(&error) => {
+            if let Some(log) = seats.log() {
+                log.want_descriptor(rt);
+            }
             if !tells_busy {
                 seats.leave(rt);
             }
@@ -97,18 +109,43 @@ fn next_seated<R: Wait + Clock>(
     }
 }
 
-/// The stream, in a seat that it has or takes. Where there is none for it, it is told so.
-fn seated_stream<R: Wait>(
+/// The caller, in a seat that it has or takes. Where there is none for it, it is told so.
+fn seated<R: Wait + Eprint>(
     rt: &R,
     seats: &Seats,
-    stream: TcpStream,
+    caller: Caller,
     tells_busy: bool,
-) -> Option<TcpStream> {
+) -> Option<Caller> {
     if !tells_busy || seats.take_free(rt) {
-        return Some(stream);
+        return Some(caller);
     }
-    tell_busy(&stream);
+    tell_busy(&caller.stream);
+    if let Some(log) = seats.log() {
+        let number = caller.number;
+        log.tell(rt, format_args!("connection {number} was told busy"));
+    }
     None
+}
+
+/// Tells that a connection was taken, and gives its number.
+fn tell_arrival<R: Wait + Eprint>(rt: &R, seats: &Seats, address: SocketAddr) -> u64 {
+    let Some(log) = seats.log() else {
+        return 0;
+    };
+    log.have_descriptor();
+    let number = log.next_number();
+    log.tell(rt, format_args!("connection {number} from {address}"));
+    number
+}
+
+/// Tells that there was no thread for the connection.
+fn tell_threadless<R: Wait + Eprint>(rt: &R, seats: &Seats, number: u64) {
+    if let Some(log) = seats.log() {
+        log.tell(
+            rt,
+            format_args!("connection {number} cannot be served: no thread"),
+        );
+    }
 }
 
 /// Says that there is no seat. Nobody waits for a client that takes nothing.
@@ -124,90 +161,4 @@ fn wants_descriptor(error: &io::Error) -> bool {
         error.raw_os_error(),
         Some(NO_DESCRIPTOR_HERE | NO_DESCRIPTOR_AT_ALL)
     )
-}
-
-/// A session, or requests, over the connection, which is closed then and leaves its seat.
-fn serve_connection<B: Opening, R: Threads + Wait + Clock + Sync + AllocGlobal + RandomSource>(
-    rt: &R,
-    desk: &Desk<B>,
-    seats: &Seats,
-    stream: TcpStream,
-) {
-    // No reply is to wait until the one before it has arrived.
-    let _at_once = stream.set_nodelay(true);
-    let idle = seats.patience().idle;
-    match seats.talk() {
-        Talk::Lines => answer_connection(rt, desk, &stream, idle),
-        Talk::Requests => answer_requests(rt, desk, &stream, idle),
-    }
-    // Whoever waits for the seat may wait for the descriptor.
-    drop(stream);
-    seats.leave(rt);
-}
-
-/// A session over the stream, which may idle for so many seconds, or for ever.
-fn answer_connection<B: Opening, R: Threads + Wait + Clock + Sync + AllocGlobal>(
-    rt: &R,
-    desk: &Desk<B>,
-    stream: &TcpStream,
-    idle: Option<u32>,
-) {
-    match idle {
-        Some(seconds) => answer_in_time(rt, desk, stream, seconds),
-        None => {
-            let mut source = ReaderSource::new(stream);
-            let mut sink = WriterSink::new(stream);
-            answer_lines(rt, desk, &mut source, &mut sink);
-        }
-    }
-}
-
-/// A session over the stream, which may idle for so many seconds. A client that takes nothing of its replies idles too.
-fn answer_in_time<B: Opening, R: Threads + Wait + Clock + Sync + AllocGlobal>(
-    rt: &R,
-    desk: &Desk<B>,
-    stream: &TcpStream,
-    seconds: u32,
-) {
-    let longest = Duration::from_secs(u64::from(seconds));
-    if stream.set_write_timeout(Some(longest)).is_err() {
-        return;
-    }
-    let mut source = ReaderSource::new(TimedStream::new(rt, stream, longest));
-    let mut sink = WriterSink::new(stream);
-    answer_lines(rt, desk, &mut source, &mut sink);
-}
-
-/// Requests of HTTP over the stream, which may send nothing for so many seconds, or for ever. What ends them ends them alone,
-/// and nobody is left there to be told of it.
-fn answer_requests<B: Opening, R: Threads + Wait + Sync + AllocGlobal + RandomSource>(
-    rt: &R,
-    desk: &Desk<B>,
-    stream: &TcpStream,
-    idle: Option<u32>,
-) {
-    let Ok(keys) = RandomState::new(rt) else {
-        return;
-    };
-    let longest = idle.map(|seconds| Duration::from_secs(u64::from(seconds)));
-    if stream.set_read_timeout(longest).is_err() || stream.set_write_timeout(longest).is_err() {
-        return;
-    }
-    let mut reader = stream;
-    let mut writer = stream;
-    let _ended = serve_page(rt, desk, PAGE, keys, &mut reader, &mut writer);
-}
-
-/// A session at the desk. A fault ends it alone, and nobody is left there to be told of it.
-fn answer_lines<B: Opening, R: Threads + Wait + Sync + AllocGlobal, I: Source, O: Sink>(
-    rt: &R,
-    desk: &Desk<B>,
-    source: &mut I,
-    sink: &mut O,
-)
-    requires sound_source { I.has_failed source.old ≡ false }
-    requires sound_sink { O.has_failed sink.old ≡ false }
-    requires reads { I.read_count source.old < 2 ^ 63 }
-{
-    let _ended = desk_session(rt, desk, source, sink);
 }

@@ -21,14 +21,21 @@ mod answer;
 mod asking;
 mod command;
 mod connections;
+mod ending;
 mod failure;
 mod file_source;
+mod guest;
 mod hinting;
+mod log;
+mod minutes;
 mod refusal;
 mod seats;
 mod server;
 mod serving;
+mod talking;
 mod timed_stream;
+mod watched_sink;
+mod watching;
 
 /// As large a block as the C library's allocator takes a sign from.
 const KEPT: usize = 1 << 24;
@@ -68,6 +75,7 @@ fn obey<
         + Threads
         + Wait
         + Clock
+        + Eprint
         + Sync,
     I: Source,
     O: Sink,

@@ -1,4 +1,5 @@
-use crate::serving::Talk;
+use crate::log::Log;
+use crate::serving::{Manner, Talk};
 use grove_words::Patience;
 use std::sync::{Condvar, Mutex, Wait};
 use std::time::{Clock, Duration};
@@ -17,16 +18,18 @@ pub struct Seats {
     left: Condvar,
     talk: Talk,
     patience: Patience,
+    log: Option<Log>,
 }
 
 impl Seats {
     /// All seats, free.
-    pub fn new(talk: Talk, patience: Patience) -> Seats {
+    pub fn new(manner: Manner) -> Seats {
         Seats {
             free: Mutex::new(MOST_CONNECTIONS),
             left: Condvar::new(),
-            talk,
-            patience,
+            talk: manner.talk,
+            patience: manner.patience,
+            log: manner.is_verbose.then(|| Log::new()),
         }
     }
 
@@ -38,6 +41,11 @@ impl Seats {
     /// How long a connection may idle, and whether one without a seat is told.
     pub fn patience(&self) -> Patience {
         self.patience
+    }
+
+    /// Where it is told who comes and goes, if anywhere.
+    pub fn log(&self) -> Option<&Log> {
+        self.log.as_ref()
     }
 
     /// Takes a seat, once one is free.

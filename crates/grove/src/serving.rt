@@ -20,13 +20,22 @@ use serde_json::Value;
 use std::alloc::{AllocError, Global};
 use std::net::{IpAddr, Net, TcpListener, TcpStream};
 
-/// A store, and where sessions over it are asked for.
+/// A store, where sessions over it are asked for, and how they are served.
 #[derive(Drop)]
 pub struct Service {
     pub store: Store,
     pub listener: TcpListener,
+    pub manner: Manner,
+}
+
+/// Where a store is served, and how.
+#[derive(Clone, Copy, Debug, PartialEq, Eq)]
+pub struct Manner {
+    pub place: Option<Place>,
     pub talk: Talk,
     pub patience: Patience,
+    /// Whether standard error is told of connections, and of lines that are refused.
+    pub is_verbose: bool,
 }
 
 /// What is talked over a connection.
@@ -45,9 +54,7 @@ pub fn serve_document<R: Net<Listener = TcpListener, Stream = TcpStream>>(
     alloc: Global,
     document: &Value,
     workers: u32,
-    place: Option<Place>,
-    talk: Talk,
-    patience: Patience,
+    manner: Manner,
     failure: &mut Option<Failure>,
 ) -> Result<Answer, Stop>
     requires short { HasShortArrays (view document.now) }
@@ -56,11 +63,11 @@ pub fn serve_document<R: Net<Listener = TcpListener, Stream = TcpStream>>(
     ensures refused { IfOk result IsRefusalLine }
     ensures served { IfOk result (λ answer. (status_of answer ≡ 1) ⊎ IsListen answer) }
     ensures status { IfOk result (λ answer. status_of answer ≤ 1) }
-    ensures place { IfOk result (Listens (λ asked. place ≡ Some asked)) }
+    ensures place { IfOk result (Listens (λ asked. manner.place ≡ Some asked)) }
     ensures opened { IfOk result (ServesStore (IsOpenedFrom (view document.now) workers)) }
 {
     match open_store(alloc, document, workers) {
-        Ok(store) => listening(rt, alloc, store, place, talk, patience, failure),
+        Ok(store) => listening(rt, alloc, store, manner, failure),
         Err(refusal) => answer_of(alloc, Err(refusal)),
     }
 }
@@ -84,16 +91,14 @@ fn listening<R: Net<Listener = TcpListener, Stream = TcpStream>>(
     rt: &R,
     alloc: Global,
     store: Store,
-    place: Option<Place>,
-    talk: Talk,
-    patience: Patience,
+    manner: Manner,
     failure: &mut Option<Failure>,
 ) -> Result<Answer, Stop>
-    ensures said { IfOk result (Listens (λ asked. place ≡ Some asked)) }
+    ensures said { IfOk result (Listens (λ asked. manner.place ≡ Some asked)) }
     ensures listens { IfOk result IsListen }
     ensures kept { IfOk result (ServesStore (λ served. served ≡ store)) }
 {
-    let Some(place) = place else {
+    let Some(place) = manner.place else {
         return Err(Stop::Device);
     };
     let listener = match TcpListener::bind(rt, (place.address, place.port)) {
@@ -109,8 +114,7 @@ fn listening<R: Net<Listener = TcpListener, Stream = TcpStream>>(
         service: Service {
             store,
             listener,
-            talk,
-            patience,
+            manner,
         },
     })
 }

@@ -1,0 +1,153 @@
+ghost use Rattle.std.specs.Prelude.{◌≡◌, ◌<◌, ◌^◌, false};
+
+use crate::ending::Ending;
+use crate::guest::Guest;
+use crate::seats::Seats;
+use crate::serving::Talk;
+use crate::timed_stream::TimedStream;
+use crate::watching::{WatchedDesk, watched_session};
+use grove_desk::{Desk, Opening, desk_session};
+use grove_page::{PAGE, serve_page};
+use grove_session::{ReaderSource, SessionFault, Sink, Source, WriterSink};
+use std::alloc::AllocGlobal;
+use std::cell::Cell;
+use std::hash::RandomState;
+use std::net::TcpStream;
+use std::random::RandomSource;
+use std::sync::Wait;
+use std::thread::Threads;
+use std::time::{Clock, Duration};
+
+/// A connection that was taken.
+#[derive(Drop)]
+pub struct Caller {
+    pub stream: TcpStream,
+    /// Its number in the log, if there is one.
+    pub number: u64,
+}
+
+/// A session, or requests, over the connection, which is closed then and leaves its seat. What ends it ends it alone, and
+/// nobody is left there to be told of it.
+pub fn serve_caller<
+    B: Opening,
+    R: Threads + Wait + Clock + Eprint + Sync + AllocGlobal + RandomSource,
+>(rt: &R, desk: &Desk<B>, seats: &Seats, caller: Caller) {
+    let Caller { stream, number } = caller;
+    // No reply is to wait until the one before it has arrived.
+    let _at_once = stream.set_nodelay(true);
+    match seats.log() {
+        Some(log) => {
+            let guest = Guest::new(log, number);
+            let ending = talk(rt, desk, seats, &stream, Some(&guest));
+            guest.tell_end(rt, ending);
+        }
+        None => {
+            let _ending = talk(rt, desk, seats, &stream, None);
+        }
+    }
+    // Whoever waits for the seat may wait for the descriptor.
+    drop(stream);
+    seats.leave(rt);
+}
+
+/// Talks over the stream what is talked there.
+fn talk<B: Opening, R: Threads + Wait + Clock + Eprint + Sync + AllocGlobal + RandomSource>(
+    rt: &R,
+    desk: &Desk<B>,
+    seats: &Seats,
+    stream: &TcpStream,
+    guest: Option<&Guest<'_>>,
+) -> Ending {
+    let idle = seats.patience().idle;
+    match (seats.talk(), idle) {
+        (Talk::Lines, None) => answer_connection(rt, desk, stream, guest),
+        (Talk::Lines, Some(seconds)) => answer_in_time(rt, desk, stream, guest, seconds),
+        (Talk::Requests, _) => answer_requests(rt, desk, stream, guest, idle),
+    }
+}
+
+/// A session over the stream, which may idle for ever.
+fn answer_connection<B: Opening, R: Threads + Wait + Eprint + Sync + AllocGlobal>(
+    rt: &R,
+    desk: &Desk<B>,
+    stream: &TcpStream,
+    guest: Option<&Guest<'_>>,
+) -> Ending {
+    let mut source = ReaderSource::new(stream);
+    let sink = WriterSink::new(stream);
+    Ending::of_session(answer_lines(rt, desk, guest, &mut source, sink))
+}
+
+/// A session over the stream, which may idle for so many seconds. A client that takes nothing of its replies idles too.
+fn answer_in_time<B: Opening, R: Threads + Wait + Clock + Eprint + Sync + AllocGlobal>(
+    rt: &R,
+    desk: &Desk<B>,
+    stream: &TcpStream,
+    guest: Option<&Guest<'_>>,
+    seconds: u32,
+) -> Ending {
+    let longest = Duration::from_secs(u64::from(seconds));
+    if stream.set_write_timeout(Some(longest)).is_err() {
+        return Ending::Untimed;
+    }
+    let is_late = Cell::new(false);
+    let mut source = ReaderSource::new(TimedStream::new(rt, stream, longest, &is_late));
+    let sink = WriterSink::new(stream);
+    match answer_lines(rt, desk, guest, &mut source, sink) {
+        Err(SessionFault::Read) if is_late.get() => Ending::Idle(seconds),
+        ended => Ending::of_session(ended),
+    }
+}
+
+/// Requests of HTTP over the stream, which may send nothing for so many seconds, or for ever.
+fn answer_requests<B: Opening, R: Threads + Wait + Eprint + Sync + AllocGlobal + RandomSource>(
+    rt: &R,
+    desk: &Desk<B>,
+    stream: &TcpStream,
+    guest: Option<&Guest<'_>>,
+    idle: Option<u32>,
+) -> Ending {
+    let Ok(keys) = RandomState::new(rt) else {
+        return Ending::Unkeyed;
+    };
+    let longest = idle.map(|seconds| Duration::from_secs(u64::from(seconds)));
+    if stream.set_read_timeout(longest).is_err() || stream.set_write_timeout(longest).is_err() {
+        return Ending::Untimed;
+    }
+    let mut reader = stream;
+    let mut writer = stream;
+    let ended = match guest {
+        Some(guest) => {
+            let watched = WatchedDesk::new(desk, guest);
+            serve_page(rt, &watched, PAGE, keys, &mut reader, &mut writer)
+        }
+        None => serve_page(rt, desk, PAGE, keys, &mut reader, &mut writer),
+    };
+    Ending::of_requests(ended, idle)
+}
+
+/// A session at the desk, whose guest is told of, if there is one.
+fn answer_lines<
+    B: Opening,
+    R: Threads + Wait + Eprint + Sync + AllocGlobal,
+    I: Source,
+    O: Sink + Drop,
+>(
+    rt: &R,
+    desk: &Desk<B>,
+    guest: Option<&Guest<'_>>,
+    source: &mut I,
+    sink: O,
+) -> Result<u64, SessionFault>
+    requires sound_source { I.has_failed source.old ≡ false }
+    requires sound_sink { O.has_failed sink ≡ false }
+    requires reads { I.read_count source.old < 2 ^ 63 }
+{
+    match guest {
+        Some(guest) => watched_session(rt, desk, guest, source, sink),
+        None => {
+            let mut sink = sink;
+            desk_session(rt, desk, source, &mut sink)
+        }
+    }
+}

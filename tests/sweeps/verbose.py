@@ -1,0 +1,359 @@
+"""Servers with `--verbose`: standard error has just the lines that docs/SESSIONS.md tells of, in order for each
+connection, and sessions are as they are without the word."""
+
+from __future__ import annotations
+
+import errno
+import json
+import os
+import re
+import socket
+import struct
+import tempfile
+import time
+from contextlib import ExitStack
+from functools import partial
+from pathlib import Path
+from random import Random
+
+from server import HOST, NotListening, Serving, connected
+from store import MOST_LINE, Store
+from web import Client
+
+from sweeps.connections import ADD, GET, TREE, WEIGHTS, flood
+from sweeps.connections import library_in as thread_library_in
+from sweeps.descriptors import failing
+from sweeps.descriptors import library_in as accept_library_in
+from sweeps.program import Tally, Try, short
+from sweeps.talks import lines_of, note_replies
+
+TRIED = "lines on standard error, and replies beside them"
+VERBOSE = ("--verbose",)
+HINT = re.compile(r"hint: [ -~]{1,400}")
+SEATS = 16
+# Lines that are refused, each by one name.
+SHAPE, NO_PATH, BAD_JSON = b'{"get":"/a"}\n', b'{"plan":[["get","/c"]]}\n', b"\n"
+BAD_LENGTH = b'{"plan":[["get","/a",0]]}\n'
+LINES = (ADD, GET, WEIGHTS, SHAPE, NO_PATH, BAD_JSON, BAD_LENGTH)
+# How long a line on standard error may be waited for.
+LONGEST = 20.0
+# How long a minute is waited for.
+MINUTE = 60.0
+# Ends a connection by a reset.
+RESET = struct.pack("ii", 1, 0)
+
+
+def tries(program: str, room: str) -> list[Try]:
+    accepts, threads = accept_library_in(room), thread_library_in(room)
+    return [
+        Try("one connection after the other", partial(in_turn, program)),
+        Try("many connections at once", partial(at_once, program)),
+        Try("a line that is too long", partial(long_line, program)),
+        Try("connections that break off", partial(broken_off, program)),
+        Try("connections that idle", partial(idle, program)),
+        Try("connections without a seat", partial(busy, program)),
+        Try("connections without a thread", partial(threadless, program, threads)),
+        Try("connections without a descriptor", partial(no_descriptor, program, accepts)),
+        Try("a listener that fails", partial(no_listener, program, accepts)),
+        Try("at an address of IPv6", partial(at_another_address, program)),
+        Try("pages", partial(pages, program)),
+        Try("minutes", partial(minutes, program)),
+        Try("standard error that fails", partial(no_errors, program)),
+        Try("without --verbose", partial(quiet, program)),
+    ]
+
+
+class Telling(Serving):
+    """A server with `--verbose`, and what its standard error has been told."""
+
+    def __init__(self, program: str, further: tuple[str, ...] = (), **how):
+        self.errors = tempfile.NamedTemporaryFile(prefix="grove-told-")
+        super().__init__(program, TREE, further=(*VERBOSE, *further), stderr=self.errors, **how)
+
+    def __exit__(self, *_):
+        super().__exit__()
+        self.errors.close()
+
+    def told(self) -> list[str]:
+        """The lines that are told by now."""
+        return [line.decode() for line in lines_of(Path(self.errors.name).read_bytes())]
+
+    def told_of(self, count: int, seconds: float = LONGEST) -> list[str]:
+        """The lines, once there are so many, or it took too long."""
+        ends = time.monotonic() + seconds
+        while len(self.told()) < count and time.monotonic() < ends:
+            time.sleep(0.02)
+        return self.told()
+
+
+def compare(wanted: list[str], told: list[str], tally: Tally) -> None:
+    """Whether these lines came, in this order. A line with `; hint` at its end has a hint there."""
+    for number, (want, came) in enumerate(zip(wanted, told)):
+        tally.note(f"line {number}", None if fits(want, came) else f"wanted {want!r}; came {came!r}")
+    tally.note("the lines", None if len(wanted) == len(told) else f"wanted {len(wanted)}; came {short('|'.join(told).encode())}")
+
+
+def fits(want: str, came: str) -> bool:
+    if not want.endswith("; hint"):
+        return want == came
+    name, _, hint = came.partition("; ")
+    return name + "; hint" == want and HINT.fullmatch(hint) is not None
+
+
+def arrival(number: int, client: socket.socket) -> str:
+    return f"connection {number} from {HOST}:{client.getsockname()[1]}"
+
+
+def ended(number: int, lines: int, why: str) -> str:
+    return f"connection {number} ended after {lines} {'line' if lines == 1 else 'lines'}: {why}"
+
+
+def refusal(number: int, line: int, name: str) -> str:
+    return f"connection {number}, line {line}: {name}; hint"
+
+
+def refusals(number: int, replies: bytes, before: int = 0) -> list[str]:
+    """What is told of the replies, the first of which is to the line after so many."""
+    values = [json.loads(reply) for reply in lines_of(replies)]
+    return [refusal(number, before + at, value["error"]) for at, value in enumerate(values, 1) if "error" in value]
+
+
+def ask(client: socket.socket, text: bytes) -> bytes:
+    """All replies to the lines, after which nothing more is sent."""
+    client.sendall(text)
+    client.shutdown(socket.SHUT_WR)
+    with client.makefile("rb") as replies:
+        return replies.read()
+
+
+# ---- sessions
+
+
+def in_turn(program: str, tally: Tally) -> None:
+    """Connections with seeded lines, the next of which comes once the end of the one before is told."""
+    random, store, wanted = Random("verbose"), Store(json.loads(TREE)), []
+    with Telling(program) as server:
+        for number in range(1, 41):
+            text = b"".join(random.choice(LINES) for _ in range(random.randrange(6)))
+            text = text if random.randrange(4) else text + ADD[:-1]
+            with connected(server.port) as client:
+                came = ask(client, text)
+                wanted.append(arrival(number, client))
+            note_replies(store, text, came, f"connection {number}", tally)
+            wanted += [*refusals(number, came), ended(number, len(lines_of(text)), "its input ended")]
+            server.told_of(len(wanted))
+        compare(wanted, server.told_of(len(wanted)), tally)
+
+
+def at_once(program: str, tally: Tally) -> None:
+    """Sixteen connections at once, several times; the lines of each are in order, whatever stands between them."""
+    random = Random("at once")
+    with Telling(program) as server:
+        wanted = {}
+        for _ in range(5):
+            with ExitStack() as room:
+                clients = [room.enter_context(connected(server.port)) for _ in range(SEATS)]
+                texts = [b"".join(random.choice(LINES) for _ in range(20)) for _ in clients]
+                for client, text in zip(clients, texts):
+                    client.sendall(text)
+                for client, text in zip(clients, texts):
+                    wanted[client.getsockname()[1]] = (len(lines_of(text)), ask(client, b""))
+            server.told_of(len(wanted) * 2 + sum(reply.count(b'{"error"') for _, reply in wanted.values()))
+        told = server.told()
+        for port, (lines, came) in wanted.items():
+            number = number_of(port, told)
+            ends = ended(number, lines, "its input ended")
+            own = [line for line in told if re.match(rf"connection {number}\b", line)]
+            compare([f"connection {number} from {HOST}:{port}", *refusals(number, came), ends], own, tally)
+        numbers = sorted(number_of(port, told) for port in wanted)
+        tally.note("the numbers", None if numbers == list(range(1, len(wanted) + 1)) else f"came {numbers}")
+
+
+def number_of(port: int, told: list[str]) -> int:
+    """The number of the connection from this port. (No two of them had the same one.)"""
+    for line in told:
+        found = re.fullmatch(rf"connection ([0-9]+) from {HOST}:{port}", line)
+        if found:
+            return int(found[1])
+    raise AssertionError(f"no connection is from {port}")
+
+
+def long_line(program: str, tally: Tally) -> None:
+    """A line that is too long, between others, is counted and told of too."""
+    text = ADD + b"x" * (MOST_LINE + 1) + b"\n" + SHAPE
+    with Telling(program) as server, connected(server.port) as client:
+        came = ask(client, text)
+        wanted = [arrival(1, client), *refusals(1, came), ended(1, 3, "its input ended")]
+        tally.note("the names", None if came.count(b"long-line") == 1 else f"came {came!r}")
+        compare(wanted, server.told_of(len(wanted)), tally)
+
+
+def broken_off(program: str, tally: Tally) -> None:
+    """A connection that is reset, and one that takes no replies and is closed."""
+    with Telling(program) as server:
+        with connected(server.port) as client, client.makefile("rb") as replies:
+            client.sendall(ADD + SHAPE)
+            came = replies.readline() + replies.readline()
+            wanted = [arrival(1, client), *refusals(1, came), ended(1, 2, "it could not be read")]
+            client.setsockopt(socket.SOL_SOCKET, socket.SO_LINGER, RESET)
+        compare(wanted, server.told_of(len(wanted)), tally)
+        with connected(server.port) as client:
+            flood(client, 1.0)
+        last = server.told_of(len(wanted) + 2)[-1]
+        is_well = re.fullmatch(r"connection 2 ended after [0-9]+ lines: it could not be written", last)
+        tally.note("the flood", None if is_well else f"came {last!r}")
+
+
+def idle(program: str, tally: Tally) -> None:
+    """A connection that says nothing, and one that says a line and then a piece of one."""
+    with Telling(program, ("--idle", "1")) as server:
+        with connected(server.port) as client:
+            client.recv(1)
+            wanted = [arrival(1, client), ended(1, 0, "it idled for 1 second")]
+        compare(wanted, server.told_of(2), tally)
+        with connected(server.port) as client, client.makefile("rb") as replies:
+            client.sendall(ADD + SHAPE[:5])
+            came = replies.read()
+            wanted += [arrival(2, client), ended(2, 1, "it idled for 1 second")]
+        tally.note("the reply", None if len(lines_of(came)) == 1 else f"came {came!r}")
+        compare(wanted, server.told_of(4), tally)
+
+
+def busy(program: str, tally: Tally) -> None:
+    """The 17th connection and the 18th find no seat; the 19th has that of the first."""
+    wanted = []
+    with Telling(program, ("--busy",)) as server, ExitStack() as room:
+        clients = []
+        for number in range(1, SEATS + 1):
+            clients.append(room.enter_context(connected(server.port)))
+            wanted.append(arrival(number, clients[-1]))
+            server.told_of(number)
+        for number in (SEATS + 1, SEATS + 2):
+            with connected(server.port) as late:
+                late.recv(100)
+                wanted += [arrival(number, late), f"connection {number} was told busy"]
+        server.told_of(len(wanted))
+        clients[0].close()
+        wanted.append(ended(1, 0, "its input ended"))
+        compare(wanted, server.told_of(len(wanted)), tally)
+        time.sleep(0.2)
+        with connected(server.port) as client:
+            ask(client, ADD)
+            wanted += [arrival(SEATS + 3, client), ended(SEATS + 3, 1, "its input ended")]
+        compare(wanted, server.told_of(len(wanted)), tally)
+
+
+def threadless(program: str, library: str, tally: Tally) -> None:
+    """Connections for which no thread can be started, between others. The first thread tells of minutes."""
+    surroundings = {**os.environ, "LD_PRELOAD": library, "FIRST_REFUSED": "3", "LAST_REFUSED": "5"}
+    wanted = []
+    with Telling(program, env=surroundings) as server:
+        for number in range(1, 6):
+            is_refused = 2 <= number <= 4
+            why = f"connection {number} cannot be served: no thread" if is_refused else ended(number, 1, "its input ended")
+            with connected(server.port) as client:
+                came = b"" if is_refused and client.recv(1) == b"" else ask(client, ADD)
+                tally.note(f"connection {number}", None if bool(came) != is_refused else f"came {came!r}")
+                wanted += [arrival(number, client), why]
+            server.told_of(len(wanted))
+        compare(wanted, server.told_of(len(wanted)), tally)
+
+
+def no_descriptor(program: str, library: str, tally: Tally) -> None:
+    """No connection can be taken for a while, for want of a descriptor: this is told once."""
+    with Telling(program, env=failing(library, 5, errno.EMFILE)) as server, connected(server.port) as client:
+        came = ask(client, ADD)
+        first = "a connection waits for a descriptor"
+        wanted = [first, arrival(1, client), ended(1, 1, "its input ended")]
+        tally.note("the reply", None if len(lines_of(came)) == 1 else f"came {came!r}")
+        compare(wanted, server.told_of(3), tally)
+
+
+def no_listener(program: str, library: str, tally: Tally) -> None:
+    """A server that can take no connection ends at once, whether or not a minute is over."""
+    started = time.monotonic()
+    with Telling(program, env=failing(library, 1, errno.EINVAL)) as server:
+        server.started.wait(LONGEST)
+        compare(["device"], server.told_of(1), tally)
+        tally.note("the status", None if server.started.returncode == 3 else f"it is {server.started.returncode}")
+    tally.note("the time", None if time.monotonic() - started < LONGEST else "it took too long")
+
+
+def at_another_address(program: str, tally: Tally) -> None:
+    """At an address of IPv6 the other side is told in brackets; nothing is tried where this machine has none."""
+    try:
+        with Telling(program, ("--bind", "::1")) as server, connected(server.port, "::1") as client:
+            ask(client, ADD)
+            port = client.getsockname()[1]
+            wanted = [f"connection 1 from [::1]:{port}", ended(1, 1, "its input ended")]
+            compare(wanted, server.told_of(2), tally)
+    except NotListening as error:
+        tally.note("the server", None if error.ended[0] == 3 else str(error))
+
+
+# ---- pages
+
+
+def pages(program: str, tally: Tally) -> None:
+    """Requests over HTTP: lines in bodies are counted over the whole connection."""
+    with Telling(program, command="page") as server:
+        with Client(server.port) as client:
+            wanted = [arrival(1, client.connection)]
+            lines = 0
+            for text in (ADD + SHAPE, b"x" * (MOST_LINE + 1) + b"\n" + NO_PATH, BAD_JSON, b""):
+                response = client.post(text)
+                wanted += refusals(1, response.body, lines) if text else []
+                lines += len(lines_of(text)) if text else 0
+            client.get("/document")
+        wanted.append(ended(1, lines, "its requests ended"))
+        compare(wanted, server.told_of(len(wanted)), tally)
+
+
+# ---- minutes
+
+
+def minutes(program: str, tally: Tally) -> None:
+    """A minute in which lines were answered is told of, once it is over."""
+    text = ADD + SHAPE + GET + NO_PATH + WEIGHTS
+    with Telling(program) as server:
+        started = time.monotonic()
+        with connected(server.port) as client:
+            ask(client, text)
+        before = server.told_of(4)
+        told = server.told_of(5, MINUTE + LONGEST)
+        after = time.monotonic() - started
+        compare([*before, "1 minute: 5 lines, 2 refused, 2 rounds, 0 waits"], told, tally)
+        tally.note("the minute", None if MINUTE - 2 < after < MINUTE + LONGEST else f"it took {after:.1f} s")
+
+
+# ---- standard error itself
+
+
+def no_errors(program: str, tally: Tally) -> None:
+    """Standard error that is full, closed, or a pipe that nobody reads any more: lines are answered as ever."""
+    with open("/dev/full", "wb") as full:
+        answered(program, "full", tally, stderr=full)
+    answered(program, "closed", tally, preexec_fn=partial(os.close, 2))
+    reader, writer = os.pipe()
+    os.close(reader)
+    try:
+        answered(program, "a broken pipe", tally, stderr=writer)
+    finally:
+        os.close(writer)
+
+
+def answered(program: str, where: str, tally: Tally, **how) -> None:
+    store = Store(json.loads(TREE))
+    text = b"".join(LINES)
+    with Serving(program, TREE, further=VERBOSE, **how) as server:
+        for number in range(SEATS + 4):
+            note_replies(store, text, server.talk(text), f"{where}, connection {number}", tally)
+
+
+def quiet(program: str, tally: Tally) -> None:
+    """Without the word nothing is told."""
+    store = Store(json.loads(TREE))
+    with Serving(program, TREE) as server:
+        text = b"".join(LINES)
+        note_replies(store, text, server.talk(text), "a connection", tally)
+    tally.note("standard error", None if server.rest[1] == b"" else f"came {server.rest[1]!r}")
