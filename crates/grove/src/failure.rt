@@ -20,10 +20,11 @@ pub enum Failure {
     Reach(io::Error),
 }
 
-/// The line that says why an order's file or port failed, where the order asks for it. Without memory for it there is none.
+/// The line that says why an order's file or port failed, where the order asks for it. Without memory for it there is
+/// none.
 pub fn reason_of(alloc: Global, order: Order<'_>, failure: Option<Failure>) -> Option<String>
     ensures line { IfSome result (λ line. IsReasonLine (string_bytes line)) }
-    ensures asked { result ≢ None → order.explain ≡ true }
+    ensures asked { result ≢ None → order.entry.explain ≡ true }
 {
     if !order.explain {
         return None;

@@ -1,7 +1,7 @@
 use Rattle.std.proofs.Common.{◌≡◌, ◌∙◌, Err, map, string_bytes, subst, sym}
 use Rattle.std.proofs.lemmas.Result.{IfErr-weaker, IfOk-weaker}
 use Rattle.grove_words.proofs.Orders.{same_name, serves_found}
-use Rattle.grove_words.specs.CommandLines.{AskForWorkers}
+use Rattle.grove_words.specs.CommandLines.{AskForWorkers, AskToExplain}
 use Rattle.grove.specs.declared.answer.Stop.TheVariants.{Memory}
 use Rattle.grove.proofs.Orders.{blames_named, found_place, read_of_asked, said_of_asked}
 use Rattle.grove.proofs.Saying.{serves_nothing, serves_weaker}
@@ -57,3 +57,9 @@ returns-in-Ok-clause-workers g c =
 
 pub returns-in-Err-clause-workers : goal.returns-in-Err-clause-workers
 returns-in-Err-clause-workers g c = rw c.plain.ensures.0 (serves_nothing _ c.words_answer.result c.words_answer.ensures.unlistened)
+
+pub returns-in-Ok-clause-explained : goal.returns-in-Ok-clause-explained
+returns-in-Ok-clause-explained g c told = subst (AskToExplain (map string_bytes c.args.words.now)) (c.order_response.ensures.explained told) c.in-Ok.ensures.explain
+
+pub returns-in-Err-clause-explained : goal.returns-in-Err-clause-explained
+returns-in-Err-clause-explained g c told = absurd (told c.plain.ensures.2)
