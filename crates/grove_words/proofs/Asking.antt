@@ -9,9 +9,9 @@ use Rattle.clap.specs.Walk.{subcommand_met, Names, walk, rows_after, Walk, idle,
 use Rattle.clap.specs.Faults.{word_fault, step_fault, entered_fault, level_fault, turn_fault, walk_fault}
 use Rattle.clap.specs.Kinds.{Kinds}
 use Rattle.clap.proofs.OnLiterals.{clap_on_literals}
-use Rattle.grove_words.specs.CommandLines.{command_named, grove_command, has_place, hyphens, is_option, AreCommand, AreDocument, AreFor, AreTakenFor, AskFor, GivePlace, IsPlaceIn, word_of, text_of}
+use Rattle.grove_words.specs.CommandLines.{command_named, grove_command, has_place, hyphens, is_option, AreDocument, AreFor, AreTakenFor, AskFor, GivePlace, IsPlaceIn, word_of, text_of}
 use Rattle.grove_words.proofs.Words.{IsFaulty, or_faulty, or_later, not_none, top_rules, leaf_rules, planning_rules, drawing_rules, batch_rules, port_rules, asking_rules, top_long, top_short, IsOption, option_refused, HasNoFlag, no_flag, no_bundle, differs, Kind, hyphens_kind, option_kind, plain_kind, kind_of}
-use Rattle.grove_words.proofs.Documents.{document_in, leaf, planning_leaf, drawing_leaf, batch_leaf, port_leaf, asking_leaf, leaf_fault, Reads, leaf_reads}
+use Rattle.grove_words.proofs.Documents.{document_in, leaf, planning_leaf, drawing_leaf, batch_leaf, port_leaf, asking_leaf}
 use Rattle.grove_words.specs.declared.order.Command.{Command}
 use Rattle.grove_words.specs.declared.order.Command.TheVariants.{Judge, Check, Plan, Draw, Run, Audit, Serve, Page, Ask}
 use Rattle.grove_words.specs.declared.order.Order.{Order}
@@ -189,40 +189,28 @@ IsReadLine words = (found : Order) → IsFound (subcommand_of grove_command word
 bare_reads : (words : List Text) → AreDocument words None → subcommand_of grove_command words ≡ None → IsReadLine words
 bare_reads words are none found is = inr (are, (is.bare none).0, (is.bare none).1)
 
--- a command with nothing after it but a document
-document_reads : (command : Command) (rest : List Text) → shape_of command ≡ leaf (word_of command) → rules_of command ≡ leaf_rules
-    → fault_of grove_command (word_of command ∷ rest) ≡ [] → (found : Order) → IsFound (subcommand_of grove_command (word_of command ∷ rest)) found
-    → AreCommand (word_of command) (word_of command ∷ rest) (text_of found.document)
-document_reads command rest shape rules taken found is =
-    let none : leaf_fault (word_of command) rest ≡ [] = ap (λ s. level_fault s [] nothing_held rest false []) (sym shape) ∙ none_below command rest taken in
-    let read : Reads rest = leaf_reads (word_of command) rest none in
-    let name : text_of found.document ≡ read.0 =
-    is.document (word_of command) (rows_after (rules_of command) [] rest) (rows_are command rest) ∙ ap (λ r. document_in (rows_after r [] rest)) rules ∙ read.2 in
-    (rest, refl, subst (AreDocument rest) (sym name) read.1)
+-- what follows the word of a command gives its document
+with_document : (command : Command) (rest : List Text) → fault_of grove_command (word_of command ∷ rest) ≡ []
+    → (found : Order) → IsFound (subcommand_of grove_command (word_of command ∷ rest)) found → AreTakenFor (word_of command) (word_of command ∷ rest) (text_of found.document)
+with_document command rest taken found is =
+    (taken, rows_after (rules_of command) [] rest, rows_are command rest, sym (is.document (word_of command) (rows_after (rules_of command) [] rest) (rows_are command rest)))
 
 -- what follows the word of a command that has a place gives its document and the place
 with_place : (command : Command) (rest : List Text) → fault_of grove_command (word_of command ∷ rest) ≡ []
     → (found : Order) → IsFound (subcommand_of grove_command (word_of command ∷ rest)) found → has_place found.command ≡ true
     → AreTakenFor (word_of command) (word_of command ∷ rest) (text_of found.document) × (place : Place) × GivePlace (word_of command ∷ rest) place
-with_place command rest taken found is placed = (
-  (taken, rows_after (rules_of command) [] rest, rows_are command rest, sym (is.document (word_of command) (rows_after (rules_of command) [] rest) (rows_are command rest))),
-  (is.place placed).0,
-  (is.place placed).1,
-)
+with_place command rest taken found is placed = (with_document command rest taken found is, (is.place placed).0, (is.place placed).1)
 
 -- the words after a command that are taken name the command's document
 names_document : (command : Command) (rest : List Text) → fault_of grove_command (word_of command ∷ rest) ≡ []
     → (found : Order) → IsFound (subcommand_of grove_command (word_of command ∷ rest)) found → found.command ≡ command
     → AreFor command (word_of command ∷ rest) (text_of found.document)
-names_document Judge rest taken found is same = document_reads Judge rest refl refl taken found is
-names_document Check rest taken found is same = document_reads Check rest refl refl taken found is
-names_document Plan rest taken found is same =
-    (taken, rows_after planning_rules [] rest, rows_are Plan rest, sym (is.document (word_of Plan) (rows_after planning_rules [] rest) (rows_are Plan rest)))
-names_document Draw rest taken found is same =
-    (taken, rows_after drawing_rules [] rest, rows_are Draw rest, sym (is.document (word_of Draw) (rows_after drawing_rules [] rest) (rows_are Draw rest)))
-names_document Run rest taken found is same =
-    (taken, rows_after batch_rules [] rest, rows_are Run rest, sym (is.document (word_of Run) (rows_after batch_rules [] rest) (rows_are Run rest)))
-names_document Audit rest taken found is same = document_reads Audit rest refl refl taken found is
+names_document Judge rest taken found is same = inr (with_document Judge rest taken found is)
+names_document Check rest taken found is same = inr (with_document Check rest taken found is)
+names_document Plan rest taken found is same = with_document Plan rest taken found is
+names_document Draw rest taken found is same = with_document Draw rest taken found is
+names_document Run rest taken found is same = with_document Run rest taken found is
+names_document Audit rest taken found is same = inr (with_document Audit rest taken found is)
 names_document Serve rest taken found is same = with_place Serve rest taken found is (ap has_place same)
 names_document Page rest taken found is same = with_place Page rest taken found is (ap has_place same)
 names_document Ask rest taken found is same = with_place Ask rest taken found is (ap has_place same)

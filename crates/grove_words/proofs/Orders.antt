@@ -17,10 +17,10 @@ use Rattle.grove_words.specs.declared.order.Command.{Command}
 use Rattle.grove_words.specs.declared.order.Command.TheVariants.{Judge, Check, Plan, Draw, Run, Audit, Serve, Page, Ask}
 use Rattle.grove_words.specs.declared.order.Order.{Order}
 use Rattle.grove_words.specs.declared.order.Place.{Place}
-use Rattle.grove_words.specs.CommandLines.{command_named, grove_command, has_place, serves, hyphens, IsPlain, AreCommand, AreDocument, AreFor, AreTakenFor, AskFor, AskToServe, AskToShow, AreWrong, GivePlace, IsPlaceIn, word_of, text_of}
+use Rattle.grove_words.specs.CommandLines.{command_named, grove_command, has_place, serves, hyphens, IsPlain, AreCommand, AreDocument, AreFor, AreGiven, AreTakenFor, AskFor, AskToServe, AskToShow, AreWrong, GivePlace, IsPlaceIn, word_of, text_of}
 use Rattle.grove_words.specs.Refusals.{IsNowhere}
 use Rattle.grove_words.proofs.Words.{top_rules, leaf_rules, HasNoFlag, no_flag, differs, met_plain}
-use Rattle.grove_words.proofs.Documents.{leaf, leaf_fault, walked_plain, hyphens_after}
+use Rattle.grove_words.proofs.Documents.{leaf, leaf_fault, leaf_reads, walked_plain, hyphens_after}
 use Rattle.grove_words.proofs.Asking.{names, top, at_command, is_one_of, shape_of, rules_of, below_fault, rows_are, no_command_found, hyphens_found}
 
 or_nil : (a b : Kinds) → a ≡ [] → b ≡ [] → or_else a b ≡ []
@@ -102,44 +102,42 @@ two_hyphens_taken : fault_of grove_command (hyphens ∷ []) ≡ []
 unfolding clap_on_literals
 two_hyphens_taken = refl
 
--- words of a command that has no options are taken
-document_taken : (command : Command) (words : List Text) (document : Option Text) → shape_of command ≡ leaf (word_of command) → AreCommand (word_of command) words document
-    → fault_of grove_command words ≡ []
-document_taken command words document shape (rest, is, are) =
-    ap (fault_of grove_command) is
-    ∙ command_taken command rest (ap (λ s. level_fault s [] nothing_held rest false []) shape ∙ leaf_taken (word_of command) rest document are)
+-- words of a command and its document alone are taken for it
+alone_taken : (command : Command) (words : List Text) (document : Option Text) → shape_of command ≡ leaf (word_of command) → rules_of command ≡ leaf_rules
+    → AreCommand (word_of command) words document → AreTakenFor (word_of command) words document
+alone_taken command words document shape rules (rest, is, are) = (
+  ap (fault_of grove_command) is
+      ∙ command_taken command rest (ap (λ s. level_fault s [] nothing_held rest false []) shape ∙ leaf_taken (word_of command) rest document are),
+  rows_after (rules_of command) [] rest,
+  ap (subcommand_of grove_command) is ∙ rows_are command rest,
+  ap (λ r. first_of (codes "DOC") (rows_after r [] rest)) rules ∙ leaf_reads rest document are,
+)
+
+-- and so are those with its options
+given_taken : (command : Command) (words : List Text) (document : Option Text) → shape_of command ≡ leaf (word_of command) → rules_of command ≡ leaf_rules
+    → AreGiven (word_of command) words document → AreTakenFor (word_of command) words document
+given_taken command words document shape rules (inl are) = alone_taken command words document shape rules are
+given_taken command words document shape rules (inr are) = are
 
 -- and so for each command
-taken_for : (command : Command) (words : List Text) (document : Option Text) → AreFor command words document → fault_of grove_command words ≡ []
-taken_for Judge words document are = document_taken Judge words document refl are
-taken_for Check words document are = document_taken Check words document refl are
-taken_for Plan words document are = are.0
-taken_for Draw words document are = are.0
-taken_for Run words document are = are.0
-taken_for Audit words document are = document_taken Audit words document refl are
-taken_for Serve words document are = are.0.0
-taken_for Page words document are = are.0.0
-taken_for Ask words document are = are.0.0
+taken_as : (command : Command) (words : List Text) (document : Option Text) → AreFor command words document → AreTakenFor (word_of command) words document
+taken_as Judge words document are = given_taken Judge words document refl refl are
+taken_as Check words document are = given_taken Check words document refl refl are
+taken_as Plan words document are = are
+taken_as Draw words document are = are
+taken_as Run words document are = are
+taken_as Audit words document are = given_taken Audit words document refl refl are
+taken_as Serve words document are = are.0
+taken_as Page words document are = are.0
+taken_as Ask words document are = are.0
 
 -- the words have this command's rows
 abbrev HasRows : Command → List Text → Type 0
 HasRows command words = (rows : List Row) × (subcommand_of grove_command words ≡ Some (word_of command, rows))
 
--- clap finds a command without options in its words
-rows_of_document : (command : Command) (words : List Text) (document : Option Text) → AreCommand (word_of command) words document → HasRows command words
-rows_of_document command words document (rest, is, are) = (rows_after (rules_of command) [] rest, ap (subcommand_of grove_command) is ∙ rows_are command rest)
-
--- and so each command
+-- clap finds each command in its words
 found_for : (command : Command) (words : List Text) (document : Option Text) → AreFor command words document → HasRows command words
-found_for Judge words document are = rows_of_document Judge words document are
-found_for Check words document are = rows_of_document Check words document are
-found_for Plan words document are = (are.1, are.2)
-found_for Draw words document are = (are.1, are.2)
-found_for Run words document are = (are.1, are.2)
-found_for Audit words document are = rows_of_document Audit words document are
-found_for Serve words document are = (are.0.1, are.0.2)
-found_for Page words document are = (are.0.1, are.0.2)
-found_for Ask words document are = (are.0.1, are.0.2)
+found_for command words document are = let taken = taken_as command words document are in (taken.1, taken.2)
 
 -- in a document's words alone it finds none
 nothing_found : (words : List Text) → AreDocument words None → subcommand_of grove_command words ≡ None
@@ -147,7 +145,7 @@ nothing_found words (inl none) = ap (subcommand_of grove_command) none ∙ no_co
 nothing_found words (inr two) = ap (subcommand_of grove_command) two ∙ hyphens_found
 
 pub order_taken : (words : List Text) (order : Order) → AskFor words order → fault_of grove_command words ≡ []
-order_taken words order (inl are) = taken_for order.command words (text_of order.document) are
+order_taken words order (inl are) = (taken_as order.command words (text_of order.document) are).0
 order_taken words order (inr (inl is, judge, nameless)) = ap (fault_of grove_command) is ∙ no_words_taken
 order_taken words order (inr (inr is, judge, nameless)) = ap (fault_of grove_command) is ∙ two_hyphens_taken
 
@@ -180,39 +178,13 @@ not_bare words order are none =
     let rows : HasRows order.command words = found_for order.command words (text_of order.document) are in
     none_found (subcommand_of grove_command words) (word_of order.command) rows.0 (nothing_found words none) rows.1
 
-none_or_some : (words : List Text) (name : Text) → AreDocument words None → AreDocument words (Some name) → ⊥
-none_or_some words name (inl none) (inl (is, plain)) = cc
-none_or_some words name (inl none) (inr (inl is)) = cc
-none_or_some words name (inl none) (inr (inr (is, plain))) = cc
-none_or_some words name (inr two) (inl (is, plain)) = let same : name ≡ hyphens = cc in plain.1 same
-none_or_some words name (inr two) (inr (inl is)) = cc
-none_or_some words name (inr two) (inr (inr (is, plain))) = cc
-
--- words for one command name one document, or none
-
--- words begin with one word only
-same_rest : (words : List Text) (word : Text) (rest others : List Text) → words ≡ word ∷ rest → words ≡ word ∷ others → others ≡ rest
-same_rest words word rest others is at = cc
-
-one_document : (command : Command) (words : List Text) (name : Text) → AreCommand (word_of command) words None → AreCommand (word_of command) words (Some name) → ⊥
-one_document command words name (rest, is, are) (others, at, be) =
-    none_or_some rest name are (subst (λ w. AreDocument w (Some name)) (same_rest words (word_of command) rest others is at) be)
-
 one_taken : (command : Text) (words : List Text) (name : Text) → AreTakenFor command words None → AreTakenFor command words (Some name) → ⊥
 one_taken command words name (taken, rows, at, none) (again, others, be, some) =
     let same : rows ≡ others = one_rows (subcommand_of grove_command words) command command rows others at be in
     none_named (first_of (codes "DOC") rows) name none (ap (first_of (codes "DOC")) same ∙ some)
 
 one_name : (command : Command) (words : List Text) (name : Text) → AreFor command words None → AreFor command words (Some name) → ⊥
-one_name Judge words name none some = one_document Judge words name none some
-one_name Check words name none some = one_document Check words name none some
-one_name Plan words name none some = one_taken (word_of Plan) words name none some
-one_name Draw words name none some = one_taken (word_of Draw) words name none some
-one_name Run words name none some = one_taken (word_of Run) words name none some
-one_name Audit words name none some = one_document Audit words name none some
-one_name Serve words name none some = one_taken (word_of Serve) words name none.0 some.0
-one_name Page words name none some = one_taken (word_of Page) words name none.0 some.0
-one_name Ask words name none some = one_taken (word_of Ask) words name none.0 some.0
+one_name command words name none some = one_taken (word_of command) words name (taken_as command words None none) (taken_as command words (Some name) some)
 
 -- two orders that the same words ask for have one command
 pub same_command : (words : List Text) (a b : Order) → AskFor words a → AskFor words b → a.command ≡ b.command

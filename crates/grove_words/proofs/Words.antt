@@ -9,7 +9,7 @@ use Rattle.clap.specs.Simple.{help_rule, version_rule, filled, with_index}
 use Rattle.clap.specs.Walk.{Held, idle, word_met, bundle_met, plain, value, arg_by_long, arg_by_short, settled, reacted}
 use Rattle.clap.specs.Faults.{flag_word_fault, long_fault, short_fault, flags_fault, settle_fault, use_fault, react_fault}
 use Rattle.clap.specs.Kinds.{or_else, Kinds}
-use Rattle.grove_words.specs.CommandLines.{address_rule, busy_rule, document_rule, idle_rule, lines_rule, port_rule, server_address_rule, server_port_rule, text_rule, tree_rule, workers_rule, hyphens, is_option}
+use Rattle.grove_words.specs.CommandLines.{address_rule, busy_rule, document_rule, explain_rule, idle_rule, lines_rule, port_rule, server_address_rule, server_port_rule, text_rule, tree_rule, verbose_rule, workers_rule, hyphens, is_option}
 
 -- some kind is among them
 abbrev pub IsFaulty : Kinds → Type 0
@@ -38,22 +38,23 @@ abbrev pub top_rules : List Rule
 top_rules = help_option ∷ version_option ∷ []
 
 abbrev pub leaf_rules : List Rule
-leaf_rules = document_argument ∷ help_option ∷ []
+leaf_rules = document_argument ∷ filled explain_rule ∷ help_option ∷ []
 
 abbrev pub drawing_rules : List Rule
-drawing_rules = document_argument ∷ filled text_rule ∷ help_option ∷ []
+drawing_rules = document_argument ∷ filled explain_rule ∷ filled text_rule ∷ help_option ∷ []
 
 abbrev pub planning_rules : List Rule
-planning_rules = document_argument ∷ filled document_rule ∷ help_option ∷ []
+planning_rules = document_argument ∷ filled explain_rule ∷ filled document_rule ∷ help_option ∷ []
 
 abbrev pub batch_rules : List Rule
-batch_rules = document_argument ∷ with_index 1 (filled workers_rule) ∷ help_option ∷ []
+batch_rules = document_argument ∷ filled explain_rule ∷ with_index 1 (filled workers_rule) ∷ help_option ∷ []
 
 abbrev pub port_rules : List Rule
-port_rules = filled tree_rule ∷ filled port_rule ∷ filled address_rule ∷ filled workers_rule ∷ filled idle_rule ∷ filled busy_rule ∷ help_option ∷ []
+port_rules =
+    filled tree_rule ∷ filled port_rule ∷ filled address_rule ∷ filled explain_rule ∷ filled workers_rule ∷ filled idle_rule ∷ filled busy_rule ∷ filled verbose_rule ∷ help_option ∷ []
 
 abbrev pub asking_rules : List Rule
-asking_rules = filled server_port_rule ∷ filled server_address_rule ∷ with_index 1 (filled lines_rule) ∷ help_option ∷ []
+asking_rules = filled server_port_rule ∷ filled server_address_rule ∷ filled explain_rule ∷ with_index 1 (filled lines_rule) ∷ help_option ∷ []
 
 -- they are asked for, and no order is given
 
@@ -82,10 +83,6 @@ two_found P true t x y z = x
 two_found P false true x y z = y
 two_found P false false x y z = z
 
-one_found : (P : Option Rule → Type 0) (s : Bool) → P (Some help_option) → P None → P (cond s (Some help_option) None)
-one_found P true x z = x
-one_found P false x z = z
-
 pub top_long : (name : Text) (attached : Option Text) (h : Held) → IsFaulty (long_fault top_rules false (arg_by_long top_rules name) attached h)
 top_long name attached h =
     two_found (λ found. IsFaulty (long_fault top_rules false found attached h)) (bytes_eq (codes "help") name || false) (bytes_eq (codes "version") name || false)
@@ -95,12 +92,6 @@ pub top_short : (x : ℕ) (rest : Text) (h : Held) (next : Held → Kinds) → I
 top_short x rest h next =
     two_found (λ found. IsFaulty (short_fault top_rules false found rest h next)) (104 == x || false) (86 == x || false)
     (short_asks top_rules rest h next) (short_version_asks top_rules rest h next) tt
-
-pub leaf_long : (name : Text) (attached : Option Text) (h : Held) → IsFaulty (long_fault leaf_rules false (arg_by_long leaf_rules name) attached h)
-leaf_long name attached h = one_found (λ found. IsFaulty (long_fault leaf_rules false found attached h)) (bytes_eq (codes "help") name || false) (long_asks leaf_rules attached h) tt
-
-pub leaf_short : (x : ℕ) (rest : Text) (h : Held) (next : Held → Kinds) → IsFaulty (short_fault leaf_rules false (arg_by_short leaf_rules x) rest h next)
-leaf_short x rest h next = one_found (λ found. IsFaulty (short_fault leaf_rules false found rest h next)) (104 == x || false) (short_asks leaf_rules rest h next) tt
 
 -- a bundle of options
 

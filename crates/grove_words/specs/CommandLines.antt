@@ -81,9 +81,16 @@ AreDocument words (Some name) =
 
 -- ---- the command line that clap reads
 
+-- a flag that has the system's reason told where a file or a port fails
+abbrev pub explain_rule : Rule
+explain_rule = record (new_rule (codes "explain")) {
+  long = Some (codes "explain");
+  action = Some SetTrue;
+}
+
 -- a command that reads one document, with the document's name
 abbrev pub document_command : List ℕ → App
-document_command name = with_rule (new_app name) (new_rule (codes "DOC"))
+document_command name = with_rule (with_rule (new_app name) (new_rule (codes "DOC"))) explain_rule
 
 -- the program before it has a command; its own name is no part of its words
 abbrev pub no_command : App
@@ -167,13 +174,20 @@ busy_rule = record (new_rule (codes "busy")) {
   action = Some SetTrue;
 }
 
+-- a flag that has a server tell of its connections
+abbrev pub verbose_rule : Rule
+verbose_rule = record (new_rule (codes "verbose")) {
+  long = Some (codes "verbose");
+  action = Some SetTrue;
+}
+
 -- a command for a document's tree and a port
 abbrev pub place_command : List ℕ → App
-place_command name = with_rule (with_rule (with_rule (new_app name) tree_rule) port_rule) address_rule
+place_command name = with_rule (with_rule (with_rule (with_rule (new_app name) tree_rule) port_rule) address_rule) explain_rule
 
 -- a command that serves a document's tree at a port
 abbrev pub port_command : List ℕ → App
-port_command name = with_rule (with_rule (with_rule (place_command name) workers_rule) idle_rule) busy_rule
+port_command name = with_rule (with_rule (with_rule (with_rule (place_command name) workers_rule) idle_rule) busy_rule) verbose_rule
 
 -- the number of a server's port, which has to be given
 abbrev pub server_port_rule : Rule
@@ -200,7 +214,7 @@ lines_rule = record (new_rule (codes "LINE")) {
 
 -- a command that asks a server at a port
 abbrev pub asking_command : List ℕ → App
-asking_command name = with_rule (with_rule (with_rule (new_app name) server_port_rule) server_address_rule) lines_rule
+asking_command name = with_rule (with_rule (with_rule (with_rule (new_app name) server_port_rule) server_address_rule) explain_rule) lines_rule
 
 abbrev pub grove_command : App
 grove_command =
@@ -233,6 +247,10 @@ AreTakenFor command words document = (fault_of grove_command words ≡ [])
 abbrev pub Writes : List ℕ → ℕ → Type 0
 Writes text number = IsNumeral 10 (without_leading_plus text) × (digits_value 10 (without_leading_plus text) ≡ number)
 
+-- the words are a command with its document, or else clap takes them for it with its options
+abbrev pub AreGiven : List ℕ → List (List ℕ) → Option (List ℕ) → Type 0
+AreGiven command words document = AreCommand command words document ⊎ AreTakenFor command words document
+
 -- this is the place that two texts give: one writes its address, the other its port
 abbrev pub IsPlace : Option (List ℕ) → Option (List ℕ) → Place → Type 0
 IsPlace address port place = IsSomeAnd address (λ text. IsIpText text place.address) × IsSomeAnd port (λ text. Writes text place.port × (place.port < 65536))
@@ -248,12 +266,12 @@ GivePlace words place = IsPlaceIn (subcommand_of grove_command words) place
 
 -- the words are a command and the document that it is for, if that has a name
 abbrev pub AreFor : Command → List (List ℕ) → Option (List ℕ) → Type 0
-AreFor Judge words document = AreCommand (word_of Judge) words document
-AreFor Check words document = AreCommand (word_of Check) words document
+AreFor Judge words document = AreGiven (word_of Judge) words document
+AreFor Check words document = AreGiven (word_of Check) words document
 AreFor Plan words document = AreTakenFor (word_of Plan) words document
 AreFor Draw words document = AreTakenFor (word_of Draw) words document
 AreFor Run words document = AreTakenFor (word_of Run) words document
-AreFor Audit words document = AreCommand (word_of Audit) words document
+AreFor Audit words document = AreGiven (word_of Audit) words document
 AreFor Serve words document = AreTakenFor (word_of Serve) words document × (place : Place) × GivePlace words place
 AreFor Page words document = AreTakenFor (word_of Page) words document × (place : Place) × GivePlace words place
 AreFor Ask words document = AreTakenFor (word_of Ask) words document × (place : Place) × GivePlace words place
@@ -305,6 +323,14 @@ IsSetIn name found flag = IsSet (option_and_then (λ rows. one_of name rows.1) f
 -- the words ask for a plan in its document
 abbrev pub AskForDocument : List (List ℕ) → Bool → Type 0
 AskForDocument words in_document = IsSetIn (codes "document") (subcommand_of grove_command words) in_document
+
+-- the words ask for the system's reason where a file or a port fails
+abbrev pub AskToExplain : List (List ℕ) → Bool → Type 0
+AskToExplain words explain = IsSetIn (codes "explain") (subcommand_of grove_command words) explain
+
+-- the words ask a server to tell of its connections
+abbrev pub AskToTell : List (List ℕ) → Bool → Type 0
+AskToTell words verbose = IsSetIn (codes "verbose") (subcommand_of grove_command words) verbose
 
 -- so many seconds are asked for by a text: the number from 1 to 86400 that it writes, and none where there is none
 abbrev pub IsIdle : Option (List ℕ) → Option ℕ → Type 0

@@ -1,19 +1,16 @@
-ghost use Rattle.std.specs.Prelude.{◌≡◌, ◌≤◌, ◌⊎◌, ℕ, List, [], false, true, codes, map, Some, None, IfOk, IfErr, IfSome, IsErrAnd, IsSomeAnd, string_bytes, unwrap_or};
-ghost use Rattle.clap.specs.declared.builder.command.Command.{out-Command};
-ghost use Rattle.clap.specs.Words.{App, HasKind, Row, all_of, app_of, rows_of, fault_of, first_of, first_value, found_of, kind_of, one_text, rule_of, new_rule, subcommand_of, subcommand_rows_of, with_subcommand};
-ghost use Rattle.grove_words.specs.CommandLines.{batch_command, command_named, document_command, drawing_command, grove_command, no_command, place_command, port_command, address_rule, port_rule, text_rule, tree_rule, workers_rule, AreWorkers, AreWorkersIn, asking_command, busy_rule, document_rule, has_place, idle_rule, lines_given, lines_in, lines_rule, planning_command, serves, server_address_rule, server_port_rule, AreWrong, AskFor, AskForDocument, AskForForm, AskForPatience, AskForWorkers, AskToServe, AskToShow, GivePlace, IsForm, IsFormIn, IsIdle, IsPatience, IsPatienceIn, IsPlace, IsPlaceIn, IsSet, IsSetIn, text_of};
+ghost use Rattle.std.specs.Prelude.{◌≡◌, ◌≤◌, ◌⊎◌, ℕ, List, [], true, codes, map, Some, None, IfOk, IfErr, IfSome, IsErrAnd, IsSomeAnd, string_bytes, unwrap_or};
+ghost use Rattle.clap.specs.Words.{HasKind, Row, all_of, rows_of, fault_of, first_of, first_value, found_of, kind_of, one_text, subcommand_of, subcommand_rows_of};
+ghost use Rattle.grove_words.specs.CommandLines.{command_named, grove_command, AreWorkers, AreWorkersIn, has_place, lines_given, lines_in, serves, AreWrong, AskFor, AskForDocument, AskForForm, AskForPatience, AskForWorkers, AskToExplain, AskToServe, AskToShow, AskToTell, GivePlace, IsForm, IsFormIn, IsIdle, IsPatience, IsPatienceIn, IsPlace, IsPlaceIn, IsSet, IsSetIn, text_of};
 ghost use Rattle.grove_words.specs.NoOrders.{HasText, TellsShown, TellsWrong};
 ghost use Rattle.grove_words.specs.Refusals.{IsNowhere};
 
+use crate::definitions::command_line;
 use crate::no_order::{NoOrder, no_order};
 use crate::order::{Command, Form, Order, Patience, Place};
 use clap::error::ErrorKind;
-use clap::{Arg, ArgAction, ArgMatches, Error, value_parser};
+use clap::{ArgMatches, Error};
 use std::alloc::{AllocError, Global};
 use std::net::IpAddr;
-
-/// The program's version.
-const VERSION: &str = "0.1.0";
 
 /// The number of workers where the words don't say it, and the greatest.
 const FEW_WORKERS: u32 = 4;
@@ -30,6 +27,8 @@ pub fn order_of<'a>(alloc: Global, words: &'a [String]) -> Result<Order<'a>, NoO
     ensures given { IfOk result (λ order. AskForWorkers (map string_bytes words.now) order.workers) }
     ensures form { IfOk result (λ order. AskForForm (map string_bytes words.now) order.form) }
     ensures in_document { IfOk result (λ order. AskForDocument (map string_bytes words.now) order.in_document) }
+    ensures explain { IfOk result (λ order. AskToExplain (map string_bytes words.now) order.explain) }
+    ensures verbose { IfOk result (λ order. AskToTell (map string_bytes words.now) order.verbose) }
     ensures patience { IfOk result (λ order. AskForPatience (map string_bytes words.now) order.patience) }
     ensures idle { IfOk result (λ order. IfSome order.patience.idle (λ seconds. (1 ≤ seconds) × (seconds ≤ 86400))) }
     ensures place { IfOk result (λ order. serves order.command ≡ true → IsSomeAnd order.place (AskToServe (map string_bytes words.now))) }
@@ -98,6 +97,8 @@ fn order_among<'a>(alloc: Global, words: &'a [String]) -> Result<Order<'a>, Erro
     ensures given { IfOk result (λ order. AreWorkersIn (subcommand_of grove_command (map string_bytes words.now)) order.workers) }
     ensures form { IfOk result (λ order. IsFormIn (subcommand_of grove_command (map string_bytes words.now)) order.form) }
     ensures in_document { IfOk result (λ order. IsSetIn (codes "document") (subcommand_of grove_command (map string_bytes words.now)) order.in_document) }
+    ensures explain { IfOk result (λ order. IsSetIn (codes "explain") (subcommand_of grove_command (map string_bytes words.now)) order.explain) }
+    ensures verbose { IfOk result (λ order. IsSetIn (codes "verbose") (subcommand_of grove_command (map string_bytes words.now)) order.verbose) }
     ensures patience { IfOk result (λ order. IsPatienceIn (subcommand_of grove_command (map string_bytes words.now)) order.patience) }
     ensures idle { IfOk result (λ order. IfSome order.patience.idle (λ seconds. (1 ≤ seconds) × (seconds ≤ 86400))) }
     ensures place { IfOk result (λ order. has_place order.command ≡ true → IsSomeAnd order.place (IsPlaceIn (subcommand_of grove_command (map string_bytes words.now)))) }
@@ -129,6 +130,8 @@ fn order_in<'a>(matches: &ArgMatches<'a>) -> Option<Order<'a>>
     ensures given { IfSome result (λ order. AreWorkersIn (subcommand_rows_of matches.now) order.workers) }
     ensures form { IfSome result (λ order. IsFormIn (subcommand_rows_of matches.now) order.form) }
     ensures in_document { IfSome result (λ order. IsSetIn (codes "document") (subcommand_rows_of matches.now) order.in_document) }
+    ensures explain { IfSome result (λ order. IsSetIn (codes "explain") (subcommand_rows_of matches.now) order.explain) }
+    ensures verbose { IfSome result (λ order. IsSetIn (codes "verbose") (subcommand_rows_of matches.now) order.verbose) }
     ensures patience { IfSome result (λ order. IsPatienceIn (subcommand_rows_of matches.now) order.patience) }
     ensures idle { IfSome result (λ order. IfSome order.patience.idle (λ seconds. (1 ≤ seconds) × (seconds ≤ 86400))) }
     ensures place { IfSome result (λ order. has_place order.command ≡ true → IsSomeAnd order.place (IsPlaceIn (subcommand_rows_of matches.now))) }
@@ -145,6 +148,8 @@ fn order_in<'a>(matches: &ArgMatches<'a>) -> Option<Order<'a>>
             place: None,
             form: Form::Svg,
             in_document: false,
+            explain: false,
+            verbose: false,
             patience: Patience {
                 idle: None,
                 tells_busy: false,
@@ -161,6 +166,8 @@ fn order_with<'a>(word: &str, given: &ArgMatches<'a>) -> Option<Order<'a>>
     ensures given { IfSome result (λ order. AreWorkers (one_text (found_of given.now) (codes "workers")) order.workers) }
     ensures form { IfSome result (λ order. IsForm (one_text (found_of given.now) (codes "text")) order.form) }
     ensures in_document { IfSome result (λ order. IsSet (one_text (found_of given.now) (codes "document")) order.in_document) }
+    ensures explain { IfSome result (λ order. IsSet (one_text (found_of given.now) (codes "explain")) order.explain) }
+    ensures verbose { IfSome result (λ order. IsSet (one_text (found_of given.now) (codes "verbose")) order.verbose) }
     ensures patience { IfSome result (λ order. IsPatience (one_text (found_of given.now) (codes "idle")) (one_text (found_of given.now) (codes "busy")) order.patience) }
     ensures idle { IfSome result (λ order. IfSome order.patience.idle (λ seconds. (1 ≤ seconds) × (seconds ≤ 86400))) }
     ensures place { IfSome result (λ order. has_place order.command ≡ true
@@ -180,6 +187,8 @@ fn order_with<'a>(word: &str, given: &ArgMatches<'a>) -> Option<Order<'a>>
         place,
         form: form_in(given),
         in_document: is_set(given, "document"),
+        explain: is_set(given, "explain"),
+        verbose: is_set(given, "verbose"),
         patience: patience_in(given),
     })
 }
@@ -267,296 +276,4 @@ fn command_named(word: &str) -> Command
         "ask" => Command::Ask,
         _judge => Command::Judge,
     }
-}
-
-/// The one definition of the command line.
-pub fn command_line<'a>(alloc: Global) -> Result<clap::Command<'a>, AllocError>
-    ensures { IfOk result (λ command. app_of command ≡ grove_command) }
-{
-    let judges = add(program(alloc), judge(alloc));
-    let checks = add(judges, check(alloc));
-    let plans = add(checks, plan(alloc));
-    let draws = add(plans, draw(alloc));
-    let runs = add(draws, run(alloc));
-    let audits = add(runs, audit(alloc));
-    let serves = add(audits, serve(alloc));
-    let pages = add(serves, page(alloc));
-    add(pages, ask(alloc))
-}
-
-/// The program with one more command, where there was memory for both.
-fn add<'a>(
-    program: Result<clap::Command<'a>, AllocError>,
-    command: Result<clap::Command<'a>, AllocError>,
-) -> Result<clap::Command<'a>, AllocError>
-    requires local { IfOk command (λ command. (out-Command command).has_globals ≡ false) }
-    ensures { (a b : App) → IfOk program.entry (λ program. app_of program ≡ a) → IfOk command.entry (λ command. app_of command ≡ b)
-        → IfOk result (λ added. app_of added ≡ with_subcommand a b.top) }
-{
-    program?.subcommand(command?)
-}
-
-/// The program before it has its commands.
-fn program<'a>(alloc: Global) -> Result<clap::Command<'a>, AllocError>
-    ensures app { IfOk result (λ command. app_of command ≡ no_command) }
-    ensures local { IfOk result (λ command. (out-Command command).has_globals ≡ false) }
-{
-    let named = clap::Command::new(alloc, "grove").bin_name("grove")?;
-    Ok(
-        named.version(VERSION).no_binary_name(true).about(
-            "Records at the nodes of a tree, and lock plans over it. With no command: judge",
-        ),
-    )
-}
-
-fn judge<'a>(alloc: Global) -> Result<clap::Command<'a>, AllocError>
-    ensures app { IfOk result (λ command. app_of command ≡ document_command (codes "judge")) }
-    ensures local { IfOk result (λ command. (out-Command command).has_globals ≡ false) }
-{
-    let about = "Judge a plan: its cost, and the replies and records of its list";
-    on_document(alloc, "judge", about)
-}
-
-fn check<'a>(alloc: Global) -> Result<clap::Command<'a>, AllocError>
-    ensures app { IfOk result (λ command. app_of command ≡ document_command (codes "check")) }
-    ensures local { IfOk result (λ command. (out-Command command).has_globals ≡ false) }
-{
-    let about = "Check a plan by its flow: its cost, below which no legal plan for the list is";
-    on_document(alloc, "check", about)
-}
-
-/// A command that reads one document and may be told to write it again with its answer.
-fn plan<'a>(alloc: Global) -> Result<clap::Command<'a>, AllocError>
-    ensures app { IfOk result (λ command. app_of command ≡ planning_command (codes "plan")) }
-    ensures local { IfOk result (λ command. (out-Command command).has_globals ≡ false) }
-{
-    let about = "Plan a list: the cheapest plan, and the flow that proves it";
-    on_document(alloc, "plan", about)?.arg(in_document(alloc))
-}
-
-/// A command that reads one document and may be told to write text.
-fn draw<'a>(alloc: Global) -> Result<clap::Command<'a>, AllocError>
-    ensures app { IfOk result (λ command. app_of command ≡ drawing_command (codes "draw")) }
-    ensures local { IfOk result (λ command. (out-Command command).has_globals ≡ false) }
-{
-    let about = "Draw a list's cheapest plan, and the document's own above it where it has one";
-    on_document(alloc, "draw", about)?.arg(text(alloc))
-}
-
-/// A command that reads one document and may be told how many workers there are.
-fn run<'a>(alloc: Global) -> Result<clap::Command<'a>, AllocError>
-    ensures app { IfOk result (λ command. app_of command ≡ batch_command (codes "run")) }
-    ensures local { IfOk result (λ command. (out-Command command).has_globals ≡ false) }
-{
-    let about =
-        "Run a batch of lists at once: their serial order, the replies, the records and the waits";
-    on_document(alloc, "run", about)?.arg(workers(alloc))
-}
-
-fn audit<'a>(alloc: Global) -> Result<clap::Command<'a>, AllocError>
-    ensures app { IfOk result (λ command. app_of command ≡ document_command (codes "audit")) }
-    ensures local { IfOk result (λ command. (out-Command command).has_globals ≡ false) }
-{
-    let about = "Audit a history: what the run of its events gives, if they are a finished run";
-    on_document(alloc, "audit", about)
-}
-
-fn serve<'a>(alloc: Global) -> Result<clap::Command<'a>, AllocError>
-    ensures app { IfOk result (λ command. app_of command ≡ port_command (codes "serve")) }
-    ensures local { IfOk result (λ command. (out-Command command).has_globals ≡ false) }
-{
-    let about = "Serve sessions with the records of a tree over TCP";
-    at_port(alloc, "serve", about)
-}
-
-fn page<'a>(alloc: Global) -> Result<clap::Command<'a>, AllocError>
-    ensures app { IfOk result (λ command. app_of command ≡ port_command (codes "page")) }
-    ensures local { IfOk result (λ command. (out-Command command).has_globals ≡ false) }
-{
-    let about = "Serve the records of a tree over HTTP, with a page to look at them";
-    at_port(alloc, "page", about)
-}
-
-/// A command that asks the server at a port.
-fn ask<'a>(alloc: Global) -> Result<clap::Command<'a>, AllocError>
-    ensures app { IfOk result (λ command. app_of command ≡ asking_command (codes "ask")) }
-    ensures local { IfOk result (λ command. (out-Command command).has_globals ≡ false) }
-{
-    let about = "Ask a server: send it lines, and print its replies";
-    clap::Command::new(alloc, "ask")
-        .about(about)
-        .arg(server_port(alloc))?
-        .arg(server_address(alloc))?
-        .arg(lines(alloc))
-}
-
-/// A command that serves a document's tree at a port, and may be told how many workers there are, and what is done with
-/// connections that idle or find no seat.
-fn at_port<'a>(
-    alloc: Global,
-    name: &'static str,
-    about: &'static str,
-) -> Result<clap::Command<'a>, AllocError>
-    ensures app { IfOk result (λ command. app_of command ≡ port_command name.now) }
-    ensures local { IfOk result (λ command. (out-Command command).has_globals ≡ false) }
-{
-    on_tree(alloc, name, about)?
-        .arg(workers(alloc))?
-        .arg(idle(alloc))?
-        .arg(busy(alloc))
-}
-
-/// A command for a document's tree and a port, which may be told its address.
-fn on_tree<'a>(
-    alloc: Global,
-    name: &'static str,
-    about: &'static str,
-) -> Result<clap::Command<'a>, AllocError>
-    ensures app { IfOk result (λ command. app_of command ≡ place_command name.now) }
-    ensures local { IfOk result (λ command. (out-Command command).has_globals ≡ false) }
-{
-    clap::Command::new(alloc, name)
-        .about(about)
-        .arg(tree(alloc))?
-        .arg(port(alloc))?
-        .arg(address(alloc))
-}
-
-/// A command that reads one document.
-fn on_document<'a>(
-    alloc: Global,
-    name: &'static str,
-    about: &'static str,
-) -> Result<clap::Command<'a>, AllocError>
-    ensures app { IfOk result (λ command. app_of command ≡ document_command name.now) }
-    ensures local { IfOk result (λ command. (out-Command command).has_globals ≡ false) }
-{
-    clap::Command::new(alloc, name)
-        .about(about)
-        .arg(document(alloc))
-}
-
-fn document<'a>(alloc: Global) -> Arg<'a>
-    ensures rule { rule_of result ≡ new_rule (codes "DOC") }
-    ensures local { result.global ≡ false }
-{
-    Arg::new(alloc, "DOC").help("The document's file; without it, the document is standard input")
-}
-
-fn workers<'a>(alloc: Global) -> Arg<'a>
-    ensures rule { rule_of result ≡ workers_rule }
-    ensures local { result.global ≡ false }
-{
-    Arg::new(alloc, "workers")
-        .long("workers")
-        .value_name("N")
-        .value_parser(value_parser!(u32).range(1..=16))
-        .default_value("4")
-        .help("How many workers run the lists at once")
-}
-
-fn text<'a>(alloc: Global) -> Arg<'a>
-    ensures rule { rule_of result ≡ text_rule }
-    ensures local { result.global ≡ false }
-{
-    Arg::new(alloc, "text")
-        .long("text")
-        .action(ArgAction::SetTrue)
-        .help("Write lines for a terminal, and no SVG")
-}
-
-fn in_document<'a>(alloc: Global) -> Arg<'a>
-    ensures rule { rule_of result ≡ document_rule }
-    ensures local { result.global ≡ false }
-{
-    Arg::new(alloc, "document")
-        .long("document")
-        .action(ArgAction::SetTrue)
-        .help("Write the document with the plan and the flow in it")
-}
-
-fn tree<'a>(alloc: Global) -> Arg<'a>
-    ensures rule { rule_of result ≡ tree_rule }
-    ensures local { result.global ≡ false }
-{
-    Arg::new(alloc, "DOC")
-        .long("tree")
-        .required(true)
-        .help("The file of the document with the tree and its records")
-}
-
-fn port<'a>(alloc: Global) -> Arg<'a>
-    ensures rule { rule_of result ≡ port_rule }
-    ensures local { result.global ≡ false }
-{
-    Arg::new(alloc, "port")
-        .long("port")
-        .value_name("P")
-        .required(true)
-        .value_parser(value_parser!(u16))
-        .help("The port to listen on; 0 takes one that is free")
-}
-
-fn address<'a>(alloc: Global) -> Arg<'a>
-    ensures rule { rule_of result ≡ address_rule }
-    ensures local { result.global ≡ false }
-{
-    Arg::new(alloc, "address")
-        .long("bind")
-        .value_name("ADDRESS")
-        .default_value("127.0.0.1")
-        .help("The IP address to listen at")
-}
-
-fn idle<'a>(alloc: Global) -> Arg<'a>
-    ensures rule { rule_of result ≡ idle_rule }
-    ensures local { result.global ≡ false }
-{
-    Arg::new(alloc, "idle")
-        .long("idle")
-        .value_name("SECONDS")
-        .value_parser(value_parser!(u32).range(1..=86400))
-        .help("End a connection that sends no whole line for so long; by default none is ended")
-}
-
-fn busy<'a>(alloc: Global) -> Arg<'a>
-    ensures rule { rule_of result ≡ busy_rule }
-    ensures local { result.global ≡ false }
-{
-    Arg::new(alloc, "busy")
-        .long("busy")
-        .action(ArgAction::SetTrue)
-        .help("Tell a connection that finds no seat so, and close it; by default it waits")
-}
-
-fn server_port<'a>(alloc: Global) -> Arg<'a>
-    ensures rule { rule_of result ≡ server_port_rule }
-    ensures local { result.global ≡ false }
-{
-    Arg::new(alloc, "port")
-        .long("port")
-        .value_name("P")
-        .required(true)
-        .value_parser(value_parser!(u16).range(1..=65535))
-        .help("The server's port")
-}
-
-fn server_address<'a>(alloc: Global) -> Arg<'a>
-    ensures rule { rule_of result ≡ server_address_rule }
-    ensures local { result.global ≡ false }
-{
-    Arg::new(alloc, "address")
-        .long("address")
-        .value_name("ADDRESS")
-        .default_value("127.0.0.1")
-        .help("The server's IP address")
-}
-
-fn lines<'a>(alloc: Global) -> Arg<'a>
-    ensures rule { rule_of result ≡ lines_rule }
-    ensures local { result.global ≡ false }
-{
-    Arg::new(alloc, "LINE").action(ArgAction::Append).help(
-        "The lines to send; without them, they are those of standard input",
-    )
 }

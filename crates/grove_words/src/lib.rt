@@ -6,5 +6,6 @@ pub use no_order::{NoOrder, not_text};
 pub use order::{Command, Form, Order, Patience, Place};
 
 mod command_line;
+mod definitions;
 mod no_order;
 mod order;

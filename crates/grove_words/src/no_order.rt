@@ -2,7 +2,7 @@ ghost use Rattle.std.specs.Prelude.{◌≡◌, ◌≢◌, ◌⊎◌, [], IfOk, s
 ghost use Rattle.clap.specs.Values.{kind_of};
 ghost use Rattle.grove_words.specs.NoOrders.{HasText, TellsShown, TellsWrong};
 
-use crate::command_line::command_line;
+use crate::definitions::command_line;
 use clap::Error;
 use clap::error::ErrorKind;
 use std::alloc::{AllocError, Global};

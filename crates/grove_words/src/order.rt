@@ -18,6 +18,10 @@ pub struct Order<'a> {
     pub form: Form,
     /// Whether a plan is to be written in its document.
     pub in_document: bool,
+    /// Whether the system's reason is told where a file or a port fails.
+    pub explain: bool,
+    /// Whether a server tells of its connections.
+    pub verbose: bool,
     /// What is done with connections that idle, and with those that find no seat.
     pub patience: Patience,
 }

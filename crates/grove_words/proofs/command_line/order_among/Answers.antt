@@ -46,6 +46,22 @@ returns-in-Some-clause-in_document c =
     let rows : subcommand_rows_of c.in_ok-matches.matches ≡ subcommand_of grove_command words = matches.1 ∙ ap (λ (app : App). subcommand_of app words) line in
     subst (λ found. IsSetIn (codes "document") found c.in-Some.order.in_document) rows c.in-Some.ensures.in_document
 
+pub returns-in-Some-clause-explain : goal.returns-in-Some-clause-explain
+returns-in-Some-clause-explain c =
+    let words = map string_bytes c.args.words.now in
+    let line : app_of c.in_ok-command_line.field-0 ≡ grove_command = c.in_ok-command_line.ensures in
+    let matches = c.in_ok-matches.ensures.matches (ap is_simple line ∙ is_simple_line) in
+    let rows : subcommand_rows_of c.in_ok-matches.matches ≡ subcommand_of grove_command words = matches.1 ∙ ap (λ (app : App). subcommand_of app words) line in
+    subst (λ found. IsSetIn (codes "explain") found c.in-Some.order.explain) rows c.in-Some.ensures.explain
+
+pub returns-in-Some-clause-verbose : goal.returns-in-Some-clause-verbose
+returns-in-Some-clause-verbose c =
+    let words = map string_bytes c.args.words.now in
+    let line : app_of c.in_ok-command_line.field-0 ≡ grove_command = c.in_ok-command_line.ensures in
+    let matches = c.in_ok-matches.ensures.matches (ap is_simple line ∙ is_simple_line) in
+    let rows : subcommand_rows_of c.in_ok-matches.matches ≡ subcommand_of grove_command words = matches.1 ∙ ap (λ (app : App). subcommand_of app words) line in
+    subst (λ found. IsSetIn (codes "verbose") found c.in-Some.order.verbose) rows c.in-Some.ensures.verbose
+
 pub returns-in-Some-clause-patience : goal.returns-in-Some-clause-patience
 returns-in-Some-clause-patience c =
     let words = map string_bytes c.args.words.now in

@@ -47,6 +47,18 @@ returns-in-Some-clause-in_document c =
     IfSome_then c.order_with.result c.order_with.ensures.in_document (λ order is. flag_among (codes "document") (subcommand_rows_of c.args.matches.now) rows order.in_document
     c.in-Some.ensures.rows (subst (λ text. IsSet text order.in_document) (one_text-rows (found_of c.in-Some.given.now) (codes "document")) is))
 
+pub returns-in-Some-clause-explain : goal.returns-in-Some-clause-explain
+returns-in-Some-clause-explain c =
+    let rows = rows_of (found_of c.in-Some.given.now) in
+    IfSome_then c.order_with.result c.order_with.ensures.explain (λ order is. flag_among (codes "explain") (subcommand_rows_of c.args.matches.now) rows order.explain
+    c.in-Some.ensures.rows (subst (λ text. IsSet text order.explain) (one_text-rows (found_of c.in-Some.given.now) (codes "explain")) is))
+
+pub returns-in-Some-clause-verbose : goal.returns-in-Some-clause-verbose
+returns-in-Some-clause-verbose c =
+    let rows = rows_of (found_of c.in-Some.given.now) in
+    IfSome_then c.order_with.result c.order_with.ensures.verbose (λ order is. flag_among (codes "verbose") (subcommand_rows_of c.args.matches.now) rows order.verbose
+    c.in-Some.ensures.rows (subst (λ text. IsSet text order.verbose) (one_text-rows (found_of c.in-Some.given.now) (codes "verbose")) is))
+
 pub returns-in-Some-clause-patience : goal.returns-in-Some-clause-patience
 returns-in-Some-clause-patience c =
     let found = found_of c.in-Some.given.now in

@@ -1,7 +1,7 @@
 use Rattle.std.proofs.Common.{◌∙◌, ap, true}
 use Rattle.clap.specs.Words.{App}
 use Rattle.clap.specs.Simple.{app_of_fields}
-use Rattle.grove_words.proofs.command_line.program.Goals as goal
+use Rattle.grove_words.proofs.definitions.program.Goals as goal
 
 abbrev without_name : App → App
 without_name a = record { top = record (a.top) { no_binary_name = true }; subs = a.subs }

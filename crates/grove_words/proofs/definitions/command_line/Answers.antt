@@ -1,6 +1,6 @@
 use Rattle.std.proofs.Common.{codes}
 use Rattle.grove_words.specs.CommandLines.{asking_command, batch_command, document_command, drawing_command, no_command, planning_command, port_command, with_command}
-use Rattle.grove_words.proofs.command_line.command_line.Goals as goal
+use Rattle.grove_words.proofs.definitions.command_line.Goals as goal
 
 pub returns : goal.returns
 returns c =

@@ -3,7 +3,7 @@ use Rattle.std.proofs.lemmas.Result.{IfOk-weaker}
 use Rattle.clap.specs.Words.{app_of, new_app, with_rule}
 use Rattle.clap.specs.Simple.{app_of_fields}
 use Rattle.grove_words.specs.CommandLines.{server_port_rule}
-use Rattle.grove_words.proofs.command_line.ask.Goals as goal
+use Rattle.grove_words.proofs.definitions.ask.Goals as goal
 
 pub returns-clause-app : goal.returns-clause-app
 returns-clause-app c =
@@ -11,6 +11,7 @@ returns-clause-app c =
     let with_port : app_of c.in_ok-arg.field-0 ≡ with_rule (new_app (codes "ask")) server_port_rule =
     c.in_ok-arg.ensures.shape c.server_port.ensures.local ∙ ap₂ with_rule bare c.server_port.ensures.rule in
     let with_address = c.in_ok-arg-2.ensures.shape c.server_address.ensures.local ∙ ap₂ with_rule with_port c.server_address.ensures.rule in
-    IfOk-weaker c.arg-3.result _ _
-    (λ command added. added.shape c.lines.ensures.local ∙ ap₂ with_rule with_address c.lines.ensures.rule)
-    c.arg-3.ensures
+    let with_explain = c.in_ok-arg-3.ensures.shape c.explain.ensures.local ∙ ap₂ with_rule with_address c.explain.ensures.rule in
+    IfOk-weaker c.arg-4.result _ _
+    (λ command added. added.shape c.lines.ensures.local ∙ ap₂ with_rule with_explain c.lines.ensures.rule)
+    c.arg-4.ensures

@@ -3,7 +3,7 @@ use Rattle.std.proofs.lemmas.Result.{IfOk-weaker}
 use Rattle.clap.specs.Words.{app_of, new_app, with_rule}
 use Rattle.clap.specs.Simple.{app_of_fields}
 use Rattle.grove_words.specs.CommandLines.{port_rule, tree_rule}
-use Rattle.grove_words.proofs.command_line.on_tree.Goals as goal
+use Rattle.grove_words.proofs.definitions.on_tree.Goals as goal
 
 pub returns-clause-app : goal.returns-clause-app
 returns-clause-app c =
@@ -12,6 +12,7 @@ returns-clause-app c =
     c.in_ok-arg.ensures.shape c.tree.ensures.local ∙ ap₂ with_rule bare c.tree.ensures.rule in
     let with_port : app_of c.in_ok-arg-2.field-0 ≡ with_rule (with_rule (new_app c.args.name.now) tree_rule) port_rule =
     c.in_ok-arg-2.ensures.shape c.port.ensures.local ∙ ap₂ with_rule with_tree c.port.ensures.rule in
-    IfOk-weaker c.arg-3.result _ _
-    (λ command added. added.shape c.address.ensures.local ∙ ap₂ with_rule with_port c.address.ensures.rule)
-    c.arg-3.ensures
+    let with_address = c.in_ok-arg-3.ensures.shape c.address.ensures.local ∙ ap₂ with_rule with_port c.address.ensures.rule in
+    IfOk-weaker c.arg-4.result _ _
+    (λ command added. added.shape c.explain.ensures.local ∙ ap₂ with_rule with_address c.explain.ensures.rule)
+    c.arg-4.ensures

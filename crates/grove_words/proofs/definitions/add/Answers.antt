@@ -2,7 +2,7 @@ use Rattle.std.proofs.Common.{◌≡◌, ◌∙◌, ap, ap₂, false, subst, IfO
 use Rattle.std.proofs.lemmas.Result.{IfOk-weaker}
 use Rattle.clap.specs.declared.builder.command.Command.{out-Command}
 use Rattle.clap.specs.Words.{App, app_of, with_subcommand}
-use Rattle.grove_words.proofs.command_line.add.Goals as goal
+use Rattle.grove_words.proofs.definitions.add.Goals as goal
 
 pub returns : goal.returns
 returns c a b program_is command_is =
