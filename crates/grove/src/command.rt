@@ -292,7 +292,7 @@ fn manner_of(order: Order<'_>, talk: Talk) -> Manner
         place: order.place,
         talk,
         patience: order.patience,
-        is_verbose: true,
+        is_verbose: order.verbose,
     }
 }
 
