@@ -1,3 +1,5 @@
+ghost use Rattle.std.specs.Prelude.{◌≤◌, IfOk, length};
+
 use crate::ending::is_late;
 use std::cell::Cell;
 use std::io::{self, Read};
@@ -48,7 +50,9 @@ impl<'a, R: Clock> TimedStream<'a, R> {
     }
 
     /// Reads before the time is up.
-    fn read_in_time(&mut self, buffer: &mut [u8]) -> io::Result<usize> {
+    fn read_in_time(&mut self, buffer: &mut [u8]) -> io::Result<usize>
+        ensures { IfOk result (λ count. count ≤ length buffer.new) }
+    {
         self.wait_no_longer()?;
         let mut stream = self.stream;
         let read = stream.read(buffer);
