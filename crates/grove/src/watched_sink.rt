@@ -29,14 +29,6 @@ impl<'a, R, O: Sink> WatchedSink<'a, R, O> {
             begins: true,
         }
     }
-
-    /// What it writes to.
-    pub fn into_inner(self) -> O
-        ensures { result ≡ self.entry.sink }
-    {
-        let WatchedSink { sink, .. } = self;
-        sink
-    }
 }
 
 impl<'a, R: Wait + Eprint + AllocGlobal, O: Sink> Sink for WatchedSink<'a, R, O> {

@@ -5,13 +5,12 @@ ghost use Rattle.grove_tree.specs.Weights.{unweighed};
 use crate::guest::Guest;
 use crate::watched_sink::WatchedSink;
 use grove_desk::{Desk, Opening, Visit};
-use grove_page::Front;
-use grove_session::{AnswerFault, Answers, BytesSource, Fuse, SessionFault, Sink, Source, session};
+use grove_page::{Front, RepliesSink};
+use grove_session::{AnswerFault, Answers, SessionFault, Sink, Source, session};
 use grove_store::Store;
 use grove_tree::NoMemory;
 use std::alloc::AllocGlobal;
 use std::marker::Model;
-use std::mem;
 use std::str::from_utf8;
 use std::sync::Wait;
 use std::thread::Threads;
@@ -115,17 +114,39 @@ impl<'a, B: Opening, R: Threads + Wait + Eprint + Sync + AllocGlobal> Front<R>
 
     ghost asks = { IsSync R.row };
 
-    fn answer_lines(&self, rt: &R, lines: &[u8], sink: &mut Fuse) -> Result<u64, SessionFault> {
-        let mut visit = WatchedVisit::new(self.desk, self.guest);
-        let mut source = BytesSource::new(lines);
-        let taken = mem::replace(sink, Fuse::new(rt.alloc(), 0));
-        let mut watched = WatchedSink::new(rt, self.guest, taken);
-        let ended = session(rt, &mut visit, &mut source, &mut watched);
-        *sink = watched.into_inner();
+    fn answer_lines(
+        &self,
+        rt: &R,
+        lines: &[u8],
+        sink: &mut RepliesSink,
+    ) -> Result<u64, SessionFault> {
+        let ended = Front::answer_lines(self.desk, rt, lines, sink);
+        tell_replies(rt, self.guest, lines, sink.bytes());
         ended
     }
 
     fn snapshot(&self, rt: &R) -> Result<Store, NoMemory> {
         Desk::snapshot(self.desk, rt, rt.alloc())
     }
+}
+
+/// Counts the lines that have whole replies, and tells of those that are refused.
+fn tell_replies<R: Wait + Eprint + AllocGlobal>(
+    rt: &R,
+    guest: &Guest<'_>,
+    lines: &[u8],
+    replies: &[u8],
+) {
+    let whole = replies.iter().filter(|byte| is_feed(byte)).count();
+    let pairs = lines.split(is_feed).zip(replies.split(is_feed));
+    for (line, reply) in pairs.take(whole) {
+        if let Some(name) = error_name(reply) {
+            guest.tell_refusal(rt, line, name);
+        }
+        guest.count_line();
+    }
+}
+
+fn is_feed(byte: &u8) -> bool {
+    *byte == b'\n'
 }
