@@ -84,7 +84,7 @@ fn tell<R: Print>(
     all_first: Duration,
 ) -> Result<()> {
     let (settled, all_first) = (settled.as_micros(), all_first.as_micros());
-    let tenths = all_first.saturating_mul(10) / settled.max(1);
+    let tenths = all_first.saturating_mul(10).saturating_add(settled / 2) / settled.max(1);
     let ratio = (tenths / 10, tenths % 10);
     println!(rt;
         "{name} {workers} {} {} {}.{}",
