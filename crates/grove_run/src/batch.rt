@@ -8,7 +8,7 @@ ghost use Rattle.grove_run.specs.Runs.{IsRunFault, IsLegalRunFault, IsCoreOf};
 ghost use Rattle.grove_run.specs.FinishedRuns.{IsFinishedRun};
 
 use crate::bells::Bells;
-use crate::carries::carries_of;
+use crate::carries::carries_for;
 use crate::register::{Batch, Register};
 use crate::sleepers::SEATS;
 use crate::working::work_all;
@@ -92,10 +92,10 @@ fn run_as<'a, B: Batch + Send + Sync, R: Threads + Wait + Sync, G: Gate + Sync>(
 {
     let core = Core::open_legal(alloc, tree, records, jobs)?;
     let order = Vec::with_capacity(alloc, jobs.len())?;
-    let carries = carries_of(alloc, jobs)?;
+    let workers = workers.min(jobs.len()).clamp(1, SEATS);
+    let carries = carries_for(alloc, jobs, workers)?;
     let register = Mutex::new(Register::<B>::new(Book::open(core), carries));
     let bells = Bells::new();
-    let workers = workers.min(jobs.len()).min(SEATS);
     work_all(rt, jobs, &register, &bells, workers, gate);
     finished_of(register.into_inner(), order)
 }

@@ -65,6 +65,18 @@ impl<'a> Book<'a> {
         (self.claimed as usize) < self.core.jobs().len()
     }
 
+    /// Have the jobs that aren't claimed at least so many steps?
+    pub(crate) fn has_unclaimed_steps(&self, steps: usize) -> bool {
+        let mut left: usize = 0;
+        for job in self.core.jobs().iter().skip(self.claimed as usize) {
+            left = left.saturating_add(job.plan.steps().len());
+            if left >= steps {
+                return true;
+            }
+        }
+        false
+    }
+
     /// The core of the book.
     pub fn into_core(self) -> Core<'a>
         ensures { result ≡ self.entry.core }

@@ -1,21 +1,49 @@
 ghost use Rattle.std.specs.Prelude.{◌<◌, ◌≤◌, ◌^◌, length};
 
-use grove_access::Carry;
+use grove_access::{AccessList, Carry};
 use grove_core::Job;
 use grove_plan::Step;
 use grove_tree::NoMemory;
 use std::alloc::Global;
 
-/// A carry for each job, with room for as many nodes as its plan locks.
-pub fn carries_of(alloc: Global, jobs: &[Job]) -> Result<Vec<Option<Carry>>, NoMemory>
-    requires { length jobs.now ≤ 256 }
-{
-    let mut carries = Vec::with_capacity(alloc, jobs.len())?;
-    for (txn, job) in jobs.iter().enumerate() {
-        let carry = Carry::new(alloc, txn as u32, &job.list, lock_steps(job.plan.steps()))?;
-        carries.push(Some(carry))?;
+/// So many carries, each with room for any of the jobs.
+pub fn carries_for(
+    alloc: Global,
+    jobs: &[Job],
+    workers: usize,
+) -> Result<Vec<Option<Carry>>, NoMemory> {
+    let mut carries = Vec::with_capacity(alloc, workers)?;
+    let Some(list) = longest_list(jobs) else {
+        return Ok(carries);
+    };
+    let locks = most_locks(jobs);
+    for _worker in 0..workers {
+        carries.push(Some(Carry::new(alloc, 0, list, locks)?))?;
     }
     Ok(carries)
+}
+
+// A list than which none has more accesses.
+fn longest_list(jobs: &[Job]) -> Option<&AccessList> {
+    let mut longest = None;
+    let mut accesses = 0;
+    for job in jobs {
+        if longest.is_none() || job.list.len() > accesses {
+            longest = Some(&job.list);
+            accesses = job.list.len();
+        }
+    }
+    longest
+}
+
+// As many locks as a plan has at most.
+fn most_locks(jobs: &[Job]) -> u32 {
+    let mut most = 0;
+    for job in jobs {
+        let steps = job.plan.steps();
+        most = most.max(lock_steps(steps));
+    }
+    most
 }
 
 // How many steps are locks.

@@ -35,7 +35,7 @@ impl Batch for Brand {
 #[derive(Drop)]
 pub struct Register<'a, B: Batch> {
     book: Book<'a>,
-    /// The carry of each job, until it is claimed.
+    /// The carry of each worker, until it begins.
     carries: Vec<Option<Carry>>,
     /// Some worker can't go on: its carry wasn't of its job.
     foreign: bool,
@@ -67,18 +67,27 @@ impl<'a, B: Batch> Register<'a, B> {
         }
     }
 
-    /// Claims the lowest job that isn't claimed, and takes its carry out.
-    pub fn claim(&mut self) -> Option<Carry> {
-        let txn = self.book.claim()?;
-        match self.carries.get_mut(txn as usize) {
+    /// Takes out a worker's carry.
+    pub fn take_carry(&mut self, seat: usize) -> Option<Carry> {
+        match self.carries.get_mut(seat) {
             Some(carry) => carry.take(),
             None => None,
         }
     }
 
+    /// Claims the lowest job that isn't claimed.
+    pub fn claim(&mut self) -> Option<u32> {
+        self.book.claim()
+    }
+
     /// Is there a job that isn't claimed?
     pub fn has_unclaimed(&self) -> bool {
         self.book.has_unclaimed()
+    }
+
+    /// Have the jobs that aren't claimed at least so many steps?
+    pub fn has_unclaimed_steps(&self, steps: usize) -> bool {
+        self.book.has_unclaimed_steps(steps)
     }
 
     /// Does the step of a carry.

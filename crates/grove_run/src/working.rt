@@ -10,8 +10,11 @@ use grove_tree::{Gate, Node};
 use std::sync::{Mutex, Wait};
 use std::thread::{Threads, join};
 
-/// Does the jobs by so many threads, this one among them. Each thread starts the next one before it works, as long as a
-/// job is left to claim: so no thread is started that has nothing to do, and none waits for another to be started. Where
+/// So many steps are done by a worker in about the time in which a thread is started and ends.
+const WORTH_A_THREAD: usize = 2048;
+
+/// Does the jobs by so many threads, this one among them. Each thread starts the next one before it works, as long as
+/// enough is left to claim: so no thread is started that has nothing to do, and none waits for another to be started. Where
 /// a thread can't be started the others do the jobs.
 #[cycle(chain)]
 pub fn work_all<'a, B: Batch + Send + Sync, R: Threads + Wait + Sync, G: Gate + Sync>(
@@ -27,7 +30,7 @@ pub fn work_all<'a, B: Batch + Send + Sync, R: Threads + Wait + Sync, G: Gate + 
         bells,
         number: others,
     };
-    if others == 0 || !register.lock(rt).has_unclaimed() {
+    if others == 0 || !is_worth_a_thread(rt, register, gate) {
         return work(rt, jobs, register, &seat, gate);
     }
     join(
@@ -39,6 +42,20 @@ pub fn work_all<'a, B: Batch + Send + Sync, R: Threads + Wait + Sync, G: Gate + 
     );
 }
 
+// Is so much left to claim that a further worker is of use? Any job is, where workers may wait at the gate.
+fn is_worth_a_thread<'a, B: Batch, R: Wait, G: Gate>(
+    rt: &R,
+    register: &Mutex<Register<'a, B>>,
+    gate: &G,
+) -> bool {
+    let register = register.lock(rt);
+    if gate.is_open() {
+        register.has_unclaimed_steps(WORTH_A_THREAD)
+    } else {
+        register.has_unclaimed()
+    }
+}
+
 // Claims jobs and does them, until there are none.
 fn work<'a, B: Batch, R: Wait, G: Gate>(
     rt: &R,
@@ -47,14 +64,22 @@ fn work<'a, B: Batch, R: Wait, G: Gate>(
     seat: &Seat,
     gate: &G,
 ) {
+    let taken = register.lock(rt).take_carry(seat.number);
+    let Some(mut carry) = taken else {
+        return;
+    };
     for _ in rt.forever() {
         let claimed = register.lock(rt).claim();
-        let Some(mut carry) = claimed else {
+        let Some(txn) = claimed else {
             break;
         };
-        let Some(job) = jobs.get(carry.txn() as usize) else {
+        let Some(job) = jobs.get(txn as usize) else {
             break;
         };
+        if !carry.is_empty() {
+            break;
+        }
+        carry.begin(txn);
         if !do_job(rt, job, register, seat, &mut carry, gate) {
             break;
         }
