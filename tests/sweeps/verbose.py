@@ -31,6 +31,7 @@ TRIED = "lines on standard error, and replies beside them"
 VERBOSE = ("--verbose",)
 HINT = re.compile(r"hint: [ -~]{1,400}")
 SEATS = 16
+TOP = Path(__file__).parents[2]
 # Lines that are refused, each by one name.
 SHAPE, NO_PATH, BAD_JSON = b'{"get":"/a"}\n', b'{"plan":[["get","/c"]]}\n', b"\n"
 BAD_LENGTH = b'{"plan":[["get","/a",0]]}\n'
@@ -56,6 +57,7 @@ def tries(program: str, room: str) -> list[Try]:
         Try("connections without a descriptor", partial(no_descriptor, program, accepts)),
         Try("a listener that fails", partial(no_listener, program, accepts)),
         Try("at an address of IPv6", partial(at_another_address, program)),
+        Try("hints", partial(hints, program)),
         Try("pages", partial(pages, program)),
         Try("minutes", partial(minutes, program)),
         Try("standard error that fails", partial(no_errors, program)),
@@ -66,9 +68,9 @@ def tries(program: str, room: str) -> list[Try]:
 class Telling(Serving):
     """A server with `--verbose`, and what its standard error has been told."""
 
-    def __init__(self, program: str, further: tuple[str, ...] = (), **how):
+    def __init__(self, program: str, further: tuple[str, ...] = (), document: bytes = TREE, **how):
         self.errors = tempfile.NamedTemporaryFile(prefix="grove-told-")
-        super().__init__(program, TREE, further=(*VERBOSE, *further), stderr=self.errors, **how)
+        super().__init__(program, document, further=(*VERBOSE, *further), stderr=self.errors, **how)
 
     def __exit__(self, *_):
         super().__exit__()
@@ -289,6 +291,24 @@ def at_another_address(program: str, tally: Tally) -> None:
             compare(wanted, server.told_of(2), tally)
     except NotListening as error:
         tally.note("the server", None if error.ended[0] == 3 else str(error))
+
+
+# ---- hints
+
+
+def hints(program: str, tally: Tally) -> None:
+    """Each line of `line_hints.json` is refused by its name, with its hint, word for word."""
+    rows = json.loads((TOP / "tests/line_hints.json").read_text())
+    text = "".join(row["line"] + "\n" for row in rows).encode()
+    with Telling(program, document=(TOP / "examples/two-leaves.json").read_bytes()) as server:
+        with connected(server.port) as client:
+            wanted = [arrival(1, client)]
+            replies = ask(client, text)
+        wanted += [f"connection 1, line {at}: {row['error']}; {row['hint']}" for at, row in enumerate(rows, 1)]
+        wanted.append(ended(1, len(rows), "its input ended"))
+        compare(wanted, server.told_of(len(wanted)), tally)
+    names = [json.loads(reply)["error"] for reply in lines_of(replies)]
+    tally.note("the replies", None if names == [row["error"] for row in rows] else f"came {names}")
 
 
 # ---- pages
