@@ -365,6 +365,7 @@ fn document_bytes<R: Files + AllocGlobal, I: Source>(
     }
 }
 
+/// The bytes of the file of this name, or why there are none; `failure` keeps the system's error.
 fn file_bytes<R: Files + AllocGlobal>(
     rt: &R,
     name: &str,

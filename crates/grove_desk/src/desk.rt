@@ -66,10 +66,9 @@ impl<B: Opening> Desk<B> {
     }
 
     /// Answers a line of at most 1,048,576 bytes, alone or in a round with others that wait, and gives its receipt. It may wait
-    /// for others, and while 16 lines wait it puts none; one of more than 65,536 bytes waits until none such is answered, so that no
-    /// line waits for several of them. `seen` is a receipt that the new one has to come after. This
-    /// caller's gate is called only in a round that it runs itself. `Memory`: the line had no effect. `Foreign`: it may have had
-    /// one.
+    /// for others, and while 16 lines wait it puts none; one of more than 65,536 bytes waits until none such is answered, so
+    /// that no line waits for several of them. `seen` is a receipt that the new one has to come after. This caller's gate is
+    /// called only in a round that it runs itself. `Memory`: the line had no effect. `Foreign`: it may have had one.
     pub fn answer<R: Threads + Wait + Sync, G: Gate + Sync>(
         &self,
         rt: &R,
