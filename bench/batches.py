@@ -5,7 +5,7 @@
 
 `grove_bench batches` plans 256 lists of 64 accesses over 4,096 nodes, all different and all equal, and 256 different ones that
 force some 2,000 nodes each, changes the weights of 4,096 nodes 100 times, and runs 256 jobs: of 64 accesses over 2,049
-nodes each, and of one access at nodes of their own.
+nodes each, and of one access at nodes of their own: once to be warm, then the short ones 200 times and the long ones 5 times.
 `bench/locks.rs`, compiled here by `rustc`, takes the same locks for the same jobs by the same plans, with a Mutex a node;
 `bench/halves.rs` only counts, cut in two as a batch of lists is. The three are run in turn, RUNS times; the median and the
 least time are printed, in milliseconds, and for the jobs how many are done in a second.
@@ -21,7 +21,7 @@ PROGRAM = TOP / "crates/grove_bench/out/grove_bench"
 JOBS = 256
 
 
-def microseconds(commands, runs):
+def nanoseconds(commands, runs):
     """For each program its lines' names and workers with the times, the programs run in turn."""
     found = {name: {} for name in commands}
     for _ in range(runs):
@@ -43,10 +43,10 @@ def built(name, folder):
 def show(name, times):
     for what in dict.fromkeys(what for what, _ in times):
         spent = [times[what, workers] for workers in (1, 2, 4)]
-        line = f"{name} {what}: " + ", ".join(f"{statistics.median(each) / 1000:.2f}" for each in spent) + " ms"
-        line += ", at best " + ", ".join(f"{min(each) / 1000:.2f}" for each in spent)
+        line = f"{name} {what}: " + ", ".join(f"{statistics.median(each) / 1e6:.3f}" for each in spent) + " ms"
+        line += ", at best " + ", ".join(f"{min(each) / 1e6:.3f}" for each in spent)
         if what.startswith("run"):
-            line += "; " + ", ".join(f"{JOBS * 1_000_000 / statistics.median(each):,.0f}" for each in spent) + " jobs a second"
+            line += "; " + ", ".join(f"{JOBS * 1e9 / statistics.median(each):,.0f}" for each in spent) + " jobs a second"
         print(line)
 
 
@@ -57,7 +57,7 @@ def main():
     print("by 1, 2 and 4 workers")
     with tempfile.TemporaryDirectory() as folder:
         locks, halves = (built(name, folder) for name in ("locks", "halves"))
-        found = microseconds({"grove": [PROGRAM, "batches"], "locks alone": [locks], "loops alone": [halves]}, runs)
+        found = nanoseconds({"grove": [PROGRAM, "batches"], "locks alone": [locks], "loops alone": [halves]}, runs)
     for name, times in found.items():
         show(name, times)
 

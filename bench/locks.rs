@@ -1,11 +1,15 @@
 //! The batches of jobs that `grove_bench batches` runs, by the same plans, with a Mutex a node and nothing else: no core, no
-//! history, no serial order. Each line has what was done, by how many workers, and the microseconds.
+//! history, no serial order. Each line has what was done, by how many workers, and the
+//! nanoseconds. Each is done once before, so that what is told is warm.
+use std::hint::black_box;
 use std::sync::atomic::{AtomicUsize, Ordering};
 use std::sync::{Mutex, MutexGuard};
 use std::thread;
 use std::time::Instant;
 
 const BATCH: usize = 256;
+const SHORT_RUNS: usize = 200;
+const LONG_RUNS: usize = 5;
 const CHAINS: usize = 64;
 const DEPTH: usize = 32;
 const SHOPS: usize = 63;
@@ -85,16 +89,24 @@ fn run(jobs: &[Job], nodes: usize, workers: usize) -> usize {
     replies.into_inner()
 }
 
-fn time(what: &str, jobs: &[Job], nodes: usize) {
+fn time_run(jobs: &[Job], nodes: usize, workers: usize) -> u128 {
+    let since = Instant::now();
+    black_box(run(jobs, nodes, workers));
+    since.elapsed().as_nanos()
+}
+
+fn time(what: &str, jobs: &[Job], nodes: usize, runs: usize) {
     for workers in [1, 2, 4] {
-        let since = Instant::now();
-        let replies = run(jobs, nodes, workers);
-        println!("{what} {workers} {} of {replies} replies", since.elapsed().as_micros());
+        run(jobs, nodes, workers);
+        let spent: Vec<u128> = (0..runs).map(|_| time_run(jobs, nodes, workers)).collect();
+        for time in spent {
+            println!("{what} {workers} {time}");
+        }
     }
 }
 
 fn main() {
-    time("run-short", &short_jobs(), 1 + SHOPS * (SHELVES + 1));
+    time("run-short", &short_jobs(), 1 + SHOPS * (SHELVES + 1), SHORT_RUNS);
     let long: Vec<Job> = (0..BATCH).map(|_| long_job()).collect();
-    time("run-long", &long, 1 + CHAINS * DEPTH);
+    time("run-long", &long, 1 + CHAINS * DEPTH, LONG_RUNS);
 }

@@ -1,4 +1,5 @@
-ghost use Rattle.std.specs.Prelude.{◌≤◌, ◌<◌};
+ghost use Rattle.std.specs.Prelude.{◌≡◌, ◌≤◌, ◌<◌, length};
+ghost use Rattle.grove_core.specs.Runs.{AllLegal};
 
 use crate::again::values::{access, job_of, list_of};
 use crate::branches::BRANCHES;
@@ -31,7 +32,12 @@ const SHELVES: u32 = 64;
 /// How often all weights are changed in one go.
 const TIMES: u32 = 100;
 
-/// Times batches by 1, 2 and 4 workers. Each line has what was done, by how many workers, and the microseconds.
+/// How often short jobs are run, after a first time that isn't told, and how often long ones.
+const SHORT_RUNS: u32 = 200;
+
+const LONG_RUNS: u32 = 5;
+
+/// Times batches by 1, 2 and 4 workers. Each line has what was done, by how many workers, and the nanoseconds.
 pub fn time<R: Runtime + Threads + Wait + Sync>(rt: &R, alloc: Global) -> Result<()> {
     time_plans(rt, alloc)?;
     time_weights(rt, alloc)?;
@@ -102,7 +108,7 @@ fn tell_spent<R: Print>(
     spent: io::Result<Duration>,
     plans: usize,
 ) -> Result<()> {
-    let spent = spent?.as_micros();
+    let spent = spent?.as_nanos();
     println!(rt; "{what} {workers} {spent} of {plans} lists")?;
     Ok(())
 }
@@ -117,7 +123,7 @@ fn time_weighing<R: Runtime + Threads + Sync>(rt: &R, alloc: Global, workers: u3
     requires { (1 ≤ workers) × (workers ≤ 16) }
 {
     let spent = weigh_often(rt, alloc, workers)?;
-    println!(rt; "reweigh {workers} {} of {TIMES} times", spent.as_micros())?;
+    println!(rt; "reweigh {workers} {} of {TIMES} times", spent.as_nanos())?;
     Ok(())
 }
 
@@ -150,13 +156,13 @@ fn reweigh_often<R: Runtime + Threads + Sync>(
 fn time_short_runs<R: Runtime + Threads + Wait + Sync>(rt: &R, alloc: Global) -> Result<()> {
     let tree = shops(alloc)?;
     let jobs = short_jobs(alloc, &tree)?;
-    time_runs(rt, alloc, "run-short", &tree, &jobs)
+    time_runs(rt, alloc, "run-short", &tree, &jobs, SHORT_RUNS)
 }
 
 fn time_long_runs<R: Runtime + Threads + Wait + Sync>(rt: &R, alloc: Global) -> Result<()> {
     let tree = running::tree(alloc)?;
     let jobs = running::jobs(alloc, &tree)?;
-    time_runs(rt, alloc, "run-long", &tree, &jobs)
+    time_runs(rt, alloc, "run-long", &tree, &jobs, LONG_RUNS)
 }
 
 fn time_runs<R: Runtime + Threads + Wait + Sync>(
@@ -165,27 +171,49 @@ fn time_runs<R: Runtime + Threads + Wait + Sync>(
     what: &str,
     tree: &Tree,
     jobs: &[Job],
+    runs: u32,
 ) -> Result<()> {
     let records = running::zeros(alloc, tree.len())?;
-    time_each_run(rt, alloc, what, tree, &records, jobs)
-}
-
-fn time_each_run<R: Runtime + Threads + Wait + Sync>(
-    rt: &R,
-    alloc: Global,
-    what: &str,
-    tree: &Tree,
-    records: &Records,
-    jobs: &[Job],
-) -> Result<()> {
+    if !records.fits(tree) || !all_fit(tree, jobs) || jobs.len() > BATCH as usize {
+        bail!("the jobs don't fit");
+    }
+    judge_all(alloc, tree, jobs)?;
     for workers in [1, 2, 4] {
-        let (spent, steps) = time_run(rt, alloc, tree, records, jobs, workers, &OpenGate)?;
-        println!(rt; "{what} {workers} {} of {steps} events", spent.as_micros())?;
+        let spent = times_of(rt, alloc, tree, &records, jobs, workers, runs)?;
+        tell_each(rt, what, workers, &spent)?;
     }
     Ok(())
 }
 
-/// How long a run takes of jobs whose plans were judged before, and how many events it has.
+/// How long each of so many runs takes, after one that isn't told.
+fn times_of<R: Runtime + Threads + Wait + Sync>(
+    rt: &R,
+    alloc: Global,
+    tree: &Tree,
+    records: &Records,
+    jobs: &[Job],
+    workers: usize,
+    runs: u32,
+) -> Result<Vec<Duration>>
+    requires { AllLegal tree.now jobs.now × (length records.now ≡ length tree.now) × (length jobs.now ≤ 256) }
+{
+    let _cold = time_legal(rt, alloc, tree, records, jobs, workers, &OpenGate)?;
+    let mut spent = Vec::new(alloc);
+    for _run in 0..runs {
+        let (time, _events) = time_legal(rt, alloc, tree, records, jobs, workers, &OpenGate)?;
+        spent.push(time)?;
+    }
+    Ok(spent)
+}
+
+fn tell_each<R: Print>(rt: &R, what: &str, workers: usize, spent: &[Duration]) -> Result<()> {
+    for time in spent {
+        println!(rt; "{what} {workers} {}", time.as_nanos())?;
+    }
+    Ok(())
+}
+
+/// How long a run takes of jobs whose plans are judged before, and how many events it has.
 pub fn time_run<R: Runtime + Threads + Wait + Sync, G: Gate + Sync>(
     rt: &R,
     alloc: Global,
@@ -199,6 +227,20 @@ pub fn time_run<R: Runtime + Threads + Wait + Sync, G: Gate + Sync>(
         bail!("the jobs don't fit");
     }
     judge_all(alloc, tree, jobs)?;
+    time_legal(rt, alloc, tree, records, jobs, workers, gate)
+}
+
+fn time_legal<R: Runtime + Threads + Wait + Sync, G: Gate + Sync>(
+    rt: &R,
+    alloc: Global,
+    tree: &Tree,
+    records: &Records,
+    jobs: &[Job],
+    workers: usize,
+    gate: &G,
+) -> Result<(Duration, usize)>
+    requires { AllLegal tree.now jobs.now × (length records.now ≡ length tree.now) × (length jobs.now ≤ 256) }
+{
     let since = Instant::now(rt)?;
     let finished = run_legal(rt, alloc, tree, records, jobs, workers, gate)?;
     measured(since.elapsed(rt), &finished)

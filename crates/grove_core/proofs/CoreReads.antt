@@ -1,7 +1,6 @@
 -- What a core keeps, as its functions read it: what there is room for, and what may happen next.
 use Rattle.std.proofs.Common.{◌≡◌, ℕ, suc, ◌+◌, ◌^◌, ◌<◌, ◌≤◌, ℤ, true, List, [], ◌∷◌, ◌++◌, length, reverse, get_or, Option, Some, None, sym, ◌∙◌, ap, subst, arith, ltb}
 use Rattle.std.specs.List.{slice_get}
-use Rattle.std.specs.Vec.{vec_capacity}
 use Rattle.std.proofs.lemmas.List.{reverse-append}
 use Rattle.std.proofs.lemmas.Option.{slice_get_within}
 use Rattle.std.proofs.lemmas.Bool.{ltb-true, eqb-true}
@@ -74,13 +73,13 @@ module _ (rows : Rows) (jobs : List Job) (opening : List ℤ) (past : List Event
   event_room event may room le = let h : length (event ∷ past) ≤ most_events jobs = history_bound jobs (event ∷ past) (may, core.run) in omega arith
 
   -- and for the reply
-  pub reply_room : (t number : ℕ) → next_step jobs past t ≡ Some (Access number) → (p : Progress) → slice_get progress t ≡ Some p → length p.replies.items < vec_capacity p.replies
+  pub reply_room : (t number : ℕ) → next_step jobs past t ≡ Some (Access number) → (p : Progress) → slice_get progress t ≡ Some p → length p.replies.items < p.replies.capacity
   reply_room t number next p at =
       let h : HasProgress rows jobs opening past t p = core.come t p at in
       let a : Accessing jobs opening past t number = accessing rows jobs core.legal opening past core.run t number next in
       let fewer : length (run_replies jobs opening past t) < length (list_of jobs t) = a.fewer in
       let e : length p.replies.items ≡ length (run_replies jobs opening past t) = ap length h.answers in
-      let room : length (list_of jobs t) ≤ vec_capacity p.replies = h.room in
+      let room : length (list_of jobs t) ≤ p.replies.capacity = h.room in
       omega arith
 
   -- an access that comes next is one of the list
@@ -118,12 +117,12 @@ module _ (rows : Rows) (jobs : List Job) (opening : List ℤ) (past : List Event
       omega arith
 
   -- there is room for its next lock
-  pub lock_room : (t : ℕ) (s : Step) → next_step jobs past t ≡ Some s → (p : Progress) → slice_get progress t ≡ Some p → length p.locked.items < vec_capacity p.locked
+  pub lock_room : (t : ℕ) (s : Step) → next_step jobs past t ≡ Some s → (p : Progress) → slice_get progress t ≡ Some p → length p.locked.items < p.locked.capacity
   lock_room t s next p at =
       let h : HasProgress rows jobs opening past t p = core.come t p at in
       let lt : steps_done past t < length (plan_of jobs t) = slice_get_within (plan_of jobs t) (steps_done past t) s next in
       let le : length p.locked.items ≤ steps_done past t = h.locks in
-      let room : length (plan_of jobs t) ≤ vec_capacity p.locked = h.spare in
+      let room : length (plan_of jobs t) ≤ p.locked.capacity = h.spare in
       omega arith
 
   -- a job that unlocks a node holds some

@@ -1,7 +1,7 @@
 -- What a core keeps, after each kind of event.
 use Rattle.std.proofs.Common.{◌≡◌, ◌≢◌, ℕ, suc, ◌+◌, ◌<◌, ◌≤◌, ℤ, true, false, cond, eqb, List, [], ◌∷◌, ◌++◌, length, set, Option, Some, None, refl, sym, ◌∙◌, ap, subst, inl, inr, arith, add-one, length-append}
 use Rattle.std.specs.List.{slice_get}
-use Rattle.std.specs.Vec.{vec_capacity}
+use Rattle.smallvec.specs.SmallVec.{SmallVec}
 use Rattle.std.proofs.lemmas.List.{length-set}
 use Rattle.std.proofs.lemmas.Option.{same_Some, slice_get_within}
 use Rattle.std.proofs.lemmas.Bool.{cases_eq, both_ways, eq-eqb, ne_eqb, cond-true, cond-false, le-ltb}
@@ -50,8 +50,8 @@ progress_other rows jobs opening past t u p ne h = record {
 
 -- of the job that took a step
 pub progress_taken : (rows : Rows) (jobs : List Job) (opening : List ℤ) (past : List Event) (t : ℕ) (p q : Progress) → HasProgress rows jobs opening past t p
-    → q.steps_done ≡ p.steps_done + 1 → q.marked ≡ false → q.replies.items ≡ run_replies jobs opening (Take t ∷ past) t → vec_capacity q.replies ≡ vec_capacity p.replies
-    → vec_capacity q.locked ≡ vec_capacity p.locked → length q.locked.items ≤ length p.locked.items + 1
+    → q.steps_done ≡ p.steps_done + 1 → q.marked ≡ false → q.replies.items ≡ run_replies jobs opening (Take t ∷ past) t → q.replies.capacity ≡ p.replies.capacity
+    → q.locked.capacity ≡ p.locked.capacity → length q.locked.items ≤ length p.locked.items + 1
     → ((node : ℕ) → time_in q.locked.items node ≡ lock_time jobs (Take t ∷ past) t node)
     → q.held_nodes ≡ count_below (length rows) (λ node. holds jobs (Take t ∷ past) t node) → q.held_nodes ≤ p.held_nodes + 1
     → HasProgress rows jobs opening (Take t ∷ past) t q
@@ -59,8 +59,8 @@ progress_taken rows jobs opening past t p q h at marks answers room spare locks 
   at = at ∙ add-one p.steps_done ∙ ap suc h.at ∙ sym (steps_new past t t refl);
   marks = marks ∙ sym (cond-true (eqb t t) false (is_marked past t) (eq-eqb t t refl));
   answers = answers;
-  room = let r : length (list_of jobs t) ≤ vec_capacity p.replies = h.room in omega arith;
-  spare = let r : length (plan_of jobs t) ≤ vec_capacity p.locked = h.spare in omega arith;
+  room = let r : length (list_of jobs t) ≤ p.replies.capacity = h.room in omega arith;
+  spare = let r : length (plan_of jobs t) ≤ p.locked.capacity = h.spare in omega arith;
   locks = let n : steps_done (Take t ∷ past) t ≡ suc (steps_done past t) = steps_new past t t refl in let le : length p.locked.items ≤ steps_done past t = h.locks in omega arith;
   times = times;
   holding = holding;
@@ -190,7 +190,7 @@ module _ (rows : Rows) (jobs : List Job) (opening : List ℤ) (past : List Event
   -- a core that takes a lock keeps what it has to
   pub core_locked : (t node : ℕ) → next_step jobs past t ≡ Some (Lock node) → IsFree jobs past t node → (p q : Progress) → slice_get progress t ≡ Some p
       → q.steps_done ≡ p.steps_done + 1 → q.marked ≡ false → q.replies ≡ p.replies
-      → q.locked.items ≡ p.locked.items ++ record { node = node; time = length past } ∷ [] → vec_capacity q.locked ≡ vec_capacity p.locked
+      → q.locked.items ≡ p.locked.items ++ record { node = node; time = length past } ∷ [] → q.locked.capacity ≡ p.locked.capacity
       → q.held_nodes ≡ p.held_nodes + 1
       → IsCore rows jobs opening (Take t ∷ past) records (set progress t q) (set owners node (Holder t)) waits
   core_locked t node next free p q at moved marked replies locked spare more =
@@ -202,8 +202,8 @@ module _ (rows : Rows) (jobs : List Job) (opening : List ℤ) (past : List Event
       let size : length q.locked.items ≡ length p.locked.items + 1 = ap length locked ∙ length-append p.locked.items (record { node = node; time = length past } ∷ []) in
       core_taken t (may_lock t node next free) records (core.recorded ∙ sym (idle_records jobs opening past t idle)) q
       (progress_taken rows jobs opening past t p q h moved marked
-      (ap (λ r. r.items) replies ∙ h.answers ∙ sym (idle_replies jobs opening past t t idle))
-      (ap (λ r. vec_capacity r) replies)
+      (ap (λ (r : SmallVec Reply). r.items) replies ∙ h.answers ∙ sym (idle_replies jobs opening past t t idle))
+      (ap (λ (r : SmallVec Reply). r.capacity) replies)
       spare (omega arith)
       (λ n. ap (λ (ls : List Locked). time_in ls n) locked ∙ elim (cases_eq node n) [
         | inl e ↦ subst (λ (k : ℕ). time_in (p.locked.items ++ new ∷ []) k ≡ lock_time jobs (Take t ∷ past) t k) e
@@ -254,10 +254,10 @@ module _ (rows : Rows) (jobs : List Job) (opening : List ℤ) (past : List Event
       holding_unlocked rows jobs past t node (length rows) (core.legal t lt).obeys next (let e : length owners ≡ length rows = core.all_owners in let l : node < length owners = slice_get_within owners node owner owns in omega arith) in
       core_taken t (Unlock node, next, λ n e. absurd (unlock_no_lock node n (ap (λ (s : Step). Some s) e))) records (core.recorded ∙ sym (idle_records jobs opening past t idle)) q
       (progress_taken rows jobs opening past t p q h moved marked
-      (ap (λ r. r.items) replies ∙ h.answers ∙ sym (idle_replies jobs opening past t t idle))
-      (ap (λ r. vec_capacity r) replies)
-      (ap (λ r. vec_capacity r) locked) (let e : length q.locked.items ≡ length p.locked.items = ap (λ r. length r.items) locked in omega arith)
-      (λ n. ap (λ r. time_in r.items n) locked ∙ h.times n ∙ sym (lock_time_kept jobs past t t n (ap (locks n) next)))
+      (ap (λ (r : SmallVec Reply). r.items) replies ∙ h.answers ∙ sym (idle_replies jobs opening past t t idle))
+      (ap (λ (r : SmallVec Reply). r.capacity) replies)
+      (ap (λ (r : SmallVec Locked). r.capacity) locked) (let e : length q.locked.items ≡ length p.locked.items = ap (λ (r : SmallVec Locked). length r.items) locked in omega arith)
+      (λ n. ap (λ (r : SmallVec Locked). time_in r.items n) locked ∙ h.times n ∙ sym (lock_time_kept jobs past t t n (ap (locks n) next)))
       (omega arith) (omega arith))
       (set owners node (Last t)) (length-set owners node (Last t) ∙ core.all_owners)
       (owned_after jobs past (Take t ∷ past) owners node (Last t) core.owned (
@@ -273,7 +273,7 @@ module _ (rows : Rows) (jobs : List Job) (opening : List ℤ) (past : List Event
 
   -- and one that takes an access
   pub core_accessed : (t number : ℕ) (visit : Visit) → next_step jobs past t ≡ Some (Access number) → slice_get (list_of jobs t) number ≡ Some visit → (p q : Progress) → slice_get progress t ≡ Some p
-      → q.steps_done ≡ p.steps_done + 1 → q.marked ≡ false → q.replies.items ≡ p.replies.items ++ reply_to visit records ∷ [] → vec_capacity q.replies ≡ vec_capacity p.replies → q.locked ≡ p.locked → q.held_nodes ≡ p.held_nodes
+      → q.steps_done ≡ p.steps_done + 1 → q.marked ≡ false → q.replies.items ≡ p.replies.items ++ reply_to visit records ∷ [] → q.replies.capacity ≡ p.replies.capacity → q.locked ≡ p.locked → q.held_nodes ≡ p.held_nodes
       → IsCore rows jobs opening (Take t ∷ past) (changed_by visit records) (set progress t q) owners waits
   core_accessed t number visit next listed p q at moved marked replies room locked kept =
       let h : HasProgress rows jobs opening past t p = core.come t p at in
@@ -284,8 +284,8 @@ module _ (rows : Rows) (jobs : List Job) (opening : List ℤ) (past : List Event
       ∙ ap (λ (r : List ℤ). run_replies jobs opening past t ++ reply_to visit r ∷ []) core.recorded
       ∙ sym (accessed_replies jobs opening past t number visit next listed))
       room
-      (ap (λ r. vec_capacity r) locked) (let e : length q.locked.items ≡ length p.locked.items = ap (λ r. length r.items) locked in omega arith)
-      (λ n. ap (λ r. time_in r.items n) locked ∙ h.times n ∙ sym (lock_time_kept jobs past t t n (ap (locks n) next)))
+      (ap (λ (r : SmallVec Locked). r.capacity) locked) (let e : length q.locked.items ≡ length p.locked.items = ap (λ (r : SmallVec Locked). length r.items) locked in omega arith)
+      (λ n. ap (λ (r : SmallVec Locked). time_in r.items n) locked ∙ h.times n ∙ sym (lock_time_kept jobs past t t n (ap (locks n) next)))
       (kept ∙ h.holding ∙ sym (count_agree (length rows) (λ v. holds jobs (Take t ∷ past) t v) (λ v. holds jobs past t v)
       (λ v less. holds_same jobs past t v (ap (locks v) next) (ap (unlocks v) next) t))) (omega arith))
       owners core.all_owners
@@ -341,11 +341,11 @@ module _ (rows : Rows) (jobs : List Job) (opening : List ℤ) (past : List Event
             (record {
               at = moved ∙ h.at;
               marks = marked ∙ sym (cond-true (eqb t t) true (is_marked past t) (eq-eqb t t refl));
-              answers = ap (λ r. r.items) replies ∙ h.answers;
-              room = subst (λ r. length (list_of jobs t) ≤ vec_capacity r) (sym replies) h.room;
-              spare = subst (λ r. length (plan_of jobs t) ≤ vec_capacity r) (sym locked) h.spare;
-              locks = subst (λ r. length r.items ≤ steps_done past t) (sym locked) h.locks;
-              times = λ n. ap (λ r. time_in r.items n) locked ∙ h.times n;
+              answers = ap (λ (r : SmallVec Reply). r.items) replies ∙ h.answers;
+              room = subst (λ (r : SmallVec Reply). length (list_of jobs t) ≤ r.capacity) (sym replies) h.room;
+              spare = subst (λ (r : SmallVec Locked). length (plan_of jobs t) ≤ r.capacity) (sym locked) h.spare;
+              locks = subst (λ (r : SmallVec Locked). length r.items ≤ steps_done past t) (sym locked) h.locks;
+              times = λ n. ap (λ (r : SmallVec Locked). time_in r.items n) locked ∙ h.times n;
               holding = kept ∙ h.holding;
               held = subst (λ (k : ℕ). k ≤ steps_done past t) (sym kept) h.held;
             });

@@ -1,5 +1,5 @@
 -- What a core keeps: the state that its history leads to.
-use Rattle.std.specs.Prelude.{◌≡◌, ◌≢◌, ℕ, ◌^◌, ◌<◌, ◌≤◌, ◌==◌, ℤ, true, false, ⊤, List, [], ◌∷◌, length, reverse, slice_get, Option, Some, None, vec_capacity, if◌then◌else◌}
+use Rattle.std.specs.Prelude.{◌≡◌, ◌≢◌, ℕ, ◌^◌, ◌<◌, ◌≤◌, ◌==◌, ℤ, true, false, ⊤, List, [], ◌∷◌, length, reverse, slice_get, Option, Some, None, if◌then◌else◌}
 use Rattle.grove_base.specs.Numbers.{count_below}
 use Rattle.grove_tree.specs.Trees.{Rows, IsTree}
 use Rattle.grove_core.specs.declared.job.Job.{Job}
@@ -32,8 +32,8 @@ pub record HasProgress (rows : Rows) (jobs : List Job) (opening : List ℤ) (pas
   pub at : progress.steps_done ≡ steps_done past t
   pub marks : progress.marked ≡ is_marked past t
   pub answers : progress.replies.items ≡ run_replies jobs opening past t
-  pub room : length (list_of jobs t) ≤ vec_capacity progress.replies
-  pub spare : length (plan_of jobs t) ≤ vec_capacity progress.locked
+  pub room : length (list_of jobs t) ≤ progress.replies.capacity
+  pub spare : length (plan_of jobs t) ≤ progress.locked.capacity
   pub locks : length progress.locked.items ≤ steps_done past t
   pub times : (node : ℕ) → time_in progress.locked.items node ≡ lock_time jobs past t node
   pub holding : progress.held_nodes ≡ count_below (length rows) (λ node. holds jobs past t node)

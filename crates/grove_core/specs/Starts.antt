@@ -1,5 +1,5 @@
 -- For the proofs alone: what opens a core, job by job.
-use Rattle.std.specs.Prelude.{◌≡◌, ℕ, ◌≤◌, false, ⊤, [], Option, Some, vec_capacity}
+use Rattle.std.specs.Prelude.{◌≡◌, ℕ, ◌≤◌, false, ⊤, [], Option, Some}
 use Rattle.grove_tree.specs.Trees.{Rows}
 use Rattle.grove_access.specs.Lists.{nodes_of}
 use Rattle.grove_plan.specs.declared.fault.PlanFault.{PlanFault}
@@ -23,7 +23,7 @@ pub record HasStarted (steps accesses : ℕ) (progress : Progress) : Type 0 wher
   pub at : progress.steps_done ≡ 0
   pub unmarked : progress.marked ≡ false
   pub silent : progress.replies.items ≡ []
-  pub room : accesses ≤ vec_capacity progress.replies
+  pub room : accesses ≤ progress.replies.capacity
   pub unlocked : progress.locked.items ≡ []
-  pub spare : steps ≤ vec_capacity progress.locked
+  pub spare : steps ≤ progress.locked.capacity
   pub holding : progress.held_nodes ≡ 0

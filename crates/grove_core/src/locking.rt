@@ -6,7 +6,7 @@ use grove_plan::Step;
 use grove_tree::Node;
 
 /// That a job locked a node, after so many events.
-#[derive(Clone, Copy, Debug)]
+#[derive(Clone, Copy, Debug, Default)]
 pub struct Locked {
     pub node: Node,
     pub time: usize,

@@ -154,7 +154,7 @@ impl<'a> Core<'a> {
         requires { txn < length self.now.jobs }
         ensures { result.now ≡ run_replies self.now.jobs self.now.opening (past_of self.now) txn }
     {
-        &self.progress[txn as usize].replies
+        self.progress[txn as usize].replies.as_slice()
     }
 
     /// How often a lock of the node was marked.
@@ -296,7 +296,7 @@ impl<'a> Core<'a> {
         ensures { result ≡ lock_time self.now.jobs (past_of self.now) txn node }
     {
         match self.progress.get(txn as usize) {
-            Some(progress) => time_in(&progress.locked, node),
+            Some(progress) => time_in(progress.locked.as_slice(), node),
             None => None,
         }
     }

@@ -10,6 +10,7 @@ use crate::progress::Progress;
 use crate::{Job, OpenFault};
 use grove_plan::{PlanFault, Step, judge};
 use grove_tree::Tree;
+use smallvec::SmallVec;
 use std::alloc::{AllocError, Global};
 
 /// Judges the plans, the lowest job's first.
@@ -90,8 +91,8 @@ pub fn start_all(alloc: Global, jobs: &[Job]) -> Result<Vec<Progress>, AllocErro
 fn start(alloc: Global, job: &Job) -> Result<Progress, AllocError>
     ensures { IfOk result (λ progress. HasStarted (length job.now.plan) (length job.now.list) progress) }
 {
-    let replies = Vec::with_capacity(alloc, job.list.len() as usize)?;
-    let locked = Vec::with_capacity(alloc, job.plan.steps().len())?;
+    let replies = SmallVec::with_capacity(alloc, job.list.len() as usize)?;
+    let locked = SmallVec::with_capacity(alloc, job.plan.steps().len())?;
     Ok(Progress {
         steps_done: 0,
         marked: false,

@@ -1,8 +1,13 @@
-ghost use Rattle.std.specs.Prelude.{◌≡◌, ◌+◌, ◌^◌, ◌<◌, ◌≤◌, ◌++◌, ◌∷◌, [], vec_len, vec_capacity, false, true};
+ghost use Rattle.std.specs.Prelude.{◌≡◌, ◌+◌, ◌^◌, ◌<◌, ◌≤◌, ◌++◌, ◌∷◌, [], false, true};
+ghost use Rattle.smallvec.specs.SmallVec.{HasRoomFor};
 
 use crate::locking::Locked;
 use grove_access::Reply;
 use grove_tree::Node;
+use smallvec::SmallVec;
+
+/// So many locks and replies of a job take no memory of their own.
+const FEW: usize = 2;
 
 /// How far a job has come.
 #[derive(Debug, Drop)]
@@ -12,9 +17,9 @@ pub struct Progress {
     /// The next step, a lock, has a mark.
     pub marked: bool,
     /// The replies of the accesses done; there is room for those of the whole list.
-    pub replies: Vec<Reply>,
+    pub replies: SmallVec<Reply, FEW>,
     /// The nodes that the job locked, in order; there is room for as many as its plan has steps.
-    pub locked: Vec<Locked>,
+    pub locked: SmallVec<Locked, FEW>,
     /// How many nodes the job holds.
     pub held_nodes: usize,
 }
@@ -24,12 +29,12 @@ impl Progress {
     pub fn lock(&mut self, node: Node, time: usize)
         requires few { self.old.steps_done < 2 ^ 32 }
         requires hold { self.old.held_nodes ≤ self.old.steps_done }
-        requires room { vec_len self.old.locked < vec_capacity self.old.locked }
+        requires room { HasRoomFor self.old.locked 1 }
         ensures steps_done { self.new.steps_done ≡ self.old.steps_done + 1 }
         ensures marked { self.new.marked ≡ false }
         ensures replies { self.new.replies ≡ self.old.replies }
         ensures locked { self.new.locked.items ≡ self.old.locked.items ++ record { node = node; time = time } ∷ [] }
-        ensures room { vec_capacity self.new.locked ≡ vec_capacity self.old.locked }
+        ensures room { self.new.locked.capacity ≡ self.old.locked.capacity }
         ensures held_nodes { self.new.held_nodes ≡ self.old.held_nodes + 1 }
     {
         self.steps_done += 1;
@@ -56,11 +61,11 @@ impl Progress {
     /// An access is done, with this reply.
     pub fn answer(&mut self, reply: Reply)
         requires few { self.old.steps_done < 2 ^ 32 }
-        requires room { vec_len self.old.replies < vec_capacity self.old.replies }
+        requires room { HasRoomFor self.old.replies 1 }
         ensures steps_done { self.new.steps_done ≡ self.old.steps_done + 1 }
         ensures marked { self.new.marked ≡ false }
         ensures replies { self.new.replies.items ≡ self.old.replies.items ++ reply ∷ [] }
-        ensures room { vec_capacity self.new.replies ≡ vec_capacity self.old.replies }
+        ensures room { self.new.replies.capacity ≡ self.old.replies.capacity }
         ensures locked { self.new.locked ≡ self.old.locked }
         ensures held_nodes { self.new.held_nodes ≡ self.old.held_nodes }
     {

@@ -18,7 +18,7 @@ use Rattle.grove_plan.specs.declared.watch.Hold.TheVariants.{Free, Held, Done}
 use Rattle.grove_plan.specs.declared.watch.Watch.{Watch}
 use Rattle.grove_plan.specs.Plans.{locks, is_lock, is_access, held, slots_of}
 use Rattle.grove_plan.specs.Faults.{is_held, is_later, step_fault}
-use Rattle.grove_plan.specs.Watching.{is_free, is_holding, holds_node, held_weight, cost_before, IsWatched}
+use Rattle.grove_plan.specs.Watching.{is_free, is_holding, holds_node, held_weight, cost_before, AreWeights, IsWatched}
 use Rattle.grove_plan.proofs.StepFaults.{step_is, lock_kept, unlock_kept}
 use Rattle.grove_plan.proofs.StepEffects.{held_locked, holding_tells, free_tells, node_tells, each_locked, each_unlocked, each_accessed, weight_locked, weight_unlocked, weight_accessed, weight_small, weight_part, cost_same, cost_accessed}
 use Rattle.std.proofs.lemmas.Option.{slice_get-get_or}
@@ -96,8 +96,8 @@ free_held plan v position none = false_from_ne_true (held plan v position) (λ h
 
 -- before the first step
 pub watch_starts : {lengths : List ℕ} (rows : Rows) (plan : List Step) (watch : Watch) → watch.holds.items ≡ replicate (length rows) Free → watch.later ≡ false
-    → watch.accesses ≡ 0 → watch.weight ≡ 0 → watch.cost ≡ 0 → IsWatched rows lengths plan 0 watch
-watch_starts rows plan watch holds later accesses weight cost = record {
+    → watch.accesses ≡ 0 → watch.weight ≡ 0 → watch.cost ≡ 0 → AreWeights rows watch.weights.kept → IsWatched rows lengths plan 0 watch
+watch_starts rows plan watch holds later accesses weight cost kept = record {
   nodes = ap length holds ∙ length-replicate (length rows) Free;
   each = λ node lt. rw holds (get_or-replicate (length rows) node Free Free lt);
   later = later;
@@ -105,6 +105,7 @@ watch_starts rows plan watch holds later accesses weight cost = record {
   weight = weight ∙ sym (sum_zero (length rows) (λ node. 0) (λ node lt. refl));
   cost = cost ∙ sym (sum_zero (length rows) (λ node. weight_of rows node * 0) (λ node lt. omega arith));
   small = omega arith;
+  kept = kept;
 }
 
 later_lock : (plan : List Step) (position u : ℕ) → slice_get plan position ≡ Some (Lock u) → is_later plan (suc position) ≡ true
@@ -137,8 +138,8 @@ access_access step a at = rw at refl
 
 next_locked : {lengths : List ℕ} (rows : Rows) (plan : List Step) (position u : ℕ) (watch after : Watch) → IsWatched rows lengths plan position watch → slice_get plan position ≡ Some (Lock u)
     → (u < length rows) × (any_below position (λ i. locks u (slice_get plan i)) ≡ false) → after.holds.items ≡ set watch.holds.items u Held → after.later ≡ true → after.accesses ≡ watch.accesses
-    → after.weight ≡ watch.weight + weight_of rows u → after.cost ≡ watch.cost → IsWatched rows lengths plan (suc position) after
-next_locked {lengths} rows plan position u watch after watched at kept holds later accesses weight cost =
+    → after.weight ≡ watch.weight + weight_of rows u → after.cost ≡ watch.cost → AreWeights rows after.weights.kept → IsWatched rows lengths plan (suc position) after
+next_locked {lengths} rows plan position u watch after watched at kept holds later accesses weight cost weights =
     let nodes : length watch.holds.items ≡ length rows = watched.nodes in
     let lt : u < length rows = kept.0 in
     let quick : slots_of lengths (slice_get plan position) ≡ 0 = lock_slots lengths (slice_get plan position) u at in
@@ -152,12 +153,13 @@ next_locked {lengths} rows plan position u watch after watched at kept holds lat
       weight = weight ∙ ap (λ (w : ℕ). w + weight_of rows u) watched.weight ∙ sym weighed;
       cost = cost ∙ watched.cost ∙ sym (cost_same rows lengths plan position quick);
       small = let small : watch.cost ≤ 4096000000 * position = watched.small in omega arith;
+      kept = weights;
     }
 
 next_unlocked : {lengths : List ℕ} (rows : Rows) (plan : List Step) (position u : ℕ) (watch after : Watch) → IsWatched rows lengths plan position watch → slice_get plan position ≡ Some (Unlock u)
     → (u < length rows) × (held plan u position ≡ true) → after.holds.items ≡ set watch.holds.items u Done → after.later ≡ watch.later → after.accesses ≡ watch.accesses
-    → after.weight ≡ watch.weight - weight_of rows u → after.cost ≡ watch.cost → IsWatched rows lengths plan (suc position) after
-next_unlocked {lengths} rows plan position u watch after watched at kept holds later accesses weight cost =
+    → after.weight ≡ watch.weight - weight_of rows u → after.cost ≡ watch.cost → AreWeights rows after.weights.kept → IsWatched rows lengths plan (suc position) after
+next_unlocked {lengths} rows plan position u watch after watched at kept holds later accesses weight cost weights =
     let nodes : length watch.holds.items ≡ length rows = watched.nodes in
     let lt : u < length rows = kept.0 in
     let quick : slots_of lengths (slice_get plan position) ≡ 0 = unlock_slots lengths (slice_get plan position) u at in
@@ -172,12 +174,13 @@ next_unlocked {lengths} rows plan position u watch after watched at kept holds l
       weight = omega arith;
       cost = cost ∙ watched.cost ∙ sym (cost_same rows lengths plan position quick);
       small = let small : watch.cost ≤ 4096000000 * position = watched.small in omega arith;
+      kept = weights;
     }
 
 next_accessed : {lengths : List ℕ} (rows : Rows) (plan : List Step) (position a : ℕ) (watch after : Watch) → IsWithinLimits rows → IsWatched rows lengths plan position watch → slice_get plan position ≡ Some (Access a)
     → after.holds.items ≡ watch.holds.items → after.later ≡ watch.later → after.accesses ≡ watch.accesses + 1
-    → after.weight ≡ watch.weight → AreLengths lengths → after.cost ≡ watch.cost + watch.weight * slice_index lengths a → IsWatched rows lengths plan (suc position) after
-next_accessed {lengths} rows plan position a watch after limits watched at holds later accesses weight are cost =
+    → after.weight ≡ watch.weight → AreLengths lengths → after.cost ≡ watch.cost + watch.weight * slice_index lengths a → AreWeights rows after.weights.kept → IsWatched rows lengths plan (suc position) after
+next_accessed {lengths} rows plan position a watch after limits watched at holds later accesses weight are cost weights =
     let access : is_access (slice_get plan position) ≡ true = access_access (slice_get plan position) a at in
     let light : held_weight rows plan position ≤ 4096000 = weight_small rows plan position limits in
     let was : watch.weight ≡ held_weight rows plan position = watched.weight in
@@ -196,6 +199,7 @@ next_accessed {lengths} rows plan position a watch after limits watched at holds
       weight = weight ∙ was ∙ sym (weight_accessed rows plan position a at);
       cost = omega arith;
       small = let small : watch.cost ≤ 4096000000 * position = watched.small in omega arith;
+      kept = weights;
     }
 
 -- The same as the code reads a step and writes the table
@@ -203,27 +207,27 @@ next_accessed {lengths} rows plan position a watch after limits watched at holds
 -- a watch that takes a lock has followed the plan past it
 pub watch_locked : {lengths : List ℕ} (rows : Rows) (nodes : List ℕ) (plan : List Step) (position u i : ℕ) (d : Step) (watch after : Watch) → position < length plan → get_or plan position d ≡ Lock u → i ≡ u
     → IsWatched rows lengths plan position watch → step_fault rows nodes plan position (slice_get plan position) ≡ None → after.holds.items ≡ set watch.holds.items i Held → after.later ≡ true
-    → after.accesses ≡ watch.accesses → after.weight ≡ watch.weight + weight_of rows u → after.cost ≡ watch.cost → IsWatched rows lengths plan (position + 1) after
-watch_locked rows nodes plan position u i d watch after within read is watched kept holds later accesses weight cost =
+    → after.accesses ≡ watch.accesses → after.weight ≡ watch.weight + weight_of rows u → after.cost ≡ watch.cost → AreWeights rows after.weights.kept → IsWatched rows lengths plan (position + 1) after
+watch_locked rows nodes plan position u i d watch after within read is watched kept holds later accesses weight cost weights =
     let rules = lock_kept rows plan position u (kept_read rows nodes plan position (Lock u) d within read kept) in
     rw add-one (next_locked rows plan position u watch after watched (read_or plan position (Lock u) d within read) (rules.0, rules.1)
-    (holds ∙ ap (λ (n : ℕ). set watch.holds.items n Held) is) later accesses weight cost)
+    (holds ∙ ap (λ (n : ℕ). set watch.holds.items n Held) is) later accesses weight cost weights)
 
 -- and so has one that takes an unlock
 pub watch_unlocked : {lengths : List ℕ} (rows : Rows) (nodes : List ℕ) (plan : List Step) (position u i : ℕ) (d : Step) (watch after : Watch) → position < length plan → get_or plan position d ≡ Unlock u → i ≡ u
     → IsWatched rows lengths plan position watch → step_fault rows nodes plan position (slice_get plan position) ≡ None → after.holds.items ≡ set watch.holds.items i Done → after.later ≡ watch.later
-    → after.accesses ≡ watch.accesses → after.weight ≡ watch.weight - weight_of rows u → after.cost ≡ watch.cost → IsWatched rows lengths plan (position + 1) after
-watch_unlocked rows nodes plan position u i d watch after within read is watched kept holds later accesses weight cost =
+    → after.accesses ≡ watch.accesses → after.weight ≡ watch.weight - weight_of rows u → after.cost ≡ watch.cost → AreWeights rows after.weights.kept → IsWatched rows lengths plan (position + 1) after
+watch_unlocked rows nodes plan position u i d watch after within read is watched kept holds later accesses weight cost weights =
     rw add-one (next_unlocked rows plan position u watch after watched (read_or plan position (Unlock u) d within read)
     (unlock_kept rows plan position u (kept_read rows nodes plan position (Unlock u) d within read kept))
-    (holds ∙ ap (λ (n : ℕ). set watch.holds.items n Done) is) later accesses weight cost)
+    (holds ∙ ap (λ (n : ℕ). set watch.holds.items n Done) is) later accesses weight cost weights)
 
 -- and one that takes an access
 pub watch_accessed : {lengths : List ℕ} (rows : Rows) (plan : List Step) (position a : ℕ) (d : Step) (watch after : Watch) → IsWithinLimits rows → position < length plan → get_or plan position d ≡ Access a
     → IsWatched rows lengths plan position watch → after.holds.items ≡ watch.holds.items → after.later ≡ watch.later → after.accesses ≡ watch.accesses + 1
-    → after.weight ≡ watch.weight → AreLengths lengths → after.cost ≡ watch.cost + watch.weight * slice_index lengths a → IsWatched rows lengths plan (position + 1) after
-watch_accessed rows plan position a d watch after limits within read watched holds later accesses weight are cost =
-    rw add-one (next_accessed rows plan position a watch after limits watched (read_or plan position (Access a) d within read) holds later accesses weight are cost)
+    → after.weight ≡ watch.weight → AreLengths lengths → after.cost ≡ watch.cost + watch.weight * slice_index lengths a → AreWeights rows after.weights.kept → IsWatched rows lengths plan (position + 1) after
+watch_accessed rows plan position a d watch after limits within read watched holds later accesses weight are cost weights =
+    rw add-one (next_accessed rows plan position a watch after limits watched (read_or plan position (Access a) d within read) holds later accesses weight are cost weights)
 
 -- What the watch holds is in range
 

@@ -6,6 +6,7 @@ use Rattle.grove_plan.specs.declared.step.Step.{Step}
 use Rattle.grove_plan.specs.declared.watch.Hold.{Hold}
 use Rattle.grove_plan.specs.declared.watch.Hold.TheVariants.{Free, Held, Done}
 use Rattle.grove_plan.specs.declared.watch.Watch.{Watch}
+use Rattle.grove_plan.specs.declared.kept_weights.KeptWeight.{KeptWeight}
 use Rattle.grove_plan.specs.Plans.{locks, held, slots_of}
 use Rattle.grove_plan.specs.Slots.{accesses_before}
 use Rattle.grove_plan.specs.Faults.{is_later}
@@ -46,6 +47,10 @@ abbrev pub cost_before : Rows → List ℕ → List Step → ℕ → ℕ
 cost_before rows lengths plan position =
     sum_below (length rows) (λ node. weight_of rows node * sum_below position (λ i. if held plan node i then slots_of lengths (slice_get plan i) else 0))
 
+-- the weights that are kept are those of their nodes
+abbrev pub AreWeights : Rows → List KeptWeight → Type 0
+AreWeights rows kept = (place : ℕ) (entry : KeptWeight) → slice_get kept place ≡ Some entry → entry.weight ≡ weight_of rows entry.node
+
 -- a watch has followed a plan to a position
 pub record IsWatched (rows : Rows) (lengths : List ℕ) (plan : List Step) (position : ℕ) (watch : Watch) : Type 0 where
   pub nodes : length watch.holds.items ≡ length rows
@@ -55,3 +60,4 @@ pub record IsWatched (rows : Rows) (lengths : List ℕ) (plan : List Step) (posi
   pub weight : watch.weight ≡ held_weight rows plan position
   pub cost : watch.cost ≡ cost_before rows lengths plan position
   pub small : watch.cost ≤ 4096000000 * position
+  pub kept : AreWeights rows watch.weights.kept

@@ -20,9 +20,10 @@ pub fn judge(alloc: Global, tree: &Tree, list: &AccessList, plan: &Plan) -> Resu
     ensures fault { IfErr result (λ fault. fault ≢ PlanFault.Memory → plan_fault_of tree.now (nodes_of list.now) plan.now ≡ Some fault) }
     ensures illegal { IfErr result (λ fault. fault ≢ PlanFault.Memory → ¬ IsLegal tree.now (nodes_of list.now) plan.now) }
 {
-    // The limits that hold of every list are told with its length.
+    // The limits that hold of every list and every tree are told with their lengths.
     let _accesses = list.len();
-    let mut watch = Watch::new(alloc, tree.len())?;
+    let _nodes = tree.len();
+    let mut watch = Watch::new(alloc, tree)?;
     judge_by(&mut watch, tree, list, plan.steps())
 }
 

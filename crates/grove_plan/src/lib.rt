@@ -9,6 +9,7 @@ pub use step::Step;
 
 mod fault;
 mod judging;
+mod kept_weights;
 mod laws;
 mod plan;
 mod step;

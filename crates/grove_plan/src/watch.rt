@@ -3,9 +3,10 @@ ghost use Rattle.grove_tree.specs.Rules.{IsWithinLimits};
 ghost use Rattle.grove_access.specs.Lists.{nodes_of, lengths_of, AreNodes, AreLengths};
 ghost use Rattle.grove_plan.specs.Faults.{step_fault, end_fault};
 ghost use Rattle.grove_plan.specs.Watching.{IsWatched, is_free, is_holding, holds_node, first_holding};
-ghost use Rattle.grove_tree.specs.Trees.{Rows, IsTree, parent_of};
+ghost use Rattle.grove_tree.specs.Trees.{IsTree, parent_of};
 ghost use Rattle.grove_plan.specs.declared.watch.Hold.TheVariants.{Free};
 
+use crate::kept_weights::KeptWeights;
 use crate::{PlanFault, Step};
 use grove_access::AccessList;
 use grove_tree::{Node, Tree};
@@ -49,20 +50,22 @@ pub struct Watch {
     pub weight: u64,
     /// What the accesses cost so far.
     pub cost: u64,
+    pub weights: KeptWeights,
 }
 
 impl Watch {
     /// Before the first step.
-    pub fn new(alloc: Global, nodes: u32) -> Result<Watch, AllocError>
-        ensures { (rows : Rows) (lengths : List ℕ) (plan : List Step) → length rows ≡ nodes → IfOk result (IsWatched rows lengths plan 0) }
+    pub fn new(alloc: Global, tree: &Tree) -> Result<Watch, AllocError>
+        ensures { (lengths : List ℕ) (plan : List Step) → IfOk result (IsWatched tree.now lengths plan 0) }
     {
-        let holds = Vec::from_elem(alloc, Hold::Free, nodes as usize)?;
+        let holds = Vec::from_elem(alloc, Hold::Free, tree.len() as usize)?;
         Ok(Watch {
             holds,
             later: false,
             accesses: 0,
             weight: 0,
             cost: 0,
+            weights: KeptWeights::new(tree),
         })
     }
 
@@ -149,11 +152,11 @@ impl Watch {
             Step::Lock(node) => {
                 self.holds[node.number() as usize] = Hold::Held;
                 self.later = true;
-                self.weight += u64::from(tree.weight(node));
+                self.weight += u64::from(self.weights.look_up(tree, node));
             }
             Step::Unlock(node) => {
                 self.holds[node.number() as usize] = Hold::Done;
-                self.weight -= u64::from(tree.weight(node));
+                self.weight -= u64::from(self.weights.weight(tree, node));
             }
             Step::Access(access) => {
                 self.accesses += 1;

@@ -1,4 +1,4 @@
--- For the proofs alone: what a batch comes to, in one record.
+-- What a batch comes to.
 use Rattle.std.specs.Prelude.{◌≡◌, ℤ, List, length}
 use Rattle.grove_tree.specs.Trees.{Rows}
 use Rattle.grove_core.specs.declared.job.Job.{Job}

@@ -7,11 +7,13 @@ ghost use Rattle.grove_core.specs.Openings.{AllFit};
 ghost use Rattle.grove_run.specs.Runs.{IsRunFault, IsLegalRunFault, IsCoreOf};
 ghost use Rattle.grove_run.specs.FinishedRuns.{IsFinishedRun};
 
+use crate::alone::do_alone;
 use crate::bells::Bells;
 use crate::carries::carries_for;
 use crate::register::{Batch, Register};
 use crate::sleepers::SEATS;
 use crate::working::work_all;
+use crate::worth::are_worth_a_thread;
 use crate::{Book, Finished, RunFault};
 use grove_access::Records;
 use grove_core::{Core, Job, judge_all, serial_order_into};
@@ -36,12 +38,7 @@ pub fn run_batch<'a, R: Threads + Wait + Sync, G: Gate + Sync>(
     requires lists { AllFit tree.now jobs.now }
     requires records { length records.now ≡ length tree.now }
     requires few { length jobs.now ≤ 256 }
-    ensures batch { IfOk result (λ finished. IsCoreOf tree.now jobs.now records.now finished.core) }
-    ensures run { IfOk result (λ finished. IsRun jobs.now (past_of finished.core)) }
-    ensures ended { IfOk result (λ finished. IsFinished jobs.now (past_of finished.core)) }
-    ensures order { IfOk result (λ finished. finished.order ≡ placement_order tree.now jobs.now (past_of finished.core)) }
-    ensures once { IfOk result (λ finished. IsEachOnce finished.order (length jobs.now)) }
-    ensures serial { IfOk result (λ finished. IsSerialBy finished.order jobs.now records.now (past_of finished.core)) }
+    ensures run { IfOk result (IsFinishedRun tree.now jobs.now records.now) }
     ensures fault { IfErr result (λ fault. IsRunFault tree.now jobs.now fault) }
 {
     judge_all(alloc, tree, jobs)?;
@@ -61,60 +58,52 @@ pub fn run_legal<'a, R: Threads + Wait + Sync, G: Gate + Sync>(
     requires legal { AllLegal tree.now jobs.now }
     requires records { length records.now ≡ length tree.now }
     requires few { length jobs.now ≤ 256 }
-    ensures batch { IfOk result (λ finished. IsCoreOf tree.now jobs.now records.now finished.core) }
-    ensures run { IfOk result (λ finished. IsRun jobs.now (past_of finished.core)) }
-    ensures ended { IfOk result (λ finished. IsFinished jobs.now (past_of finished.core)) }
-    ensures order { IfOk result (λ finished. finished.order ≡ placement_order tree.now jobs.now (past_of finished.core)) }
-    ensures once { IfOk result (λ finished. IsEachOnce finished.order (length jobs.now)) }
-    ensures serial { IfOk result (λ finished. IsSerialBy finished.order jobs.now records.now (past_of finished.core)) }
+    ensures run { IfOk result (IsFinishedRun tree.now jobs.now records.now) }
     ensures fault { IfErr result IsLegalRunFault }
 {
-    run_as::<Brand, R, G>(rt, alloc, tree, records, jobs, workers, gate)
+    let mut core = Core::open_legal(alloc, tree, records, jobs)?;
+    let order = Vec::with_capacity(alloc, jobs.len())?;
+    if !are_worth_a_thread(jobs, gate) {
+        do_alone(&mut core, jobs, gate);
+        return finished_of(core, order);
+    }
+    let core = do_together::<Brand, R, G>(rt, alloc, core, jobs, workers, gate)?;
+    finished_of(core, order)
 }
 
-fn run_as<'a, B: Batch + Send + Sync, R: Threads + Wait + Sync, G: Gate + Sync>(
+// Has workers do the jobs, as far as they can, by a register that all of them share.
+fn do_together<'a, B: Batch + Send + Sync, R: Threads + Wait + Sync, G: Gate + Sync>(
     rt: &R,
     alloc: Global,
-    tree: &'a Tree,
-    records: &Records,
+    core: Core<'a>,
     jobs: &'a [Job],
     workers: usize,
     gate: &G,
-) -> Result<Finished<'a>, RunFault>
-    requires legal { AllLegal tree.now jobs.now }
-    requires records { length records.now ≡ length tree.now }
-    requires few { length jobs.now ≤ 256 }
-    requires tree { tree.now ≡ B.tree }
-    requires jobs { jobs.now ≡ B.jobs }
-    requires opening { records.now ≡ B.opening }
-    ensures run { IfOk result (IsFinishedRun B.tree B.jobs B.opening) }
+) -> Result<Core<'a>, RunFault>
+    requires { IsCoreOf B.tree B.jobs B.opening core }
+    ensures core { IfOk result (IsCoreOf B.tree B.jobs B.opening) }
     ensures fault { IfErr result IsLegalRunFault }
 {
-    let core = Core::open_legal(alloc, tree, records, jobs)?;
-    let order = Vec::with_capacity(alloc, jobs.len())?;
     let workers = workers.min(jobs.len()).clamp(1, SEATS);
     let carries = carries_for(alloc, jobs, workers)?;
     let register = Mutex::new(Register::<B>::new(Book::open(core), carries));
     let bells = Bells::new();
     work_all(rt, jobs, &register, &bells, workers, gate);
-    finished_of(register.into_inner(), order)
-}
-
-/// What a register that no worker has any more comes to. The order goes into an empty vector with room for each job.
-fn finished_of<'a, B: Batch>(
-    register: Register<'a, B>,
-    mut order: Vec<u32>,
-) -> Result<Finished<'a>, RunFault>
-    requires few { vec_capacity order ≤ 256 }
-    requires empty { order.items ≡ [] }
-    requires room { length B.jobs ≤ vec_capacity order }
-    ensures run { IfOk result (IsFinishedRun B.tree B.jobs B.opening) }
-    ensures fault { IfErr result IsLegalRunFault }
-{
+    let register = register.into_inner();
     if register.is_foreign() {
         return Err(RunFault::Foreign);
     }
-    let core = register.into_core();
+    Ok(register.into_core())
+}
+
+/// What a core to which nothing happens any more comes to. The order goes into an empty vector with room for each job.
+fn finished_of<'a>(core: Core<'a>, mut order: Vec<u32>) -> Result<Finished<'a>, RunFault>
+    requires few { vec_capacity order ≤ 256 }
+    requires empty { order.items ≡ [] }
+    requires room { length core.jobs ≤ vec_capacity order }
+    ensures run { IfOk result (IsFinishedRun core.entry.tree core.entry.jobs core.entry.opening) }
+    ensures fault { IfErr result IsLegalRunFault }
+{
     if !core.is_finished() {
         return Err(RunFault::Unfinished);
     }

@@ -8,7 +8,7 @@ ghost use Rattle.grove_run.specs.Books.{after_event, marked, core_taken, step_af
 
 use crate::{BookStep, CarryStep};
 use grove_access::Carry;
-use grove_core::{Core, Event, StepFault};
+use grove_core::{Core, Event, Job, StepFault};
 use grove_plan::Step;
 use grove_tree::Node;
 use std::marker::Model;
@@ -58,23 +58,10 @@ impl<'a> Book<'a> {
         Some(txn)
     }
 
-    /// Is there a job that isn't claimed?
-    pub(crate) fn has_unclaimed(&self) -> bool
-        ensures { IsTrue result ↔ (self.now.claimed < length self.now.core.jobs) }
-    {
-        (self.claimed as usize) < self.core.jobs().len()
-    }
-
-    /// Have the jobs that aren't claimed at least so many steps?
-    pub(crate) fn has_unclaimed_steps(&self, steps: usize) -> bool {
-        let mut left: usize = 0;
-        for job in self.core.jobs().iter().skip(self.claimed as usize) {
-            left = left.saturating_add(job.plan.steps().len());
-            if left >= steps {
-                return true;
-            }
-        }
-        false
+    /// The jobs that aren't claimed.
+    pub(crate) fn unclaimed(&self) -> &[Job] {
+        let jobs = self.core.jobs();
+        &jobs[self.claimed as usize..]
     }
 
     /// The core of the book.

@@ -7,6 +7,7 @@ pub use finished::Finished;
 pub use grove_core::RunFault;
 pub use steps::{BookStep, CarryStep};
 
+mod alone;
 mod batch;
 mod bells;
 mod book;
@@ -16,3 +17,4 @@ mod register;
 mod sleepers;
 mod steps;
 mod working;
+mod worth;

@@ -3,7 +3,7 @@ ghost use Rattle.grove_run.specs.Runs.{IsCoreOf};
 use crate::sleepers::{Sleep, Sleepers, Woken};
 use crate::{Book, CarryStep};
 use grove_access::Carry;
-use grove_core::Core;
+use grove_core::{Core, Job};
 use grove_plan::Step;
 use grove_tree::Node;
 use std::marker::{Brand, Model, PhantomData};
@@ -80,14 +80,9 @@ impl<'a, B: Batch> Register<'a, B> {
         self.book.claim()
     }
 
-    /// Is there a job that isn't claimed?
-    pub fn has_unclaimed(&self) -> bool {
-        self.book.has_unclaimed()
-    }
-
-    /// Have the jobs that aren't claimed at least so many steps?
-    pub fn has_unclaimed_steps(&self, steps: usize) -> bool {
-        self.book.has_unclaimed_steps(steps)
+    /// The jobs that aren't claimed.
+    pub fn unclaimed(&self) -> &[Job] {
+        self.book.unclaimed()
     }
 
     /// Does the step of a carry.
@@ -106,8 +101,13 @@ impl<'a, B: Batch> Register<'a, B> {
         self.sleepers.enter(seat, sleep);
     }
 
+    /// May somebody sleep for the node?
+    pub fn may_wait_for(&self, node: Node) -> bool {
+        self.sleepers.may_wait_for(node)
+    }
+
     /// Takes out whom to wake when the node is let go.
-    pub fn whom_to_wake(&mut self, node: Node) -> Option<Woken> {
+    pub fn whom_to_wake(&mut self, node: Node) -> Woken {
         self.sleepers.leave(node)
     }
 

@@ -1,3 +1,5 @@
+ghost use Rattle.std.specs.Prelude.{◌<◌};
+
 use grove_tree::Node;
 
 /// No more workers do a batch. Each has a seat, at which it sleeps.
@@ -59,19 +61,21 @@ impl Sleepers {
     /// The worker of a seat falls asleep.
     pub fn enter(&mut self, seat: usize, sleep: Sleep) {
         if let Some(node) = sleep.node() {
-            let place = node.number() as usize % COUNTS;
+            let place = place_of(node);
             self.counts[place] = self.counts[place].saturating_add(1);
         }
         self.seats[seat % SEATS] = sleep;
     }
 
+    /// May somebody sleep for the node? Where nobody does for a node with such a number, no seat is looked at.
+    pub fn may_wait_for(&self, node: Node) -> bool {
+        self.counts[place_of(node)] != 0
+    }
+
     /// Takes out whom to wake when the node is let go: one of those whose next lock it is, and everybody who sleeps for it
     /// as a later one, since they try another first.
-    pub fn leave(&mut self, node: Node) -> Option<Woken> {
-        let place = node.number() as usize % COUNTS;
-        if self.counts[place] == 0 {
-            return None;
-        }
+    pub fn leave(&mut self, node: Node) -> Woken {
+        let place = place_of(node);
         let next = self.first_next(node);
         let mut woken = Woken {
             seats: [false; SEATS],
@@ -83,7 +87,7 @@ impl Sleepers {
                 woken.seats[seat] = true;
             }
         }
-        Some(woken)
+        woken
     }
 
     // The first seat whose worker sleeps for the node as its next lock.
@@ -95,4 +99,11 @@ impl Sleepers {
         }
         None
     }
+}
+
+// Which count a node belongs to.
+fn place_of(node: Node) -> usize
+    ensures { result < 64 }
+{
+    node.number() as usize % COUNTS
 }

@@ -3,15 +3,13 @@ ghost use Rattle.std.specs.Thread.{IsSend, IsSync};
 use crate::CarryStep;
 use crate::bells::{Bells, Seat};
 use crate::register::{Batch, Register};
+use crate::worth::are_worth_a_thread;
 use grove_access::Carry;
 use grove_core::Job;
 use grove_plan::Step;
 use grove_tree::{Gate, Node};
 use std::sync::{Mutex, Wait};
 use std::thread::{Threads, join};
-
-/// So many steps are done by a worker in about the time in which a thread is started and ends.
-const WORTH_A_THREAD: usize = 2048;
 
 /// Does the jobs by so many threads, this one among them. Each thread starts the next one before it works, as long as
 /// enough is left to claim: so no thread is started that has nothing to do, and none waits for another to be started. Where
@@ -42,18 +40,13 @@ pub fn work_all<'a, B: Batch + Send + Sync, R: Threads + Wait + Sync, G: Gate + 
     );
 }
 
-// Is so much left to claim that a further worker is of use? Any job is, where workers may wait at the gate.
+// Is so much left to claim that a further worker is of use?
 fn is_worth_a_thread<'a, B: Batch, R: Wait, G: Gate>(
     rt: &R,
     register: &Mutex<Register<'a, B>>,
     gate: &G,
 ) -> bool {
-    let register = register.lock(rt);
-    if gate.is_open() {
-        register.has_unclaimed_steps(WORTH_A_THREAD)
-    } else {
-        register.has_unclaimed()
-    }
+    are_worth_a_thread(register.lock(rt).unclaimed(), gate)
 }
 
 // Claims jobs and does them, until there are none.
@@ -128,9 +121,9 @@ fn let_go<'a, B: Batch, R: Wait>(
         bells.ring_all();
         return false;
     }
-    let woken = guard.whom_to_wake(node);
-    drop(guard);
-    if let Some(woken) = woken {
+    if guard.may_wait_for(node) {
+        let woken = guard.whom_to_wake(node);
+        drop(guard);
         bells.ring(&woken);
     }
     true

@@ -19,3 +19,4 @@ pub mod SameTree
 pub mod SameNames
 pub mod SameOutlines
 pub mod WaysDown
+pub mod Standings

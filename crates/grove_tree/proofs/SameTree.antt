@@ -38,6 +38,10 @@ depth_alike rows others alike (suc n) node =
     ap (λ (o : Option ℕ). one_more (depth_within others n) o) (alike.parents node)
     ∙ one_more_alike (depth_within others n) (depth_within rows n) (depth_alike rows others alike n) (parent_of rows node)
 
+-- the nodes of such rows are as deep
+pub depth_of_alike : (rows others : Rows) → AreAlike rows others → (node : ℕ) → depth_of others node ≡ depth_of rows node
+depth_of_alike rows others alike node = ap (λ (n : ℕ). depth_within others n node) alike.long ∙ depth_alike rows others alike (length rows) node
+
 -- such rows are those of a tree too
 pub tree_alike : (rows others : Rows) → AreAlike rows others → IsTree rows → IsTree others
 tree_alike rows others alike tree =
@@ -60,8 +64,7 @@ limits_alike rows others alike weights none limits =
     record {
       few = omega arith;
       shallow = λ node.
-          let same : depth_of others node ≡ depth_of rows node =
-          ap (λ (n : ℕ). depth_within others n node) long ∙ depth_alike rows others alike (length rows) node in
+          let same : depth_of others node ≡ depth_of rows node = depth_of_alike rows others alike node in
           let low : depth_of rows node ≤ 32 = limits.shallow node in omega arith;
       unnamed_root = alike.names 0 ∙ limits.unnamed_root;
       names = λ node within. rw (alike.names (suc node)) (limits.names node (omega arith));

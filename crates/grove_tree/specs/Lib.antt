@@ -8,3 +8,4 @@ pub mod WeighedOutlines
 pub mod OutlinesInTrees
 pub mod PathRests
 pub mod Ways
+pub mod Standings

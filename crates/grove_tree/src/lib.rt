@@ -24,6 +24,7 @@ mod node;
 mod outline;
 mod row;
 mod rules;
+mod standing;
 mod tree;
 mod way;
 mod weighing;

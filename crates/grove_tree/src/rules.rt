@@ -28,7 +28,8 @@ const LONGEST_NAME: usize = 32;
 /// No row of a tree weighs more.
 pub const HEAVIEST: u32 = 1000;
 
-fn parent_of_row(rows: &[Row], row: u32) -> Option<u32>
+/// The parent that the row tells.
+pub fn parent_of_row(rows: &[Row], row: u32) -> Option<u32>
     requires { row < length rows.now }
     ensures { result ≡ parent_of (rows_of rows.now) row }
 {

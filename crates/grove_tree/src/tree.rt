@@ -5,6 +5,7 @@ ghost use Rattle.grove_tree.specs.Rules.{rows_of, tree_fault_of, IsWithinLimits,
 
 use crate::growing::grow;
 use crate::rules::fault_of;
+use crate::standing::{Standing, standings_of};
 use crate::{NoMemory, Node, Outline, Row, TreeFault};
 use std::alloc::Global;
 use std::marker::Model;
@@ -17,18 +18,21 @@ mod weights;
 #[derive(Debug, Drop)]
 pub struct Tree {
     root: Outline,
+    /// Where each node stands, by its number.
+    standings: Vec<Standing>,
 }
 
 impl Model for Tree {
-    ghost use Rattle.std.specs.Prelude.{◌≡◌};
+    ghost use Rattle.std.specs.Prelude.{◌≡◌, length};
     ghost use Rattle.grove_tree.specs.Trees.{Rows, IsTree};
     ghost use Rattle.grove_tree.specs.Rules.{IsWithinLimits};
+    ghost use Rattle.grove_tree.specs.Standings.{AreStandings};
 
     ghost Value = { Rows };
 
     ghost view = { λ tree. tree.root.1 };
 
-    ghost invariant = { λ tree. (tree.root.0 ≡ 0) × IsTree tree.root.1 × IsWithinLimits tree.root.1 };
+    ghost invariant = { λ tree. (tree.root.0 ≡ 0) × IsTree tree.root.1 × IsWithinLimits tree.root.1 × AreStandings tree.root.1 (length tree.root.1) tree.standings.items };
 }
 
 impl Tree {
@@ -46,7 +50,8 @@ impl Tree {
             Some(fault) => Err(fault),
             None => {
                 let root = grow(alloc, rows, 0)?;
-                Ok(Tree { root })
+                let standings = standings_of(alloc, rows)?;
+                Ok(Tree { root, standings })
             }
         }
     }
@@ -86,13 +91,8 @@ impl Tree {
         requires { node < length self.now }
         ensures { result ≡ parent_of self.now node }
     {
-        let mut at = &self.root;
-        let mut parent = None;
-        while let Some(child) = at.towards(node.number()) {
-            parent = Some(Node::new(at.number));
-            at = child;
-        }
-        parent
+        let standing = self.standings[node.number() as usize];
+        standing.parent
     }
 
     /// How many parents are above the node.
@@ -100,13 +100,8 @@ impl Tree {
         requires { node < length self.now }
         ensures { result ≡ depth_of self.now node }
     {
-        let mut at = &self.root;
-        let mut depth = 0;
-        while let Some(child) = at.towards(node.number()) {
-            depth += 1;
-            at = child;
-        }
-        depth
+        let standing = self.standings[node.number() as usize];
+        standing.depth
     }
 
     /// Is `high` the node `low` or one above it?

@@ -6,7 +6,7 @@ use grove_access::{Op, Records};
 use grove_core::{Core, Event, Job, OpenFault, all_fit, serial_order};
 use grove_plan::Step;
 use grove_run::{Finished, RunFault, run_batch};
-use grove_tree::{NoMemory, OpenGate, Tree};
+use grove_tree::{Gate, NoMemory, OpenGate, Tree};
 use std::alloc::{AllocGlobal, Global};
 use std::sync::Wait;
 use std::thread::Threads;
@@ -78,12 +78,20 @@ fn order_of<R: AllocGlobal + Print>(rt: &R, core: &Core) -> Result<Vec<u32>> {
     }
 }
 
-/// Two jobs that add to the same record and read it, by one worker.
+/// A gate at which nobody waits, but which doesn't tell so: jobs are then done by workers, as few as there are.
+struct Turnstile;
+
+impl Gate for Turnstile {
+    fn at(&self, _txn: u32, _step: u32) {}
+}
+
+/// Two jobs that add to the same record and read it: by the caller alone, and by one worker.
 pub fn run_jobs<R: AllocGlobal + Print + Threads + Wait + Sync>(rt: &R) -> Result<()> {
     let tree = leaves_below(rt.alloc(), 1)?;
     let records = Records::new(rt.alloc(), &[0, 10, 0])?;
     let jobs = two_adders(rt.alloc(), &tree)?;
-    run_by_one(rt, &tree, &records, &jobs)
+    run_by_one(rt, &tree, &records, &jobs, &OpenGate)?;
+    run_by_one(rt, &tree, &records, &jobs, &Turnstile)
 }
 
 fn two_adders(alloc: Global, tree: &Tree) -> Result<Vec<Job>> {
@@ -96,30 +104,32 @@ fn two_adders(alloc: Global, tree: &Tree) -> Result<Vec<Job>> {
     Ok(jobs)
 }
 
-fn run_by_one<R: AllocGlobal + Print + Threads + Wait + Sync>(
+fn run_by_one<R: AllocGlobal + Print + Threads + Wait + Sync, G: Gate + Sync>(
     rt: &R,
     tree: &Tree,
     records: &Records,
     jobs: &[Job],
+    gate: &G,
 ) -> Result<()> {
-    let finished = run(rt, tree, records, jobs)?;
+    let finished = run(rt, tree, records, jobs, gate)?;
     tell_run(rt, finished.core(), finished.order())
 }
 
-fn run<'a, R: AllocGlobal + Print + Threads + Wait + Sync>(
+fn run<'a, R: AllocGlobal + Print + Threads + Wait + Sync, G: Gate + Sync>(
     rt: &R,
     tree: &'a Tree,
     records: &Records,
     jobs: &'a [Job],
+    gate: &G,
 ) -> Result<Finished<'a>> {
     ensure!(
         records.fits(tree) && all_fit(tree, jobs) && jobs.len() <= 256,
         "the jobs don't fit"
     );
-    match run_batch(rt, rt.alloc(), tree, records, jobs, 1, &OpenGate) {
+    match run_batch(rt, rt.alloc(), tree, records, jobs, 1, gate) {
         Err(RunFault::Memory) => {
             say_memory(rt)?;
-            Ok(run_batch(rt, rt.alloc(), tree, records, jobs, 1, &OpenGate)?)
+            Ok(run_batch(rt, rt.alloc(), tree, records, jobs, 1, gate)?)
         }
         first => Ok(first?),
     }

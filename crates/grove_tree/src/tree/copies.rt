@@ -11,7 +11,8 @@ impl Tree {
         ensures { IfOk result (λ copy. copy ≡ self.now) }
     {
         let root = copy_of(alloc, &self.root)?;
-        Ok(Tree { root })
+        let standings = Vec::from_slice(alloc, &self.standings)?;
+        Ok(Tree { root, standings })
     }
 
     /// Are the rows of both trees equal save for their weights?

@@ -1,4 +1,4 @@
 use Rattle.grove_run.proofs.batch.run_legal.Given as goal
 
-abbrev pub ghosts-run_as : goal.ghosts-run_as
-ghosts-run_as g a = record { tree = a.tree.now; jobs = a.jobs.now; opening = a.records.now }
+abbrev pub ghosts-do_together : goal.ghosts-do_together
+ghosts-do_together g a = record { tree = a.core.tree; jobs = a.core.jobs; opening = a.core.opening }

@@ -32,9 +32,8 @@ pub answer-requires-clause-room : goal.answer-requires-clause-room
 answer-requires-clause-room c =
     let next = rw (← c.self.view_is) at c.requires.next in
     let at : slice_get c.self.inside.progress.items c.args.txn ≡ Some c.index_mut-progress.result.now = progress_at _ _ _ _ _ _ _ _ c.self.invariant.0 c.args.txn (Access c.args.entry.now.number) next c.index_mut-progress.result.now c.index_mut-progress.ensures.value in
-    let room : length c.index_mut-progress.result.now.replies.items < vec_capacity c.index_mut-progress.result.now.replies =
+    let room : length c.index_mut-progress.result.now.replies.items < c.index_mut-progress.result.now.replies.capacity =
     reply_room _ _ _ _ _ _ _ _ c.self.invariant.0 c.args.txn c.args.entry.now.number next c.index_mut-progress.result.now at in
-    let f : vec_len c.index_mut-progress.result.now.replies ≡ length c.index_mut-progress.result.now.replies.items = c.index_mut-progress.result.now.replies.ok.0 in
     omega arith
 
 pub push_reserved-requires : goal.push_reserved-requires

@@ -31,8 +31,7 @@ pub lock-requires-clause-room : goal.lock-requires-clause-room
 lock-requires-clause-room c =
     let next = rw (← c.self.view_is) at c.requires.next in
     let at : slice_get c.self.inside.progress.items c.args.txn ≡ Some c.index_mut-progress.result.now = progress_at _ _ _ _ _ _ _ _ c.self.invariant.0 c.args.txn (Lock c.args.node) next c.index_mut-progress.result.now c.index_mut-progress.ensures.value in
-    let room : length c.index_mut-progress.result.now.locked.items < vec_capacity c.index_mut-progress.result.now.locked = lock_room _ _ _ _ _ _ _ _ c.self.invariant.0 c.args.txn (Lock c.args.node) next c.index_mut-progress.result.now at in
-    let e : vec_len c.index_mut-progress.result.now.locked ≡ length c.index_mut-progress.result.now.locked.items = c.index_mut-progress.result.now.locked.ok.0 in
+    let room : length c.index_mut-progress.result.now.locked.items < c.index_mut-progress.result.now.locked.capacity = lock_room _ _ _ _ _ _ _ _ c.self.invariant.0 c.args.txn (Lock c.args.node) next c.index_mut-progress.result.now at in
     omega arith
 
 pub index_mut-requires : goal.index_mut-requires
