@@ -4,14 +4,11 @@ ghost use Rattle.grove.specs.Answers.{status_of, printed, complained, IsListen, 
 ghost use Rattle.grove.specs.Endings.{stop_line, IsHintLine, IsReasonLine, MayHint, SaysRefusal, SaysStop, SaysWhy};
 
 use crate::connections::serve;
+use crate::host::Host;
 use crate::serving::Service;
 use grove_session::{DeviceFault, ReadFault, Sink, write_whole};
-use std::alloc::{AllocError, AllocFailed, AllocGlobal};
+use std::alloc::{AllocError, AllocFailed};
 use std::io;
-use std::random::RandomSource;
-use std::sync::Wait;
-use std::thread::Threads;
-use std::time::Clock;
 
 /// What a command prints, made whole before any of it is printed.
 #[derive(Drop)]
@@ -59,11 +56,7 @@ impl Response {
 }
 
 /// Prints the response, and gives the status of the process.
-pub fn end<
-    R: AllocGlobal + RandomSource + Threads + Wait + Clock + Eprint + Sync,
-    O: Sink,
-    E: Sink,
->(rt: &R, response: Response, out: &mut O, err: &mut E) -> u8
+pub fn end<R: Host, O: Sink, E: Sink>(rt: &R, response: Response, out: &mut O, err: &mut E) -> u8
     requires hint { IfSome response.hint (λ line. IsHintLine (string_bytes line)) }
     requires reason { IfSome response.reason (λ line. IsReasonLine (string_bytes line)) }
     ensures status { result ≤ 3 }
@@ -107,7 +100,7 @@ pub fn add<E: Sink>(line: &str, err: &mut E)
 }
 
 /// Prints the answer, or why there is none, and gives the status of the process.
-fn print<R: AllocGlobal + RandomSource + Threads + Wait + Clock + Eprint + Sync, O: Sink, E: Sink>(
+fn print<R: Host, O: Sink, E: Sink>(
     rt: &R,
     answer: Result<Answer, Stop>,
     reason: Option<String>,
@@ -196,11 +189,13 @@ fn complain<E: Sink>(text: &str, err: &mut E) -> u8
 
 /// Prints the line and serves, which ends only where a device fails.
 #[tactic(auto, using(crate::proofs::Printing::all_written, crate::proofs::Printing::cut_written))]
-fn say_and_serve<
-    R: AllocGlobal + RandomSource + Threads + Wait + Clock + Eprint + Sync,
-    O: Sink,
-    E: Sink,
->(rt: &R, line: &str, service: Service, out: &mut O, err: &mut E) -> u8
+fn say_and_serve<R: Host, O: Sink, E: Sink>(
+    rt: &R,
+    line: &str,
+    service: Service,
+    out: &mut O,
+    err: &mut E,
+) -> u8
     ensures status { result ≡ 3 }
     ensures said { O.has_failed out.new ≡ false → Appends (O.contents out.old) (O.contents out.new) line.now }
     ensures part { (count : ℕ) × Appends (O.contents out.old) (O.contents out.new) (take count line.now) }

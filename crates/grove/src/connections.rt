@@ -1,17 +1,15 @@
 ghost use Rattle.std.specs.Prelude.{◌≡◌, false};
 
+use crate::host::Host;
 use crate::minutes::tell_minutes;
 use crate::seats::Seats;
 use crate::serving::Service;
 use crate::talking::{Caller, serve_caller};
 use grove_desk::{Desk, Opening};
 use grove_session::{WriterSink, write_whole};
-use std::alloc::AllocGlobal;
 use std::marker::Brand;
 use std::net::{Shutdown, SocketAddr, TcpListener, TcpStream};
-use std::random::RandomSource;
 use std::sync::Wait;
-use std::thread::Threads;
 use std::time::Clock;
 use std::{io, thread};
 
@@ -25,18 +23,12 @@ const BUSY_LINE: &[u8] = b"{\"error\":\"busy\"}\n";
 
 /// Serves connections, as many at once as there are seats, until one can't be accepted and the others have ended. A
 /// connection that there is no descriptor for waits for one; one that no thread can be started for is closed.
-pub fn serve<R: Threads + Wait + Clock + Eprint + Sync + AllocGlobal + RandomSource>(
-    rt: &R,
-    service: Service,
-) {
+pub fn serve<R: Host>(rt: &R, service: Service) {
     serve_as::<Brand, R>(rt, service);
 }
 
 /// Serves connections at a desk over the service's store, which keeps no journal.
-fn serve_as<
-    B: Opening + Send + Sync,
-    R: Threads + Wait + Clock + Eprint + Sync + AllocGlobal + RandomSource,
->(rt: &R, service: Service)
+fn serve_as<B: Opening + Send + Sync, R: Host>(rt: &R, service: Service)
     requires store { service.store ≡ B.store }
     requires kept { B.kept ≡ false }
 {
@@ -51,10 +43,12 @@ fn serve_as<
 }
 
 /// Serves the listener's connections at the desk, each in its seat.
-fn serve_at<
-    B: Opening + Send + Sync,
-    R: Threads + Wait + Clock + Eprint + Sync + AllocGlobal + RandomSource,
->(rt: &R, desk: &Desk<B>, seats: &Seats, listener: &TcpListener) {
+fn serve_at<B: Opening + Send + Sync, R: Host>(
+    rt: &R,
+    desk: &Desk<B>,
+    seats: &Seats,
+    listener: &TcpListener,
+) {
     thread::scope(thread::scope_env(), rt, |scope| {
         if seats.log().is_some() {
             let _told = scope.spawn(move || tell_minutes(rt, desk, seats));

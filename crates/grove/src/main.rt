@@ -6,16 +6,11 @@ use asking::ask;
 use command::{refused_words, run_command, say_what_is_awaited};
 use grove_session::{ReaderSource, Sink, Source, WriterSink};
 use grove_words::{Command, NoOrder, Order, order_of};
-use std::alloc::{AllocGlobal, Global};
+use host::System;
+use std::alloc::Global;
 use std::env;
 use std::io::{ErrorKind, IsTerminal};
-use std::net::{Net, TcpListener, TcpStream};
 use std::process::ExitCode;
-use std::random::RandomSource;
-use std::rt::Files;
-use std::sync::Wait;
-use std::thread::Threads;
-use std::time::Clock;
 
 mod answer;
 mod asking;
@@ -26,6 +21,7 @@ mod failure;
 mod file_source;
 mod guest;
 mod hinting;
+mod host;
 mod log;
 mod minutes;
 mod refusal;
@@ -67,20 +63,13 @@ fn main(rt: HostRuntime) -> ExitCode {
 }
 
 /// Does what the words ask, of a server or of a document.
-fn obey<
-    R: Files
-        + AllocGlobal
-        + RandomSource
-        + Net<Listener = TcpListener, Stream = TcpStream>
-        + Threads
-        + Wait
-        + Clock
-        + Eprint
-        + Sync,
-    I: Source,
-    O: Sink,
-    E: Sink,
->(rt: &R, words: &[String], input: &mut I, out: &mut O, err: &mut E) -> u8 {
+fn obey<R: System, I: Source, O: Sink, E: Sink>(
+    rt: &R,
+    words: &[String],
+    input: &mut I,
+    out: &mut O,
+    err: &mut E,
+) -> u8 {
     match order_of(rt.alloc(), words) {
         Ok(
             order @ Order {

@@ -1,3 +1,4 @@
+use crate::host::Host;
 use crate::log::Log;
 use crate::seats::Seats;
 use grove_base::NoMemory;
@@ -5,17 +6,13 @@ use grove_desk::{Desk, Opening};
 use grove_store::Store;
 use std::alloc::AllocGlobal;
 use std::sync::Wait;
-use std::time::{Clock, Duration};
+use std::time::Duration;
 
 /// How many seconds a minute has.
 const MINUTE: u64 = 60;
 
 /// Tells of each minute in which lines were answered, until no more connections are taken.
-pub fn tell_minutes<B: Opening, R: Wait + Clock + Eprint + AllocGlobal>(
-    rt: &R,
-    desk: &Desk<B>,
-    seats: &Seats,
-) {
+pub fn tell_minutes<B: Opening, R: Host>(rt: &R, desk: &Desk<B>, seats: &Seats) {
     let Some(log) = seats.log() else {
         return;
     };

@@ -1,22 +1,17 @@
-ghost use Rattle.std.specs.Prelude.{◌≡◌, ◌<◌, ◌^◌, false};
-
 use crate::ending::Ending;
 use crate::guest::Guest;
+use crate::host::Host;
 use crate::seats::Seats;
 use crate::serving::Talk;
 use crate::timed_stream::TimedStream;
-use crate::watching::{WatchedDesk, watched_session};
-use grove_desk::{Desk, Opening, desk_session};
+use crate::watching::{WatchedDesk, session_at};
+use grove_desk::{Desk, Opening};
 use grove_page::{PAGE, serve_page};
-use grove_session::{ReaderSource, SessionFault, Sink, Source, WriterSink};
-use std::alloc::AllocGlobal;
+use grove_session::{ReaderSource, SessionFault, WriterSink};
 use std::cell::Cell;
 use std::hash::RandomState;
 use std::net::TcpStream;
-use std::random::RandomSource;
-use std::sync::Wait;
-use std::thread::Threads;
-use std::time::{Clock, Duration};
+use std::time::Duration;
 
 /// A connection that was taken.
 #[derive(Drop)]
@@ -28,10 +23,7 @@ pub struct Caller {
 
 /// A session, or requests, over the connection, which is closed then and leaves its seat. What ends it ends it alone, and
 /// nobody is left there to be told of it.
-pub fn serve_caller<
-    B: Opening,
-    R: Threads + Wait + Clock + Eprint + Sync + AllocGlobal + RandomSource,
->(rt: &R, desk: &Desk<B>, seats: &Seats, caller: Caller) {
+pub fn serve_caller<B: Opening, R: Host>(rt: &R, desk: &Desk<B>, seats: &Seats, caller: Caller) {
     let Caller { stream, number } = caller;
     // No reply is to wait until the one before it has arrived.
     let _at_once = stream.set_nodelay(true);
@@ -51,7 +43,7 @@ pub fn serve_caller<
 }
 
 /// Talks over the stream what is talked there.
-fn talk<B: Opening, R: Threads + Wait + Clock + Eprint + Sync + AllocGlobal + RandomSource>(
+fn talk<B: Opening, R: Host>(
     rt: &R,
     desk: &Desk<B>,
     seats: &Seats,
@@ -60,26 +52,18 @@ fn talk<B: Opening, R: Threads + Wait + Clock + Eprint + Sync + AllocGlobal + Ra
 ) -> Ending {
     let idle = seats.patience().idle;
     match (seats.talk(), idle) {
-        (Talk::Lines, None) => answer_connection(rt, desk, stream, guest),
+        (Talk::Lines, None) => {
+            let mut source = ReaderSource::new(stream);
+            let sink = WriterSink::new(stream);
+            Ending::of_session(session_at(rt, desk, guest, &mut source, sink))
+        }
         (Talk::Lines, Some(seconds)) => answer_in_time(rt, desk, stream, guest, seconds),
         (Talk::Requests, _) => answer_requests(rt, desk, stream, guest, idle),
     }
 }
 
-/// A session over the stream, which may idle for ever.
-fn answer_connection<B: Opening, R: Threads + Wait + Eprint + Sync + AllocGlobal>(
-    rt: &R,
-    desk: &Desk<B>,
-    stream: &TcpStream,
-    guest: Option<&Guest<'_>>,
-) -> Ending {
-    let mut source = ReaderSource::new(stream);
-    let sink = WriterSink::new(stream);
-    Ending::of_session(answer_lines(rt, desk, guest, &mut source, sink))
-}
-
 /// A session over the stream, which may idle for so many seconds. A client that takes nothing of its replies idles too.
-fn answer_in_time<B: Opening, R: Threads + Wait + Clock + Eprint + Sync + AllocGlobal>(
+fn answer_in_time<B: Opening, R: Host>(
     rt: &R,
     desk: &Desk<B>,
     stream: &TcpStream,
@@ -93,14 +77,14 @@ fn answer_in_time<B: Opening, R: Threads + Wait + Clock + Eprint + Sync + AllocG
     let is_late = Cell::new(false);
     let mut source = ReaderSource::new(TimedStream::new(rt, stream, longest, &is_late));
     let sink = WriterSink::new(stream);
-    match answer_lines(rt, desk, guest, &mut source, sink) {
+    match session_at(rt, desk, guest, &mut source, sink) {
         Err(SessionFault::Read) if is_late.get() => Ending::Idle(seconds),
         ended => Ending::of_session(ended),
     }
 }
 
 /// Requests of HTTP over the stream, which may send nothing for so many seconds, or for ever.
-fn answer_requests<B: Opening, R: Threads + Wait + Eprint + Sync + AllocGlobal + RandomSource>(
+fn answer_requests<B: Opening, R: Host>(
     rt: &R,
     desk: &Desk<B>,
     stream: &TcpStream,
@@ -124,30 +108,4 @@ fn answer_requests<B: Opening, R: Threads + Wait + Eprint + Sync + AllocGlobal +
         None => serve_page(rt, desk, PAGE, keys, &mut reader, &mut writer),
     };
     Ending::of_requests(ended, idle)
-}
-
-/// A session at the desk, whose guest is told of, if there is one.
-fn answer_lines<
-    B: Opening,
-    R: Threads + Wait + Eprint + Sync + AllocGlobal,
-    I: Source,
-    O: Sink + Drop,
->(
-    rt: &R,
-    desk: &Desk<B>,
-    guest: Option<&Guest<'_>>,
-    source: &mut I,
-    sink: O,
-) -> Result<u64, SessionFault>
-    requires sound_source { I.has_failed source.old ≡ false }
-    requires sound_sink { O.has_failed sink ≡ false }
-    requires reads { I.read_count source.old < 2 ^ 63 }
-{
-    match guest {
-        Some(guest) => watched_session(rt, desk, guest, source, sink),
-        None => {
-            let mut sink = sink;
-            desk_session(rt, desk, source, &mut sink)
-        }
-    }
 }

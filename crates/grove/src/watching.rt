@@ -3,8 +3,9 @@ ghost use Rattle.std.specs.Prelude.{◌≡◌, ◌<◌, ◌^◌, false};
 ghost use Rattle.grove_tree.specs.Weights.{unweighed};
 
 use crate::guest::Guest;
+use crate::host::Host;
 use crate::watched_sink::WatchedSink;
-use grove_desk::{Desk, Opening, Visit};
+use grove_desk::{Desk, Opening, Visit, desk_session};
 use grove_page::{Front, RepliesSink};
 use grove_session::{AnswerFault, Answers, SessionFault, Sink, Source, session};
 use grove_store::Store;
@@ -13,7 +14,6 @@ use std::alloc::AllocGlobal;
 use std::marker::Model;
 use std::str::from_utf8;
 use std::sync::Wait;
-use std::thread::Threads;
 
 /// A visitor of a desk who is told of.
 #[derive(Drop)]
@@ -42,8 +42,7 @@ impl<'a, B: Opening> WatchedVisit<'a, B> {
     }
 }
 
-impl<'a, B: Opening, R: Threads + Wait + Eprint + Sync + AllocGlobal> Answers<R>
-    for WatchedVisit<'a, B> {
+impl<'a, B: Opening, R: Host> Answers<R> for WatchedVisit<'a, B> {
     ghost use Rattle.std.specs.Prelude.{true};
     ghost use Rattle.std.specs.Thread.{IsSync};
     ghost use Rattle.grove_desk.specs.Desks.{IsShared};
@@ -69,20 +68,26 @@ fn error_name(reply: &[u8]) -> Option<&str> {
     from_utf8(name).ok()
 }
 
-/// Answers the lines of the source at the desk, as `desk_session` does, and tells of them.
-pub fn watched_session<
-    B: Opening,
-    R: Threads + Wait + Eprint + Sync + AllocGlobal,
-    I: Source,
-    O: Sink + Drop,
->(rt: &R, desk: &Desk<B>, guest: &Guest<'_>, source: &mut I, sink: O) -> Result<u64, SessionFault>
+/// Answers the lines of the source at the desk, as `desk_session` does, and tells of them where there is a guest.
+pub fn session_at<B: Opening, R: Host, I: Source, O: Sink + Drop>(
+    rt: &R,
+    desk: &Desk<B>,
+    guest: Option<&Guest<'_>>,
+    source: &mut I,
+    mut sink: O,
+) -> Result<u64, SessionFault>
     requires sound_source { I.has_failed source.old ≡ false }
     requires sound_sink { O.has_failed sink ≡ false }
     requires reads { I.read_count source.old < 2 ^ 63 }
 {
-    let mut visit = WatchedVisit::new(desk, guest);
-    let mut watched = WatchedSink::new(rt, guest, sink);
-    session(rt, &mut visit, source, &mut watched)
+    match guest {
+        Some(guest) => {
+            let mut visit = WatchedVisit::new(desk, guest);
+            let mut watched = WatchedSink::new(rt, guest, sink);
+            session(rt, &mut visit, source, &mut watched)
+        }
+        None => desk_session(rt, desk, source, &mut sink),
+    }
 }
 
 /// A desk to which a guest's requests go.
@@ -106,21 +111,15 @@ impl<'a, B: Opening> WatchedDesk<'a, B> {
     }
 }
 
-impl<'a, B: Opening, R: Threads + Wait + Eprint + Sync + AllocGlobal> Front<R>
-    for WatchedDesk<'a, B> {
+impl<'a, B: Opening, R: Host> Front<R> for WatchedDesk<'a, B> {
     ghost use Rattle.std.specs.Thread.{IsSync};
 
     ghost opening = { λ watched. watched.opening };
 
     ghost asks = { IsSync R.row };
 
-    fn answer_lines(
-        &self,
-        rt: &R,
-        lines: &[u8],
-        sink: &mut RepliesSink,
-    ) -> Result<u64, SessionFault> {
-        let ended = Front::answer_lines(self.desk, rt, lines, sink);
+    fn answer(&self, rt: &R, lines: &[u8], sink: &mut RepliesSink) -> Result<u64, SessionFault> {
+        let ended = Front::answer(self.desk, rt, lines, sink);
         tell_replies(rt, self.guest, lines, sink.bytes());
         ended
     }

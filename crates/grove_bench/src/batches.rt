@@ -165,6 +165,15 @@ fn time_long_runs<R: Runtime + Threads + Wait + Sync>(rt: &R, alloc: Global) -> 
     time_runs(rt, alloc, "run-long", &tree, &jobs, LONG_RUNS)
 }
 
+/// Jobs over a tree's records, and how many workers run them.
+#[derive(Clone, Copy)]
+pub struct Setting<'a> {
+    pub tree: &'a Tree,
+    pub records: &'a Records,
+    pub jobs: &'a [Job],
+    pub workers: usize,
+}
+
 fn time_runs<R: Runtime + Threads + Wait + Sync>(
     rt: &R,
     alloc: Global,
@@ -179,7 +188,13 @@ fn time_runs<R: Runtime + Threads + Wait + Sync>(
     }
     judge_all(alloc, tree, jobs)?;
     for workers in [1, 2, 4] {
-        let spent = times_of(rt, alloc, tree, &records, jobs, workers, runs)?;
+        let setting = Setting {
+            tree,
+            records: &records,
+            jobs,
+            workers,
+        };
+        let spent = times_of(rt, alloc, setting, runs)?;
         tell_each(rt, what, workers, &spent)?;
     }
     Ok(())
@@ -189,18 +204,16 @@ fn time_runs<R: Runtime + Threads + Wait + Sync>(
 fn times_of<R: Runtime + Threads + Wait + Sync>(
     rt: &R,
     alloc: Global,
-    tree: &Tree,
-    records: &Records,
-    jobs: &[Job],
-    workers: usize,
+    setting: Setting<'_>,
     runs: u32,
 ) -> Result<Vec<Duration>>
-    requires { AllLegal tree.now jobs.now × (length records.now ≡ length tree.now) × (length jobs.now ≤ 256) }
+    requires legal { AllLegal setting.tree.now setting.jobs.now }
+    requires fits { (length setting.records.now ≡ length setting.tree.now) × (length setting.jobs.now ≤ 256) }
 {
-    let _cold = time_legal(rt, alloc, tree, records, jobs, workers, &OpenGate)?;
+    let _cold = time_legal(rt, alloc, setting, &OpenGate)?;
     let mut spent = Vec::new(alloc);
     for _run in 0..runs {
-        let (time, _events) = time_legal(rt, alloc, tree, records, jobs, workers, &OpenGate)?;
+        let (time, _events) = time_legal(rt, alloc, setting, &OpenGate)?;
         spent.push(time)?;
     }
     Ok(spent)
@@ -217,30 +230,37 @@ fn tell_each<R: Print>(rt: &R, what: &str, workers: usize, spent: &[Duration]) -
 pub fn time_run<R: Runtime + Threads + Wait + Sync, G: Gate + Sync>(
     rt: &R,
     alloc: Global,
-    tree: &Tree,
-    records: &Records,
-    jobs: &[Job],
-    workers: usize,
+    setting: Setting<'_>,
     gate: &G,
 ) -> Result<(Duration, usize)> {
+    let Setting {
+        tree,
+        records,
+        jobs,
+        ..
+    } = setting;
     if !records.fits(tree) || !all_fit(tree, jobs) || jobs.len() > BATCH as usize {
         bail!("the jobs don't fit");
     }
     judge_all(alloc, tree, jobs)?;
-    time_legal(rt, alloc, tree, records, jobs, workers, gate)
+    time_legal(rt, alloc, setting, gate)
 }
 
 fn time_legal<R: Runtime + Threads + Wait + Sync, G: Gate + Sync>(
     rt: &R,
     alloc: Global,
-    tree: &Tree,
-    records: &Records,
-    jobs: &[Job],
-    workers: usize,
+    setting: Setting<'_>,
     gate: &G,
 ) -> Result<(Duration, usize)>
-    requires { AllLegal tree.now jobs.now × (length records.now ≡ length tree.now) × (length jobs.now ≤ 256) }
+    requires legal { AllLegal setting.tree.now setting.jobs.now }
+    requires fits { (length setting.records.now ≡ length setting.tree.now) × (length setting.jobs.now ≤ 256) }
 {
+    let Setting {
+        tree,
+        records,
+        jobs,
+        workers,
+    } = setting;
     let since = Instant::now(rt)?;
     let finished = run_legal(rt, alloc, tree, records, jobs, workers, gate)?;
     measured(since.elapsed(rt), &finished)

@@ -5,7 +5,7 @@ mod plans;
 mod shapes;
 mod work;
 
-use crate::batches::time_run;
+use crate::batches::{Setting, time_run};
 use crate::running::zeros;
 use anyhow::{Result, ensure};
 use grove_access::AccessList;
@@ -105,10 +105,16 @@ fn least_time<R: Runtime + Threads + Wait + Sync>(
     workers: usize,
 ) -> Result<Duration> {
     let records = zeros(alloc, tree.len())?;
+    let setting = Setting {
+        tree,
+        records: &records,
+        jobs,
+        workers,
+    };
     let work = Work { rt, jobs };
     let mut least = Duration::MAX;
     for _run in 0..RUNS {
-        let (spent, _events) = time_run(rt, alloc, tree, &records, jobs, workers, &work)?;
+        let (spent, _events) = time_run(rt, alloc, setting, &work)?;
         least = least.min(spent);
     }
     Ok(least)

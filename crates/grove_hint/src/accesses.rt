@@ -51,8 +51,9 @@ pub(crate) fn access_amiss(
             let first_of = format!(in alloc; "the operation of {place}")?;
             unfit(alloc, &first_of, first, r#""get", "set", "add" or "take""#)
         }
-        Some("get") => operands_amiss(alloc, place, has_lengths, operands),
-        Some("set" | "add" | "take") => numbered_amiss(alloc, place, has_lengths, operands),
+        Some(operation @ ("get" | "set" | "add" | "take")) => {
+            operands_amiss(alloc, place, has_lengths, operation, operands)
+        }
         Some(word) => no_operation(alloc, place, word),
     }
 }
@@ -69,36 +70,24 @@ fn no_operation(alloc: Global, place: &str, word: &str) -> Result<String, NoMemo
     )?)
 }
 
-/// What is amiss after `get`.
+/// What is amiss after the name of an operation.
 fn operands_amiss(
     alloc: Global,
     place: &str,
     has_lengths: bool,
+    operation: &str,
     operands: &[Value],
 ) -> Result<String, NoMemory> {
-    match operands {
-        [] => Ok(format!(in alloc; "{place} has no path")?),
-        [path, ..] if !path.is_string() => path_amiss(alloc, place, path),
-        [_path, lengths @ ..] => length_amiss(alloc, place, has_lengths, lengths),
-    }
-}
-
-/// What is amiss after `set`, `add` or `take`.
-fn numbered_amiss(
-    alloc: Global,
-    place: &str,
-    has_lengths: bool,
-    operands: &[Value],
-) -> Result<String, NoMemory> {
-    match operands {
-        [] => Ok(format!(in alloc; "{place} has no path")?),
-        [path, ..] if !path.is_string() => path_amiss(alloc, place, path),
-        [_path] => Ok(format!(in alloc; "{place} has no number after its path")?),
-        [_path, number, ..] if !number.is_i64() => {
+    match (operation, operands) {
+        (_, []) => Ok(format!(in alloc; "{place} has no path")?),
+        (_, [path, ..]) if !path.is_string() => path_amiss(alloc, place, path),
+        ("get", [_path, lengths @ ..]) => length_amiss(alloc, place, has_lengths, lengths),
+        (_, [_path]) => Ok(format!(in alloc; "{place} has no number after its path")?),
+        (_, [_path, number, ..]) if !number.is_i64() => {
             let member = format!(in alloc; "the number of {place}")?;
             unfit(alloc, &member, number, Kind::Signed.wanted())
         }
-        [_path, _number, lengths @ ..] => length_amiss(alloc, place, has_lengths, lengths),
+        (_, [_path, _number, lengths @ ..]) => length_amiss(alloc, place, has_lengths, lengths),
     }
 }
 

@@ -10,7 +10,6 @@ use crate::shapes::shape_amiss;
 use crate::shown::words;
 use crate::trees::{row_amiss, tree_amiss};
 use grove_base::NoMemory;
-use grove_wire::Place;
 use serde_json::Value;
 use std::alloc::Global;
 
@@ -52,13 +51,11 @@ fn placed_amiss(
     let Some(place) = place_of(place) else {
         return unknown(alloc);
     };
+    let shown = format!(in alloc; "{place}")?;
     match (fault, value_at(document, place)) {
         ("limit", _) => items_beyond(alloc, document, place),
-        ("no-path", Some(value)) => path_at(alloc, document, place, value),
-        ("bad-length", Some(value)) => {
-            let shown = format!(in alloc; "{place}")?;
-            length_beyond(alloc, &shown, value)
-        }
+        ("no-path", Some(value)) => path_at(alloc, document, &shown, value),
+        ("bad-length", Some(value)) => length_beyond(alloc, &shown, value),
         _ => shape_amiss(alloc, asked, document, place),
     }
 }
@@ -66,12 +63,11 @@ fn placed_amiss(
 fn path_at(
     alloc: Global,
     document: &Value,
-    place: Place,
+    shown: &str,
     value: &Value,
 ) -> Result<String, NoMemory> {
-    let shown = format!(in alloc; "{place}")?;
     match (path_in(value), document.get("nodes")) {
-        (Some(path), Some(Value::Array(rows))) => path_amiss(alloc, &shown, rows, path),
+        (Some(path), Some(Value::Array(rows))) => path_amiss(alloc, shown, rows, path),
         _ => unknown(alloc),
     }
 }

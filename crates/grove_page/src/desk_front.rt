@@ -14,12 +14,7 @@ impl<B: Opening, R: Threads + Wait + Sync + AllocGlobal> Front<R> for Desk<B> {
 
     ghost asks = { IsSync R.row };
 
-    fn answer_lines(
-        &self,
-        rt: &R,
-        lines: &[u8],
-        sink: &mut RepliesSink,
-    ) -> Result<u64, SessionFault> {
+    fn answer(&self, rt: &R, lines: &[u8], sink: &mut RepliesSink) -> Result<u64, SessionFault> {
         let mut visit = Visit::new(self);
         let mut source = BytesSource::new(lines);
         session(rt, &mut visit, &mut source, sink)

@@ -17,12 +17,7 @@ pub trait Front<R> {
     ghost asks: { Type 0 };
 
     /// Answers the lines of the bytes, one after the other, each with its reply and a line feed, and gives their number.
-    fn answer_lines(
-        &self,
-        rt: &R,
-        lines: &[u8],
-        sink: &mut RepliesSink,
-    ) -> Result<u64, SessionFault>
+    fn answer(&self, rt: &R, lines: &[u8], sink: &mut RepliesSink) -> Result<u64, SessionFault>
         requires asks { asks }
         requires empty { ⟦<RepliesSink as Sink>⟧.contents sink.old ≡ Some [] }
         requires sound { ⟦<RepliesSink as Sink>⟧.has_failed sink.old ≡ false }

@@ -80,7 +80,7 @@ impl<'a, R: AllocGlobal, F: Front<R>> PageService<'a, R, F> {
     {
         match RepliesSink::new(self.rt.alloc()) {
             Ok(mut sink) => {
-                let ended = self.front.answer_lines(self.rt, lines, &mut sink);
+                let ended = self.front.answer(self.rt, lines, &mut sink);
                 fill_replies(response, ended, sink.bytes())
             }
             Err(NoMemory) => fill_json(response, StatusCode::SERVICE_UNAVAILABLE, NO_MEMORY),

@@ -65,10 +65,16 @@ plan_read jobs seen t job steps same lt is are =
     are ∙ ap (λ (j : Job). j.plan) (sym is) ∙ sym (plan_of_at jobs t job (read_at jobs t job lt here))
 
 -- the node of a lock that is read there is one of the tree
-pub lock_within : (rows : Rows) (jobs : List Job) → AllLegal rows jobs → (t : ℕ) → t < length jobs → (place node : ℕ) (steps : List Step) (step : Step) → steps ≡ plan_of jobs t
+lock_within : (rows : Rows) (jobs : List Job) → AllLegal rows jobs → (t : ℕ) → t < length jobs → (place node : ℕ) (steps : List Step) (step : Step) → steps ≡ plan_of jobs t
     → slice_get steps place ≡ Some step → step ≡ Lock node → node < length rows
 lock_within rows jobs legal t lt place node steps step same read is =
     (legal t lt).obeys.locks_nodes place node (ap (λ (ss : List Step). slice_get ss place) (sym same) ∙ read ∙ ap (λ (s : Step). Some s) is)
+
+-- so the node of a lock that is read in a job's plan is one of the tree
+pub locked_within : (rows : Rows) (jobs seen : List Job) → AllLegal rows jobs → (t : ℕ) (job : Job) (steps : List Step) → seen ≡ jobs → t < length jobs → job ≡ get_or seen t job → steps ≡ (get_or seen t job).plan
+    → (place node : ℕ) (step : Step) → slice_get steps place ≡ Some step → step ≡ Lock node → node < length rows
+locked_within rows jobs seen legal t job steps same lt is are place node step read lock =
+    lock_within rows jobs legal t lt place node steps step (plan_read jobs seen t job steps same lt is are) read lock
 
 -- the nodes that the plans of the first jobs lock have what is new of them
 abbrev pub HaveAdded : (ℕ → ℕ) → List Job → ℕ → List ℕ → Type 0

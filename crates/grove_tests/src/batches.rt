@@ -1,7 +1,7 @@
 use crate::fixtures::{A, B, ROOT, access, leaves_below, lock, read, unlock};
 use crate::meeting::Meeting;
 use crate::roll::Roll;
-use crate::scripts::alone;
+use crate::scripts::{alone, downwards};
 use grove_access::{Access, AccessList, Op};
 use grove_build::{Planned, plan_batch};
 use grove_plan::Step;
@@ -73,20 +73,12 @@ fn any_number_of_workers_plans_each_list_once(rt: HostRuntime) {
         Step::Access(2),
         unlock(A),
     ];
-    let downwards = [
-        lock(ROOT),
-        Step::Access(0),
-        lock(A),
-        unlock(ROOT),
-        Step::Access(1),
-        unlock(A),
-    ];
     let batch: [Worked; 5] = [
         (&[], &[], 0),
         (&[read(A, 1)], &alone(A), 1),
         (&[read(A, 1), read(B, 1)], &one_leaf_after_the_other(), 3),
         (&[read(A, 1), read(B, 1), read(A, 1)], &back_again, 5),
-        (&[read(ROOT, 1), read(A, 1)], &downwards, 6),
+        (&[read(ROOT, 1), read(A, 1)], &downwards(), 6),
     ];
     for workers in [1, 2, 3, 16] {
         let roll = Roll::new();

@@ -1,8 +1,15 @@
 use grove_access::{Access, Op};
 use grove_plan::Step;
 use grove_tree::{Node, Row, Tree};
-use std::alloc::Global;
+use std::alloc::{AllocGlobal, Global};
 use std::process::Abort;
+use std::sync::Wait;
+use std::thread::Threads;
+
+/// What a test's threads are given: memory, threads of their own, and leave to wait and to fail.
+pub trait Host: AllocGlobal + Abort + Threads + Wait + Sync {}
+
+impl<R: AllocGlobal + Abort + Threads + Wait + Sync> Host for R {}
 
 /// The root of the trees with two leaves.
 pub const ROOT: u32 = 0;

@@ -1,16 +1,15 @@
 ghost use Rattle.std.specs.Prelude.{◌≡◌, true};
 
-use crate::desks::{close, has_calls_of, small_store};
+use crate::desks::{close_after, small_store};
+use crate::fixtures::Host;
 use crate::hold::{Hold, MOST_LOOKS, get_held};
 use grove_desk::{Desk, Opening};
 use grove_store::Store;
 use grove_tree::OpenGate;
-use std::alloc::Global;
 use std::marker::Brand;
-use std::process::Abort;
 use std::sync::Wait;
 use std::thread;
-use std::thread::{Threads, yield_now};
+use std::thread::yield_now;
 
 /// How often it is looked whether one more is put where there is no room.
 const LOOKS_ON: u32 = 10_000;
@@ -40,29 +39,19 @@ fn stays_full<B: Opening, R: Wait>(rt: &R, desk: &Desk<B>) -> bool {
 }
 
 /// Asks beside the round that is held.
-fn add<B: Opening, R: Abort + Threads + Wait + Sync>(
-    rt: &R,
-    alloc: Global,
-    desk: &Desk<B>,
-    hold: &Hold,
-) {
+fn add<B: Opening, R: Host>(rt: &R, desk: &Desk<B>, hold: &Hold) {
     hold.come();
-    let answered = desk.answer(rt, alloc, None, ADD, &OpenGate);
+    let answered = desk.answer(rt, rt.alloc(), None, ADD, &OpenGate);
     assert!(rt; answered.is_ok());
 }
 
 /// Seventeen ask beside a round that is held until there is no room for a further line.
-fn ask_beside<B: Opening + Send + Sync, R: Abort + Threads + Wait + Sync>(
-    rt: &R,
-    alloc: Global,
-    desk: &Desk<B>,
-    hold: &Hold,
-) {
+fn seventeen_beside<B: Opening + Send + Sync, R: Host>(rt: &R, desk: &Desk<B>, hold: &Hold) {
     thread::scope(thread::scope_env(), rt, |scope| {
-        let holds = scope.spawn(move || drop(get_held(rt, alloc, desk, hold)));
+        let holds = scope.spawn(move || drop(get_held(rt, desk, hold)));
         assert!(rt; holds.is_ok() && hold.is_reached());
         for _ in 0..17 {
-            let asks = scope.spawn(move || add(rt, alloc, desk, hold));
+            let asks = scope.spawn(move || add(rt, desk, hold));
             assert!(rt; asks.is_ok());
         }
         assert!(rt; is_full(rt, desk, hold) && stays_full(rt, desk));
@@ -72,22 +61,17 @@ fn ask_beside<B: Opening + Send + Sync, R: Abort + Threads + Wait + Sync>(
 
 #[test]
 fn no_more_than_16_lines_wait_and_the_next_one_is_answered_later(rt: HostRuntime) {
-    let store = small_store(&rt, rt.alloc(), 1);
-    seventeen_ask::<Brand, HostRuntime>(&rt, rt.alloc(), store);
+    let store = small_store(&rt, 1);
+    seventeen_ask::<Brand, HostRuntime>(&rt, store);
 }
 
-fn seventeen_ask<B: Opening + Send + Sync, R: Abort + Threads + Wait + Sync>(
-    rt: &R,
-    alloc: Global,
-    store: Store,
-)
+fn seventeen_ask<B: Opening + Send + Sync, R: Host>(rt: &R, store: Store)
     requires store { store ≡ B.store }
     requires kept { B.kept ≡ true }
 {
-    let desk = Desk::<B>::open(alloc, store, true);
+    let desk = Desk::<B>::open(rt.alloc(), store, true);
     let hold = Hold::new();
-    ask_beside(rt, alloc, &desk, &hold);
+    seventeen_beside(rt, &desk, &hold);
     assert!(rt; !hold.gave_up());
-    let closed = close(rt, alloc, desk, &[]);
-    has_calls_of(rt, &closed, 3, &[1, 16, 1]);
+    close_after(rt, desk, &[], 3, &[1, 16, 1]);
 }

@@ -1,10 +1,8 @@
+use crate::fixtures::Host;
 use grove_desk::{Desk, Opening, Receipt};
 use grove_tree::Gate;
-use std::alloc::Global;
-use std::process::Abort;
-use std::sync::Wait;
 use std::sync::atomic::{AtomicBool, AtomicU32, Ordering};
-use std::thread::{Threads, yield_now};
+use std::thread::yield_now;
 
 /// How often anybody looks.
 pub const MOST_LOOKS: u32 = 20_000_000;
@@ -86,13 +84,8 @@ impl Gate for Hold {
 }
 
 /// Asks for a round that is held.
-pub fn get_held<B: Opening, R: Abort + Threads + Wait + Sync>(
-    rt: &R,
-    alloc: Global,
-    desk: &Desk<B>,
-    hold: &Hold,
-) -> Receipt {
-    let answered = desk.answer(rt, alloc, None, GET, hold);
+pub fn get_held<B: Opening, R: Host>(rt: &R, desk: &Desk<B>, hold: &Hold) -> Receipt {
+    let answered = desk.answer(rt, rt.alloc(), None, GET, hold);
     hold.is_over.store(true, Ordering::SeqCst);
     answered.expect(rt, "a receipt")
 }

@@ -1,17 +1,16 @@
 ghost use Rattle.std.specs.Prelude.{◌≡◌, true};
 
-use crate::desks::{close, has_calls_of, small_store};
+use crate::desks::{close_after, small_store};
+use crate::fixtures::Host;
 use crate::hold::{Hold, MOST_LOOKS, get_held};
 use grove_desk::{Desk, Opening};
 use grove_session::LINE_LIMIT;
 use grove_store::Store;
 use grove_tree::OpenGate;
-use std::alloc::Global;
 use std::marker::Brand;
-use std::process::Abort;
 use std::sync::Wait;
 use std::thread;
-use std::thread::{Threads, yield_now};
+use std::thread::yield_now;
 
 const ADD: &[u8] = b"{\"batch\":[[[\"add\",\"/b\",1]]]}";
 
@@ -37,33 +36,23 @@ fn lines_wait<B: Opening, R: Wait>(rt: &R, desk: &Desk<B>, lines: u32) -> bool {
 }
 
 /// Asks with the line of this turn, and gets its receipt.
-fn ask<B: Opening, R: Abort + Threads + Wait + Sync>(
-    rt: &R,
-    alloc: Global,
-    desk: &Desk<B>,
-    turn: u32,
-) {
+fn ask<B: Opening, R: Host>(rt: &R, desk: &Desk<B>, turn: u32) {
     assert!(rt; turn < 3);
     let (line, reply) = LINES[turn as usize];
     assert!(rt; line.len() <= LINE_LIMIT);
-    let answered = desk.answer(rt, alloc, None, line, &OpenGate);
+    let answered = desk.answer(rt, rt.alloc(), None, line, &OpenGate);
     let receipt = answered.expect(rt, "a receipt");
     assert!(rt; receipt.number == u64::from(turn) + 1);
     assert!(rt; receipt.reply.as_slice() == reply);
 }
 
 /// Three ask, one after the other, beside a round that is held until all three wait.
-fn ask_beside<B: Opening + Send + Sync, R: Abort + Threads + Wait + Sync>(
-    rt: &R,
-    alloc: Global,
-    desk: &Desk<B>,
-    hold: &Hold,
-) {
+fn three_beside<B: Opening + Send + Sync, R: Host>(rt: &R, desk: &Desk<B>, hold: &Hold) {
     thread::scope(thread::scope_env(), rt, |scope| {
-        let holds = scope.spawn(move || drop(get_held(rt, alloc, desk, hold)));
+        let holds = scope.spawn(move || drop(get_held(rt, desk, hold)));
         assert!(rt; holds.is_ok() && hold.is_reached());
         for turn in 0..3 {
-            let asks = scope.spawn(move || ask(rt, alloc, desk, turn));
+            let asks = scope.spawn(move || ask(rt, desk, turn));
             assert!(rt; asks.is_ok() && lines_wait(rt, desk, turn + 1));
         }
         hold.let_go();
@@ -72,22 +61,17 @@ fn ask_beside<B: Opening + Send + Sync, R: Abort + Threads + Wait + Sync>(
 
 #[test]
 fn lines_that_a_round_leaves_over_are_answered_in_order(rt: HostRuntime) {
-    let store = small_store(&rt, rt.alloc(), 1);
-    two_are_left_over::<Brand, HostRuntime>(&rt, rt.alloc(), store);
+    let store = small_store(&rt, 1);
+    two_are_left_over::<Brand, HostRuntime>(&rt, store);
 }
 
-fn two_are_left_over<B: Opening + Send + Sync, R: Abort + Threads + Wait + Sync>(
-    rt: &R,
-    alloc: Global,
-    store: Store,
-)
+fn two_are_left_over<B: Opening + Send + Sync, R: Host>(rt: &R, store: Store)
     requires store { store ≡ B.store }
     requires kept { B.kept ≡ true }
 {
-    let desk = Desk::<B>::open(alloc, store, true);
+    let desk = Desk::<B>::open(rt.alloc(), store, true);
     let hold = Hold::new();
-    ask_beside(rt, alloc, &desk, &hold);
+    three_beside(rt, &desk, &hold);
     assert!(rt; !hold.gave_up());
-    let closed = close(rt, alloc, desk, &[]);
-    has_calls_of(rt, &closed, 2, &[1, 1, 2]);
+    close_after(rt, desk, &[], 2, &[1, 1, 2]);
 }

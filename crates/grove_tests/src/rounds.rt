@@ -1,18 +1,17 @@
 ghost use Rattle.std.specs.Prelude.{◌≡◌, true};
 ghost use Rattle.std.specs.Thread.{IsSend, IsSync};
 
-use crate::desks::{close, has_calls_of, small_store};
-use crate::fixtures::{A, B};
+use crate::desks::{close_after, small_store};
+use crate::fixtures::{A, B, Host};
 use crate::hold::{Hold, MOST_LOOKS, get_held};
 use grove_access::Records;
 use grove_desk::{Desk, Opening, Receipt};
 use grove_store::Store;
 use grove_tree::{Node, OpenGate};
-use std::alloc::Global;
 use std::marker::Brand;
 use std::process::Abort;
 use std::sync::Wait;
-use std::thread::{Threads, join, yield_now};
+use std::thread::{join, yield_now};
 
 const ADD: &[u8] = b"{\"batch\":[[[\"add\",\"/b\",1]]]}";
 
@@ -38,14 +37,9 @@ fn let_go<B: Opening, R: Wait>(rt: &R, desk: &Desk<B>, hold: &Hold) {
 }
 
 /// Asks once the round is held.
-fn add_beside<B: Opening, R: Abort + Threads + Wait + Sync>(
-    rt: &R,
-    alloc: Global,
-    desk: &Desk<B>,
-    hold: &Hold,
-) -> Receipt {
+fn add_beside<B: Opening, R: Host>(rt: &R, desk: &Desk<B>, hold: &Hold) -> Receipt {
     assert!(rt; hold.is_reached());
-    desk.answer(rt, alloc, None, ADD, &OpenGate)
+    desk.answer(rt, rt.alloc(), None, ADD, &OpenGate)
         .expect(rt, "a receipt")
 }
 
@@ -64,18 +58,6 @@ fn by_number(first: Receipt, one: Receipt, other: Receipt) -> [Receipt; 3] {
     }
 }
 
-/// Closes the desk, at which one line had a round of its own and two lines shared the next.
-fn close_after_two_rounds<B: Opening>(
-    rt: &impl Abort,
-    alloc: Global,
-    desk: Desk<B>,
-    receipts: &[Receipt],
-) {
-    let closed = close(rt, alloc, desk, receipts);
-    has_calls_of(rt, &closed, 2, &[1, 2]);
-    are_10_and_22(rt, closed.store.records());
-}
-
 fn are_10_and_22(rt: &impl Abort, records: &Records) {
     assert!(rt; records.len() == 3);
     assert!(rt; records.get(Node::new(A)) == 10);
@@ -84,60 +66,50 @@ fn are_10_and_22(rt: &impl Abort, records: &Records) {
 
 #[test]
 fn lines_that_wait_for_a_round_share_the_next(rt: HostRuntime) {
-    let store = small_store(&rt, rt.alloc(), 2);
-    two_share_the_next::<Brand, HostRuntime>(&rt, rt.alloc(), store);
+    let store = small_store(&rt, 2);
+    two_share_the_next::<Brand, HostRuntime>(&rt, store);
 }
 
 /// Three callers at a desk with a journal, of whom two wait while the first one's round is held.
-fn two_share_the_next<B: Opening + Send + Sync, R: Abort + Threads + Wait + Sync>(
-    rt: &R,
-    alloc: Global,
-    store: Store,
-)
+fn two_share_the_next<B: Opening + Send + Sync, R: Host>(rt: &R, store: Store)
     requires store { store ≡ B.store }
     requires kept { B.kept ≡ true }
 {
-    let desk = Desk::<B>::open(alloc, store, true);
+    let desk = Desk::<B>::open(rt.alloc(), store, true);
     let hold = Hold::new();
-    let ((one, other), first) = answers_of_three(rt, alloc, &desk, &hold);
+    let ((one, other), first) = answers_of_three(rt, &desk, &hold);
     assert!(rt; !hold.gave_up());
     assert!(rt; first.reply.as_slice() == FIRST_ROUND);
     assert!(rt; are_shared(&one, &other));
     let receipts = by_number(first, one, other);
-    close_after_two_rounds(rt, alloc, desk, &receipts);
+    let store = close_after(rt, desk, &receipts, 2, &[1, 2]);
+    are_10_and_22(rt, store.records());
 }
 
 /// Two ask once the round is held.
-fn add_twice_beside<B: Opening + Send + Sync, R: Abort + Threads + Wait + Sync>(
+fn add_twice_beside<B: Opening + Send + Sync, R: Host>(
     rt: &R,
-    alloc: Global,
     desk: &Desk<B>,
     hold: &Hold,
 ) -> (Receipt, Receipt)
     requires shared { IsSync R.row × IsSend B.row × IsSync B.row }
 {
-    let add = move || add_beside(rt, alloc, desk, hold);
-    join(rt, move || add_beside(rt, alloc, desk, hold), add)
+    let add = move || add_beside(rt, desk, hold);
+    join(rt, move || add_beside(rt, desk, hold), add)
 }
 
 /// Asks for a round that is held, and lets it go.
-fn get_watched<B: Opening + Send + Sync, R: Abort + Threads + Wait + Sync>(
-    rt: &R,
-    alloc: Global,
-    desk: &Desk<B>,
-    hold: &Hold,
-) -> Receipt
+fn get_watched<B: Opening + Send + Sync, R: Host>(rt: &R, desk: &Desk<B>, hold: &Hold) -> Receipt
     requires shared { IsSync R.row × IsSend B.row × IsSync B.row }
 {
-    let get = move || get_held(rt, alloc, desk, hold);
+    let get = move || get_held(rt, desk, hold);
     let ((), receipt) = join(rt, move || let_go(rt, desk, hold), get);
     receipt
 }
 
 /// The receipts of the two that wait, and of the one whose round is held.
-fn answers_of_three<B: Opening + Send + Sync, R: Abort + Threads + Wait + Sync>(
+fn answers_of_three<B: Opening + Send + Sync, R: Host>(
     rt: &R,
-    alloc: Global,
     desk: &Desk<B>,
     hold: &Hold,
 ) -> ((Receipt, Receipt), Receipt)
@@ -145,9 +117,9 @@ fn answers_of_three<B: Opening + Send + Sync, R: Abort + Threads + Wait + Sync>(
 {
     let two_adds = move || -> (Receipt, Receipt)
         requires { IsSync R.row × IsSend B.row × IsSync B.row }
-    { add_twice_beside(rt, alloc, desk, hold) };
+    { add_twice_beside(rt, desk, hold) };
     let watched = move || -> Receipt
         requires { IsSync R.row × IsSend B.row × IsSync B.row }
-    { get_watched(rt, alloc, desk, hold) };
+    { get_watched(rt, desk, hold) };
     join(rt, two_adds, watched)
 }

@@ -1,5 +1,5 @@
 use crate::fixtures::{A, B, ROOT, access, lock, two_leaves, unlock};
-use crate::scripts::{Script, alone, job_of, open};
+use crate::scripts::{Script, alone, downwards, job_of, open};
 use grove_access::{Op, Records, Reply};
 use grove_core::{Core, Event, StepFault, serial_order, serial_order_into};
 use grove_plan::Step;
@@ -20,6 +20,16 @@ struct Outcome<'a> {
     records: [i64; 3],
     waits: [u32; 3],
 }
+
+/// Two jobs that leave three records at 0, and that wait nowhere.
+const STILL: Outcome<'static> = Outcome {
+    events: 0,
+    order: [0, 1],
+    first_replies: &[],
+    second_replies: &[],
+    records: [0, 0, 0],
+    waits: [0, 0, 0],
+};
 
 fn takes(count: u32, txn: u32) -> Turn {
     (count, Event::Take(txn), Ok(()))
@@ -104,16 +114,10 @@ fn whoever_reads_the_old_record_comes_first(rt: HostRuntime) {
         first_replies: &[Reply::Done],
         second_replies: &[Reply::Value(7)],
         records: [0, 1, 0],
-        waits: [0, 0, 0],
+        ..STILL
     };
-    plays(
-        &rt,
-        rt.alloc(),
-        scripts,
-        &[0, 7, 0],
-        &[takes(3, 1), takes(3, 0)],
-        &outcome,
-    );
+    let turns = [takes(3, 1), takes(3, 0)];
+    plays(&rt, rt.alloc(), scripts, &[0, 7, 0], &turns, &outcome);
 }
 
 #[test]
@@ -133,17 +137,10 @@ fn a_first_node_higher_up_comes_first(rt: HostRuntime) {
         order: [1, 0],
         first_replies: &[Reply::Value(0)],
         second_replies: &[Reply::Value(0)],
-        records: [0, 0, 0],
-        waits: [0, 0, 0],
+        ..STILL
     };
-    plays(
-        &rt,
-        rt.alloc(),
-        scripts,
-        &[0, 0, 0],
-        &[takes(3, 0), takes(3, 1)],
-        &outcome,
-    );
+    let turns = [takes(3, 0), takes(3, 1)];
+    plays(&rt, rt.alloc(), scripts, &[0, 0, 0], &turns, &outcome);
 }
 
 #[test]
@@ -163,17 +160,10 @@ fn a_job_that_locks_nothing_comes_last(rt: HostRuntime) {
         order: [1, 0],
         first_replies: &[],
         second_replies: &[Reply::Value(0)],
-        records: [0, 0, 0],
-        waits: [0, 0, 0],
+        ..STILL
     };
-    plays(
-        &rt,
-        rt.alloc(),
-        scripts,
-        &[0, 0, 0],
-        &[takes(3, 1)],
-        &outcome,
-    );
+    let turns = [takes(3, 1)];
+    plays(&rt, rt.alloc(), scripts, &[0, 0, 0], &turns, &outcome);
 }
 
 #[test]
@@ -268,14 +258,6 @@ fn a_set_and_two_gets(
 ) {
     let sets = [access(A, Op::Set(1))];
     let gets = [access(ROOT, Op::Get), access(A, Op::Get)];
-    let steps = [
-        lock(ROOT),
-        Step::Access(0),
-        lock(A),
-        unlock(ROOT),
-        Step::Access(1),
-        unlock(A),
-    ];
     let scripts = [
         Script {
             accesses: &sets,
@@ -283,7 +265,7 @@ fn a_set_and_two_gets(
         },
         Script {
             accesses: &gets,
-            steps: &steps,
+            steps: &downwards(),
         },
     ];
     let outcome = Outcome {
@@ -292,7 +274,7 @@ fn a_set_and_two_gets(
         first_replies: &[Reply::Done],
         second_replies,
         records: [0, 1, 0],
-        waits: [0, 0, 0],
+        ..STILL
     };
     plays(rt, alloc, scripts, &[0, 0, 0], turns, &outcome);
 }

@@ -1,4 +1,4 @@
-use crate::fixtures::{lock, read, unlock};
+use crate::fixtures::{A, ROOT, lock, read, unlock};
 use grove_access::{Access, AccessList, Records};
 use grove_core::{Core, Job, OpenFault, all_fit};
 use grove_plan::{Plan, Step};
@@ -16,6 +16,18 @@ pub struct Script<'a> {
 /// The steps of a plan for one access, its node alone held.
 pub fn alone(node: u32) -> [Step; 3] {
     [lock(node), Step::Access(0), unlock(node)]
+}
+
+/// The steps of a plan for an access of the root and then one of its first leaf.
+pub fn downwards() -> [Step; 6] {
+    [
+        lock(ROOT),
+        Step::Access(0),
+        lock(A),
+        unlock(ROOT),
+        Step::Access(1),
+        unlock(A),
+    ]
 }
 
 pub fn job_of(rt: &impl Abort, alloc: Global, tree: &Tree, script: &Script) -> Job {

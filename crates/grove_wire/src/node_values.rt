@@ -1,6 +1,6 @@
 ghost use Rattle.std.specs.Prelude.{◌≡◌, ◌<◌, IfOk, length};
 ghost use Rattle.serde_json.specs.View.{view};
-ghost use Rattle.grove_wire.specs.Documents.{each_node, node_data, nodes_data};
+ghost use Rattle.grove_wire.specs.Documents.{node_data, nodes_data};
 
 use grove_access::Records;
 use grove_tree::{NoMemory, Node, Tree};
@@ -18,26 +18,13 @@ pub fn nodes_value(
     requires waits { length waits.now ≡ length tree.now }
     ensures { IfOk result (λ value. view value ≡ nodes_data tree.now records.now waits.now) }
 {
-    let nodes = each_node_value(alloc, tree, records, waits)?;
-    Ok(json!(in alloc; {"nodes": nodes})?)
-}
-
-fn each_node_value(
-    alloc: Global,
-    tree: &Tree,
-    records: &Records,
-    waits: &[u32],
-) -> Result<Value, NoMemory>
-    requires records { length records.now ≡ length tree.now }
-    requires waits { length waits.now ≡ length tree.now }
-    ensures { IfOk result (λ value. view value ≡ each_node tree.now (node_data tree.now records.now waits.now)) }
-{
     let mut items = Vec::new(alloc);
     for number in 0..tree.len() {
         let node = node_value(alloc, tree, records, waits, Node::new(number))?;
         items.push(node)?;
     }
-    Ok(Value::Array(items))
+    let nodes = Value::Array(items);
+    Ok(json!(in alloc; {"nodes": nodes})?)
 }
 
 fn node_value(
@@ -53,21 +40,13 @@ fn node_value(
     ensures { IfOk result (λ value. view value ≡ node_data tree.now records.now waits.now node) }
 {
     let path = tree.path_of(alloc, node)?;
+    let record = records.get(node);
     let waited = waits[node.number() as usize];
+    let weight = tree.weight(node);
     let mut members = Map::new(alloc);
     put(&mut members, alloc, "path", Value::String(path))?;
-    put(
-        &mut members,
-        alloc,
-        "record",
-        Value::from(records.get(node)),
-    )?;
+    put(&mut members, alloc, "record", Value::from(record))?;
     put(&mut members, alloc, "waits", Value::from(waited))?;
-    put(
-        &mut members,
-        alloc,
-        "weight",
-        Value::from(tree.weight(node)),
-    )?;
+    put(&mut members, alloc, "weight", Value::from(weight))?;
     Ok(Value::Object(members))
 }

@@ -2,14 +2,13 @@ ghost use Rattle.std.specs.Prelude.{◌≤◌, length, All, IfOk};
 ghost use Rattle.grove_access.specs.Lists.{nodes_of, AreNodes};
 
 use crate::again::telling::{say_memory, tell_plan};
-use crate::again::values::{A, B, ROOT, access, get, leaves_below, list_of, plan_of, rows_of};
-use crate::steps::{lock, unlock};
+use crate::again::values::{A, B, ROOT, access, get, leaves_below, list_of, rows_of};
 use anyhow::{Result, ensure};
 use grove_access::{Access, AccessList, ListFault};
 use grove_build::{Planned, plan, plan_batch};
-use grove_plan::{Plan, Step};
-use grove_proof::{Flow, FlowRow, ProofFault, check};
-use grove_tree::{NoMemory, Node, OpenGate, Row, Tree, TreeFault};
+use grove_plan::Plan;
+use grove_proof::{Flow, ProofFault, check};
+use grove_tree::{NoMemory, OpenGate, Row, Tree, TreeFault};
 use std::alloc::{AllocGlobal, Global};
 use std::thread::Threads;
 
@@ -98,32 +97,8 @@ fn check_reads<R: AllocGlobal + Print>(rt: &R, tree: &Tree, list: &AccessList) -
 fn cost_of_both<R: AllocGlobal + Print>(rt: &R, tree: &Tree, list: &AccessList) -> Result<u64>
     requires { AreNodes tree.now (nodes_of list.now) }
 {
-    let plan = plan_for_both(rt.alloc())?;
-    let flow = flow_for_both(rt.alloc())?;
+    let Planned { plan, flow, .. } = plan(rt.alloc(), tree, list)?;
     checked(rt, tree, list, &plan, &flow)
-}
-
-fn plan_for_both(alloc: Global) -> Result<Plan> {
-    let steps = [
-        lock(ROOT),
-        lock(A),
-        lock(B),
-        unlock(ROOT),
-        Step::Access(0),
-        unlock(A),
-        Step::Access(1),
-        unlock(B),
-    ];
-    plan_of(alloc, &steps)
-}
-
-fn flow_for_both(alloc: Global) -> Result<Flow> {
-    let rows = [
-        row(ROOT, 0, 0, 0, 0, 4),
-        row(A, 1, 0, 2, 1, 0),
-        row(B, 0, 1, 0, 1, 0),
-    ];
-    Ok(Flow::new(Vec::from_slice(alloc, &rows)?))
 }
 
 fn checked<R: AllocGlobal + Print>(
@@ -141,17 +116,6 @@ fn checked<R: AllocGlobal + Print>(
             Ok(check(rt.alloc(), tree, list, plan, flow)?)
         }
         first => Ok(first?),
-    }
-}
-
-fn row(node: u32, above: u64, held: u64, first: u64, last: u64, own: u64) -> FlowRow {
-    FlowRow {
-        node: Node::new(node),
-        above,
-        held,
-        first,
-        last,
-        own,
     }
 }
 

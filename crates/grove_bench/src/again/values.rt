@@ -68,7 +68,7 @@ pub fn list_of(alloc: Global, tree: &Tree, accesses: &[Access]) -> Result<Access
     Ok(AccessList::new(alloc, tree, accesses)?)
 }
 
-pub fn plan_of(alloc: Global, steps: &[Step]) -> Result<Plan> {
+fn plan_of(alloc: Global, steps: &[Step]) -> Result<Plan> {
     ensure!(steps.len() < 100, "the plan has too many steps");
     Ok(Plan::new(Vec::from_slice(alloc, steps)?))
 }

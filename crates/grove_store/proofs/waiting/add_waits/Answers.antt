@@ -8,35 +8,29 @@ use Rattle.grove_plan.proofs.Held.{lock_same}
 use Rattle.grove_core.specs.Kept.{past_of}
 use Rattle.grove_core.specs.Runs.{plan_of, waits_of}
 use Rattle.grove_store.specs.Parts.{waits_at, AreOldOrNew}
-use Rattle.grove_store.proofs.AddedWaits.{plan_read, lock_within, all_old, then_kept, written, added_more}
+use Rattle.grove_store.proofs.AddedWaits.{plan_read, locked_within, all_old, then_kept, written, added_more}
 use Rattle.grove_store.proofs.waiting.add_waits.Goals as goal
 use Rattle.grove_store.proofs.waiting.add_waits.Goals.{in-Lock, in_default}
 
 pub waits-requires : goal.waits-requires
 waits-requires c =
-    let steps : c.steps-steps.result.now ≡ plan_of c.args.core.now.jobs c.args.txn =
-    plan_read c.args.core.now.jobs c.jobs.result.now c.args.txn c.index-jobs-txn.result c.steps-steps.result.now c.jobs.ensures.jobs c.requires.job c.index-jobs-txn.is c.steps-steps.ensures.steps in
-    lock_within c.args.core.now.tree c.args.core.now.jobs c.jobs.ensures.legal c.args.txn c.requires.job c.loop-step.step-index c.in-Lock.node c.steps-steps.result.now c.step-item.result
-    steps (read_at c.steps-steps.result.now c.loop-step.step-index c.step-item.result c.loop-step-test.true c.step-item.is) c.in-Lock.is
+    locked_within c.args.core.now.tree c.args.core.now.jobs c.jobs.result.now c.jobs.ensures.legal c.args.txn c.index-jobs-txn.result c.steps-steps.result.now c.jobs.ensures.jobs c.requires.job c.index-jobs-txn.is c.steps-steps.ensures.steps
+    c.loop-step.step-index c.in-Lock.node c.step-item.result (read_at c.steps-steps.result.now c.loop-step.step-index c.step-item.result c.loop-step-test.true c.step-item.is) c.in-Lock.is
 
 pub bounds-waits-number : goal.bounds-waits-number
 bounds-waits-number c =
-    let steps : c.steps-steps.result.now ≡ plan_of c.args.core.now.jobs c.args.txn =
-    plan_read c.args.core.now.jobs c.jobs.result.now c.args.txn c.index-jobs-txn.result c.steps-steps.result.now c.jobs.ensures.jobs c.requires.job c.index-jobs-txn.is c.steps-steps.ensures.steps in
     let within : c.in-Lock.node < length c.args.core.now.tree =
-    lock_within c.args.core.now.tree c.args.core.now.jobs c.jobs.ensures.legal c.args.txn c.requires.job c.loop-step.step-index c.in-Lock.node c.steps-steps.result.now c.step-item.result
-    steps (read_at c.steps-steps.result.now c.loop-step.step-index c.step-item.result c.loop-step-test.true c.step-item.is) c.in-Lock.is in
+    locked_within c.args.core.now.tree c.args.core.now.jobs c.jobs.result.now c.jobs.ensures.legal c.args.txn c.index-jobs-txn.result c.steps-steps.result.now c.jobs.ensures.jobs c.requires.job c.index-jobs-txn.is c.steps-steps.ensures.steps
+    c.loop-step.step-index c.in-Lock.node c.step-item.result (read_at c.steps-steps.result.now c.loop-step.step-index c.step-item.result c.loop-step-test.true c.step-item.is) c.in-Lock.is in
     let e : c.number-number.result ≡ c.in-Lock.node = c.number-number.ensures.is_it in
     let f : length c.args.waits.now ≡ length c.args.core.now.tree = c.requires.long in
     omega arith
 
 pub bounds-all-number : goal.bounds-all-number
 bounds-all-number c =
-    let steps : c.steps-steps.result.now ≡ plan_of c.args.core.now.jobs c.args.txn =
-    plan_read c.args.core.now.jobs c.jobs.result.now c.args.txn c.index-jobs-txn.result c.steps-steps.result.now c.jobs.ensures.jobs c.requires.job c.index-jobs-txn.is c.steps-steps.ensures.steps in
     let within : c.in-Lock.node < length c.args.core.now.tree =
-    lock_within c.args.core.now.tree c.args.core.now.jobs c.jobs.ensures.legal c.args.txn c.requires.job c.loop-step.step-index c.in-Lock.node c.steps-steps.result.now c.step-item.result
-    steps (read_at c.steps-steps.result.now c.loop-step.step-index c.step-item.result c.loop-step-test.true c.step-item.is) c.in-Lock.is in
+    locked_within c.args.core.now.tree c.args.core.now.jobs c.jobs.result.now c.jobs.ensures.legal c.args.txn c.index-jobs-txn.result c.steps-steps.result.now c.jobs.ensures.jobs c.requires.job c.index-jobs-txn.is c.steps-steps.ensures.steps
+    c.loop-step.step-index c.in-Lock.node c.step-item.result (read_at c.steps-steps.result.now c.loop-step.step-index c.step-item.result c.loop-step-test.true c.step-item.is) c.in-Lock.is in
     let e : c.number-number.result ≡ c.in-Lock.node = c.number-number.ensures.is_it in
     let f : length c.args.waits.now ≡ length c.args.core.now.tree = c.requires.long in
     let g : length c.args.all.now ≡ length c.args.waits.now = c.requires.same in
@@ -51,11 +45,9 @@ loop-step-preserved c =
     elim c.match-step.branch [
       | in-Lock w ↦
           let e : w.number-number.result ≡ w.in-Lock.node = w.number-number.ensures.is_it in
-          let steps : c.steps-steps.result.now ≡ plan_of c.args.core.now.jobs c.args.txn =
-          plan_read c.args.core.now.jobs c.jobs.result.now c.args.txn c.index-jobs-txn.result c.steps-steps.result.now c.jobs.ensures.jobs c.requires.job c.index-jobs-txn.is c.steps-steps.ensures.steps in
           let within : w.in-Lock.node < length c.args.core.now.tree =
-          lock_within c.args.core.now.tree c.args.core.now.jobs c.jobs.ensures.legal c.args.txn c.requires.job c.loop-step.step-index w.in-Lock.node c.steps-steps.result.now c.step-item.result
-          steps read w.in-Lock.is in
+          locked_within c.args.core.now.tree c.args.core.now.jobs c.jobs.result.now c.jobs.ensures.legal c.args.txn c.index-jobs-txn.result c.steps-steps.result.now c.jobs.ensures.jobs c.requires.job c.index-jobs-txn.is c.steps-steps.ensures.steps
+          c.loop-step.step-index w.in-Lock.node c.step-item.result read w.in-Lock.is in
           let f : length c.args.waits.now ≡ length c.args.core.now.tree = c.requires.long in
           let g : length c.args.all.now ≡ length c.args.waits.now = c.requires.same in
           let h : length c.loop-step.all ≡ length c.args.all.now = search rules in

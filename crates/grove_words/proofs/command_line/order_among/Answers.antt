@@ -10,8 +10,7 @@ pub returns-in-Some-clause-asked : goal.returns-in-Some-clause-asked
 returns-in-Some-clause-asked c =
     let words = map string_bytes c.args.words.now in
     let line : app_of c.in_ok-command_line.field-0 ≡ grove_command = c.in_ok-command_line.ensures in
-    let matches = c.in_ok-matches.ensures.matches (ap is_simple line ∙ is_simple_line) in
-    let rows : subcommand_rows_of c.in_ok-matches.matches ≡ subcommand_of grove_command words = matches.1 ∙ ap (λ (app : App). subcommand_of app words) line in
+    let rows : subcommand_rows_of c.in_ok-matches.matches ≡ subcommand_of grove_command words = (c.in_ok-matches.ensures.matches (ap is_simple line ∙ is_simple_line)).1 ∙ ap (λ (app : App). subcommand_of app words) line in
     let taken : fault_of grove_command words ≡ [] =
     ap (λ (app : App). fault_of app words) (sym line) ∙ c.in_ok-matches.ensures.kinds (ap is_simple_and_free line ∙ is_free_line) in
     line_reads words taken c.in-Some.order
@@ -26,64 +25,56 @@ pub returns-in-Some-clause-given : goal.returns-in-Some-clause-given
 returns-in-Some-clause-given c =
     let words = map string_bytes c.args.words.now in
     let line : app_of c.in_ok-command_line.field-0 ≡ grove_command = c.in_ok-command_line.ensures in
-    let matches = c.in_ok-matches.ensures.matches (ap is_simple line ∙ is_simple_line) in
-    let rows : subcommand_rows_of c.in_ok-matches.matches ≡ subcommand_of grove_command words = matches.1 ∙ ap (λ (app : App). subcommand_of app words) line in
+    let rows : subcommand_rows_of c.in_ok-matches.matches ≡ subcommand_of grove_command words = (c.in_ok-matches.ensures.matches (ap is_simple line ∙ is_simple_line)).1 ∙ ap (λ (app : App). subcommand_of app words) line in
     subst (λ found. AreWorkersIn found c.in-Some.order.workers) rows c.in-Some.ensures.given
 
 pub returns-in-Some-clause-form : goal.returns-in-Some-clause-form
 returns-in-Some-clause-form c =
     let words = map string_bytes c.args.words.now in
     let line : app_of c.in_ok-command_line.field-0 ≡ grove_command = c.in_ok-command_line.ensures in
-    let matches = c.in_ok-matches.ensures.matches (ap is_simple line ∙ is_simple_line) in
-    let rows : subcommand_rows_of c.in_ok-matches.matches ≡ subcommand_of grove_command words = matches.1 ∙ ap (λ (app : App). subcommand_of app words) line in
+    let rows : subcommand_rows_of c.in_ok-matches.matches ≡ subcommand_of grove_command words = (c.in_ok-matches.ensures.matches (ap is_simple line ∙ is_simple_line)).1 ∙ ap (λ (app : App). subcommand_of app words) line in
     subst (λ found. IsFormIn found c.in-Some.order.form) rows c.in-Some.ensures.form
 
 pub returns-in-Some-clause-in_document : goal.returns-in-Some-clause-in_document
 returns-in-Some-clause-in_document c =
     let words = map string_bytes c.args.words.now in
     let line : app_of c.in_ok-command_line.field-0 ≡ grove_command = c.in_ok-command_line.ensures in
-    let matches = c.in_ok-matches.ensures.matches (ap is_simple line ∙ is_simple_line) in
-    let rows : subcommand_rows_of c.in_ok-matches.matches ≡ subcommand_of grove_command words = matches.1 ∙ ap (λ (app : App). subcommand_of app words) line in
+    let rows : subcommand_rows_of c.in_ok-matches.matches ≡ subcommand_of grove_command words = (c.in_ok-matches.ensures.matches (ap is_simple line ∙ is_simple_line)).1 ∙ ap (λ (app : App). subcommand_of app words) line in
     subst (λ found. IsSetIn (codes "document") found c.in-Some.order.in_document) rows c.in-Some.ensures.in_document
 
 pub returns-in-Some-clause-explain : goal.returns-in-Some-clause-explain
 returns-in-Some-clause-explain c =
     let words = map string_bytes c.args.words.now in
     let line : app_of c.in_ok-command_line.field-0 ≡ grove_command = c.in_ok-command_line.ensures in
-    let matches = c.in_ok-matches.ensures.matches (ap is_simple line ∙ is_simple_line) in
-    let rows : subcommand_rows_of c.in_ok-matches.matches ≡ subcommand_of grove_command words = matches.1 ∙ ap (λ (app : App). subcommand_of app words) line in
+    let rows : subcommand_rows_of c.in_ok-matches.matches ≡ subcommand_of grove_command words = (c.in_ok-matches.ensures.matches (ap is_simple line ∙ is_simple_line)).1 ∙ ap (λ (app : App). subcommand_of app words) line in
     subst (λ found. IsSetIn (codes "explain") found c.in-Some.order.explain) rows c.in-Some.ensures.explain
 
 pub returns-in-Some-clause-verbose : goal.returns-in-Some-clause-verbose
 returns-in-Some-clause-verbose c =
     let words = map string_bytes c.args.words.now in
     let line : app_of c.in_ok-command_line.field-0 ≡ grove_command = c.in_ok-command_line.ensures in
-    let matches = c.in_ok-matches.ensures.matches (ap is_simple line ∙ is_simple_line) in
-    let rows : subcommand_rows_of c.in_ok-matches.matches ≡ subcommand_of grove_command words = matches.1 ∙ ap (λ (app : App). subcommand_of app words) line in
+    let rows : subcommand_rows_of c.in_ok-matches.matches ≡ subcommand_of grove_command words = (c.in_ok-matches.ensures.matches (ap is_simple line ∙ is_simple_line)).1 ∙ ap (λ (app : App). subcommand_of app words) line in
     subst (λ found. IsSetIn (codes "verbose") found c.in-Some.order.verbose) rows c.in-Some.ensures.verbose
 
 pub returns-in-Some-clause-patience : goal.returns-in-Some-clause-patience
 returns-in-Some-clause-patience c =
     let words = map string_bytes c.args.words.now in
     let line : app_of c.in_ok-command_line.field-0 ≡ grove_command = c.in_ok-command_line.ensures in
-    let matches = c.in_ok-matches.ensures.matches (ap is_simple line ∙ is_simple_line) in
-    let rows : subcommand_rows_of c.in_ok-matches.matches ≡ subcommand_of grove_command words = matches.1 ∙ ap (λ (app : App). subcommand_of app words) line in
+    let rows : subcommand_rows_of c.in_ok-matches.matches ≡ subcommand_of grove_command words = (c.in_ok-matches.ensures.matches (ap is_simple line ∙ is_simple_line)).1 ∙ ap (λ (app : App). subcommand_of app words) line in
     subst (λ found. IsPatienceIn found c.in-Some.order.patience) rows c.in-Some.ensures.patience
 
 pub returns-in-Some-clause-place : goal.returns-in-Some-clause-place
 returns-in-Some-clause-place c serves =
     let words = map string_bytes c.args.words.now in
     let line : app_of c.in_ok-command_line.field-0 ≡ grove_command = c.in_ok-command_line.ensures in
-    let matches = c.in_ok-matches.ensures.matches (ap is_simple line ∙ is_simple_line) in
-    let rows : subcommand_rows_of c.in_ok-matches.matches ≡ subcommand_of grove_command words = matches.1 ∙ ap (λ (app : App). subcommand_of app words) line in
+    let rows : subcommand_rows_of c.in_ok-matches.matches ≡ subcommand_of grove_command words = (c.in_ok-matches.ensures.matches (ap is_simple line ∙ is_simple_line)).1 ∙ ap (λ (app : App). subcommand_of app words) line in
     subst (λ found. IsSomeAnd c.in-Some.order.place (IsPlaceIn found)) rows (c.in-Some.ensures.place serves)
 
 pub returns-clause-refused : goal.returns-clause-refused
 returns-clause-refused c =
     let words = map string_bytes c.args.words.now in
     let line : app_of c.in_ok-command_line.field-0 ≡ grove_command = c.in_ok-command_line.ensures in
-    let matches = c.in_ok-matches.ensures.matches (ap is_simple line ∙ is_simple_line) in
-    let rows : subcommand_rows_of c.in_ok-matches.matches ≡ subcommand_of grove_command words = matches.1 ∙ ap (λ (app : App). subcommand_of app words) line in
+    let rows : subcommand_rows_of c.in_ok-matches.matches ≡ subcommand_of grove_command words = (c.in_ok-matches.ensures.matches (ap is_simple line ∙ is_simple_line)).1 ∙ ap (λ (app : App). subcommand_of app words) line in
     let taken : fault_of grove_command words ≡ [] =
     ap (λ (app : App). fault_of app words) (sym line) ∙ c.in_ok-matches.ensures.kinds (ap is_simple_and_free line ∙ is_free_line) in
     inr (

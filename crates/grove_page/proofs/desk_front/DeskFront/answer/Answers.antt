@@ -4,7 +4,7 @@ use Rattle.grove_session.specs.declared.session_fault.SessionFault.{SessionFault
 use Rattle.grove_session.specs.declared.session_fault.SessionFault.TheVariants.{Write}
 use Rattle.grove_session.specs.Sessions.{SessionEnds, Lawful, is_write}
 use Rattle.grove_desk.specs.Desks.{Visited, IsShared}
-use Rattle.grove_page.proofs.desk_front.DeskFront.answer_lines.Goals as goal
+use Rattle.grove_page.proofs.desk_front.DeskFront.answer.Goals as goal
 
 -- a session that couldn't write tells how much it wrote
 written_is : {S : Type 0} (lawful : Lawful S) (old : S) (result : Result ℕ SessionFault) (left : Option (List ℕ)) (input out : List ℕ) (new : S) (written : ℕ)

@@ -3,7 +3,7 @@ use Rattle.std.specs.Prelude.{map}
 use Rattle.serde_json.specs.View.{view}
 use Rattle.grove_base.specs.Numbers.{numbers_below}
 use Rattle.grove_wire.specs.Documents.{node_data}
-use Rattle.grove_wire.proofs.node_values.each_node_value.Given as goal
+use Rattle.grove_wire.proofs.node_values.nodes_value.Given as goal
 
 -- the items are the nodes so far
 abbrev pub invariant-loop-number : goal.invariant-loop-number
