@@ -2,12 +2,12 @@ ghost use Rattle.std.specs.Prelude.{◌≡◌, ◌≤◌, ◌⊎◌};
 
 use crate::answer::{Stop, say_stop};
 use crate::failure::{Failure, reason_of};
-use crate::host::System;
+use crate::host::Host;
 use crate::server::Server;
 use grove_session::{BytesSource, SessionFault, Sink, Source, session};
 use grove_words::{Order, Place, lines_asked};
 use std::alloc::{AllocGlobal, Global};
-use std::net::TcpStream;
+use std::net::{Net, TcpListener, TcpStream};
 
 /// Sources that were read as often aren't read for a session.
 const MOST_READS: u64 = 1 << 63;
@@ -15,7 +15,7 @@ const MOST_READS: u64 = 1 << 63;
 /// Asks the server at the place the lines of the words, or those of the input where the words have none, and prints its
 /// replies. Gives the status of the process: 0, 1 where a reply was an error, 3 where the server isn't there or is lost.
 /// `order` is the one of the words.
-pub fn ask<R: System, I: Source, O: Sink, E: Sink>(
+pub fn ask<R: Host + Net<Listener = TcpListener, Stream = TcpStream>, I: Source, O: Sink, E: Sink>(
     rt: &R,
     order: Order<'_>,
     place: Place,
@@ -35,7 +35,7 @@ pub fn ask<R: System, I: Source, O: Sink, E: Sink>(
 }
 
 /// The same; gives whether a reply was an error.
-fn ask_at<R: System, I: Source, O: Sink>(
+fn ask_at<R: Host + Net<Listener = TcpListener, Stream = TcpStream>, I: Source, O: Sink>(
     rt: &R,
     place: Place,
     words: &[String],

@@ -15,7 +15,7 @@ use crate::answer::{Answer, Response, Stop, add, end};
 use crate::failure::{Failure, reason_of};
 use crate::file_source::FileSource;
 use crate::hinting::{awaited_by, hint_beside};
-use crate::host::System;
+use crate::host::Host;
 use crate::refusal::answer_of;
 use crate::serving::{Manner, Talk, serve_document};
 use grove_answer::{
@@ -29,18 +29,19 @@ use grove_words::{Command, Form as WrittenForm, NoOrder, Order, not_text, order_
 use serde_json::Value;
 use std::alloc::Global;
 use std::fs;
+use std::net::{Net, TcpListener, TcpStream};
+use std::rt::Files;
 
 /// Does what the words after the program's name ask for, and gives the status of the process: 0 done, 1 refused,
 /// 2 wrong words, found before anything is read, 3 no answer or one that couldn't be printed. A document without
 /// a name is read from `input`. Beside a refusal of the document a hint may go to `err`, and beside an answer to one that
 /// has a member which nothing uses and which resembles one that is used.
-pub fn run_command<R: System, I: Source, O: Sink, E: Sink>(
-    rt: &R,
-    words: &[String],
-    input: &mut I,
-    out: &mut O,
-    err: &mut E,
-) -> u8
+pub fn run_command<
+    R: Host + Files + Net<Listener = TcpListener, Stream = TcpStream>,
+    I: Source,
+    O: Sink,
+    E: Sink,
+>(rt: &R, words: &[String], input: &mut I, out: &mut O, err: &mut E) -> u8
     ensures answered { (order : Order) → AskFor (map string_bytes words.now) order → order.document ≡ None
         → IfSome (I.remaining input.old) (λ document. Prints (IsOutcomeFor (map string_bytes words.now) order.command document) result (O.contents out.old) (O.contents out.new)) }
     ensures read { (order : Order) → AskFor (map string_bytes words.now) order
@@ -104,7 +105,11 @@ pub fn say_what_is_awaited<E: Sink>(alloc: Global, words: &[String], err: &mut E
     }
 }
 
-fn response<R: System, I: Source>(rt: &R, words: &[String], input: &mut I) -> Response
+fn response<R: Host + Files + Net<Listener = TcpListener, Stream = TcpStream>, I: Source>(
+    rt: &R,
+    words: &[String],
+    input: &mut I,
+) -> Response
     ensures said { (order : Order) → AskFor (map string_bytes words.now) order → order.document ≡ None → IfOk result.answer (λ answer.
         IfSome (I.remaining input.old) (λ document. AnswersBy (IsOutcomeFor (map string_bytes words.now) order.command document) answer)) }
     ensures read { (order : Order) → AskFor (map string_bytes words.now) order → IfOk result.answer (λ answer. (bytes : List ℕ) × AnswersBy (IsOutcomeFor (map string_bytes words.now) order.command bytes) answer) }
@@ -134,7 +139,11 @@ fn response<R: System, I: Source>(rt: &R, words: &[String], input: &mut I) -> Re
 }
 
 /// What an order says of its document, and what a person is told beside it.
-fn order_response<R: System, I: Source>(rt: &R, order: Order<'_>, input: &mut I) -> Response
+fn order_response<R: Host + Files + Net<Listener = TcpListener, Stream = TcpStream>, I: Source>(
+    rt: &R,
+    order: Order<'_>,
+    input: &mut I,
+) -> Response
     requires { (1 ≤ order.workers) × (order.workers ≤ 16) }
     ensures said { order.entry.document ≡ None → IfOk result.answer (λ answer.
         IfSome (I.remaining input.old) (λ document. AnswersBy (IsOutcome order.entry.command order.entry.in_document document) answer)) }
@@ -165,7 +174,11 @@ fn order_response<R: System, I: Source>(rt: &R, order: Order<'_>, input: &mut I)
 }
 
 /// The same of the bytes of its document, whoever gave them.
-fn bytes_response<R: System>(rt: &R, order: Order<'_>, bytes: &[u8]) -> Response
+fn bytes_response<R: Host + Net<Listener = TcpListener, Stream = TcpStream>>(
+    rt: &R,
+    order: Order<'_>,
+    bytes: &[u8],
+) -> Response
     requires { (1 ≤ order.workers) × (order.workers ≤ 16) }
     ensures said { IfOk result.answer (AnswersBy (IsOutcome order.entry.command order.entry.in_document bytes.now)) }
     ensures opened { IfOk result.answer (ServesStore (IsOpenedBy order.entry.command bytes.now order.entry.workers)) }
@@ -243,7 +256,7 @@ fn read_for(alloc: Global, command: Command, bytes: &[u8]) -> Result<Value, Wire
 }
 
 /// What an order says of the document.
-fn document_answer<R: System>(
+fn document_answer<R: Host + Net<Listener = TcpListener, Stream = TcpStream>>(
     rt: &R,
     order: Order<'_>,
     document: &Value,
@@ -317,7 +330,7 @@ fn form_of(form: WrittenForm) -> Form
     }
 }
 
-fn document_bytes<R: System, I: Source>(
+fn document_bytes<R: Host + Files, I: Source>(
     rt: &R,
     name: Option<&str>,
     most: usize,
@@ -339,7 +352,7 @@ fn document_bytes<R: System, I: Source>(
 }
 
 /// The bytes of the file of this name, or why there are none; `failure` keeps the system's error.
-fn file_bytes<R: System>(
+fn file_bytes<R: Host + Files>(
     rt: &R,
     name: &str,
     most: usize,

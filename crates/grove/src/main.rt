@@ -6,11 +6,13 @@ use asking::ask;
 use command::{refused_words, run_command, say_what_is_awaited};
 use grove_session::{ReaderSource, Sink, Source, WriterSink};
 use grove_words::{Command, NoOrder, Order, order_of};
-use host::System;
+use host::Host;
 use std::alloc::Global;
 use std::env;
 use std::io::{ErrorKind, IsTerminal};
+use std::net::{Net, TcpListener, TcpStream};
 use std::process::ExitCode;
+use std::rt::Files;
 
 mod answer;
 mod asking;
@@ -63,13 +65,12 @@ fn main(rt: HostRuntime) -> ExitCode {
 }
 
 /// Does what the words ask, of a server or of a document.
-fn obey<R: System, I: Source, O: Sink, E: Sink>(
-    rt: &R,
-    words: &[String],
-    input: &mut I,
-    out: &mut O,
-    err: &mut E,
-) -> u8 {
+fn obey<
+    R: Host + Files + Net<Listener = TcpListener, Stream = TcpStream>,
+    I: Source,
+    O: Sink,
+    E: Sink,
+>(rt: &R, words: &[String], input: &mut I, out: &mut O, err: &mut E) -> u8 {
     match order_of(rt.alloc(), words) {
         Ok(
             order @ Order {

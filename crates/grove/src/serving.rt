@@ -11,7 +11,7 @@ ghost use Rattle.grove.specs.Outcomes.{IsServed};
 
 use crate::answer::{Answer, Stop};
 use crate::failure::Failure;
-use crate::host::System;
+use crate::host::Host;
 use crate::refusal::answer_of;
 use grove_answer::{Refusal, or_refuse};
 use grove_store::{NoStore, Store};
@@ -19,7 +19,7 @@ use grove_wire::read_tree;
 use grove_words::{Patience, Place};
 use serde_json::Value;
 use std::alloc::{AllocError, Global};
-use std::net::{IpAddr, TcpListener};
+use std::net::{IpAddr, Net, TcpListener, TcpStream};
 
 /// A store, where sessions over it are asked for, and how they are served.
 #[derive(Drop)]
@@ -50,7 +50,7 @@ pub enum Talk {
 
 /// A service with the document's tree and records, which listens already, or why there is none; where the system wouldn't
 /// have the port, that is the failure.
-pub fn serve_document<R: System>(
+pub fn serve_document<R: Host + Net<Listener = TcpListener, Stream = TcpStream>>(
     rt: &R,
     alloc: Global,
     document: &Value,
@@ -88,7 +88,7 @@ fn open_store(alloc: Global, document: &Value, workers: u32) -> Result<Store, Re
 }
 
 /// The store, listened for at the place, and the line that says so.
-fn listening<R: System>(
+fn listening<R: Host + Net<Listener = TcpListener, Stream = TcpStream>>(
     rt: &R,
     alloc: Global,
     store: Store,

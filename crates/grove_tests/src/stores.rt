@@ -16,7 +16,7 @@ const SHARED_ROUND: [&[u8]; 2] = [
 
 #[test]
 fn batches_up_to_another_line_are_one_round(rt: HostRuntime) {
-    let mut store = small_store(&rt, rt.alloc(), 1);
+    let mut store = small_store(&rt, 1);
     let lines = [ADD, TWO_GETS, WEIGHTS];
     let replies = store.answer_round(&rt, rt.alloc(), &lines, &OpenGate);
     let replies = replies.expect(&rt, "replies");
@@ -26,7 +26,7 @@ fn batches_up_to_another_line_are_one_round(rt: HostRuntime) {
 
 #[test]
 fn the_jobs_of_a_round_are_done_by_the_workers_of_the_store(rt: HostRuntime) {
-    let mut store = small_store(&rt, rt.alloc(), 2);
+    let mut store = small_store(&rt, 2);
     let meeting = Meeting::at_step(1, 0, 1);
     let replies = store.answer_round(&rt, rt.alloc(), &[TWO_GETS], &meeting);
     assert!(rt; replies.is_ok());
@@ -35,7 +35,7 @@ fn the_jobs_of_a_round_are_done_by_the_workers_of_the_store(rt: HostRuntime) {
 
 #[test]
 fn a_session_over_a_store_ends_with_its_device(rt: HostRuntime) {
-    let mut store = small_store(&rt, rt.alloc(), 1);
+    let mut store = small_store(&rt, 1);
     let mut source = Pieces::new(b"{\"weights\":null}\n", 100, None);
     let mut sink = Fuse::new(rt.alloc(), 5);
     let ended = session(&rt, &mut store, &mut source, &mut sink);
