@@ -1,7 +1,7 @@
 ghost use Rattle.std.specs.Prelude.{◌≡◌, ◌<◌, [], length, All, IfOk, IfSome, IfNone, Bool};
 ghost use Rattle.std.specs.Prelude.{◌++◌};
 ghost use Rattle.std.specs.Option.{option_to_list};
-ghost use Rattle.std.specs.Vec.{vec_capacity, vec_len};
+ghost use Rattle.std.specs.Vec.{vec_capacity};
 ghost use Rattle.grove_store.specs.Stocks.{Stock};
 ghost use Rattle.grove_desk.specs.Receipts.{IsAnswered};
 ghost use Rattle.grove_desk.specs.Histories.{Led};
@@ -156,18 +156,9 @@ fn start_waiting(slots: &mut Vec<Slot>, taken: &mut Vec<Asked>)
         if taken.len() == taken.capacity() {
             break;
         }
-        start_into(&mut slots[place], taken);
-    }
-}
-
-/// Moves the line out of its slot, where it waits.
-fn start_into(slot: &mut Slot, taken: &mut Vec<Asked>)
-    requires { vec_len taken.old < vec_capacity taken.old }
-    ensures held { (opening : Stock) → (kept : Bool) → Holds opening kept slot.old → Holds opening kept slot.new }
-    ensures room { vec_capacity taken.new ≡ vec_capacity taken.old }
-{
-    if let Some(asked) = slot.start() {
-        taken.push_reserved(asked);
+        if let Some(asked) = slots[place].start() {
+            taken.push_reserved(asked);
+        }
     }
 }
 
@@ -199,7 +190,7 @@ fn restore(slots: &mut Vec<Slot>, ticket: u64, state: State)
     ensures held { (opening : Stock) → (kept : Bool) → KeepsState opening kept state → All (Holds opening kept) slots.old.items → All (Holds opening kept) slots.new.items }
 {
     if let Some(place) = place_of(slots, ticket) {
-        slots[place].set(state);
+        slots[place].state = state;
     }
 }
 

@@ -85,7 +85,19 @@ impl<B: Opening> Desk<B> {
         ensures foreign { result ≡ Err DeskFault.Foreign
             → (receipt : ReceiptState) × IsAnswered self.now.opening self.now.kept receipt × IsForeign self.now.kept line.now (option_copied seen.entry) receipt }
     {
-        let receipt = self.receipt(rt, alloc, line, gate)?;
+        let _turn = if line.len() > LARGE_LINE {
+            Some(self.large.lock(rt))
+        } else {
+            None
+        };
+        let mut taken = Vec::with_capacity(alloc, MOST_LINES)?;
+        let copy = Line::new(alloc, line)?;
+        let mut board = self
+            .moved
+            .wait_while(rt, self.board.lock(rt), |board| board.is_full());
+        let ticket = board.put(copy)?;
+        drop(board);
+        let receipt = self.attend(rt, alloc, ticket, &mut taken, gate)?;
         if receipt.is_of(line) && receipt.follows(seen, self.kept) {
             Ok(receipt)
         } else {
@@ -116,28 +128,8 @@ impl<B: Opening> Desk<B> {
         unreachable!()
     }
 
-    /// Puts a line, a large one in its turn, and waits for what it was answered.
-    fn receipt<R: Threads + Wait + Sync, G: Gate + Sync>(
-        &self,
-        rt: &R,
-        alloc: Global,
-        line: &[u8],
-        gate: &G,
-    ) -> Result<Receipt, NoMemory>
-        requires { length line.now ≤ LINE_LIMIT }
-        ensures { IfOk result (IsAnswered B.store B.kept) }
-    {
-        let _turn = if line.len() > LARGE_LINE {
-            Some(self.large.lock(rt))
-        } else {
-            None
-        };
-        let mut taken = Vec::with_capacity(alloc, MOST_LINES)?;
-        let ticket = self.put(rt, Line::new(alloc, line)?)?;
-        self.attend(rt, alloc, ticket, &mut taken, gate)
-    }
-
-    /// Waits for what the line of this ticket was answered; answers lines itself whenever it finds the store there.
+    /// Waits for what the line of this ticket was answered; whenever it finds the store there, answers the first lines that wait
+    /// itself, outside the lock, and puts back the store and what they were answered.
     fn attend<R: Threads + Wait + Sync, G: Gate + Sync>(
         &self,
         rt: &R,
@@ -156,10 +148,14 @@ impl<B: Opening> Desk<B> {
             }
             let full = board.is_full();
             match board.take(taken) {
-                Some(ledger) => {
+                Some(mut ledger) => {
                     drop(board);
-                    self.tell_room(full);
-                    self.lead(rt, alloc, ledger, taken, gate);
+                    if full {
+                        self.moved.notify_all();
+                    }
+                    let answered = ledger.answer(rt, alloc, taken, gate);
+                    self.board.lock(rt).put_back(ledger, taken, answered);
+                    self.moved.notify_all();
                 }
                 None => {
                     let _again = self.moved.wait(rt, board);
@@ -167,38 +163,5 @@ impl<B: Opening> Desk<B> {
             }
         }
         unreachable!()
-    }
-
-    /// Wakes those that wait for room on a board that was full and no longer is.
-    fn tell_room(&self, was_full: bool) {
-        if was_full {
-            self.moved.notify_all();
-        }
-    }
-
-    /// Puts a line once fewer than 16 wait, and gives its ticket.
-    fn put<R: Wait>(&self, rt: &R, line: Line) -> Result<u64, NoMemory> {
-        let mut board = self
-            .moved
-            .wait_while(rt, self.board.lock(rt), |board| board.is_full());
-        board.put(line)
-    }
-
-    /// Answers the lines that were taken outside the lock, and puts back the store and what they were answered.
-    fn lead<R: Threads + Wait + Sync, G: Gate + Sync>(
-        &self,
-        rt: &R,
-        alloc: Global,
-        mut ledger: Ledger<B>,
-        taken: &mut Vec<Asked>,
-        gate: &G,
-    )
-        requires { (0 < length taken.old.items) × (length taken.old.items ≤ 16) }
-        ensures taken { taken.new.items ≡ [] }
-        ensures room { vec_capacity taken.new ≡ vec_capacity taken.old }
-    {
-        let answered = ledger.answer(rt, alloc, taken, gate);
-        self.board.lock(rt).put_back(ledger, taken, answered);
-        self.moved.notify_all();
     }
 }

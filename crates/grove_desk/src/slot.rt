@@ -56,13 +56,6 @@ impl Slot {
             }
         }
     }
-
-    /// Where the line has got to now.
-    pub(crate) fn set(&mut self, state: State)
-        ensures { self.new.state ≡ state }
-    {
-        self.state = state;
-    }
 }
 
 /// The lines that left with the store, in order.

@@ -9,7 +9,7 @@ use crate::fault::answer_fault;
 use crate::{Desk, Opening, Receipt};
 use grove_session::{AnswerFault, Answers, SessionFault, Sink, Source, session};
 use grove_tree::OpenGate;
-use std::alloc::{AllocGlobal, Global};
+use std::alloc::AllocGlobal;
 use std::marker::Model;
 use std::sync::Wait;
 use std::thread::Threads;
@@ -57,35 +57,26 @@ impl<'a, B: Opening, R: Threads + Wait + Sync + AllocGlobal> Answers<R> for Visi
             .desk
             .answer(rt, alloc, self.seen.as_ref(), line, &OpenGate)
         {
-            Ok(receipt) => {
-                let (seen, reply) = parted(alloc, receipt);
-                self.seen = Some(seen);
+            Ok(
+                Receipt {
+                    number,
+                    reply,
+                    rounds,
+                    ..
+                },
+            ) => {
+                // The next receipt is to come after this one; its line and reply aren't kept for that.
+                self.seen = Some(Receipt {
+                    number,
+                    line: Vec::new(alloc),
+                    reply: Vec::new(alloc),
+                    rounds,
+                });
                 Ok(reply)
             }
             Err(fault) => Err(answer_fault(fault)),
         }
     }
-}
-
-/// What the next receipt is to come after, without line and reply, and the reply.
-fn parted(alloc: Global, receipt: Receipt) -> (Receipt, Vec<u8>)
-    ensures rounds { result.0.rounds ≡ receipt.rounds }
-    ensures number { result.0.number ≡ receipt.number }
-    ensures reply { result.1.items ≡ receipt.reply }
-{
-    let Receipt {
-        number,
-        reply,
-        rounds,
-        ..
-    } = receipt;
-    let seen = Receipt {
-        number,
-        line: Vec::new(alloc),
-        reply: Vec::new(alloc),
-        rounds,
-    };
-    (seen, reply)
 }
 
 /// Answers the lines of the source at the desk, one after the other, each with its reply and a line feed, and gives their
