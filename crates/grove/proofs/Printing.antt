@@ -96,6 +96,12 @@ all_written text old new whole = (length text, subst (λ out. Appends old new ou
 pub cut_written : (text : List ℕ) (old new : Option (List ℕ)) → (count : ℕ) × (count < length text) × Appends old new (take count text) → (count : ℕ) × Appends old new (take count text)
 cut_written text old new (count, less, out) = (count, out)
 
+-- what went out of a text that was written is a first part of it
+pub part_written : (text : List ℕ) (old new : Option (List ℕ)) (result : Result (Unit {0}) DeviceFault) → OnOk result (Appends old new text)
+    → OnErr result ((count : ℕ) × (count < length text) × Appends old new (take count text)) → (count : ℕ) × Appends old new (take count text)
+part_written text old new (Ok done) whole cut = all_written text old new whole
+part_written text old new (Err fault) whole cut = cut_written text old new cut
+
 or_false : (b : Bool) → (b || false) ≡ b
 or_false true = refl
 or_false false = refl

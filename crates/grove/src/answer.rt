@@ -188,7 +188,6 @@ fn complain<E: Sink>(text: &str, err: &mut E) -> u8
 }
 
 /// Prints the line and serves, which ends only where a device fails.
-#[tactic(auto, using(crate::proofs::Printing::all_written, crate::proofs::Printing::cut_written))]
 fn say_and_serve<R: Host, O: Sink, E: Sink>(
     rt: &R,
     line: &str,
