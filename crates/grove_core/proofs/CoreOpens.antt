@@ -1,13 +1,15 @@
 -- The loops that open a core, a job further.
-use Rattle.std.proofs.Common.{◌≡◌, ℕ, zero, suc, true, false, ◌+◌, ◌^◌, ◌<◌, ◌≤◌, ℤ, List, [], ◌∷◌, ◌++◌, length, replicate, Some, None, refl, sym, ◌∙◌, ap, subst, inl, inr, arith, add-one}
+use Rattle.std.proofs.Common.{◌≡◌, ℕ, zero, suc, Bool, true, false, ◌+◌, ◌^◌, ◌<◌, ◌≤◌, ℤ, List, [], ◌∷◌, ◌++◌, length, set, replicate, Some, None, refl, sym, ◌∙◌, ap, subst, inl, inr, arith, add-one}
 use Rattle.std.specs.List.{slice_get}
 use Rattle.std.proofs.lemmas.Option.{none-some, same_Some, slice_get_within}
 use Rattle.std.proofs.lemmas.List.{length-replicate}
+use Rattle.std.proofs.lemmas.Bool.{cases_eq}
 use Rattle.grove_base.specs.Numbers.{count_below, sum_below}
 use Rattle.grove_tree.specs.Trees.{Rows, IsTree}
 use Rattle.grove_base.proofs.Counting.{count_le, count_hit, count_miss}
-use Rattle.grove_base.proofs.Lists.{get_append_cases, replicate_got}
+use Rattle.grove_base.proofs.Lists.{get_append_cases, replicate_got, get_set_same, get_set_other}
 use Rattle.grove_plan.specs.declared.step.Step.{Step}
+use Rattle.grove_plan.specs.declared.step.Step.TheVariants.{Lock}
 use Rattle.grove_plan.specs.Plans.{is_lock}
 use Rattle.grove_core.specs.declared.job.Job.{Job}
 use Rattle.grove_core.specs.declared.locking.Locked.{Locked}
@@ -17,9 +19,12 @@ use Rattle.grove_core.specs.declared.fault.OpenFault.TheVariants.{BadPlan, Memor
 use Rattle.grove_core.specs.Runs.{list_of, plan_of, holds, AllLegal, lock_steps}
 use Rattle.grove_core.specs.declared.owner.Owner.{Owner}
 use Rattle.grove_core.specs.declared.owner.Owner.TheVariants.{Nobody}
-use Rattle.grove_core.specs.Kept.{time_in, IsOwned, IsCore}
+use Rattle.grove_core.specs.Orders.{first_lock}
+use Rattle.grove_core.specs.Kept.{time_in, IsFirst, TellsFirsts, IsOwned, IsCore}
 use Rattle.grove_core.specs.Starts.{fault_of, IsFaultOf, HasStarted}
 use Rattle.grove_core.specs.Openings.{job_fault, IsFirstFault}
+use Rattle.grove_core.proofs.Precedence.{within_jobs}
+use Rattle.grove_core.proofs.FirstLocks.{first_stands}
 use Rattle.grove_core.proofs.CountChanges.{count_zero}
 use Rattle.grove_core.proofs.RunSteps.{plan_of_at}
 
@@ -63,26 +68,54 @@ first_fault rows jobs t job at before (BadPlan u fault) h =
 first_fault rows jobs t job at before Memory h = tt
 
 started_last : (n : ℕ) (jobs : List Job) (p : Progress) (t : ℕ) (q : Progress) (i : ℕ) → slice_get (p ∷ []) i ≡ Some q → t ≡ n + i
-    → HasStarted (length (plan_of jobs n)) (length (list_of jobs n)) p → HasStarted (length (plan_of jobs t)) (length (list_of jobs t)) q
+    → HasStarted (lock_steps (plan_of jobs n)) (length (list_of jobs n)) p → HasStarted (lock_steps (plan_of jobs t)) (length (list_of jobs t)) q
 started_last n jobs p t q zero at e here =
     let f : t ≡ n = omega arith in
-    rw f (subst (λ (x : Progress). HasStarted (length (plan_of jobs n)) (length (list_of jobs n)) x) (same_Some p q at) here)
+    rw f (subst (λ (x : Progress). HasStarted (lock_steps (plan_of jobs n)) (length (list_of jobs n)) x) (same_Some p q at) here)
 started_last n jobs p t q (suc i) at e here = absurd (none-some q at)
 
 -- one job started more
 pub started_more : (n : ℕ) (jobs : List Job) (all more : List Progress) (p : Progress) → length all ≡ n → more ≡ all ++ p ∷ []
-    → ((t : ℕ) (q : Progress) → slice_get all t ≡ Some q → HasStarted (length (plan_of jobs t)) (length (list_of jobs t)) q) → HasStarted (length (plan_of jobs n)) (length (list_of jobs n)) p
-    → (t : ℕ) (q : Progress) → slice_get more t ≡ Some q → HasStarted (length (plan_of jobs t)) (length (list_of jobs t)) q
+    → ((t : ℕ) (q : Progress) → slice_get all t ≡ Some q → HasStarted (lock_steps (plan_of jobs t)) (length (list_of jobs t)) q) → HasStarted (lock_steps (plan_of jobs n)) (length (list_of jobs n)) p
+    → (t : ℕ) (q : Progress) → slice_get more t ≡ Some q → HasStarted (lock_steps (plan_of jobs t)) (length (list_of jobs t)) q
 started_more n jobs all more p size e so_far here t q at =
     elim (get_append_cases all (p ∷ []) t q (ap (λ ps. slice_get ps t) (sym e) ∙ at)) [
       | inl old ↦ so_far t q old
       | inr new ↦ started_last n jobs p t q new.0 new.2 (let a : t ≡ length all + new.0 = new.1 in omega arith) here
     ]
 
+-- a node that is told stays told when another is
+pub told_kept : (firsts : List Bool) (node v : ℕ) → node < length firsts → slice_get firsts v ≡ Some true → slice_get (set firsts node true) v ≡ Some true
+told_kept firsts node v within told = elim (cases_eq node v) [
+  | inl e ↦ subst (λ (k : ℕ). slice_get (set firsts node true) k ≡ Some true) e (get_set_same firsts node true within)
+  | inr ne ↦ get_set_other firsts node v true (λ e. ne (sym e)) ∙ told
+]
+
+-- the node that a read job locks first
+pub first_read : (jobs : List Job) (t : ℕ) (job : Job) (steps : List Step) → slice_get jobs t ≡ Some job → steps ≡ job.plan → first_lock (plan_of jobs t) ≡ first_lock steps
+first_read jobs t job steps at same = ap first_lock (plan_of_at jobs t job at ∙ sym same)
+
+-- all that some job locks first are told, once the jobs are through
+pub all_told : (nodes : ℕ) (jobs : List Job) (firsts : List Bool) (n : ℕ) → length jobs ≤ n → length firsts ≡ nodes
+    → ((t : ℕ) → t < n → (node : ℕ) → first_lock (plan_of jobs t) ≡ Some node → slice_get firsts node ≡ Some true) → TellsFirsts nodes jobs firsts
+all_told nodes jobs firsts n le size told = record {
+  all_nodes = size;
+  told = λ node first.
+      let at : (i : ℕ) × (slice_get (plan_of jobs first.0) i ≡ Some (Lock node)) = first_stands (plan_of jobs first.0) node first.1 in
+      let lt : first.0 < length jobs = within_jobs jobs first.0 at.0 (Lock node) at.1 in
+      told first.0 (omega arith) node first.1;
+}
+
+-- a node that some job locks first is one of the tree
+pub firsts_within : (rows : Rows) (jobs : List Job) → AllLegal rows jobs → (node : ℕ) → IsFirst jobs node → node < length rows
+firsts_within rows jobs legal node (t, first) =
+    let at : (i : ℕ) × (slice_get (plan_of jobs t) i ≡ Some (Lock node)) = first_stands (plan_of jobs t) node first in
+    (legal t (within_jobs jobs t at.0 (Lock node) at.1)).obeys.locks_nodes at.0 node at.1
+
 -- the core before the first event
 pub opened : (rows : Rows) (jobs : List Job) (opening records : List ℤ) (progress : List Progress) (owners : List Owner) (waits : List ℕ) (n : ℕ)
     → IsTree rows → length jobs ≤ 256 → AllLegal rows jobs → ((t : ℕ) → t < length jobs → length (plan_of jobs t) < 2 ^ 32) → length opening ≡ length rows → n ≡ length rows
-    → records ≡ opening → length progress ≡ length jobs → ((t : ℕ) (p : Progress) → slice_get progress t ≡ Some p → HasStarted (length (plan_of jobs t)) (length (list_of jobs t)) p)
+    → records ≡ opening → length progress ≡ length jobs → ((t : ℕ) (p : Progress) → slice_get progress t ≡ Some p → HasStarted (lock_steps (plan_of jobs t)) (length (list_of jobs t)) p)
     → owners ≡ replicate n Nobody → waits ≡ replicate n 0
     → IsCore rows jobs opening [] records progress owners waits
 opened rows jobs opening records progress owners waits n tree few legal short size nodes same all started free none = record {
@@ -94,14 +127,14 @@ opened rows jobs opening records progress owners waits n tree few legal short si
   run = tt;
   recorded = same;
   all_jobs = all;
-  come = λ t p at. let h : HasStarted (length (plan_of jobs t)) (length (list_of jobs t)) p = started t p at in record {
+  come = λ t p at. let h : HasStarted (lock_steps (plan_of jobs t)) (length (list_of jobs t)) p = started t p at in record {
     at = h.at;
     marks = h.unmarked;
     answers = h.silent;
     room = h.room;
     spare = h.spare;
     locks = let e : length p.locked.items ≡ 0 = ap length h.unlocked in omega arith;
-    times = λ node. ap (λ (ls : List Locked). time_in ls node) h.unlocked;
+    times = λ node first. ap (λ (ls : List Locked). time_in ls node) h.unlocked;
     holding = h.holding ∙ sym (count_zero (length rows) (λ node. holds jobs [] t node) (λ node. refl));
     held = let e : p.held_nodes ≡ 0 = h.holding in omega arith;
   };

@@ -1,5 +1,5 @@
 -- What a core keeps, as its functions read it: what there is room for, and what may happen next.
-use Rattle.std.proofs.Common.{◌≡◌, ℕ, suc, ◌+◌, ◌^◌, ◌<◌, ◌≤◌, ℤ, true, List, [], ◌∷◌, ◌++◌, length, reverse, get_or, Option, Some, None, sym, ◌∙◌, ap, subst, arith, ltb}
+use Rattle.std.proofs.Common.{◌≡◌, ℕ, suc, ◌+◌, ◌^◌, ◌<◌, ◌≤◌, ℤ, Bool, true, List, [], ◌∷◌, ◌++◌, length, reverse, get_or, Option, Some, None, sym, ◌∙◌, ap, subst, arith, ltb}
 use Rattle.std.specs.List.{slice_get}
 use Rattle.std.proofs.lemmas.List.{reverse-append}
 use Rattle.std.proofs.lemmas.Option.{slice_get_within}
@@ -8,22 +8,24 @@ use Rattle.grove_tree.specs.Trees.{Rows}
 use Rattle.grove_access.specs.declared.access.Access.{Access as Visit}
 use Rattle.grove_plan.specs.declared.step.Step.{Step}
 use Rattle.grove_plan.specs.declared.step.Step.TheVariants.{Lock, Unlock, Access}
+use Rattle.grove_plan.specs.Plans.{is_lock}
 use Rattle.grove_plan.proofs.Held.{unlock_no_lock, access_no_lock, HeldAt, held_at}
 use Rattle.grove_core.specs.declared.job.Job.{Job}
 use Rattle.grove_core.specs.declared.event.Event.{Event}
 use Rattle.grove_core.specs.declared.event.Event.TheVariants.{Take}
 use Rattle.grove_core.specs.declared.progress.Progress.{Progress}
-use Rattle.grove_core.specs.Runs.{list_of, plan_of, steps_done, next_step, holds, is_marked, MayHappen, deeds, run_replies, waits_of, most_events}
+use Rattle.grove_core.specs.Runs.{list_of, plan_of, steps_done, next_step, holds, is_marked, MayHappen, deeds, run_replies, waits_of, lock_steps, most_events}
 use Rattle.grove_core.specs.Orders.{lock_time}
 use Rattle.grove_core.specs.declared.owner.Owner.{Owner}
 use Rattle.grove_core.specs.Owners.{holder_of, last_of}
-use Rattle.grove_core.specs.Kept.{time_in, HasProgress, Owns, IsLastAt, IsCore}
+use Rattle.grove_core.specs.Kept.{time_in, IsFirst, TellsFirsts, HasProgress, Owns, IsLastAt, IsCore}
 use Rattle.grove_core.specs.CarriedTests.{is_owner}
 use Rattle.grove_core.proofs.Precedence.{within_jobs}
 use Rattle.grove_core.proofs.ConflictOrder.{access_held}
 use Rattle.grove_core.proofs.RunBounds.{history_bound, Accessing, accessing, waits_most}
 use Rattle.grove_core.proofs.RunSteps.{plan_of_at, deeds_length}
 use Rattle.grove_base.specs.Numbers.{count_below}
+use Rattle.grove_base.proofs.Counting.{count_hit, count_mono}
 use Rattle.grove_base.proofs.Lists.{read_at}
 use Rattle.grove_core.proofs.CoreSteps.{locked_within, holding_unlocked}
 
@@ -117,12 +119,16 @@ module _ (rows : Rows) (jobs : List Job) (opening : List ℤ) (past : List Event
       omega arith
 
   -- there is room for its next lock
-  pub lock_room : (t : ℕ) (s : Step) → next_step jobs past t ≡ Some s → (p : Progress) → slice_get progress t ≡ Some p → length p.locked.items < p.locked.capacity
-  lock_room t s next p at =
+  pub lock_room : (t node : ℕ) → next_step jobs past t ≡ Some (Lock node) → (p : Progress) → slice_get progress t ≡ Some p → length p.locked.items < p.locked.capacity
+  lock_room t node next p at =
       let h : HasProgress rows jobs opening past t p = core.come t p at in
-      let lt : steps_done past t < length (plan_of jobs t) = slice_get_within (plan_of jobs t) (steps_done past t) s next in
-      let le : length p.locked.items ≤ steps_done past t = h.locks in
-      let room : length (plan_of jobs t) ≤ p.locked.capacity = h.spare in
+      let lt : steps_done past t < length (plan_of jobs t) = slice_get_within (plan_of jobs t) (steps_done past t) (Lock node) next in
+      let le : length p.locked.items ≤ count_below (steps_done past t) (λ i. is_lock (slice_get (plan_of jobs t) i)) = h.locks in
+      let one : count_below (suc (steps_done past t)) (λ i. is_lock (slice_get (plan_of jobs t) i)) ≡ suc (count_below (steps_done past t) (λ i. is_lock (slice_get (plan_of jobs t) i))) =
+      count_hit (steps_done past t) (λ i. is_lock (slice_get (plan_of jobs t) i)) (ap is_lock next) in
+      let more : count_below (suc (steps_done past t)) (λ i. is_lock (slice_get (plan_of jobs t) i)) ≤ lock_steps (plan_of jobs t) =
+      count_mono (suc (steps_done past t)) (length (plan_of jobs t)) (λ i. is_lock (slice_get (plan_of jobs t) i)) lt in
+      let room : lock_steps (plan_of jobs t) ≤ p.locked.capacity = h.spare in
       omega arith
 
   -- a job that unlocks a node holds some
@@ -180,9 +186,9 @@ module _ (rows : Rows) (jobs : List Job) (opening : List ℤ) (past : List Event
   pub held_read : (t : ℕ) (p : Progress) → slice_get progress t ≡ Some p → p.held_nodes ≡ count_below (length rows) (λ v. holds jobs past t v)
   held_read t p at = (core.come t p at).holding
 
-  -- when it locked a node
-  pub time_read : (t : ℕ) (p : Progress) → slice_get progress t ≡ Some p → (node : ℕ) → time_in p.locked.items node ≡ lock_time jobs past t node
-  time_read t p at node = (core.come t p at).times node
+  -- when it locked a node that some job locks first
+  pub time_read : (t : ℕ) (p : Progress) → slice_get progress t ≡ Some p → (node : ℕ) → IsFirst jobs node → time_in p.locked.items node ≡ lock_time jobs past t node
+  time_read t p at node first = (core.come t p at).times node first
 
   -- who holds a node that is to be locked, and how often it was waited for, by what is read at its number
   pub owner_seen : (t node number : ℕ) → next_step jobs past t ≡ Some (Lock node) → number ≡ node → (owner : Owner) → owner ≡ get_or owners number owner → (o : Option ℕ) → holder_of owner ≡ o → Owns jobs past node o
@@ -215,8 +221,8 @@ module _ (rows : Rows) (jobs : List Job) (opening : List ℤ) (past : List Event
   may_access t number next = (Access number, next, λ n e. absurd (access_no_lock number n (ap (λ (s : Step). Some s) e)))
 
 -- what a core keeps, as the model has it, with one event more
-pub closed : (rows : Rows) (jobs : List Job) (opening : List ℤ) (items more : List Event) (event : Event) (room spare : ℕ) (records : List ℤ) (progress : List Progress) (owners : List Owner) (waits : List ℕ)
-    → more ≡ items ++ event ∷ [] → spare ≡ room → most_events jobs ≤ room → IsCore rows jobs opening (event ∷ reverse items) records progress owners waits
-    → IsCore rows jobs opening (reverse more) records progress owners waits × (most_events jobs ≤ spare)
-closed rows jobs opening items more event room spare records progress owners waits e f le core =
-    (subst (λ (past : List Event). IsCore rows jobs opening past records progress owners waits) (sym (ap (λ (es : List Event). reverse es) e ∙ reverse_last items event)) core, omega arith)
+pub closed : (rows : Rows) (jobs : List Job) (opening : List ℤ) (items more : List Event) (event : Event) (room spare : ℕ) (records : List ℤ) (progress : List Progress) (owners : List Owner) (waits : List ℕ) (firsts : List Bool)
+    → more ≡ items ++ event ∷ [] → spare ≡ room → most_events jobs ≤ room → TellsFirsts (length rows) jobs firsts → IsCore rows jobs opening (event ∷ reverse items) records progress owners waits
+    → IsCore rows jobs opening (reverse more) records progress owners waits × (most_events jobs ≤ spare) × TellsFirsts (length rows) jobs firsts
+closed rows jobs opening items more event room spare records progress owners waits firsts e f le tells core =
+    (subst (λ (past : List Event). IsCore rows jobs opening past records progress owners waits) (sym (ap (λ (es : List Event). reverse es) e ∙ reverse_last items event)) core, omega arith, tells)

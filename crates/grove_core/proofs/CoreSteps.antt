@@ -1,6 +1,7 @@
 -- What a core keeps, after each kind of event.
 use Rattle.std.proofs.Common.{◌≡◌, ◌≢◌, ℕ, suc, ◌+◌, ◌<◌, ◌≤◌, ℤ, true, false, cond, eqb, List, [], ◌∷◌, ◌++◌, length, set, Option, Some, None, refl, sym, ◌∙◌, ap, subst, inl, inr, arith, add-one, length-append}
 use Rattle.std.specs.List.{slice_get}
+use Rattle.std.specs.Prelude.{IfSome, IfNone, MatchOption}
 use Rattle.smallvec.specs.SmallVec.{SmallVec}
 use Rattle.std.proofs.lemmas.List.{length-set}
 use Rattle.std.proofs.lemmas.Option.{same_Some, slice_get_within}
@@ -12,27 +13,36 @@ use Rattle.grove_access.specs.declared.reply.Reply.{Reply}
 use Rattle.grove_access.specs.Effects.{changed_by, reply_to}
 use Rattle.grove_plan.specs.declared.step.Step.{Step}
 use Rattle.grove_plan.specs.declared.step.Step.TheVariants.{Lock, Unlock, Access}
-use Rattle.grove_plan.specs.Plans.{locks, unlocks, held, ObeysTreeProtocol}
+use Rattle.grove_plan.specs.Plans.{locks, is_lock, unlocks, held, ObeysTreeProtocol}
 use Rattle.grove_plan.proofs.Held.{locks_from, held_not, held_step_lock, held_step_unlock, held_step_other, lock_same, unlock_no_lock, access_no_lock}
 use Rattle.grove_core.specs.declared.job.Job.{Job}
 use Rattle.grove_core.specs.declared.event.Event.{Event}
 use Rattle.grove_core.specs.declared.event.Event.TheVariants.{Take, Mark}
 use Rattle.grove_core.specs.declared.locking.Locked.{Locked}
 use Rattle.grove_core.specs.declared.progress.Progress.{Progress}
-use Rattle.grove_core.specs.Runs.{list_of, plan_of, steps_done, next_step, holds, is_marked, IsFree, IsHeldBy, MayHappen, deed_of, run_records, run_replies, waits_of}
+use Rattle.grove_core.specs.Runs.{list_of, plan_of, steps_done, next_step, holds, is_marked, IsFree, IsHeldBy, MayHappen, deed_of, run_records, run_replies, waits_of, lock_steps}
 use Rattle.grove_core.specs.Orders.{lock_time, earlier}
 use Rattle.grove_core.specs.declared.owner.Owner.{Owner}
 use Rattle.grove_core.specs.declared.owner.Owner.TheVariants.{Nobody, Holder, Last}
 use Rattle.grove_core.specs.Owners.{holder_of, last_of}
-use Rattle.grove_core.specs.Kept.{time_in, HasProgress, Owns, IsLastAt, IsOwned, IsCore}
+use Rattle.grove_core.specs.Kept.{time_in, IsFirst, HasProgress, Owns, IsLastAt, IsOwned, IsCore}
 use Rattle.grove_core.proofs.Precedence.{within_jobs}
 use Rattle.grove_core.proofs.CountChanges.{count_agree, count_added}
 use Rattle.grove_core.proofs.StepTimes.{time, steps_new, steps_other, time_within, lock_time_is}
 use Rattle.grove_core.proofs.LockTimes.{time_added, time_kept, none_before}
 use Rattle.grove_core.proofs.RunSteps.{lock_time_kept, lock_time_other, lock_time_new, locks_lock, idle_records, idle_replies, accessed_records, accessed_replies, other_replies}
+use Rattle.grove_base.proofs.Counting.{count_hit, count_mono}
 use Rattle.grove_base.proofs.Lists.{get_set_same, get_set_other}
 
 -- The progress of each job
+
+-- how many of a job's first steps are locks
+abbrev locks_below : List Job → ℕ → ℕ → ℕ
+locks_below jobs t n = count_below n (λ i. is_lock (slice_get (plan_of jobs t) i))
+
+-- one step more has as many
+locks_grow : (jobs : List Job) (t n : ℕ) → locks_below jobs t n ≤ locks_below jobs t (suc n)
+locks_grow jobs t n = count_mono n (suc n) (λ i. is_lock (slice_get (plan_of jobs t) i)) (omega arith)
 
 progress_other : (rows : Rows) (jobs : List Job) (opening : List ℤ) (past : List Event) (t u : ℕ) (p : Progress) → t ≢ u
     → HasProgress rows jobs opening past u p → HasProgress rows jobs opening (Take t ∷ past) u p
@@ -42,8 +52,8 @@ progress_other rows jobs opening past t u p ne h = record {
   answers = h.answers ∙ sym (other_replies jobs opening past t u ne);
   room = h.room;
   spare = h.spare;
-  locks = let n : steps_done (Take t ∷ past) u ≡ steps_done past u = steps_other past t u ne in let le : length p.locked.items ≤ steps_done past u = h.locks in omega arith;
-  times = λ node. h.times node ∙ sym (lock_time_other jobs past t u node ne);
+  locks = subst (λ (n : ℕ). length p.locked.items ≤ count_below n (λ i. is_lock (slice_get (plan_of jobs u) i))) (sym (steps_other past t u ne)) h.locks;
+  times = λ node first. h.times node first ∙ sym (lock_time_other jobs past t u node ne);
   holding = h.holding ∙ ap (λ (k : ℕ). count_below (length rows) (λ node. held (plan_of jobs u) node k)) (sym (steps_other past t u ne));
   held = let n : steps_done (Take t ∷ past) u ≡ steps_done past u = steps_other past t u ne in let le : p.held_nodes ≤ steps_done past u = h.held in omega arith;
 }
@@ -51,8 +61,8 @@ progress_other rows jobs opening past t u p ne h = record {
 -- of the job that took a step
 pub progress_taken : (rows : Rows) (jobs : List Job) (opening : List ℤ) (past : List Event) (t : ℕ) (p q : Progress) → HasProgress rows jobs opening past t p
     → q.steps_done ≡ p.steps_done + 1 → q.marked ≡ false → q.replies.items ≡ run_replies jobs opening (Take t ∷ past) t → q.replies.capacity ≡ p.replies.capacity
-    → q.locked.capacity ≡ p.locked.capacity → length q.locked.items ≤ length p.locked.items + 1
-    → ((node : ℕ) → time_in q.locked.items node ≡ lock_time jobs (Take t ∷ past) t node)
+    → q.locked.capacity ≡ p.locked.capacity → length q.locked.items ≤ locks_below jobs t (suc (steps_done past t))
+    → ((node : ℕ) → IsFirst jobs node → time_in q.locked.items node ≡ lock_time jobs (Take t ∷ past) t node)
     → q.held_nodes ≡ count_below (length rows) (λ node. holds jobs (Take t ∷ past) t node) → q.held_nodes ≤ p.held_nodes + 1
     → HasProgress rows jobs opening (Take t ∷ past) t q
 progress_taken rows jobs opening past t p q h at marks answers room spare locks times holding held = record {
@@ -60,8 +70,8 @@ progress_taken rows jobs opening past t p q h at marks answers room spare locks 
   marks = marks ∙ sym (cond-true (eqb t t) false (is_marked past t) (eq-eqb t t refl));
   answers = answers;
   room = let r : length (list_of jobs t) ≤ p.replies.capacity = h.room in omega arith;
-  spare = let r : length (plan_of jobs t) ≤ p.locked.capacity = h.spare in omega arith;
-  locks = let n : steps_done (Take t ∷ past) t ≡ suc (steps_done past t) = steps_new past t t refl in let le : length p.locked.items ≤ steps_done past t = h.locks in omega arith;
+  spare = let r : lock_steps (plan_of jobs t) ≤ p.locked.capacity = h.spare in omega arith;
+  locks = subst (λ (n : ℕ). length q.locked.items ≤ locks_below jobs t n) (sym (steps_new past t t refl)) locks;
   times = times;
   holding = holding;
   held = let n : steps_done (Take t ∷ past) t ≡ suc (steps_done past t) = steps_new past t t refl in let le : p.held_nodes ≤ steps_done past t = h.held in omega arith;
@@ -187,29 +197,51 @@ module _ (rows : Rows) (jobs : List Job) (opening : List ℤ) (past : List Event
   pub may_lock : (t node : ℕ) → next_step jobs past t ≡ Some (Lock node) → IsFree jobs past t node → MayHappen jobs past (Take t)
   may_lock t node next free = (Lock node, next, λ n e. subst (λ (k : ℕ). IsFree jobs past t k) (lock_same node n e) free)
 
+  -- a lock adds at most one to those that are kept
+  kept_size : (p q : Progress) (kept : Option Locked) → MatchOption kept (q.locked ≡ p.locked) (λ lock. q.locked.items ≡ p.locked.items ++ lock ∷ []) → length q.locked.items ≤ length p.locked.items + 1
+  kept_size p q None same = let e : length q.locked.items ≡ length p.locked.items = ap (λ (r : SmallVec Locked). length r.items) same in omega arith
+  kept_size p q (Some lock) added = let e : length q.locked.items ≡ length p.locked.items + 1 = ap length added ∙ length-append p.locked.items (lock ∷ []) in omega arith
+
+  -- and the times are those of all nodes that some job locks first
+  kept_times : (t node : ℕ) → next_step jobs past t ≡ Some (Lock node) → (p q : Progress) → slice_get progress t ≡ Some p
+      → (kept : Option Locked) → IfSome kept (λ lock. lock ≡ record { node = node; time = length past }) → IfNone kept (IsFirst jobs node → ⊥)
+      → MatchOption kept (q.locked ≡ p.locked) (λ lock. q.locked.items ≡ p.locked.items ++ lock ∷ [])
+      → (n : ℕ) → IsFirst jobs n → time_in q.locked.items n ≡ lock_time jobs (Take t ∷ past) t n
+  kept_times t node next p q at None is left same n first =
+      let h : HasProgress rows jobs opening past t p = core.come t p at in
+      let ne : node ≢ n = λ e. left (subst (λ (k : ℕ). IsFirst jobs k) (sym e) first) in
+      ap (λ (r : SmallVec Locked). time_in r.items n) same ∙ h.times n first ∙ sym (lock_time_kept jobs past t t n (locks_lock n node (next_step jobs past t) next ne))
+  kept_times t node next p q at (Some lock) is left added n first =
+      let h : HasProgress rows jobs opening past t p = core.come t p at in
+      let obeys : ObeysTreeProtocol rows (plan_of jobs t) = (core.legal t (within_jobs jobs t (steps_done past t) (Lock node) next)).obeys in
+      let new : Locked = record { node = node; time = length past } in
+      ap (λ (ls : List Locked). time_in ls n) (added ∙ ap (λ (l : Locked). p.locked.items ++ l ∷ []) is) ∙ elim (cases_eq node n) [
+        | inl e ↦ subst (λ (k : ℕ). IsFirst jobs k → time_in (p.locked.items ++ new ∷ []) k ≡ lock_time jobs (Take t ∷ past) t k) e
+            (λ here. time_added p.locked.items new node refl (h.times node here ∙ none_before rows jobs past t node obeys next (lock_time jobs past t node) refl) ∙ sym (lock_time_new jobs past t node next)) first
+        | inr ne ↦ time_kept p.locked.items new n ne ∙ h.times n first ∙ sym (lock_time_kept jobs past t t n (locks_lock n node (next_step jobs past t) next ne))
+      ]
+
   -- a core that takes a lock keeps what it has to
   pub core_locked : (t node : ℕ) → next_step jobs past t ≡ Some (Lock node) → IsFree jobs past t node → (p q : Progress) → slice_get progress t ≡ Some p
       → q.steps_done ≡ p.steps_done + 1 → q.marked ≡ false → q.replies ≡ p.replies
-      → q.locked.items ≡ p.locked.items ++ record { node = node; time = length past } ∷ [] → q.locked.capacity ≡ p.locked.capacity
+      → (kept : Option Locked) → IfSome kept (λ lock. lock ≡ record { node = node; time = length past }) → IfNone kept (IsFirst jobs node → ⊥)
+      → MatchOption kept (q.locked ≡ p.locked) (λ lock. q.locked.items ≡ p.locked.items ++ lock ∷ []) → q.locked.capacity ≡ p.locked.capacity
       → q.held_nodes ≡ p.held_nodes + 1
       → IsCore rows jobs opening (Take t ∷ past) records (set progress t q) (set owners node (Holder t)) waits
-  core_locked t node next free p q at moved marked replies locked spare more =
+  core_locked t node next free p q at moved marked replies kept is left locked spare more =
       let h : HasProgress rows jobs opening past t p = core.come t p at in
       let within : node < length rows = locked_within t node next in
       let idle : deed_of t (list_of jobs t) (next_step jobs past t) ≡ [] = ap (deed_of t (list_of jobs t)) next in
       let obeys : ObeysTreeProtocol rows (plan_of jobs t) = (core.legal t (within_jobs jobs t (steps_done past t) (Lock node) next)).obeys in
-      let new : Locked = record { node = node; time = length past } in
-      let size : length q.locked.items ≡ length p.locked.items + 1 = ap length locked ∙ length-append p.locked.items (record { node = node; time = length past } ∷ []) in
+      let size : length q.locked.items ≤ length p.locked.items + 1 = kept_size p q kept locked in
+      let one : locks_below jobs t (suc (steps_done past t)) ≡ suc (locks_below jobs t (steps_done past t)) = count_hit (steps_done past t) (λ i. is_lock (slice_get (plan_of jobs t) i)) (ap is_lock next) in
+      let le : length p.locked.items ≤ locks_below jobs t (steps_done past t) = h.locks in
       core_taken t (may_lock t node next free) records (core.recorded ∙ sym (idle_records jobs opening past t idle)) q
       (progress_taken rows jobs opening past t p q h moved marked
       (ap (λ (r : SmallVec Reply). r.items) replies ∙ h.answers ∙ sym (idle_replies jobs opening past t t idle))
       (ap (λ (r : SmallVec Reply). r.capacity) replies)
       spare (omega arith)
-      (λ n. ap (λ (ls : List Locked). time_in ls n) locked ∙ elim (cases_eq node n) [
-        | inl e ↦ subst (λ (k : ℕ). time_in (p.locked.items ++ new ∷ []) k ≡ lock_time jobs (Take t ∷ past) t k) e
-            (time_added p.locked.items new node refl (h.times node ∙ none_before rows jobs past t node obeys next (lock_time jobs past t node) refl) ∙ sym (lock_time_new jobs past t node next))
-        | inr ne ↦ time_kept p.locked.items new n ne ∙ h.times n ∙ sym (lock_time_kept jobs past t t n (locks_lock n node (next_step jobs past t) next ne))
-      ])
+      (kept_times t node next p q at kept is left locked)
       (more ∙ add-one p.held_nodes ∙ ap suc h.holding ∙ sym (holding_locked rows jobs past t node (length rows) obeys next within)) (omega arith))
       (set owners node (Holder t)) (length-set owners node (Holder t) ∙ core.all_owners)
       (owned_after jobs past (Take t ∷ past) owners node (Holder t) core.owned (
@@ -222,6 +254,14 @@ module _ (rows : Rows) (jobs : List Job) (opening : List ℤ) (past : List Event
       )
       (λ n ne. holds_same jobs past t n (locks_lock n node (next_step jobs past t) next ne) (ap (unlocks n) next))
       (λ n ne u. lock_time_kept jobs past t u n (locks_lock n node (next_step jobs past t) next ne)))
+
+  -- any other step adds none
+  left_size : (t : ℕ) (p q : Progress) → slice_get progress t ≡ Some p → q.locked ≡ p.locked → length q.locked.items ≤ locks_below jobs t (suc (steps_done past t))
+  left_size t p q at same =
+      let e : length q.locked.items ≡ length p.locked.items = ap (λ (r : SmallVec Locked). length r.items) same in
+      let le : length p.locked.items ≤ locks_below jobs t (steps_done past t) = (core.come t p at).locks in
+      let more : locks_below jobs t (steps_done past t) ≤ locks_below jobs t (suc (steps_done past t)) = locks_grow jobs t (steps_done past t) in
+      omega arith
 
   -- the owner of a held node
   owner_alone : (t node : ℕ) (owner : Option ℕ) → Owns jobs past node owner → holds jobs past t node ≡ true → (u : ℕ) → u ≢ t → holds jobs past u node ≡ false
@@ -256,8 +296,8 @@ module _ (rows : Rows) (jobs : List Job) (opening : List ℤ) (past : List Event
       (progress_taken rows jobs opening past t p q h moved marked
       (ap (λ (r : SmallVec Reply). r.items) replies ∙ h.answers ∙ sym (idle_replies jobs opening past t t idle))
       (ap (λ (r : SmallVec Reply). r.capacity) replies)
-      (ap (λ (r : SmallVec Locked). r.capacity) locked) (let e : length q.locked.items ≡ length p.locked.items = ap (λ (r : SmallVec Locked). length r.items) locked in omega arith)
-      (λ n. ap (λ (r : SmallVec Locked). time_in r.items n) locked ∙ h.times n ∙ sym (lock_time_kept jobs past t t n (ap (locks n) next)))
+      (ap (λ (r : SmallVec Locked). r.capacity) locked) (left_size t p q at locked)
+      (λ n first. ap (λ (r : SmallVec Locked). time_in r.items n) locked ∙ h.times n first ∙ sym (lock_time_kept jobs past t t n (ap (locks n) next)))
       (omega arith) (omega arith))
       (set owners node (Last t)) (length-set owners node (Last t) ∙ core.all_owners)
       (owned_after jobs past (Take t ∷ past) owners node (Last t) core.owned (
@@ -284,8 +324,8 @@ module _ (rows : Rows) (jobs : List Job) (opening : List ℤ) (past : List Event
       ∙ ap (λ (r : List ℤ). run_replies jobs opening past t ++ reply_to visit r ∷ []) core.recorded
       ∙ sym (accessed_replies jobs opening past t number visit next listed))
       room
-      (ap (λ (r : SmallVec Locked). r.capacity) locked) (let e : length q.locked.items ≡ length p.locked.items = ap (λ (r : SmallVec Locked). length r.items) locked in omega arith)
-      (λ n. ap (λ (r : SmallVec Locked). time_in r.items n) locked ∙ h.times n ∙ sym (lock_time_kept jobs past t t n (ap (locks n) next)))
+      (ap (λ (r : SmallVec Locked). r.capacity) locked) (left_size t p q at locked)
+      (λ n first. ap (λ (r : SmallVec Locked). time_in r.items n) locked ∙ h.times n first ∙ sym (lock_time_kept jobs past t t n (ap (locks n) next)))
       (kept ∙ h.holding ∙ sym (count_agree (length rows) (λ v. holds jobs (Take t ∷ past) t v) (λ v. holds jobs past t v)
       (λ v less. holds_same jobs past t v (ap (locks v) next) (ap (unlocks v) next) t))) (omega arith))
       owners core.all_owners
@@ -343,9 +383,9 @@ module _ (rows : Rows) (jobs : List Job) (opening : List ℤ) (past : List Event
               marks = marked ∙ sym (cond-true (eqb t t) true (is_marked past t) (eq-eqb t t refl));
               answers = ap (λ (r : SmallVec Reply). r.items) replies ∙ h.answers;
               room = subst (λ (r : SmallVec Reply). length (list_of jobs t) ≤ r.capacity) (sym replies) h.room;
-              spare = subst (λ (r : SmallVec Locked). length (plan_of jobs t) ≤ r.capacity) (sym locked) h.spare;
-              locks = subst (λ (r : SmallVec Locked). length r.items ≤ steps_done past t) (sym locked) h.locks;
-              times = λ n. ap (λ (r : SmallVec Locked). time_in r.items n) locked ∙ h.times n;
+              spare = subst (λ (r : SmallVec Locked). lock_steps (plan_of jobs t) ≤ r.capacity) (sym locked) h.spare;
+              locks = subst (λ (r : SmallVec Locked). length r.items ≤ locks_below jobs t (steps_done past t)) (sym locked) h.locks;
+              times = λ n first. ap (λ (r : SmallVec Locked). time_in r.items n) locked ∙ h.times n first;
               holding = kept ∙ h.holding;
               held = subst (λ (k : ℕ). k ≤ steps_done past t) (sym kept) h.held;
             });

@@ -1,13 +1,14 @@
 -- What a core keeps: the state that its history leads to.
-use Rattle.std.specs.Prelude.{◌≡◌, ◌≢◌, ℕ, ◌^◌, ◌<◌, ◌≤◌, ◌==◌, ℤ, true, false, ⊤, List, [], ◌∷◌, length, reverse, slice_get, Option, Some, None, if◌then◌else◌}
+use Rattle.std.specs.Prelude.{◌≡◌, ◌≢◌, ℕ, ◌^◌, ◌<◌, ◌≤◌, ◌==◌, ℤ, Bool, true, false, ⊤, List, [], ◌∷◌, length, reverse, slice_get, Option, Some, None, if◌then◌else◌}
 use Rattle.grove_base.specs.Numbers.{count_below}
 use Rattle.grove_tree.specs.Trees.{Rows, IsTree}
 use Rattle.grove_core.specs.declared.job.Job.{Job}
 use Rattle.grove_core.specs.declared.event.Event.{Event}
 use Rattle.grove_core.specs.declared.locking.Locked.{Locked}
 use Rattle.grove_core.specs.declared.progress.Progress.{Progress}
-use Rattle.grove_core.specs.Runs.{list_of, plan_of, steps_done, holds, is_marked, AllLegal, IsRun, run_records, run_replies, waits_of}
-use Rattle.grove_core.specs.Orders.{lock_time, earlier}
+use Rattle.grove_plan.specs.Plans.{is_lock}
+use Rattle.grove_core.specs.Runs.{list_of, plan_of, steps_done, holds, is_marked, AllLegal, IsRun, run_records, run_replies, waits_of, lock_steps}
+use Rattle.grove_core.specs.Orders.{first_lock, lock_time, earlier}
 use Rattle.grove_core.specs.declared.owner.Owner.{Owner}
 use Rattle.grove_core.specs.Owners.{holder_of, last_of}
 
@@ -27,15 +28,24 @@ abbrev pub time_in : List Locked → ℕ → Option ℕ
 time_in [] node = None
 time_in (lock ∷ locked) node = if lock.node == node then Some lock.time else time_in locked node
 
--- how far a job has come
+-- some job locks the node first
+abbrev pub IsFirst : List Job → ℕ → Type 0
+IsFirst jobs node = (t : ℕ) × (first_lock (plan_of jobs t) ≡ Some node)
+
+-- each node that some job locks first is told
+pub record TellsFirsts (nodes : ℕ) (jobs : List Job) (firsts : List Bool) : Type 0 where
+  pub all_nodes : length firsts ≡ nodes
+  pub told : (node : ℕ) → IsFirst jobs node → slice_get firsts node ≡ Some true
+
+-- how far a job has come; the times are those of nodes that some job locks first
 pub record HasProgress (rows : Rows) (jobs : List Job) (opening : List ℤ) (past : List Event) (t : ℕ) (progress : Progress) : Type 0 where
   pub at : progress.steps_done ≡ steps_done past t
   pub marks : progress.marked ≡ is_marked past t
   pub answers : progress.replies.items ≡ run_replies jobs opening past t
   pub room : length (list_of jobs t) ≤ progress.replies.capacity
-  pub spare : length (plan_of jobs t) ≤ progress.locked.capacity
-  pub locks : length progress.locked.items ≤ steps_done past t
-  pub times : (node : ℕ) → time_in progress.locked.items node ≡ lock_time jobs past t node
+  pub spare : lock_steps (plan_of jobs t) ≤ progress.locked.capacity
+  pub locks : length progress.locked.items ≤ count_below (steps_done past t) (λ i. is_lock (slice_get (plan_of jobs t) i))
+  pub times : (node : ℕ) → IsFirst jobs node → time_in progress.locked.items node ≡ lock_time jobs past t node
   pub holding : progress.held_nodes ≡ count_below (length rows) (λ node. holds jobs past t node)
   pub held : progress.held_nodes ≤ steps_done past t
 

@@ -19,11 +19,11 @@ IsFaultOf found t (BadPlan u fault) = (u ≡ t) × (found ≡ Some fault)
 IsFaultOf found t Memory = ⊤
 
 -- a job that has done nothing, with room for its locks and its replies
-pub record HasStarted (steps accesses : ℕ) (progress : Progress) : Type 0 where
+pub record HasStarted (locks accesses : ℕ) (progress : Progress) : Type 0 where
   pub at : progress.steps_done ≡ 0
   pub unmarked : progress.marked ≡ false
   pub silent : progress.replies.items ≡ []
   pub room : accesses ≤ progress.replies.capacity
   pub unlocked : progress.locked.items ≡ []
-  pub spare : steps ≤ progress.locked.capacity
+  pub spare : locks ≤ progress.locked.capacity
   pub holding : progress.held_nodes ≡ 0

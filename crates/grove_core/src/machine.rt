@@ -1,4 +1,4 @@
-ghost use Rattle.std.specs.Prelude.{◌≡◌, ℕ, ◌≤◌, ◌<◌, ◌∷◌, [], ◌++◌, length, reverse, IfOk, OnOk, OnErr, IfErr, MatchOption, Some, slice_get, true, false, IsTrue, IfSome, ◌↔◌};
+ghost use Rattle.std.specs.Prelude.{◌≡◌, ℕ, ◌≤◌, ◌<◌, ◌∷◌, [], ◌++◌, length, reverse, IfOk, OnOk, OnErr, IfErr, MatchOption, Some, slice_get, true, false, IsTrue, IfSome, IfNone, ◌↔◌};
 ghost use Rattle.grove_access.specs.Effects.{record_at};
 ghost use Rattle.grove_core.specs.Runs.{plan_of, next_step, AllLegal, IsRun, IsFinished, MayHappen, IsRefused, IsFree, IsHeldBy, is_marked, run_records, run_replies, waits_of, most_events};
 ghost use Rattle.grove_tree.specs.Trees.{IsTree};
@@ -7,11 +7,11 @@ ghost use Rattle.grove_core.specs.Depths.{first_depth};
 ghost use Rattle.grove_core.specs.Laws.{CanGoOn};
 ghost use Rattle.grove_core.specs.Openings.{AllFit, IsFirstFault};
 ghost use Rattle.grove_core.specs.Replays.{IsFirstUnfinished};
-ghost use Rattle.grove_core.specs.Kept.{past_of};
+ghost use Rattle.grove_core.specs.Kept.{past_of, IsFirst};
 
 use crate::following::{is_owner, step_at};
-use crate::locking::{first_lock, time_in};
-use crate::opening::{judge_all, room, start_all};
+use crate::locking::{Locked, first_lock, time_in};
+use crate::opening::{judge_all, mark_firsts, room, start_all};
 use crate::owner::Owner;
 use crate::progress::Progress;
 use crate::{Event, Job, OpenFault, StepFault};
@@ -35,18 +35,20 @@ pub struct Core<'a> {
     progress: Vec<Progress>,
     owners: Vec<Owner>,
     waits: Vec<u32>,
+    /// Of each node whether some job locks it first: the serial order asks for the times of these nodes' locks alone.
+    firsts: Vec<bool>,
 }
 
 impl<'a> Model for Core<'a> {
-    ghost use Rattle.std.specs.Prelude.{◌≤◌, reverse, vec_capacity};
+    ghost use Rattle.std.specs.Prelude.{◌≤◌, length, reverse, vec_capacity};
     ghost use Rattle.grove_core.specs.Runs.{most_events};
-    ghost use Rattle.grove_core.specs.Kept.{State, IsCore};
+    ghost use Rattle.grove_core.specs.Kept.{State, TellsFirsts, IsCore};
 
     ghost Value = { State };
 
     ghost view = { λ core. record { tree = core.tree.now; jobs = core.jobs.now; opening = core.opening; history = core.history.items } };
 
-    ghost invariant = { λ core. IsCore core.tree.now core.jobs.now core.opening (reverse core.history.items) core.records core.progress.items core.owners.items core.waits.items × (most_events core.jobs.now ≤ vec_capacity core.history) };
+    ghost invariant = { λ core. IsCore core.tree.now core.jobs.now core.opening (reverse core.history.items) core.records core.progress.items core.owners.items core.waits.items × (most_events core.jobs.now ≤ vec_capacity core.history) × TellsFirsts (length core.tree.now) core.jobs.now core.firsts.items };
 }
 
 impl<'a> Core<'a> {
@@ -88,6 +90,7 @@ impl<'a> Core<'a> {
         let progress = start_all(alloc, jobs)?;
         let owners = vec![in alloc; Owner::Nobody; nodes]?;
         let waits = vec![in alloc; 0; nodes]?;
+        let firsts = mark_firsts(alloc, nodes, jobs)?;
         Ok(Core {
             tree,
             jobs,
@@ -97,6 +100,7 @@ impl<'a> Core<'a> {
             progress,
             owners,
             waits,
+            firsts,
         })
     }
 
@@ -211,7 +215,8 @@ impl<'a> Core<'a> {
         }
     }
 
-    fn try_lock(&mut self, txn: u32, node: Node) -> Result<(), StepFault>
+    /// Does the job's next step, which is a lock of the node, where no other job holds it. A refusal changes nothing.
+    pub fn try_lock(&mut self, txn: u32, node: Node) -> Result<(), StepFault>
         requires { next_step self.old.jobs (past_of self.old) txn ≡ Some (Step.Lock node) }
         ensures accepted { OnOk result (MayHappen self.old.jobs (past_of self.old) (Event.Take txn)) }
         ensures added { OnOk result (self.new ≡ record self.old { history = self.old.history ++ Event.Take txn ∷ [] }) }
@@ -291,8 +296,9 @@ impl<'a> Core<'a> {
         is_owner(self.owners[node.number() as usize].last(), txn)
     }
 
-    /// How many events came before a job's lock of a node.
+    /// How many events came before a job's lock of a node that some job locks first.
     pub(crate) fn lock_time(&self, txn: u32, node: Node) -> Option<usize>
+        requires { IsFirst self.now.jobs node }
         ensures { result ≡ lock_time self.now.jobs (past_of self.now) txn node }
     {
         match self.progress.get(txn as usize) {
@@ -335,19 +341,33 @@ impl<'a> Core<'a> {
         self.progress[txn as usize].marked
     }
 
+    /// A lock of the node that comes now, where its time will be asked for.
+    fn lock_to_keep(&self, node: Node) -> Option<Locked>
+        requires { node < length self.now.tree }
+        ensures kept { IfSome result (λ lock. lock ≡ record { node = node; time = length self.now.history }) }
+        ensures left { IfNone result (IsFirst self.now.jobs node → ⊥) }
+    {
+        if !self.firsts[node.number() as usize] {
+            return None;
+        }
+        let time = self.history.len();
+        Some(Locked { node, time })
+    }
+
     fn lock(&mut self, txn: u32, node: Node)
         requires next { next_step self.old.jobs (past_of self.old) txn ≡ Some (Step.Lock node) }
         requires free { IsFree self.old.jobs (past_of self.old) txn node }
         ensures { self.new ≡ record self.old { history = self.old.history ++ Event.Take txn ∷ [] } }
     {
-        let time = self.history.len();
+        let kept = self.lock_to_keep(node);
         let progress = &mut self.progress[txn as usize];
-        progress.lock(node, time);
+        progress.lock(kept);
         self.owners[node.number() as usize] = Owner::Holder(txn);
         self.history.push_reserved(Event::Take(txn));
     }
 
-    fn unlock(&mut self, txn: u32, node: Node)
+    /// Does the job's next step, which lets the node go.
+    pub fn unlock(&mut self, txn: u32, node: Node)
         requires { next_step self.old.jobs (past_of self.old) txn ≡ Some (Step.Unlock node) }
         ensures { self.new ≡ record self.old { history = self.old.history ++ Event.Take txn ∷ [] } }
     {

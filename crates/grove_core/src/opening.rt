@@ -5,7 +5,9 @@ ghost use Rattle.grove_core.specs.declared.progress.Progress.{Progress};
 ghost use Rattle.grove_core.specs.Runs.{list_of, plan_of, lock_steps, AllLegal, most_events};
 ghost use Rattle.grove_core.specs.Openings.{AllFit, IsFirstFault};
 ghost use Rattle.grove_core.specs.Starts.{fault_of, IsFaultOf, HasStarted};
+ghost use Rattle.grove_core.specs.Kept.{IsFirst, TellsFirsts};
 
+use crate::locking::first_lock;
 use crate::progress::Progress;
 use crate::{Job, OpenFault};
 use grove_plan::{PlanFault, Step, judge};
@@ -78,7 +80,7 @@ fn is_lock(step: Step) -> bool
 /// The jobs' progress before the first event.
 pub fn start_all(alloc: Global, jobs: &[Job]) -> Result<Vec<Progress>, AllocError>
     ensures number { IfOk result (λ progress. length progress.items ≡ length jobs.now) }
-    ensures started { IfOk result (λ all. (t : ℕ) (progress : Progress) → slice_get all.items t ≡ Some progress → HasStarted (length (plan_of jobs.now t)) (length (list_of jobs.now t)) progress) }
+    ensures started { IfOk result (λ all. (t : ℕ) (progress : Progress) → slice_get all.items t ≡ Some progress → HasStarted (lock_steps (plan_of jobs.now t)) (length (list_of jobs.now t)) progress) }
 {
     let mut progress = Vec::with_capacity(alloc, jobs.len())?;
     for txn in 0..jobs.len() {
@@ -89,10 +91,10 @@ pub fn start_all(alloc: Global, jobs: &[Job]) -> Result<Vec<Progress>, AllocErro
 }
 
 fn start(alloc: Global, job: &Job) -> Result<Progress, AllocError>
-    ensures { IfOk result (λ progress. HasStarted (length job.now.plan) (length job.now.list) progress) }
+    ensures { IfOk result (λ progress. HasStarted (lock_steps job.now.plan) (length job.now.list) progress) }
 {
     let replies = SmallVec::with_capacity(alloc, job.list.len() as usize)?;
-    let locked = SmallVec::with_capacity(alloc, job.plan.steps().len())?;
+    let locked = SmallVec::with_capacity(alloc, lock_steps(job.plan.steps()))?;
     Ok(Progress {
         steps_done: 0,
         marked: false,
@@ -100,4 +102,18 @@ fn start(alloc: Global, job: &Job) -> Result<Progress, AllocError>
         locked,
         held_nodes: 0,
     })
+}
+
+/// Of each node whether some job locks it first.
+pub fn mark_firsts(alloc: Global, nodes: usize, jobs: &[Job]) -> Result<Vec<bool>, AllocError>
+    requires { (node : ℕ) → IsFirst jobs.now node → node < nodes }
+    ensures { IfOk result (λ firsts. TellsFirsts nodes jobs.now firsts.items) }
+{
+    let mut firsts = vec![in alloc; false; nodes]?;
+    for job in jobs {
+        if let Some(node) = first_lock(job.plan.steps()) {
+            firsts[node.number() as usize] = true;
+        }
+    }
+    Ok(firsts)
 }

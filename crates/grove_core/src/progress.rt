@@ -1,9 +1,8 @@
-ghost use Rattle.std.specs.Prelude.{◌≡◌, ◌+◌, ◌^◌, ◌<◌, ◌≤◌, ◌++◌, ◌∷◌, [], false, true};
+ghost use Rattle.std.specs.Prelude.{◌≡◌, ◌+◌, ◌^◌, ◌<◌, ◌≤◌, ◌++◌, ◌∷◌, [], false, true, MatchOption};
 ghost use Rattle.smallvec.specs.SmallVec.{HasRoomFor};
 
 use crate::locking::Locked;
 use grove_access::Reply;
-use grove_tree::Node;
 use smallvec::SmallVec;
 
 /// So many locks and replies of a job take no memory of their own.
@@ -18,29 +17,31 @@ pub struct Progress {
     pub marked: bool,
     /// The replies of the accesses done; there is room for those of the whole list.
     pub replies: SmallVec<Reply, FEW>,
-    /// The nodes that the job locked, in order; there is room for as many as its plan has steps.
+    /// The job's locks of nodes that some job locks first, in order; there is room for as many as its plan has locks.
     pub locked: SmallVec<Locked, FEW>,
     /// How many nodes the job holds.
     pub held_nodes: usize,
 }
 
 impl Progress {
-    /// A lock is done, after so many events.
-    pub fn lock(&mut self, node: Node, time: usize)
+    /// A lock is done, which is kept where it is given.
+    pub fn lock(&mut self, kept: Option<Locked>)
         requires few { self.old.steps_done < 2 ^ 32 }
         requires hold { self.old.held_nodes ≤ self.old.steps_done }
         requires room { HasRoomFor self.old.locked 1 }
         ensures steps_done { self.new.steps_done ≡ self.old.steps_done + 1 }
         ensures marked { self.new.marked ≡ false }
         ensures replies { self.new.replies ≡ self.old.replies }
-        ensures locked { self.new.locked.items ≡ self.old.locked.items ++ record { node = node; time = time } ∷ [] }
+        ensures locked { MatchOption kept (self.new.locked ≡ self.old.locked) (λ lock. self.new.locked.items ≡ self.old.locked.items ++ lock ∷ []) }
         ensures room { self.new.locked.capacity ≡ self.old.locked.capacity }
         ensures held_nodes { self.new.held_nodes ≡ self.old.held_nodes + 1 }
     {
         self.steps_done += 1;
         self.marked = false;
         self.held_nodes += 1;
-        self.locked.push_reserved(Locked { node, time });
+        if let Some(lock) = kept {
+            self.locked.push_reserved(lock);
+        }
     }
 
     /// An unlock is done.

@@ -1,5 +1,5 @@
 -- What a step of a book comes to.
-use Rattle.std.proofs.Common.{◌≡◌, ℕ, ◌+◌, ◌<◌, ◌≤◌, ℤ, true, false, List, [], ◌∷◌, ◌++◌, length, slice_get, Option, Some, None, Result, Ok, Err, OnOk, OnErr, IfErr, sym, ◌∙◌, ap, subst, arith}
+use Rattle.std.proofs.Common.{◌≡◌, ℕ, ◌+◌, ◌<◌, ◌≤◌, true, false, List, length, slice_get, Option, Some, None, Result, Ok, Err, OnOk, OnErr, IfErr, sym, ◌∙◌, ap, subst, arith}
 use Rattle.std.proofs.lemmas.Option.{none-some, same_Some}
 use Rattle.std.proofs.lemmas.Bool.{both_ways, cond-true, cond-false}
 use Rattle.grove_tree.specs.Trees.{Rows}
@@ -32,9 +32,6 @@ lock_within rows jobs past t v legal next = (legal t (within_jobs jobs t (steps_
 
 no_take : (t u : ℕ) → Mark t ≡ Take u → ⊥
 no_take t u e = absurd (cc)
-
-no_lock : (v w : ℕ) → Unlock v ≡ Lock w → ⊥
-no_lock v w e = absurd (cc)
 
 -- a job whose lock can't be done is blocked at it
 pub blocked_at : (core : State) (t v : ℕ) (fault : StepFault) → next_step core.jobs (past_of core) t ≡ Some (Lock v) → IsRefused core.jobs (past_of core) (Take t) fault → IsBlockedAt core t
@@ -86,14 +83,3 @@ pub has_room : (core : State) (carry settled : Carried) (step : Step) → settle
     → HasNoStep settled (Some step) → ⊥
 has_room core carry settled step is found fits no_room =
     fits (subst (λ (o : Option Step). HasNoStep carry o) found (no_step_settled carry (Some step) (subst (λ (k : Carried). HasNoStep k (Some step)) is no_room)))
-
--- an unlock is refused to no job that stands before it
-pub unlock_done : (core new : State) (t v : ℕ) (r : Result (Unit {0}) StepFault) → next_step core.jobs (past_of core) t ≡ Some (Unlock v) → OnOk r (new ≡ after_event core (Take t))
-    → IfErr r (λ fault. IsRefused core.jobs (past_of core) (Take t) fault) → new ≡ after_event core (Take t)
-unlock_done core new t v (Ok u) next added refused = added
-unlock_done core new t v (Err NoTxn) next added refused =
-    let lt : t < length core.jobs = within_jobs core.jobs t (steps_done (past_of core) t) (Unlock v) next in let le : length core.jobs ≤ t = refused in absurd (omega arith)
-unlock_done core new t v (Err Ended) next added refused = absurd (none-some (Unlock v) (sym refused.1 ∙ next))
-unlock_done core new t v (Err (Blocked holder)) next added refused = absurd (no_lock v refused.1.0 (same_Some (Unlock v) (Lock refused.1.0) (sym next ∙ refused.1.1)))
-unlock_done core new t v (Err NotBlocked) next added refused = absurd (no_take t t (sym refused.0))
-unlock_done core new t v (Err Marked) next added refused = absurd (no_take t t (sym refused.0))

@@ -169,7 +169,7 @@ fn lock(core: &mut Core, carry: &mut Carry, node: Node) -> CarryStep
 {
     let txn = carry.txn();
     let value = core.value(node);
-    match core.step(Event::Take(txn)) {
+    match core.try_lock(txn, node) {
         Ok(()) if carry.put(node, value) => CarryStep::Stepped,
         Ok(()) => CarryStep::Foreign,
         Err(_) => {
@@ -187,7 +187,7 @@ fn unlock(core: &mut Core, carry: &mut Carry, node: Node) -> CarryStep
     ensures fits { IsOf core.old carry.old → result ≡ CarryStep.Foreign → ⊥ }
     ensures same { IsSameBatch core.old core.new }
 {
-    let _ = core.step(Event::Take(carry.txn()));
+    core.unlock(carry.txn(), node);
     match carry.give(node) {
         Some(_) => CarryStep::Stepped,
         None => CarryStep::Foreign,

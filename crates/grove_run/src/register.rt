@@ -1,10 +1,9 @@
 ghost use Rattle.grove_run.specs.Runs.{IsCoreOf};
 
-use crate::sleepers::{Sleep, Sleepers, Woken};
+use crate::sleepers::{SEATS, Sleep, Sleepers, Woken};
 use crate::{Book, CarryStep};
 use grove_access::Carry;
 use grove_core::{Core, Job};
-use grove_plan::Step;
 use grove_tree::Node;
 use std::marker::{Brand, Model, PhantomData};
 
@@ -90,13 +89,32 @@ impl<'a, B: Batch> Register<'a, B> {
         self.book.carry_on(carry)
     }
 
-    /// The worker of a seat falls asleep, whose carry's job is blocked at the lock of a node, with these steps ahead. One
-    /// that has nothing out sleeps for that node. Another sleeps for the last of the nodes in its way that the same job
-    /// holds: it can let nothing go before it has that one, and isn't woken at each of those before.
-    pub fn fall_asleep(&mut self, seat: usize, carry: &Carry, node: Node, ahead: &[Step]) {
-        let sleep = match self.book.last_blocked(node, ahead) {
-            Some(last) if last != node && !carry.known().is_empty() => Sleep::Later(last),
-            _ => Sleep::Next(node),
+    /// The worker of a seat falls asleep, whose carry's job is blocked at the lock of a node, at this place of its plan. It
+    /// sleeps for the last node in its way: it can let nothing go before it has that one, and isn't woken at those before.
+    pub fn fall_asleep(&mut self, seat: usize, carry: &Carry, node: Node, place: usize) {
+        let last = self.book.last_in_way(carry.txn(), place);
+        self.sleep_for(seat, carry, last.unwrap_or(node), place);
+    }
+
+    /// Lets a worker that was woken sleep on, where its job holds nothing and another has come into its way. So no job keeps
+    /// others from a node before it can begin.
+    pub fn sleep_on(&mut self, seat: usize, carry: &Carry, place: usize) -> bool {
+        if self.foreign || !carry.known().is_empty() {
+            return false;
+        }
+        let Some(last) = self.book.last_in_way(carry.txn(), place) else {
+            return false;
+        };
+        self.sleep_for(seat, carry, last, place);
+        true
+    }
+
+    fn sleep_for(&mut self, seat: usize, carry: &Carry, node: Node, place: usize) {
+        let sleep = Sleep {
+            node,
+            txn: carry.txn(),
+            place,
+            holds_some: !carry.known().is_empty(),
         };
         self.sleepers.enter(seat, sleep);
     }
@@ -106,9 +124,33 @@ impl<'a, B: Batch> Register<'a, B> {
         self.sleepers.may_wait_for(node)
     }
 
-    /// Takes out whom to wake when the node is let go.
+    /// Takes out whom to wake when the node is let go: who slept for it and has nobody in the way any more, but only one of
+    /// those whose jobs hold nothing. That one locks the node too, and the others sleep for it. Who has another job in the
+    /// way sleeps for that one's node.
     pub fn whom_to_wake(&mut self, node: Node) -> Woken {
-        self.sleepers.leave(node)
+        let mut woken = Woken::new();
+        let mut begins = false;
+        for seat in 0..SEATS {
+            let Some(sleep) = self.sleepers.leave(seat, node) else {
+                continue;
+            };
+            match self.book.last_in_way(sleep.txn, sleep.place) {
+                Some(other) => self.sleepers.enter(
+                    seat,
+                    Sleep {
+                        node: other,
+                        ..sleep
+                    },
+                ),
+                None if sleep.holds_some => woken.add(seat),
+                None if begins => self.sleepers.enter(seat, sleep),
+                None => {
+                    woken.add(seat);
+                    begins = true;
+                }
+            }
+        }
+        woken
     }
 
     /// Can some worker not go on?

@@ -8,25 +8,17 @@ pub const SEATS: usize = 16;
 /// How many counts of sleepers there are.
 const COUNTS: usize = 64;
 
-/// What the worker of a seat sleeps for.
-#[derive(Clone, Copy, Debug, PartialEq, Eq)]
-pub enum Sleep {
-    /// Nothing: it is awake.
-    Awake,
-    /// The node of its next lock.
-    Next(Node),
-    /// The node of a lock that comes later.
-    Later(Node),
-}
-
-impl Sleep {
-    // The node that is slept for.
-    fn node(&self) -> Option<Node> {
-        match self {
-            Sleep::Awake => None,
-            Sleep::Next(node) | Sleep::Later(node) => Some(*node),
-        }
-    }
+/// What a worker sleeps for, whose job is blocked.
+#[derive(Clone, Copy, Debug)]
+pub struct Sleep {
+    /// The node that it waits for.
+    pub node: Node,
+    /// Its job.
+    pub txn: u32,
+    /// The place in the job's plan of the lock that is blocked.
+    pub place: usize,
+    /// The job holds some node.
+    pub holds_some: bool,
 }
 
 /// The seats of those to wake.
@@ -36,6 +28,17 @@ pub struct Woken {
 }
 
 impl Woken {
+    pub fn new() -> Woken {
+        Woken {
+            seats: [false; SEATS],
+        }
+    }
+
+    /// The worker of this seat is to be woken too.
+    pub fn add(&mut self, seat: usize) {
+        self.seats[seat % SEATS] = true;
+    }
+
     /// Is the worker of this seat to be woken?
     pub fn has(&self, seat: usize) -> bool {
         self.seats[seat % SEATS]
@@ -45,7 +48,7 @@ impl Woken {
 /// Who sleeps, as those know who have the register.
 #[derive(Debug, Drop)]
 pub struct Sleepers {
-    seats: [Sleep; SEATS],
+    seats: [Option<Sleep>; SEATS],
     /// How many sleep for nodes of these numbers, so that mostly no seat is looked at.
     counts: [u8; COUNTS],
 }
@@ -53,18 +56,16 @@ pub struct Sleepers {
 impl Sleepers {
     pub fn new() -> Sleepers {
         Sleepers {
-            seats: [Sleep::Awake; SEATS],
+            seats: [None; SEATS],
             counts: [0; COUNTS],
         }
     }
 
     /// The worker of a seat falls asleep.
     pub fn enter(&mut self, seat: usize, sleep: Sleep) {
-        if let Some(node) = sleep.node() {
-            let place = place_of(node);
-            self.counts[place] = self.counts[place].saturating_add(1);
-        }
-        self.seats[seat % SEATS] = sleep;
+        let place = place_of(sleep.node);
+        self.counts[place] = self.counts[place].saturating_add(1);
+        self.seats[seat % SEATS] = Some(sleep);
     }
 
     /// May somebody sleep for the node? Where nobody does for a node with such a number, no seat is looked at.
@@ -72,32 +73,16 @@ impl Sleepers {
         self.counts[place_of(node)] != 0
     }
 
-    /// Takes out whom to wake when the node is let go: one of those whose next lock it is, and everybody who sleeps for it
-    /// as a later one, since they try another first.
-    pub fn leave(&mut self, node: Node) -> Woken {
+    /// Takes out the worker of a seat, where it sleeps for the node.
+    pub fn leave(&mut self, seat: usize, node: Node) -> Option<Sleep> {
+        let sleep = self.seats[seat % SEATS]?;
+        if sleep.node != node {
+            return None;
+        }
         let place = place_of(node);
-        let next = self.first_next(node);
-        let mut woken = Woken {
-            seats: [false; SEATS],
-        };
-        for seat in 0..SEATS {
-            if next == Some(seat) || self.seats[seat] == Sleep::Later(node) {
-                self.seats[seat] = Sleep::Awake;
-                self.counts[place] = self.counts[place].saturating_sub(1);
-                woken.seats[seat] = true;
-            }
-        }
-        woken
-    }
-
-    // The first seat whose worker sleeps for the node as its next lock.
-    fn first_next(&self, node: Node) -> Option<usize> {
-        for seat in 0..SEATS {
-            if self.seats[seat] == Sleep::Next(node) {
-                return Some(seat);
-            }
-        }
-        None
+        self.counts[place] = self.counts[place].saturating_sub(1);
+        self.seats[seat % SEATS] = None;
+        Some(sleep)
     }
 }
 

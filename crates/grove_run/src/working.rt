@@ -97,7 +97,7 @@ fn do_job<'a, B: Batch, R: Wait, G: Gate>(
                 let _ = carry.apply(&job.list, access);
                 true
             }
-            Step::Lock(node) => take_hold(rt, register, seat, carry, node, &steps[place..]),
+            Step::Lock(node) => take_hold(rt, register, seat, carry, node, place),
             Step::Unlock(node) => let_go(rt, register, seat.bells, carry, node),
         };
         if !done {
@@ -129,15 +129,15 @@ fn let_go<'a, B: Batch, R: Wait>(
     true
 }
 
-// Does the lock that a job stands before, with these steps ahead, once it can be done. False where this worker or another
-// can't go on.
+// Does the lock that a job stands before, at this place of its plan, once it can be done. False where this worker or
+// another can't go on.
 fn take_hold<'a, B: Batch, R: Wait>(
     rt: &R,
     register: &Mutex<Register<'a, B>>,
     seat: &Seat,
     carry: &mut Carry,
     node: Node,
-    ahead: &[Step],
+    place: usize,
 ) -> bool {
     for _ in rt.forever() {
         let mut guard = register.lock(rt);
@@ -145,9 +145,9 @@ fn take_hold<'a, B: Batch, R: Wait>(
             CarryStep::Stepped => return true,
             CarryStep::Blocked if guard.is_foreign() => return false,
             CarryStep::Blocked => {
-                guard.fall_asleep(seat.number, carry, node, ahead);
+                guard.fall_asleep(seat.number, carry, node, place);
                 drop(guard);
-                seat.bells.wait(rt, seat.number);
+                sleep(rt, register, seat, carry, place);
             }
             CarryStep::Ended | CarryStep::Foreign => {
                 guard.set_foreign();
@@ -157,4 +157,20 @@ fn take_hold<'a, B: Batch, R: Wait>(
         }
     }
     unreachable!()
+}
+
+// Sleeps until the job may go on.
+fn sleep<'a, B: Batch, R: Wait>(
+    rt: &R,
+    register: &Mutex<Register<'a, B>>,
+    seat: &Seat,
+    carry: &Carry,
+    place: usize,
+) {
+    for _ in rt.forever() {
+        seat.bells.wait(rt, seat.number);
+        if !register.lock(rt).sleep_on(seat.number, carry, place) {
+            break;
+        }
+    }
 }

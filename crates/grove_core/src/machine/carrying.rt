@@ -3,7 +3,7 @@ ghost use Rattle.grove_access.specs.Effects.{record_at, reply_to};
 ghost use Rattle.grove_access.specs.Carries.{IsSound, present_at, carry_settled};
 ghost use Rattle.grove_base.specs.Numbers.{count_below};
 ghost use Rattle.grove_core.specs.Runs.{list_of, plan_of, steps_done, next_step, holds, run_replies};
-ghost use Rattle.grove_core.specs.Kept.{past_of};
+ghost use Rattle.grove_core.specs.Kept.{past_of, Owns};
 ghost use Rattle.grove_core.specs.Carried.{records_of, IsOf, after_steps, replies_in};
 ghost use Rattle.grove_core.specs.CarriedTests.{Knows, KnowsAll, HasAll, Follows};
 
@@ -93,8 +93,18 @@ impl<'a> Core<'a> {
         self.progress[txn as usize].steps_done
     }
 
-    /// Does the job hold the node?
-    pub fn holds(&self, txn: u32, node: Node) -> bool
+    /// The job that holds the node.
+    pub fn holder(&self, node: Node) -> Option<u32>
+        ensures { Owns self.now.jobs (past_of self.now) node result }
+    {
+        match self.owners.get(node.number() as usize) {
+            Some(owner) => owner.holder(),
+            None => None,
+        }
+    }
+
+    // Does the job hold the node?
+    fn holds(&self, txn: u32, node: Node) -> bool
         ensures { result ≡ holds self.now.jobs (past_of self.now) txn node }
     {
         match self.owners.get(node.number() as usize) {

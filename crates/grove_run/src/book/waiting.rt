@@ -3,29 +3,27 @@ use grove_plan::Step;
 use grove_tree::Node;
 
 impl<'a> Book<'a> {
-    /// For a job that is blocked at the lock of a node, with these steps ahead: of the locks that come before any other step
-    /// the last one whose node the same job holds. It gives none of its nodes back before it has that one.
-    pub(crate) fn last_blocked(&self, node: Node, ahead: &[Step]) -> Option<Node> {
-        let holder = self.holder(node)?;
-        let mut last = node;
-        for step in ahead {
-            let Step::Lock(next) = *step else {
+    /// Of the locks that a job does from this place of its plan on before any other step, the last one whose node another
+    /// job holds. It gives none of its nodes back before it has that one.
+    pub(crate) fn last_in_way(&self, txn: u32, place: usize) -> Option<Node> {
+        let job = self.core.jobs().get(txn as usize)?;
+        let mut last = None;
+        for step in job.plan.steps().iter().skip(place) {
+            let Step::Lock(node) = *step else {
                 break;
             };
-            if self.core.holds(holder, next) {
-                last = next;
+            if self.is_in_way(txn, node) {
+                last = Some(node);
             }
         }
-        Some(last)
+        last
     }
 
-    // The job that holds a node: mostly one of those that were claimed last.
-    fn holder(&self, node: Node) -> Option<u32> {
-        for txn in (0..self.claimed).rev() {
-            if self.core.holds(txn, node) {
-                return Some(txn);
-            }
+    // Does another job hold the node?
+    fn is_in_way(&self, txn: u32, node: Node) -> bool {
+        match self.core.holder(node) {
+            Some(holder) => holder != txn,
+            None => false,
         }
-        None
     }
 }

@@ -1,4 +1,4 @@
-use Rattle.std.proofs.Common.{◌≡◌, ◌<◌, ℕ, length, Some, None, true, false, refl, sym, ◌∙◌, ap, subst, arith}
+use Rattle.std.proofs.Common.{◌≡◌, ◌<◌, ℕ, length, Some, None, refl, sym, ◌∙◌, ap, subst, arith}
 use Rattle.std.proofs.lemmas.Bool.{both_ways}
 use Rattle.grove_access.specs.Carries.{known_at}
 use Rattle.grove_plan.specs.declared.step.Step.TheVariants.{Lock}
@@ -11,6 +11,9 @@ use Rattle.grove_run.proofs.book.lock.Goals as goal
 
 pub value-value-requires : goal.value-value-requires
 value-value-requires c = lock_within c.args.core.now.tree c.args.core.now.jobs (past_of c.args.core.now) c.args.carry.now.txn c.args.node c.requires.legal c.requires.next
+
+pub try_lock-requires : goal.try_lock-requires
+try_lock-requires c = ap (λ (t : ℕ). next_step c.args.core.now.jobs (past_of c.args.core.now) t) c.txn-txn.ensures.txn ∙ c.requires.next
 
 pub mark-requires : goal.mark-requires
 mark-requires c =
@@ -27,7 +30,7 @@ returns-in-Ok-2-clause-fits c = λ of full same.
 
 pub returns-in-Err-clause-done : goal.returns-in-Err-clause-done
 returns-in-Err-clause-done c = λ other.
-    let is : c.step.new.self ≡ c.args.core.now = c.in-Err.ensures.unchanged in (
+    let is : c.try_lock.new.self ≡ c.args.core.now = c.in-Err.ensures.unchanged in (
       blocked_at c.args.core.now c.args.carry.now.txn c.args.node c.in-Err.field-0 c.requires.next
           (subst (λ (t : ℕ). IsRefused c.args.core.now.jobs (past_of c.args.core.now) (Take t) c.in-Err.field-0) c.txn-txn.ensures.txn c.in-Err.ensures.refused),
       c.mark.ensures ∙ ap (λ (s : State). marked s c.txn-txn.result) is ∙ ap (marked c.args.core.now) c.txn-txn.ensures.txn,

@@ -77,8 +77,8 @@ invariant_of-self c =
     let listed : slice_get (list_of c.self.inside.jobs.now c.args.txn) c.args.access ≡ Some c.get-access.result =
     ap (λ l. slice_get l c.args.access) (list ∙ ap (λ (j : Job). j.list) (sym same)) ∙ c.get-access.ensures in
     rw c.apply-reply.ensures.records
-    (closed _ _ _ c.self.inside.history.items c.push_reserved.new.self.items (Take c.args.txn) (vec_capacity c.self.inside.history) (vec_capacity c.push_reserved.new.self) _ _ _ _
-    c.push_reserved.ensures.items c.push_reserved.ensures.capacity c.self.invariant.1
+    (closed _ _ _ c.self.inside.history.items c.push_reserved.new.self.items (Take c.args.txn) (vec_capacity c.self.inside.history) (vec_capacity c.push_reserved.new.self) _ _ _ _ _
+    c.push_reserved.ensures.items c.push_reserved.ensures.capacity c.self.invariant.1 c.self.invariant.2
     (core_accessed _ _ _ _ _ _ _ _ c.self.invariant.0 c.args.txn c.args.access c.get-access.result next listed c.index_mut-progress.result.now c.answer.new.self at
     c.answer.ensures.steps_done c.answer.ensures.marked
     (c.answer.ensures.replies ∙ ap (λ r. c.index_mut-progress.result.now.replies.items ++ r ∷ []) c.apply-reply.ensures.reply)

@@ -50,8 +50,8 @@ invariant_of-self c =
     let replied = rw (← c.self.view_is) at c.requires.replied in
     let listed = rw (← c.self.view_is) at c.requires.listed in
     rw c.apply.ensures.records
-    (closed _ _ _ c.self.inside.history.items c.push_reserved.new.self.items (Take c.args.txn) (vec_capacity c.self.inside.history) (vec_capacity c.push_reserved.new.self) _ _ _ _
-    c.push_reserved.ensures.items c.push_reserved.ensures.capacity c.self.invariant.1
+    (closed _ _ _ c.self.inside.history.items c.push_reserved.new.self.items (Take c.args.txn) (vec_capacity c.self.inside.history) (vec_capacity c.push_reserved.new.self) _ _ _ _ _
+    c.push_reserved.ensures.items c.push_reserved.ensures.capacity c.self.invariant.1 c.self.invariant.2
     (core_accessed _ _ _ _ _ _ _ _ c.self.invariant.0 c.args.txn c.args.entry.now.number c.args.entry.now.access next listed c.index_mut-progress.result.now c.answer.new.self at
     c.answer.ensures.steps_done c.answer.ensures.marked
     (c.answer.ensures.replies ∙ ap (λ r. c.index_mut-progress.result.now.replies.items ++ r ∷ []) (replied ∙ ap (reply_to c.args.entry.now.access) (sym c.self.invariant.0.recorded)))

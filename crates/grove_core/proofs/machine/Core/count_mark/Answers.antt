@@ -47,7 +47,7 @@ invariant_of-self c =
     let unmarked = rw (← c.self.view_is) at c.requires.unmarked in
     let counted : slice_get c.self.inside.waits.items c.args.node ≡ Some c.index_mut.result.now = wait_seen _ _ _ _ _ _ _ _ c.self.invariant.0 c.args.txn c.args.node c.number.result next c.number.ensures.is_it c.index_mut.result.now c.index_mut.ensures.value in
     rw c.number.ensures.is_it
-    (closed _ _ _ c.self.inside.history.items c.push_reserved.new.self.items (Mark c.args.txn) (vec_capacity c.self.inside.history) (vec_capacity c.push_reserved.new.self) _ _ _ _
-    c.push_reserved.ensures.items c.push_reserved.ensures.capacity c.self.invariant.1
+    (closed _ _ _ c.self.inside.history.items c.push_reserved.new.self.items (Mark c.args.txn) (vec_capacity c.self.inside.history) (vec_capacity c.push_reserved.new.self) _ _ _ _ _
+    c.push_reserved.ensures.items c.push_reserved.ensures.capacity c.self.invariant.1 c.self.invariant.2
     (core_marked _ _ _ _ _ _ _ _ c.self.invariant.0 c.args.txn c.args.node c.args._holder c.index_mut.result.now next blocked unmarked c.index_mut-progress.result.now c.mark.new.self at
     c.mark.ensures.steps_done c.mark.ensures.marked c.mark.ensures.replies c.mark.ensures.locked c.mark.ensures.held_nodes counted))

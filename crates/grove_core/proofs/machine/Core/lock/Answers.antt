@@ -1,4 +1,4 @@
-use Rattle.std.proofs.Common.{◌≡◌, ℕ, ◌<◌, [], ◌∷◌, ◌++◌, length, reverse, Some, sym, ◌∙◌, ap, arith}
+use Rattle.std.proofs.Common.{◌≡◌, ℕ, ◌<◌, length, reverse, Some, IfSome, sym, subst, arith}
 use Rattle.std.specs.List.{slice_get}
 use Rattle.std.specs.Vec.{vec_len, vec_capacity}
 use Rattle.std.proofs.lemmas.List.{length-reverse}
@@ -14,6 +14,11 @@ index_mut-progress-requires c =
     let lt : c.args.txn < length c.self.inside.progress.items = progress_there _ _ _ _ _ _ _ _ c.self.invariant.0 c.args.txn (Lock c.args.node) next in
     let e : vec_len c.self.inside.progress ≡ length c.self.inside.progress.items = c.self.inside.progress.ok.0 in
     omega arith
+
+pub lock_to_keep-kept-requires : goal.lock_to_keep-kept-requires
+lock_to_keep-kept-requires c =
+    let next = rw (← c.self.view_is) at c.requires.next in
+    rw (← c.self.view_is) (locked_within _ _ _ _ _ _ _ _ c.self.invariant.0 c.args.txn c.args.node next)
 
 pub lock-requires-clause-few : goal.lock-requires-clause-few
 lock-requires-clause-few c =
@@ -31,7 +36,7 @@ pub lock-requires-clause-room : goal.lock-requires-clause-room
 lock-requires-clause-room c =
     let next = rw (← c.self.view_is) at c.requires.next in
     let at : slice_get c.self.inside.progress.items c.args.txn ≡ Some c.index_mut-progress.result.now = progress_at _ _ _ _ _ _ _ _ c.self.invariant.0 c.args.txn (Lock c.args.node) next c.index_mut-progress.result.now c.index_mut-progress.ensures.value in
-    let room : length c.index_mut-progress.result.now.locked.items < c.index_mut-progress.result.now.locked.capacity = lock_room _ _ _ _ _ _ _ _ c.self.invariant.0 c.args.txn (Lock c.args.node) next c.index_mut-progress.result.now at in
+    let room : length c.index_mut-progress.result.now.locked.items < c.index_mut-progress.result.now.locked.capacity = lock_room _ _ _ _ _ _ _ _ c.self.invariant.0 c.args.txn c.args.node next c.index_mut-progress.result.now at in
     omega arith
 
 pub index_mut-requires : goal.index_mut-requires
@@ -55,11 +60,12 @@ invariant_of-self c =
     let next = rw (← c.self.view_is) at c.requires.next in
     let at : slice_get c.self.inside.progress.items c.args.txn ≡ Some c.index_mut-progress.result.now = progress_at _ _ _ _ _ _ _ _ c.self.invariant.0 c.args.txn (Lock c.args.node) next c.index_mut-progress.result.now c.index_mut-progress.ensures.value in
     let free = rw (← c.self.view_is) at c.requires.free in
-    let locked : c.lock.new.self.locked.items ≡ c.index_mut-progress.result.now.locked.items ++ record { node = c.args.node; time = length (reverse c.self.inside.history.items) } ∷ [] =
-    c.lock.ensures.locked
-    ∙ ap (λ (k : ℕ). c.index_mut-progress.result.now.locked.items ++ record { node = c.args.node; time = k } ∷ []) (c.len-time.ensures ∙ c.self.inside.history.ok.0 ∙ sym (length-reverse c.self.inside.history.items)) in
+    let here = rw (← c.self.view_is) at c.lock_to_keep-kept.ensures.kept in
+    let left = rw (← c.self.view_is) at c.lock_to_keep-kept.ensures.left in
+    let is : IfSome c.lock_to_keep-kept.result (λ lock. lock ≡ record { node = c.args.node; time = length (reverse c.self.inside.history.items) }) =
+    subst (λ (k : ℕ). IfSome c.lock_to_keep-kept.result (λ lock. lock ≡ record { node = c.args.node; time = k })) (sym (length-reverse c.self.inside.history.items)) here in
     rw c.number.ensures.is_it
-    (closed _ _ _ c.self.inside.history.items c.push_reserved.new.self.items (Take c.args.txn) (vec_capacity c.self.inside.history) (vec_capacity c.push_reserved.new.self) _ _ _ _
-    c.push_reserved.ensures.items c.push_reserved.ensures.capacity c.self.invariant.1
+    (closed _ _ _ c.self.inside.history.items c.push_reserved.new.self.items (Take c.args.txn) (vec_capacity c.self.inside.history) (vec_capacity c.push_reserved.new.self) _ _ _ _ _
+    c.push_reserved.ensures.items c.push_reserved.ensures.capacity c.self.invariant.1 c.self.invariant.2
     (core_locked _ _ _ _ _ _ _ _ c.self.invariant.0 c.args.txn c.args.node next free c.index_mut-progress.result.now c.lock.new.self at
-    c.lock.ensures.steps_done c.lock.ensures.marked c.lock.ensures.replies locked c.lock.ensures.room c.lock.ensures.held_nodes))
+    c.lock.ensures.steps_done c.lock.ensures.marked c.lock.ensures.replies c.lock_to_keep-kept.result is left c.lock.ensures.locked c.lock.ensures.room c.lock.ensures.held_nodes))

@@ -1,7 +1,8 @@
-use Rattle.std.proofs.Common.{rules, ◌≡◌, ◌≤◌, length, sym, ◌∙◌, ap, arith}
+use Rattle.std.proofs.Common.{rules, ◌≡◌, ℕ, ◌<◌, ◌≤◌, length, sym, ◌∙◌, ap, subst, arith}
 use Rattle.std.specs.Prelude.{vec_capacity}
 use Rattle.grove_core.specs.Runs.{most_events}
-use Rattle.grove_core.proofs.CoreOpens.{opened}
+use Rattle.grove_core.specs.Kept.{TellsFirsts}
+use Rattle.grove_core.proofs.CoreOpens.{opened, firsts_within}
 use Rattle.grove_core.proofs.machine.Core.open_legal.Goals as goal
 
 pub invariant_of-result : goal.invariant_of-result
@@ -15,4 +16,10 @@ invariant_of-result c = (
   let enough : most_events c.args.jobs.now ≤ c.room.result = c.room.ensures.enough in
       let room : vec_capacity c.in_ok-history.history ≡ c.room.result = c.in_ok-history.ensures.exact in
       omega arith,
+  subst (λ (n : ℕ). TellsFirsts n c.args.jobs.now c.in_ok-firsts.firsts.items) c.len-nodes.ensures.number c.in_ok-firsts.ensures,
 )
+
+pub mark_firsts-requires : goal.mark_firsts-requires
+mark_firsts-requires c =
+    let size : c.len-nodes.result ≡ length c.args.tree.now = c.len-nodes.ensures.number in
+    λ node first. let lt : node < length c.args.tree.now = firsts_within c.args.tree.now c.args.jobs.now c.requires.legal node first in omega arith

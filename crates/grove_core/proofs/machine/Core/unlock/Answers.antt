@@ -51,7 +51,7 @@ invariant_of-self c =
     let owner : (o : Owner) × (slice_get c.self.inside.owners.items c.args.node ≡ Some o) = item_there c.self.inside.owners.items c.args.node
     (owner_there _ _ _ _ _ _ _ _ c.self.invariant.0 c.args.node (unlocked_within _ _ _ _ _ _ _ _ c.self.invariant.0 c.args.txn c.args.node next)) in
     rw c.number.ensures.is_it
-    (closed _ _ _ c.self.inside.history.items c.push_reserved.new.self.items (Take c.args.txn) (vec_capacity c.self.inside.history) (vec_capacity c.push_reserved.new.self) _ _ _ _
-    c.push_reserved.ensures.items c.push_reserved.ensures.capacity c.self.invariant.1
+    (closed _ _ _ c.self.inside.history.items c.push_reserved.new.self.items (Take c.args.txn) (vec_capacity c.self.inside.history) (vec_capacity c.push_reserved.new.self) _ _ _ _ _
+    c.push_reserved.ensures.items c.push_reserved.ensures.capacity c.self.invariant.1 c.self.invariant.2
     (core_unlocked _ _ _ _ _ _ _ _ c.self.invariant.0 c.args.txn c.args.node next c.index_mut-progress.result.now c.unlock.new.self at
     c.unlock.ensures.steps_done c.unlock.ensures.marked c.unlock.ensures.replies c.unlock.ensures.locked c.unlock.ensures.held_nodes owner.0 owner.1))
