@@ -8,7 +8,7 @@ force some 2,000 nodes each, changes the weights of 4,096 nodes 100 times, and r
 nodes each, and of one access at nodes of their own: once to be warm, then the short ones 200 times and the long ones 5 times.
 `bench/locks.rs`, compiled here by `rustc`, takes the same locks for the same jobs by the same plans, with a Mutex a node;
 `bench/halves.rs` only counts, cut in two as a batch of lists is. The three are run in turn, RUNS times; the median and the
-least time are printed, in milliseconds, and for the jobs how many are done in a second.
+least time are printed, in milliseconds, and for the jobs how many are done in a second and the ratios of the medians.
 """
 import statistics
 import subprocess
@@ -50,6 +50,16 @@ def show(name, times):
         print(line)
 
 
+def show_ratios(found, what):
+    """What jobs take to what the locks alone take, and with several workers to what one takes, both by medians."""
+    ours, plain = (
+        [statistics.median(found[name][what, workers]) for workers in (1, 2, 4)] for name in ("grove", "locks alone")
+    )
+    to_plain = ", ".join(f"{mine / theirs:.2f}" for mine, theirs in zip(ours, plain))
+    to_one = ", ".join(f"{each / ours[0]:.2f}" for each in ours[1:])
+    print(f"{what}: {to_plain} times the locks alone; with 2 and 4 workers {to_one} times what one takes")
+
+
 def main():
     runs = int(sys.argv[1]) if len(sys.argv) > 1 else 3
     if not PROGRAM.exists():
@@ -60,6 +70,8 @@ def main():
         found = nanoseconds({"grove": [PROGRAM, "batches"], "locks alone": [locks], "loops alone": [halves]}, runs)
     for name, times in found.items():
         show(name, times)
+    for what in ("run-short", "run-long"):
+        show_ratios(found, what)
 
 
 main()
