@@ -1,8 +1,7 @@
 ghost use Rattle.std.specs.Prelude.{◌≡◌, ◌≢◌, true, None, IfOk, IfSome, string_bytes};
 ghost use Rattle.grove.specs.Endings.{IsReasonLine};
 
-use grove_base::NoMemory;
-use grove_hint::said;
+use grove_base::{NoMemory, said};
 use grove_words::{Order, Place};
 use std::alloc::{AllocError, Global};
 use std::io;

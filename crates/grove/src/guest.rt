@@ -38,6 +38,7 @@ impl<'a> Guest<'a> {
         let place = self.lines.get().saturating_add(1);
         match hint_of_line(rt.alloc(), line, name) {
             Ok(hint) => {
+                let hint = hint.as_str();
                 let told = format_args!("connection {number}, line {place}: {name}; {hint}");
                 self.log.tell(rt, told);
             }

@@ -1,9 +1,8 @@
-ghost use Rattle.std.specs.Prelude.{IfOk, IfSome, string_bytes};
+ghost use Rattle.std.specs.Prelude.{IfSome, string_bytes};
 ghost use Rattle.grove.specs.Endings.{IsHintLine};
-ghost use Rattle.grove_hint.specs.Hints.{IsHint};
 
 use crate::answer::{Answer, Stop};
-use grove_base::NoMemory;
+use grove_base::{Hint, NoMemory};
 use grove_hint::{Asked, awaited, hint, oversight};
 use grove_words::Command;
 use serde_json::Value;
@@ -34,9 +33,7 @@ fn refusal_hint(
     command: Command,
     bytes: &[u8],
     line: &str,
-) -> Result<Option<String>, NoMemory>
-    ensures { IfOk result (λ told. IfSome told (λ hint. IsHint (string_bytes hint))) }
-{
+) -> Result<Option<Hint>, NoMemory> {
     match line.trim_end().strip_prefix("refused ") {
         Some(refusal) => Ok(Some(hint(alloc, asked_by(command), bytes, refusal)?)),
         None => Ok(None),
@@ -53,14 +50,14 @@ pub fn awaited_by(alloc: Global, command: Command) -> Option<String>
     }
 }
 
-fn line_of(alloc: Global, told: Result<Option<String>, NoMemory>) -> Option<String>
-    requires { IfOk told (λ told. IfSome told (λ hint. IsHint (string_bytes hint))) }
+fn line_of(alloc: Global, told: Result<Option<Hint>, NoMemory>) -> Option<String>
     ensures { IfSome result (λ line. IsHintLine (string_bytes line)) }
 {
     let Ok(Some(hint)) = told else {
         return None;
     };
-    match format!(in alloc; "{hint}\n") {
+    let line = hint.as_str();
+    match format!(in alloc; "{line}\n") {
         Ok(line) => Some(line),
         Err(_) => None,
     }

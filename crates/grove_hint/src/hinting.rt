@@ -1,49 +1,39 @@
-ghost use Rattle.std.specs.Prelude.{IfOk, IfSome, string_bytes};
-ghost use Rattle.grove_hint.specs.Hints.{IsHint};
-
 use crate::amiss::document_amiss;
 use crate::asked::Asked;
 use crate::limits::bytes_beyond;
-use crate::line::hint_line;
 use crate::strays::stray_member;
 use crate::syntax::{Whole, syntax_amiss};
-use grove_base::NoMemory;
+use grove_base::{Hint, NoMemory};
 use serde_json::Value;
 use std::alloc::Global;
 
 /// What a person is told of a refusal: `bytes` are the document that the command has refused with this text.
-pub fn hint(alloc: Global, asked: Asked, bytes: &[u8], refusal: &str) -> Result<String, NoMemory>
-    ensures { IfOk result (λ line. IsHint (string_bytes line)) }
-{
+pub fn hint(alloc: Global, asked: Asked, bytes: &[u8], refusal: &str) -> Result<Hint, NoMemory> {
     let words: Vec<&str> = refusal.split(' ').collect(alloc)?;
     let told = match words.as_slice() {
         ["bad-json"] => syntax_amiss(alloc, Whole::Document, bytes)?,
         ["limit", "whole"] => bytes_beyond(alloc, asked)?,
         words => read_amiss(alloc, asked, bytes, words)?,
     };
-    hint_line(alloc, &told)
+    Hint::new(alloc, &told)
 }
 
 /// What a person is told of a document that is taken: of a member that nothing uses, if it resembles one that the command
 /// would use and that isn't there.
-pub fn oversight(alloc: Global, asked: Asked, document: &Value) -> Result<Option<String>, NoMemory>
-    ensures { IfOk result (λ line. IfSome line (λ line. IsHint (string_bytes line))) }
-{
+pub fn oversight(alloc: Global, asked: Asked, document: &Value) -> Result<Option<Hint>, NoMemory> {
     match stray_member(alloc, asked, document)? {
-        Some(told) => Ok(Some(hint_line(alloc, &told)?)),
+        Some(told) => Ok(Some(Hint::new(alloc, &told)?)),
         None => Ok(None),
     }
 }
 
 /// What a person is told who starts the command at a terminal, without a document.
-pub fn awaited(alloc: Global, asked: Asked) -> Result<String, NoMemory>
-    ensures { IfOk result (λ line. IsHint (string_bytes line)) }
-{
+pub fn awaited(alloc: Global, asked: Asked) -> Result<Hint, NoMemory> {
     let (command, members) = (asked.word(), asked.members());
     let awaited = format!(in alloc;
         "\"{command}\" awaits a JSON document with {members} on standard input, up to its end (Ctrl-D)"
     )?;
-    hint_line(alloc, &awaited)
+    Hint::new(alloc, &awaited)
 }
 
 /// What is amiss with bytes that are JSON.

@@ -3,7 +3,6 @@
 
 pub use asked::Asked;
 pub use hinting::{awaited, hint, oversight};
-pub use line::said;
 pub use session::hint_of_line;
 
 mod accesses;
@@ -13,7 +12,6 @@ mod flows;
 mod hinting;
 mod histories;
 mod limits;
-mod line;
 mod members;
 mod nearest;
 mod parts;

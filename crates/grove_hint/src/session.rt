@@ -1,12 +1,8 @@
-ghost use Rattle.std.specs.Prelude.{IfOk, string_bytes};
-ghost use Rattle.grove_hint.specs.Hints.{IsHint};
-
 use crate::flows::flow_rule;
-use crate::line::hint_line;
 use crate::requests::request_amiss;
 use crate::shown::words;
 use crate::syntax::{Whole, syntax_amiss};
-use grove_base::NoMemory;
+use grove_base::{Hint, NoMemory};
 use serde_json::Value;
 use std::alloc::Global;
 
@@ -15,14 +11,12 @@ const MOST_READ: usize = 65_536;
 
 /// What a person is told of a session's line whose reply was `{"error":NAME}`; `error` is that name. Without the tree
 /// the line alone has to show what is amiss; where it doesn't, the hint tells what the error means.
-pub fn hint_of_line(alloc: Global, line: &[u8], error: &str) -> Result<String, NoMemory>
-    ensures { IfOk result (λ hint. IsHint (string_bytes hint)) }
-{
+pub fn hint_of_line(alloc: Global, line: &[u8], error: &str) -> Result<Hint, NoMemory> {
     let told = match line_amiss(alloc, line, error)? {
         Some(told) => told,
         None => meaning(alloc, error)?,
     };
-    hint_line(alloc, &told)
+    Hint::new(alloc, &told)
 }
 
 /// What the line shows of its error, if anything.

@@ -107,10 +107,7 @@ impl<'a> Core<'a> {
     fn holds(&self, txn: u32, node: Node) -> bool
         ensures { result ≡ holds self.now.jobs (past_of self.now) txn node }
     {
-        match self.owners.get(node.number() as usize) {
-            Some(owner) => is_owner(owner.holder(), txn),
-            None => false,
-        }
+        is_owner(self.holder(node), txn)
     }
 
     fn knows_all(&self, txn: u32, known: &[Known]) -> bool

@@ -1,7 +1,7 @@
 use Rattle.std.proofs.Common.{◌≤◌, length}
 use Rattle.std.specs.Prelude.{All, string_bytes}
-use Rattle.grove_hint.specs.Hints.{IsPrintable}
-use Rattle.grove_hint.proofs.line.printable.Given as goal
+use Rattle.grove_base.specs.Hints.{IsPrintable}
+use Rattle.grove_base.proofs.line.printable.Given as goal
 
 abbrev pub invariant-loop-letter : goal.invariant-loop-letter
 invariant-loop-letter l = record {

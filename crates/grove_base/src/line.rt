@@ -1,19 +1,11 @@
 ghost use Rattle.std.specs.Prelude.{◌≤◌, All, IfOk, length, string_bytes};
-ghost use Rattle.grove_hint.specs.Hints.{IsHint, IsPrintable, IsSaid};
+ghost use Rattle.grove_base.specs.Hints.{IsPrintable, IsSaid};
 
-use grove_base::NoMemory;
+use crate::NoMemory;
 use std::alloc::Global;
 
-/// The greatest number of characters of a hint.
+/// The greatest number of characters that are said.
 const MOST: usize = 400;
-
-/// The text as a hint.
-pub(crate) fn hint_line(alloc: Global, text: &str) -> Result<String, NoMemory>
-    ensures { IfOk result (λ line. IsHint (string_bytes line)) }
-{
-    let said = said(alloc, text)?;
-    Ok(format!(in alloc; "hint: {said}")?)
-}
 
 /// The text as one that can stand in a line: what can't be shown is shown as `?`, what is too long is cut off, and an empty
 /// one is a `?`.
