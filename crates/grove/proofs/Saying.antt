@@ -9,7 +9,7 @@ use Rattle.grove_wire.specs.declared.fault.WireFault.TheVariants as wire
 use Rattle.grove_wire.specs.Outcomes.{Fails}
 use Rattle.grove_wire.specs.Reading.{tree_in}
 use Rattle.grove_wire.specs.Texts.{wire_text}
-use Rattle.grove_store.specs.Stocks.{Stock, opened}
+use Rattle.grove_store.specs.StoreStates.{StoreState, opened}
 use Rattle.grove_words.specs.declared.order.Command.{Command}
 use Rattle.grove_words.specs.declared.order.Place.{Place}
 use Rattle.grove_answer.specs.declared.refusal.Refusal.{Refusal}
@@ -82,14 +82,14 @@ says_unread command in_document bytes fault Memory (Ok a) fails told memory is =
 says_unread command in_document bytes fault Memory (Err why) fails told memory is = tt
 
 -- what holds of a store that is served holds of it by a weaker word too
-pub serves_weaker : (P Q : Stock → Type 0) → ((store : Stock) → P store → Q store) → (answer : Answer) → ServesStore P answer → ServesStore Q answer
+pub serves_weaker : (P Q : StoreState → Type 0) → ((store : StoreState) → P store → Q store) → (answer : Answer) → ServesStore P answer → ServesStore Q answer
 serves_weaker P Q weaker (Done text) serves = tt
 serves_weaker P Q weaker (Refused text) serves = tt
 serves_weaker P Q weaker (Usage text) serves = tt
 serves_weaker P Q weaker (Listen line service) serves = weaker service.store serves
 
 -- an answer that doesn't listen serves no store
-pub serves_nothing : (P : Stock → Type 0) (answer : Result Answer Stop) → IfOk answer (λ a. ¬ IsListen a) → IfOk answer (ServesStore P)
+pub serves_nothing : (P : StoreState → Type 0) (answer : Result Answer Stop) → IfOk answer (λ a. ¬ IsListen a) → IfOk answer (ServesStore P)
 serves_nothing P (Ok (Done text)) other = tt
 serves_nothing P (Ok (Refused text)) other = tt
 serves_nothing P (Ok (Usage text)) other = tt
@@ -103,11 +103,11 @@ opened_by_bytes command bytes document workers answer read serves =
     IfOk-weaker answer _ _ (λ a it. serves_weaker (IsOpenedFrom document workers) (IsOpenedBy command bytes workers)
     (λ store is. subst (λ (r : Result Data WireFault). IsOkAnd r (λ d. IsOpenedFrom d workers store)) (sym read) is) a it) serves
 
-workers_stored : (found : Result (Rows × List ℤ) WireFault) (workers : ℕ) (store : Stock) → IsOkAnd found (λ stored. store ≡ opened stored.0 stored.1 workers) → store.workers ≡ workers
-workers_stored (Ok stored) workers store is = ap (λ (s : Stock). s.workers) is
+workers_stored : (found : Result (Rows × List ℤ) WireFault) (workers : ℕ) (store : StoreState) → IsOkAnd found (λ stored. store ≡ opened stored.0 stored.1 workers) → store.workers ≡ workers
+workers_stored (Ok stored) workers store is = ap (λ (s : StoreState). s.workers) is
 workers_stored (Err fault) workers store is = absurd is
 
-workers_opened : (found : Result Data WireFault) (workers : ℕ) (store : Stock) → IsOkAnd found (λ document. IsOpenedFrom document workers store) → store.workers ≡ workers
+workers_opened : (found : Result Data WireFault) (workers : ℕ) (store : StoreState) → IsOkAnd found (λ document. IsOpenedFrom document workers store) → store.workers ≡ workers
 workers_opened (Ok document) workers store is = workers_stored (tree_in document) workers store is
 workers_opened (Err fault) workers store is = absurd is
 

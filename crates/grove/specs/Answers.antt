@@ -3,7 +3,7 @@ use Rattle.std.specs.Prelude.{◌≡◌, ◌≢◌, ℕ, List, [], string_bytes,
 use Rattle.serde_json.specs.Data.{Data}
 use Rattle.grove_session.specs.declared.fault.ReadFault.{ReadFault}
 use Rattle.grove_session.specs.declared.fault.ReadFault.TheVariants as read
-use Rattle.grove_store.specs.Stocks.{Stock, opened}
+use Rattle.grove_store.specs.StoreStates.{StoreState, opened}
 use Rattle.grove_wire.specs.Reading.{tree_in}
 use Rattle.grove_words.specs.declared.order.Command.{Command}
 use Rattle.grove_words.specs.declared.order.Place.{Place}
@@ -65,18 +65,18 @@ Listens IsAsked (Usage text) = Unit {0}
 Listens IsAsked (Listen line service) = (place : Place) × IsAsked place × NamesPlace place (string_bytes line)
 
 -- an answer that says so serves such a store
-abbrev pub ServesStore : (Stock → Type 0) → Answer → Type 0
+abbrev pub ServesStore : (StoreState → Type 0) → Answer → Type 0
 ServesStore IsStore (Done text) = Unit {0}
 ServesStore IsStore (Refused text) = Unit {0}
 ServesStore IsStore (Usage text) = Unit {0}
 ServesStore IsStore (Listen line service) = IsStore service.store
 
 -- the store of a document's tree and records, with so many workers, which has answered nothing yet
-abbrev pub IsOpenedFrom : Data → ℕ → Stock → Type 0
+abbrev pub IsOpenedFrom : Data → ℕ → StoreState → Type 0
 IsOpenedFrom document workers store = IsOkAnd (tree_in document) (λ stored. store ≡ opened stored.0 stored.1 workers)
 
 -- the same of the bytes that a command is for
-abbrev pub IsOpenedBy : Command → List ℕ → ℕ → Stock → Type 0
+abbrev pub IsOpenedBy : Command → List ℕ → ℕ → StoreState → Type 0
 IsOpenedBy command bytes workers store = IsOkAnd (document_for command bytes) (λ document. IsOpenedFrom document workers store)
 
 -- why a document isn't read is why the command stops

@@ -1,6 +1,6 @@
 ghost use Rattle.std.specs.Prelude.{◌≡◌, ◌≤◌, ◌⊎◌, Some, IfOk, IfErr, IfSome, IsOkAnd, string_bytes, ⊤};
 ghost use Rattle.serde_json.specs.View.{view};
-ghost use Rattle.grove_store.specs.Stocks.{opened};
+ghost use Rattle.grove_store.specs.StoreStates.{opened};
 ghost use Rattle.grove_wire.specs.Forms.{HasShortArrays};
 ghost use Rattle.grove_wire.specs.Reading.{tree_in};
 ghost use Rattle.grove_answer.specs.Outcomes.{ThenSays};

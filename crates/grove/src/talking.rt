@@ -27,39 +27,22 @@ pub fn serve_caller<B: Opening, R: Host>(rt: &R, desk: &Desk<B>, seats: &Seats, 
     let Caller { stream, number } = caller;
     // No reply is to wait until the one before it has arrived.
     let _at_once = stream.set_nodelay(true);
-    match seats.log() {
-        Some(log) => {
-            let guest = Guest::new(log, number);
-            let ending = talk(rt, desk, seats, &stream, Some(&guest));
-            guest.tell_end(rt, ending);
+    let guest = seats.log().map(|log| Guest::new(log, number));
+    let ending = match (seats.talk(), seats.patience().idle) {
+        (Talk::Lines, None) => {
+            let mut source = ReaderSource::new(&stream);
+            let sink = WriterSink::new(&stream);
+            Ending::of_session(session_at(rt, desk, guest.as_ref(), &mut source, sink))
         }
-        None => {
-            let _ending = talk(rt, desk, seats, &stream, None);
-        }
+        (Talk::Lines, Some(idle)) => answer_in_time(rt, desk, &stream, guest.as_ref(), idle),
+        (Talk::Requests, idle) => answer_requests(rt, desk, &stream, guest.as_ref(), idle),
+    };
+    if let Some(guest) = &guest {
+        guest.tell_end(rt, ending);
     }
     // Whoever waits for the seat may wait for the descriptor.
     drop(stream);
     seats.leave(rt);
-}
-
-/// Talks over the stream what is talked there.
-fn talk<B: Opening, R: Host>(
-    rt: &R,
-    desk: &Desk<B>,
-    seats: &Seats,
-    stream: &TcpStream,
-    guest: Option<&Guest<'_>>,
-) -> Ending {
-    let idle = seats.patience().idle;
-    match (seats.talk(), idle) {
-        (Talk::Lines, None) => {
-            let mut source = ReaderSource::new(stream);
-            let sink = WriterSink::new(stream);
-            Ending::of_session(session_at(rt, desk, guest, &mut source, sink))
-        }
-        (Talk::Lines, Some(seconds)) => answer_in_time(rt, desk, stream, guest, seconds),
-        (Talk::Requests, _) => answer_requests(rt, desk, stream, guest, idle),
-    }
 }
 
 /// A session over the stream, which may idle for so many seconds. A client that takes nothing of its replies idles too.

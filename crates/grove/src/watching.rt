@@ -5,7 +5,7 @@ ghost use Rattle.grove_tree.specs.Weights.{unweighed};
 use crate::guest::Guest;
 use crate::host::Host;
 use crate::watched_sink::WatchedSink;
-use grove_desk::{Desk, Opening, Visit, desk_session};
+use grove_desk::{Desk, Opening, Visit};
 use grove_page::{Front, RepliesSink};
 use grove_session::{AnswerFault, Answers, SessionFault, Sink, Source, session};
 use grove_store::Store;
@@ -23,9 +23,9 @@ pub struct WatchedVisit<'a, B: Opening> {
 }
 
 impl<'a, B: Opening> Model for WatchedVisit<'a, B> {
-    ghost use Rattle.grove_desk.specs.Desks.{Visited};
+    ghost use Rattle.grove_desk.specs.Desks.{VisitState};
 
-    ghost Value = { Visited };
+    ghost Value = { VisitState };
 
     ghost view = { λ watched. watched.visit };
 }
@@ -68,7 +68,7 @@ fn error_name(reply: &[u8]) -> Option<&str> {
     from_utf8(name).ok()
 }
 
-/// Answers the lines of the source at the desk, as `desk_session` does, and tells of them where there is a guest.
+/// Answers the lines of the source at the desk, one after the other, and tells of them where there is a guest.
 pub fn session_at<B: Opening, R: Host, I: Source, O: Sink + Drop>(
     rt: &R,
     desk: &Desk<B>,
@@ -86,7 +86,7 @@ pub fn session_at<B: Opening, R: Host, I: Source, O: Sink + Drop>(
             let mut watched = WatchedSink::new(rt, guest, sink);
             session(rt, &mut visit, source, &mut watched)
         }
-        None => desk_session(rt, desk, source, &mut sink),
+        None => session(rt, &mut Visit::new(desk), source, &mut sink),
     }
 }
 

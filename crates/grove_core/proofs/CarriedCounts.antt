@@ -7,7 +7,7 @@ use Rattle.grove_access.specs.declared.known.Known.{Known}
 use Rattle.grove_access.specs.Carries.{Carried, known_at, AreApart}
 use Rattle.grove_access.proofs.CarriedNodes.{known_first, known_later}
 use Rattle.grove_core.specs.Runs.{holds}
-use Rattle.grove_core.specs.Kept.{State, past_of}
+use Rattle.grove_core.specs.Kept.{CoreState, past_of}
 use Rattle.grove_core.specs.CarriedTests.{KnowsAll, HasAll}
 use Rattle.grove_core.proofs.CountChanges.{count_zero, count_agree, count_added, count_full}
 use Rattle.grove_core.proofs.CarriedEntries.{known_item, some_true}
@@ -21,7 +21,7 @@ out_count n (k ∷ known) apart within =
     (λ node ne. ap is_some (known_later (k ∷ known) k known node refl ne))
     ∙ ap suc (out_count n known apart.1 (λ i. within (suc i)))
 
-module _ (core : State) (carry : Carried) (n : ℕ) (apart : AreApart carry.known) (knows : KnowsAll core carry.txn carry.known)
+module _ (core : CoreState) (carry : Carried) (n : ℕ) (apart : AreApart carry.known) (knows : KnowsAll core carry.txn carry.known)
     (within : (node : ℕ) → holds core.jobs (past_of core) carry.txn node ≡ true → node < n) where
   known_count : count_below n (λ node. is_some (known_at carry.known node)) ≡ length carry.known
   known_count = out_count n carry.known apart (λ i k at. within k.node (knows i k at).0)

@@ -25,7 +25,7 @@ use Rattle.grove_tree.specs.Trees.{Rows}
 use Rattle.grove_core.specs.declared.progress.Progress.{Progress}
 use Rattle.grove_core.specs.declared.owner.Owner.{Owner}
 use Rattle.grove_core.specs.Owners.{holder_of}
-use Rattle.grove_core.specs.Kept.{State, past_of, Owns, IsCore}
+use Rattle.grove_core.specs.Kept.{CoreState, past_of, Owns, IsCore}
 use Rattle.grove_core.specs.CarriedTests.{is_owner, KnowsAll, HasAll, Follows}
 use Rattle.grove_core.specs.Carried.{records_of, IsOf, after_steps, replies_in}
 use Rattle.grove_core.proofs.Precedence.{within_jobs}
@@ -67,7 +67,7 @@ not_true : (b : Bool) → (b ≡ true → ⊥) → b ≡ false
 not_true true h = absurd (h refl)
 not_true false h = refl
 
-out_at : (core : State) (carry : Carried) → KnowsAll core carry.txn carry.known → HasAll core carry → (node : ℕ) (o : Option ℤ) → known_at carry.known node ≡ o
+out_at : (core : CoreState) (carry : Carried) → KnowsAll core carry.txn carry.known → HasAll core carry → (node : ℕ) (o : Option ℤ) → known_at carry.known node ≡ o
     → is_some o ≡ holds core.jobs (past_of core) carry.txn node
 out_at core carry knows has node None at = sym (not_true (holds core.jobs (past_of core) carry.txn node) (λ held.
     both_ways (is_some (known_at carry.known node)) (ap (λ (o : Option ℤ). is_some o) at) (has node held)))
@@ -75,7 +75,7 @@ out_at core carry knows has node (Some value) at =
     let item = known_item carry.known node value at in
     sym (subst (λ (n : ℕ). holds core.jobs (past_of core) carry.txn n ≡ true) item.3 (knows item.0 item.1 item.2).0)
 
-is_of_all : (core : State) (carry : Carried) → carry.txn < length core.jobs → KnowsAll core carry.txn carry.known → HasAll core carry
+is_of_all : (core : CoreState) (carry : Carried) → carry.txn < length core.jobs → KnowsAll core carry.txn carry.known → HasAll core carry
     → Follows (list_of core.jobs carry.txn) (plan_of core.jobs carry.txn) (steps_done (past_of core) carry.txn) carry.entries → IsOf core carry
 is_of_all core carry job knows has follows = record {
   job = job;
@@ -87,16 +87,16 @@ is_of_all core carry job knows has follows = record {
   own = λ i e at. (follows i e at).1;
 }
 
-knows_of : (core : State) (carry : Carried) → AreApart carry.known → IsOf core carry → KnowsAll core carry.txn carry.known
+knows_of : (core : CoreState) (carry : Carried) → AreApart carry.known → IsOf core carry → KnowsAll core carry.txn carry.known
 knows_of core carry apart of = λ i k at.
     let there : known_at carry.known k.node ≡ Some k.value = item_known carry.known i k apart at in
     (sym (of.out k.node) ∙ is_some_of (known_at carry.known k.node) k.value there, of.known k.node k.value there)
 
 -- a carry that is of the core has each node out that its job holds
-pub has_of : (core : State) (carry : Carried) → IsOf core carry → HasAll core carry
+pub has_of : (core : CoreState) (carry : Carried) → IsOf core carry → HasAll core carry
 has_of core carry of = λ node held. of.out node ∙ held
 
-follows_of : (core : State) (carry : Carried) → IsOf core carry → Follows (list_of core.jobs carry.txn) (plan_of core.jobs carry.txn) (steps_done (past_of core) carry.txn) carry.entries
+follows_of : (core : CoreState) (carry : Carried) → IsOf core carry → Follows (list_of core.jobs carry.txn) (plan_of core.jobs carry.txn) (steps_done (past_of core) carry.txn) carry.entries
 follows_of core carry of = λ i e at. (of.next i e at, of.own i e at)
 
 -- So many steps more of a job
@@ -118,7 +118,7 @@ past_taken history (suc n) t =
     ∙ taken_shift n t (reverse history)
 
 -- The entries up to one of them are done: the job is as many steps further, and its records are as the entries left them.
-record HasDone (core : State) (carry : Carried) (n : ℕ) (past : List Event) : Type 0 where
+record HasDone (core : CoreState) (carry : Carried) (n : ℕ) (past : List Event) : Type 0 where
   at : steps_done past carry.txn ≡ steps_done (past_of core) carry.txn + n
   records : (node : ℕ) (value : ℤ) → known_at carry.known node ≡ Some value
       → slice_get (run_records core.jobs core.opening past) node ≡ Some (value_after (take n carry.entries) node value)
@@ -130,7 +130,7 @@ replies_in-append [] e = refl
 replies_in-append (x ∷ entries) e = ap (λ rs. x.reply ∷ rs) (replies_in-append entries e)
 
 -- what the access of an entry finds, once the entries before it are done
-pub record IsReady (core : State) (carry : Carried) (n : ℕ) (e : Entry) (past : List Event) : Type 0 where
+pub record IsReady (core : CoreState) (carry : Carried) (n : ℕ) (e : Entry) (past : List Event) : Type 0 where
   pub next : next_step core.jobs past carry.txn ≡ Some (Access e.number)
   pub listed : slice_get (list_of core.jobs carry.txn) e.number ≡ Some e.access
   pub value : ℤ
@@ -138,7 +138,7 @@ pub record IsReady (core : State) (carry : Carried) (n : ℕ) (e : Entry) (past 
   pub found : slice_get (run_records core.jobs core.opening past) e.access.node ≡ Some (value_after (take n carry.entries) e.access.node value)
   pub replied : e.reply ≡ reply_to e.access (run_records core.jobs core.opening past)
 
-ready : (core : State) (carry : Carried) → IsOf core carry → IsSound carry.known carry.entries → (n : ℕ) (e : Entry) → slice_get carry.entries n ≡ Some e → (past : List Event)
+ready : (core : CoreState) (carry : Carried) → IsOf core carry → IsSound carry.known carry.entries → (n : ℕ) (e : Entry) → slice_get carry.entries n ≡ Some e → (past : List Event)
     → HasDone core carry n past → IsReady core carry n e past
 ready core carry of sound n e at past done =
     let was = sound.replied n e at in
@@ -152,7 +152,7 @@ ready core carry of sound n e at past done =
       replied = was.2 ∙ ap (answer e.access.op) (sym (get_or_from_slice_get (run_records core.jobs core.opening past) e.access.node _ _ found));
     }
 
-record_next : (core : State) (carry : Carried) (n : ℕ) (e : Entry) → slice_get carry.entries n ≡ Some e → (past : List Event) → HasDone core carry n past → IsReady core carry n e past
+record_next : (core : CoreState) (carry : Carried) (n : ℕ) (e : Entry) → slice_get carry.entries n ≡ Some e → (past : List Event) → HasDone core carry n past → IsReady core carry n e past
     → (node : ℕ) (value : ℤ) → known_at carry.known node ≡ Some value
     → slice_get (run_records core.jobs core.opening (Take carry.txn ∷ past)) node ≡ Some (value_after (take (suc n) carry.entries) node value)
 record_next core carry n e at past done ready node value known =
@@ -174,7 +174,7 @@ record_next core carry n e at past done ready node value known =
     ]
 
 -- and one entry more
-done_next : (core : State) (carry : Carried) (n : ℕ) (e : Entry) → slice_get carry.entries n ≡ Some e → (past : List Event) → HasDone core carry n past → IsReady core carry n e past
+done_next : (core : CoreState) (carry : Carried) (n : ℕ) (e : Entry) → slice_get carry.entries n ≡ Some e → (past : List Event) → HasDone core carry n past → IsReady core carry n e past
     → HasDone core carry (suc n) (Take carry.txn ∷ past)
 done_next core carry n e at past done ready = record {
   at = let here : steps_done past carry.txn ≡ steps_done (past_of core) carry.txn + n = done.at in
@@ -189,7 +189,7 @@ done_next core carry n e at past done ready = record {
   held = λ node. holds_same core.jobs past carry.txn node (ap (locks node) ready.next) (ap (unlocks node) ready.next) carry.txn ∙ done.held node;
 }
 
-done_all : (core : State) (carry : Carried) → IsOf core carry → IsSound carry.known carry.entries → (n : ℕ) → n ≤ length carry.entries → HasDone core carry n (taken n carry.txn (past_of core))
+done_all : (core : CoreState) (carry : Carried) → IsOf core carry → IsSound carry.known carry.entries → (n : ℕ) → n ≤ length carry.entries → HasDone core carry n (taken n carry.txn (past_of core))
 done_all core carry of sound zero le = record {
   at = omega arith;
   records = of.known;
@@ -202,7 +202,7 @@ done_all core carry of sound (suc n) le =
     done_next core carry n item.0 item.1 (taken n carry.txn (past_of core)) before (ready core carry of sound n item.0 item.1 (taken n carry.txn (past_of core)) before)
 
 -- what an entry's access finds
-ready_at : (core now : State) (carry : Carried) (n : ℕ) (e : Entry) → IsOf core carry → IsSound carry.known carry.entries → slice_get carry.entries n ≡ Some e → now ≡ after_steps core carry.txn n
+ready_at : (core now : CoreState) (carry : Carried) (n : ℕ) (e : Entry) → IsOf core carry → IsSound carry.known carry.entries → slice_get carry.entries n ≡ Some e → now ≡ after_steps core carry.txn n
     → IsReady core carry n e (past_of now)
 ready_at core now carry n e of sound at is =
     let lt : n < length carry.entries = slice_get_within carry.entries n e at in
@@ -212,14 +212,14 @@ ready_at core now carry n e of sound at is =
 -- All entries are done
 
 -- the core has taken all entries of a carry
-pub record HasTaken (core : State) (carry : Carried) (new : State) : Type 0 where
+pub record HasTaken (core : CoreState) (carry : Carried) (new : CoreState) : Type 0 where
   pub records : (node : ℕ) (value : ℤ) → present_at carry node ≡ Some value → slice_get (run_records core.jobs core.opening (past_of new)) node ≡ Some value
   pub replies : run_replies core.jobs core.opening (past_of new) carry.txn ≡ run_replies core.jobs core.opening (past_of core) carry.txn ++ replies_in carry.entries
   pub next : next_step core.jobs (past_of new) carry.txn ≡ slice_get (plan_of core.jobs carry.txn) (steps_done (past_of core) carry.txn + length carry.entries)
   pub held : (node : ℕ) → holds core.jobs (past_of new) carry.txn node ≡ holds core.jobs (past_of core) carry.txn node
 
 -- after as many steps as there are entries it has
-pub taken_all : (core new : State) (carry : Carried) → IsOf core carry → IsSound carry.known carry.entries → new ≡ after_steps core carry.txn (length carry.entries) → HasTaken core carry new
+pub taken_all : (core new : CoreState) (carry : Carried) → IsOf core carry → IsSound carry.known carry.entries → new ≡ after_steps core carry.txn (length carry.entries) → HasTaken core carry new
 taken_all core new carry of sound is =
     let n : ℕ = length carry.entries in
     let past : List Event = taken n carry.txn (past_of core) in
@@ -242,11 +242,11 @@ is_some_present entries node None = refl
 is_some_present entries node (Some v) = refl
 
 -- so the settled carry is of the new core
-pub is_of_settled : (core new : State) (carry : Carried) → IsOf core carry → IsSound carry.known carry.entries → new ≡ after_steps core carry.txn (length carry.entries) → IsOf new (carry_settled carry)
+pub is_of_settled : (core new : CoreState) (carry : Carried) → IsOf core carry → IsSound carry.known carry.entries → new ≡ after_steps core carry.txn (length carry.entries) → IsOf new (carry_settled carry)
 is_of_settled core new carry of sound is =
     let taken : HasTaken core carry new = taken_all core new carry of sound is in
-    let jobs : new.jobs ≡ core.jobs = ap (λ (s : State). s.jobs) is in
-    let opening : new.opening ≡ core.opening = ap (λ (s : State). s.opening) is in
+    let jobs : new.jobs ≡ core.jobs = ap (λ (s : CoreState). s.jobs) is in
+    let opening : new.opening ≡ core.opening = ap (λ (s : CoreState). s.opening) is in
     record {
       job = subst (λ (js : List Job). carry.txn < length js) (sym jobs) of.job;
       out = λ node. ap (λ (o : Option ℤ). is_some o) (settled_at carry.entries carry.known node) ∙ is_some_present carry.entries node (known_at carry.known node)
@@ -275,19 +275,16 @@ pub each_of : {A : Type 0} (P : ℕ → A → Type 0) (xs : List A) (n : ℕ) �
     → (i : ℕ) (y : A) → slice_get xs i ≡ Some y → P i y
 each_of P xs n all before i y read = let lt : i < length xs = slice_get_within xs i y read in before i y (omega arith) read
 
+-- who holds a node tells whether a job does
+pub holder_tells : (jobs : List Job) (past : List Event) (t node : ℕ) (holder : Option ℕ) → Owns jobs past node holder → is_owner holder t ≡ holds jobs past t node
+holder_tells jobs past t node None owns = sym (owns t)
+holder_tells jobs past t node (Some u) owns = elim (cases_eq u t) [
+  | inl e ↦ eq-eqb u t e ∙ sym (subst (λ (k : ℕ). holds jobs past k node ≡ true) e owns.0)
+  | inr ne ↦ ne_eqb u t ne ∙ sym (owns.1 t (λ e. ne (sym e)))
+]
+
 module _ (rows : Rows) (jobs : List Job) (opening : List ℤ) (past : List Event) (records : List ℤ) (progress : List Progress) (owners : List Owner) (waits : List ℕ)
     (core : IsCore rows jobs opening past records progress owners waits) where
-  -- the owner of a node tells whether a job holds it
-  holder_tells : (t node : ℕ) (holder : Option ℕ) → Owns jobs past node holder → is_owner holder t ≡ holds jobs past t node
-  holder_tells t node None owns = sym (owns t)
-  holder_tells t node (Some u) owns = elim (cases_eq u t) [
-    | inl e ↦ eq-eqb u t e ∙ sym (subst (λ (k : ℕ). holds jobs past k node ≡ true) e owns.0)
-    | inr ne ↦ ne_eqb u t ne ∙ sym (owns.1 t (λ e. ne (sym e)))
-  ]
-
-  pub owner_tells : (t node : ℕ) (owner : Owner) → slice_get owners node ≡ Some owner → is_owner (holder_of owner) t ≡ holds jobs past t node
-  owner_tells t node owner at = holder_tells t node (holder_of owner) (core.owned node owner at).0
-
   -- beyond the last node nothing is held
   pub owner_past : (t node : ℕ) → length owners ≤ node → false ≡ holds jobs past t node
   owner_past t node beyond = sym (held_not (plan_of jobs t) node (steps_done past t) (λ lock.
@@ -321,7 +318,7 @@ follows_read list listed plan planned start begin entries e f g follows =
     subst (λ (l : List Visit). Follows l planned begin entries) e (subst (λ (p : List Step). Follows list p begin entries) f (subst (λ (k : ℕ). Follows list plan k entries) g follows))
 
 -- The tests as they are made, of what is read of the carry
-pub is_of_tests : (core : State) (carry : Carried) (t : ℕ) (known : List Known) (entries : List Entry) → t ≡ carry.txn → known ≡ carry.known → entries ≡ carry.entries → t < length core.jobs
+pub is_of_tests : (core : CoreState) (carry : Carried) (t : ℕ) (known : List Known) (entries : List Entry) → t ≡ carry.txn → known ≡ carry.known → entries ≡ carry.entries → t < length core.jobs
     → KnowsAll core t known → HasAll core carry → Follows (list_of core.jobs t) (plan_of core.jobs t) (steps_done (past_of core) t) entries → IsOf core carry
 is_of_tests core carry t known entries e f g job knows has follows =
     is_of_all core carry (subst (λ (k : ℕ). k < length core.jobs) e job)
@@ -330,30 +327,30 @@ is_of_tests core carry t known entries e f g job knows has follows =
     (subst (λ (es : List Entry). Follows (list_of core.jobs t) (plan_of core.jobs t) (steps_done (past_of core) t) es) g follows))
 
 -- a carry of the core passes the test of what it knows
-pub knows_test : (core : State) (carry : Carried) (t : ℕ) (known : List Known) → t ≡ carry.txn → known ≡ carry.known → AreApart carry.known → IsOf core carry → KnowsAll core t known
+pub knows_test : (core : CoreState) (carry : Carried) (t : ℕ) (known : List Known) → t ≡ carry.txn → known ≡ carry.known → AreApart carry.known → IsOf core carry → KnowsAll core t known
 knows_test core carry t known e f apart of =
     subst (λ (k : ℕ). KnowsAll core k known) (sym e) (subst (λ (ks : List Known). KnowsAll core carry.txn ks) (sym f) (knows_of core carry apart of))
 
 -- and the test of its entries
-pub follows_test : (core : State) (carry : Carried) (t : ℕ) (entries : List Entry) → t ≡ carry.txn → entries ≡ carry.entries → IsOf core carry
+pub follows_test : (core : CoreState) (carry : Carried) (t : ℕ) (entries : List Entry) → t ≡ carry.txn → entries ≡ carry.entries → IsOf core carry
     → Follows (list_of core.jobs t) (plan_of core.jobs t) (steps_done (past_of core) t) entries
 follows_test core carry t entries e f of =
     subst (λ (k : ℕ). Follows (list_of core.jobs k) (plan_of core.jobs k) (steps_done (past_of core) k) entries) (sym e)
     (subst (λ (es : List Entry). Follows (list_of core.jobs carry.txn) (plan_of core.jobs carry.txn) (steps_done (past_of core) carry.txn) es) (sym f) (follows_of core carry of))
 
 -- what an entry that is read finds
-pub record FindsItself (now : State) (t : ℕ) (e : Entry) : Type 0 where
+pub record FindsItself (now : CoreState) (t : ℕ) (e : Entry) : Type 0 where
   pub next : next_step now.jobs (past_of now) t ≡ Some (Access e.number)
   pub replied : e.reply ≡ reply_to e.access (records_of now)
 
 -- the entry that is read finds the record that it was done on
-pub entry_ready : (core now : State) (carry : Carried) (t n : ℕ) (e : Entry) (seen : List Entry) → IsOf core carry → IsSound carry.known carry.entries → t ≡ carry.txn → seen ≡ carry.entries
+pub entry_ready : (core now : CoreState) (carry : Carried) (t n : ℕ) (e : Entry) (seen : List Entry) → IsOf core carry → IsSound carry.known carry.entries → t ≡ carry.txn → seen ≡ carry.entries
     → n < length seen → e ≡ get_or seen n e → now ≡ after_steps core carry.txn n → FindsItself now t e
 entry_ready core now carry t n e seen of sound txn all lt read is =
     let at : slice_get carry.entries n ≡ Some e = ap (λ (es : List Entry). slice_get es n) (sym all) ∙ read_at seen n e lt read in
     let ready : IsReady core carry n e (past_of now) = ready_at core now carry n e of sound at is in
-    let jobs : now.jobs ≡ core.jobs = ap (λ (s : State). s.jobs) is in
-    let opening : now.opening ≡ core.opening = ap (λ (s : State). s.opening) is in
+    let jobs : now.jobs ≡ core.jobs = ap (λ (s : CoreState). s.jobs) is in
+    let opening : now.opening ≡ core.opening = ap (λ (s : CoreState). s.opening) is in
     record {
       next = ap (λ (js : List Job). next_step js (past_of now) t) jobs ∙ ap (λ (k : ℕ). next_step core.jobs (past_of now) k) txn ∙ ready.next;
       replied = ready.replied ∙ ap (λ (js : List Job). reply_to e.access (run_records js core.opening (past_of now))) (sym jobs)
@@ -361,15 +358,15 @@ entry_ready core now carry t n e seen of sound txn all lt read is =
     }
 
 -- all entries are done
-pub steps_whole : (core new : State) (carry : Carried) (n : ℕ) (seen : List Entry) → seen ≡ carry.entries → length seen ≤ n → n ≤ length seen → new ≡ after_steps core carry.txn n
+pub steps_whole : (core new : CoreState) (carry : Carried) (n : ℕ) (seen : List Entry) → seen ≡ carry.entries → length seen ≤ n → n ≤ length seen → new ≡ after_steps core carry.txn n
     → new ≡ after_steps core carry.txn (length carry.entries)
 steps_whole core new carry n seen all over under is =
     let whole : n ≡ length seen = omega arith in is ∙ ap (λ (k : ℕ). after_steps core carry.txn k) (whole ∙ ap length all)
 
 -- the records are then the carry's present values
-pub records_taken : (core new : State) (carry : Carried) → IsOf core carry → IsSound carry.known carry.entries → new ≡ after_steps core carry.txn (length carry.entries)
+pub records_taken : (core new : CoreState) (carry : Carried) → IsOf core carry → IsSound carry.known carry.entries → new ≡ after_steps core carry.txn (length carry.entries)
     → (node : ℕ) (value : ℤ) → present_at carry node ≡ Some value → slice_get (records_of new) node ≡ Some value
 records_taken core new carry of sound is node value at =
-    ap (λ (js : List Job). slice_get (run_records js new.opening (past_of new)) node) (ap (λ (s : State). s.jobs) is)
-    ∙ ap (λ (os : List ℤ). slice_get (run_records core.jobs os (past_of new)) node) (ap (λ (s : State). s.opening) is)
+    ap (λ (js : List Job). slice_get (run_records js new.opening (past_of new)) node) (ap (λ (s : CoreState). s.jobs) is)
+    ∙ ap (λ (os : List ℤ). slice_get (run_records core.jobs os (past_of new)) node) (ap (λ (s : CoreState). s.opening) is)
     ∙ (taken_all core new carry of sound is).records node value at

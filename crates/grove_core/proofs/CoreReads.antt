@@ -45,6 +45,10 @@ module _ (rows : Rows) (jobs : List Job) (opening : List ℤ) (past : List Event
   pub progress_there : (t : ℕ) (s : Step) → next_step jobs past t ≡ Some s → t < length progress
   progress_there t s next = let e : length progress ≡ length jobs = core.all_jobs in let lt : t < length jobs = job_there t s next in omega arith
 
+  -- within a vector of so many
+  pub progress_within : (t : ℕ) (s : Step) → next_step jobs past t ≡ Some s → (size : ℕ) → size ≡ length progress → t < size
+  progress_within t s next size all = let lt : t < length progress = progress_there t s next in omega arith
+
   -- and has done few steps
   pub steps_small : (t : ℕ) (s : Step) → next_step jobs past t ≡ Some s → (p : Progress) → slice_get progress t ≡ Some p → p.steps_done < 2 ^ 32
   steps_small t s next p at =

@@ -5,7 +5,7 @@ use Rattle.std.proofs.lemmas.List.{reverse-append}
 use Rattle.grove_base.proofs.Lists.{take_next}
 use Rattle.grove_core.specs.declared.event.Event.{Event}
 use Rattle.grove_core.specs.Runs.{IsRun, MayHappen}
-use Rattle.grove_core.specs.Kept.{State, past_of}
+use Rattle.grove_core.specs.Kept.{CoreState, past_of}
 use Rattle.grove_core.specs.Replays.{past_after}
 
 -- an event is the latest of the past after it
@@ -13,15 +13,15 @@ pub past_next : (events : List Event) (at : ℕ) (event : Event) → slice_get e
 past_next events at event there = ap reverse (take_next events at event there) ∙ reverse-append (take at events) (event ∷ [])
 
 -- a core that has done the first events, and then the next one, has done one more, and these are a run
-pub followed : (opened before after : State) (events : List Event) (at : ℕ) (event : Event) → slice_get events at ≡ Some event
+pub followed : (opened before after : CoreState) (events : List Event) (at : ℕ) (event : Event) → slice_get events at ≡ Some event
     → before ≡ record opened { history = take at events } → after ≡ record before { history = before.history ++ event ∷ [] }
     → MayHappen before.jobs (past_of before) event → IsRun opened.jobs (past_after events at)
     → (after ≡ record opened { history = take (at + 1) events }) × IsRun opened.jobs (past_after events (at + 1))
 followed opened before after events at event there was added may run =
     let one : at + 1 ≡ suc at = add-one at in (
-      added ∙ ap (λ (core : State). record core { history = core.history ++ event ∷ [] }) was
+      added ∙ ap (λ (core : CoreState). record core { history = core.history ++ event ∷ [] }) was
           ∙ ap (λ (history : List Event). record opened { history = history }) (sym (take_next events at event there))
           ∙ ap (λ (n : ℕ). record opened { history = take n events }) (sym one),
       subst (λ (n : ℕ). IsRun opened.jobs (past_after events n)) (sym one)
-          (subst (IsRun opened.jobs) (sym (past_next events at event there)) (subst (λ (core : State). MayHappen core.jobs (past_of core) event) was may, run)),
+          (subst (IsRun opened.jobs) (sym (past_next events at event there)) (subst (λ (core : CoreState). MayHappen core.jobs (past_of core) event) was may, run)),
     )

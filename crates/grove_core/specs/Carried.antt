@@ -6,14 +6,14 @@ use Rattle.grove_access.specs.Carries.{Carried, known_at}
 use Rattle.grove_plan.specs.declared.step.Step.TheVariants.{Access}
 use Rattle.grove_core.specs.declared.event.Event.TheVariants.{Take}
 use Rattle.grove_core.specs.Runs.{list_of, plan_of, steps_done, holds, run_records}
-use Rattle.grove_core.specs.Kept.{State, past_of}
+use Rattle.grove_core.specs.Kept.{CoreState, past_of}
 
 -- the records as they are now
-abbrev pub records_of : State → List ℤ
+abbrev pub records_of : CoreState → List ℤ
 records_of core = run_records core.jobs core.opening (past_of core)
 
 -- What a job has out is what it holds, known as it is, and its entries are the job's next steps, with its own accesses.
-pub record IsOf (core : State) (carry : Carried) : Type 0 where
+pub record IsOf (core : CoreState) (carry : Carried) : Type 0 where
   pub job : carry.txn < length core.jobs
   pub out : (node : ℕ) → is_some (known_at carry.known node) ≡ holds core.jobs (past_of core) carry.txn node
   pub known : (node : ℕ) (value : ℤ) → known_at carry.known node ≡ Some value → slice_get (records_of core) node ≡ Some value
@@ -22,7 +22,7 @@ pub record IsOf (core : State) (carry : Carried) : Type 0 where
   pub own : (i : ℕ) (e : Entry) → slice_get carry.entries i ≡ Some e → slice_get (list_of core.jobs carry.txn) e.number ≡ Some e.access
 
 -- the core after so many steps more of a job
-abbrev pub after_steps : State → ℕ → ℕ → State
+abbrev pub after_steps : CoreState → ℕ → ℕ → CoreState
 after_steps core t n = record core { history = core.history ++ replicate n (Take t) }
 
 abbrev pub replies_in : List Entry → List Reply

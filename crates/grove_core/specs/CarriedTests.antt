@@ -7,7 +7,7 @@ use Rattle.grove_access.specs.Carries.{Carried, known_at}
 use Rattle.grove_plan.specs.declared.step.Step.{Step}
 use Rattle.grove_plan.specs.declared.step.Step.TheVariants.{Access}
 use Rattle.grove_core.specs.Runs.{holds}
-use Rattle.grove_core.specs.Kept.{State, past_of}
+use Rattle.grove_core.specs.Kept.{CoreState, past_of}
 use Rattle.grove_core.specs.Carried.{records_of}
 
 -- the owner of a node is this job
@@ -16,14 +16,14 @@ is_owner None t = false
 is_owner (Some u) t = u == t
 
 -- the job holds the node, and its record is the known value
-abbrev pub Knows : State → ℕ → Known → Type 0
+abbrev pub Knows : CoreState → ℕ → Known → Type 0
 Knows core t k = (holds core.jobs (past_of core) t k.node ≡ true) × (slice_get (records_of core) k.node ≡ Some k.value)
 
-abbrev pub KnowsAll : State → ℕ → List Known → Type 0
+abbrev pub KnowsAll : CoreState → ℕ → List Known → Type 0
 KnowsAll core t known = (i : ℕ) (k : Known) → slice_get known i ≡ Some k → Knows core t k
 
 -- each node is out that the job holds
-abbrev pub HasAll : State → Carried → Type 0
+abbrev pub HasAll : CoreState → Carried → Type 0
 HasAll core carry = (node : ℕ) → holds core.jobs (past_of core) carry.txn node ≡ true → is_some (known_at carry.known node) ≡ true
 
 -- the step at a position is the entry's access, and this is one of the list

@@ -13,14 +13,14 @@ use Rattle.grove_core.specs.declared.owner.Owner.{Owner}
 use Rattle.grove_core.specs.Owners.{holder_of, last_of}
 
 -- a core, as its callers see it: what it was opened with, and the events since then
-pub record State : Type 0 where
+pub record CoreState : Type 0 where
   pub tree : Rows
   pub jobs : List Job
   pub opening : List ℤ
   pub history : List Event
 
 -- the events, from the latest back
-abbrev pub past_of : State → List Event
+abbrev pub past_of : CoreState → List Event
 past_of core = reverse core.history
 
 -- when a node was locked, by the locks of a job

@@ -42,9 +42,9 @@ pub struct Core<'a> {
 impl<'a> Model for Core<'a> {
     ghost use Rattle.std.specs.Prelude.{◌≤◌, length, reverse, vec_capacity};
     ghost use Rattle.grove_core.specs.Runs.{most_events};
-    ghost use Rattle.grove_core.specs.Kept.{State, TellsFirsts, IsCore};
+    ghost use Rattle.grove_core.specs.Kept.{CoreState, TellsFirsts, IsCore};
 
-    ghost Value = { State };
+    ghost Value = { CoreState };
 
     ghost view = { λ core. record { tree = core.tree.now; jobs = core.jobs.now; opening = core.opening; history = core.history.items } };
 

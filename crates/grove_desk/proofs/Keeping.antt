@@ -4,7 +4,7 @@ use Rattle.std.specs.Prelude.{All, Bool, true, false, IsSome, Result, Ok, Err, I
 use Rattle.std.specs.Option.{option_map}
 use Rattle.std.proofs.lemmas.Bool.{cases_lt}
 use Rattle.std.proofs.lemmas.List.{length-map, length-take, get_or_append_left, get_or-append_right}
-use Rattle.grove_store.specs.Stocks.{Stock}
+use Rattle.grove_store.specs.StoreStates.{StoreState}
 use Rattle.grove_store.specs.Rounds.{IsLawfulRound}
 use Rattle.grove_tree.specs.Weights.{unweighed}
 use Rattle.grove_store.proofs.RoundsKeep.{round_keeps}
@@ -14,15 +14,15 @@ use Rattle.grove_desk.specs.Histories.{RoundState, IsRound, store_before, Leads,
 use Rattle.grove_desk.specs.Ledgers.{JournalState, noted_in, next_number, IsJournal, IsKept, IsLedger}
 
 -- a round more at the end has no store before the first of the others
-before_more : (rounds : List RoundState) (round : RoundState) (last : Stock) → store_before (rounds ++ round ∷ []) last ≡ store_before rounds round.before
+before_more : (rounds : List RoundState) (round : RoundState) (last : StoreState) → store_before (rounds ++ round ∷ []) last ≡ store_before rounds round.before
 before_more [] round last = refl
 before_more (first ∷ rounds) round last = refl
 
 -- rounds lead on through a round more
-leads_more : (rounds : List RoundState) (round : RoundState) (last : Stock) → Leads rounds round.before → IsRound round.before round.receipts last → Leads (rounds ++ round ∷ []) last
+leads_more : (rounds : List RoundState) (round : RoundState) (last : StoreState) → Leads rounds round.before → IsRound round.before round.receipts last → Leads (rounds ++ round ∷ []) last
 leads_more [] round last leads is = (is, tt)
 leads_more (first ∷ rounds) round last leads is =
-    (subst (λ (s : Stock). IsRound first.before first.receipts s) (sym (before_more rounds round last)) leads.0, leads_more rounds round last leads.1 is)
+    (subst (λ (s : StoreState). IsRound first.before first.receipts s) (sym (before_more rounds round last)) leads.0, leads_more rounds round last leads.1 is)
 
 -- the receipts of a round more stand at the end
 receipts_more : (rounds : List RoundState) (round : RoundState) → receipts_in (rounds ++ round ∷ []) ≡ receipts_in rounds ++ round.receipts
@@ -40,7 +40,7 @@ numbered_on front back are next place other lt = elim (cases_lt place (length fr
 ]
 
 -- a journal with a round more is that of the store after it
-journal_more : (opening : Stock) (journal : JournalState) (round : RoundState) (last : Stock) → IsJournal opening journal round.before → IsRound round.before round.receipts last → AreNumbered (Some journal.lines) round.receipts
+journal_more : (opening : StoreState) (journal : JournalState) (round : RoundState) (last : StoreState) → IsJournal opening journal round.before → IsRound round.before round.receipts last → AreNumbered (Some journal.lines) round.receipts
     → IsJournal opening (noted_in round journal) last
 journal_more opening journal round last is leads numbered = record {
   leads = leads_more journal.rounds round last is.leads leads;
@@ -53,7 +53,7 @@ journal_more opening journal round last is leads numbered = record {
 }
 
 -- where a journal is kept, it goes on with a round more
-kept_more : (opening : Stock) (journal : Option JournalState) (round : RoundState) (last : Stock) → IsKept opening journal round.before → IsRound round.before round.receipts last → AreNumbered (next_number journal) round.receipts
+kept_more : (opening : StoreState) (journal : Option JournalState) (round : RoundState) (last : StoreState) → IsKept opening journal round.before → IsRound round.before round.receipts last → AreNumbered (next_number journal) round.receipts
     → IsKept opening (option_map (noted_in round) journal) last
 kept_more opening None round last kept leads numbered = tt
 kept_more opening (Some journal) round last kept leads numbered = journal_more opening journal round last kept leads numbered
@@ -64,7 +64,7 @@ some_more round None kept some = some
 some_more round (Some journal) kept some = some
 
 -- lawful rounds lead on through one more
-led_more : (opening before after : Stock) (receipts : List ReceiptState) → Led opening before → IsRound before receipts after → Led opening after
+led_more : (opening before after : StoreState) (receipts : List ReceiptState) → Led opening before → IsRound before receipts after → Led opening after
 led_more opening before after receipts led round =
     let it : RoundState = record { before = before; receipts = receipts } in record {
       rounds = led.rounds ++ it ∷ [];
@@ -73,7 +73,7 @@ led_more opening before after receipts led round =
     }
 
 -- a ledger that has answered a round, and noted it where it keeps a journal, is one
-ledger_more : (opening : Stock) (kept : Bool) (before after : Stock) (journal noted : Option JournalState) (receipts : List ReceiptState) → IsLedger opening kept before journal → IsRound before receipts after
+ledger_more : (opening : StoreState) (kept : Bool) (before after : StoreState) (journal noted : Option JournalState) (receipts : List ReceiptState) → IsLedger opening kept before journal → IsRound before receipts after
     → AreNumbered (next_number journal) receipts → noted ≡ option_map (noted_in (record { before = before; receipts = receipts })) journal → IsLedger opening kept after noted
 ledger_more opening kept before after journal noted receipts is round numbered more =
     let it : RoundState = record { before = before; receipts = receipts } in
@@ -84,7 +84,7 @@ ledger_more opening kept before after journal noted receipts is round numbered m
     })
 
 -- a lawful round has at most as many replies as there are lines
-pub few_replies : {L R : Type 0} (line_of : L → List ℕ) (reply_of : R → List ℕ) (before after : Stock) (texts : List (List ℕ)) (lines : List L) (replies : List R) → texts ≡ map line_of lines
+pub few_replies : {L R : Type 0} (line_of : L → List ℕ) (reply_of : R → List ℕ) (before after : StoreState) (texts : List (List ℕ)) (lines : List L) (replies : List R) → texts ≡ map line_of lines
     → IsLawfulRound before (take (length replies) texts) (map reply_of replies) after → length replies ≤ length lines
 few_replies line_of reply_of before after texts lines replies are round =
     let kept = (round_keeps before (take (length replies) texts) (map reply_of replies) after round).1 in
@@ -94,7 +94,7 @@ few_replies line_of reply_of before after texts lines replies are round =
     omega arith
 
 -- each receipt of a round is allowed over the names of its store
-allowed_by : (before after : Stock) (receipts : List ReceiptState) → IsRound before receipts after → All (IsAllowed (unweighed before.rows)) receipts
+allowed_by : (before after : StoreState) (receipts : List ReceiptState) → IsRound before receipts after → All (IsAllowed (unweighed before.rows)) receipts
 allowed_by before after receipts round place other lt = record {
   before = before;
   after = after;
@@ -109,13 +109,13 @@ allowed_by before after receipts round place other lt = record {
 }
 
 -- rounds keep the names
-names_kept : (rounds : List RoundState) (last : Stock) → Leads rounds last → unweighed last.rows ≡ unweighed (store_before rounds last).rows
+names_kept : (rounds : List RoundState) (last : StoreState) → Leads rounds last → unweighed last.rows ≡ unweighed (store_before rounds last).rows
 names_kept [] last leads = refl
 names_kept (round ∷ rounds) last leads = names_kept rounds last leads.1 ∙ (round_keeps round.before _ _ (store_before rounds last) leads.0.round).0.names
 
 -- a store that rounds lead to has the names of the opening store
-led_names : (opening last : Stock) → Led opening last → unweighed last.rows ≡ unweighed opening.rows
-led_names opening last led = names_kept led.rounds last led.leads ∙ ap (λ (s : Stock). unweighed s.rows) led.begins
+led_names : (opening last : StoreState) → Led opening last → unweighed last.rows ≡ unweighed opening.rows
+led_names opening last led = names_kept led.rounds last led.leads ∙ ap (λ (s : StoreState). unweighed s.rows) led.begins
 
 -- without a journal the receipts have the number 0
 unnumbered : (journal : Option JournalState) (kept : Bool) (receipt : ReceiptState) (place : ℕ) → IsSome journal ↔ (kept ≡ true) → receipt.number ≡ number_at (next_number journal) place → kept ≡ false → receipt.number ≡ 0
@@ -123,7 +123,7 @@ unnumbered None kept receipt place some is plain = is
 unnumbered (Some journal) kept receipt place some is plain = let yes : kept ≡ true = some.0 refl in absurd (cc)
 
 -- a ledger's receipts are answers of its desk
-answered_by : (opening : Stock) (kept : Bool) (before after : Stock) (journal : Option JournalState) (receipts : List ReceiptState) → IsLedger opening kept before journal → IsRound before receipts after → AreNumbered (next_number journal) receipts
+answered_by : (opening : StoreState) (kept : Bool) (before after : StoreState) (journal : Option JournalState) (receipts : List ReceiptState) → IsLedger opening kept before journal → IsRound before receipts after → AreNumbered (next_number journal) receipts
     → All (IsAnswered opening kept) receipts
 answered_by opening kept before after journal receipts is round numbered place other lt =
     let receipt = get_or receipts place other in record {
@@ -132,21 +132,21 @@ answered_by opening kept before after journal receipts is round numbered place o
     }
 
 -- whether a round was answered and noted or refused, the ledger is one afterwards
-pub noted_after : {X E : Type 0} (result : Result X E) (receipts_of : X → List ReceiptState) (opening : Stock) (kept : Bool) (before after : Stock) (journal noted : JournalState) → IsLedger opening kept before (Some journal)
+pub noted_after : {X E : Type 0} (result : Result X E) (receipts_of : X → List ReceiptState) (opening : StoreState) (kept : Bool) (before after : StoreState) (journal noted : JournalState) → IsLedger opening kept before (Some journal)
     → IfOk result (λ x. IsRound before (receipts_of x) after) → IfOk result (λ x. AreNumbered (Some journal.lines) (receipts_of x)) → IfOk result (λ x. noted ≡ noted_in (record { before = before; receipts = receipts_of x }) journal)
     → OnErr result ((noted ≡ journal) × (after ≡ before)) → IsLedger opening kept after (Some noted)
 noted_after (Ok x) receipts_of opening kept before after journal noted is round numbered more same = ledger_more opening kept before after (Some journal) (Some noted) (receipts_of x) is round numbered (ap Some more)
 noted_after (Err e) receipts_of opening kept before after journal noted is round numbered more same =
-    subst (λ (s : Stock). IsLedger opening kept s (Some noted)) (sym same.1) (subst (λ (j : JournalState). IsLedger opening kept before (Some j)) (sym same.0) is)
+    subst (λ (s : StoreState). IsLedger opening kept s (Some noted)) (sym same.1) (subst (λ (j : JournalState). IsLedger opening kept before (Some j)) (sym same.0) is)
 
 -- and so is a ledger without a journal
-pub plain_after : {X E : Type 0} (result : Result X E) (receipts_of : X → List ReceiptState) (opening : Stock) (kept : Bool) (before after : Stock) → IsLedger opening kept before None
+pub plain_after : {X E : Type 0} (result : Result X E) (receipts_of : X → List ReceiptState) (opening : StoreState) (kept : Bool) (before after : StoreState) → IsLedger opening kept before None
     → IfOk result (λ x. IsRound before (receipts_of x) after) → IfOk result (λ x. AreNumbered None (receipts_of x)) → OnErr result (after ≡ before) → IsLedger opening kept after None
 plain_after (Ok x) receipts_of opening kept before after is round numbered same = ledger_more opening kept before after None None (receipts_of x) is round numbered refl
-plain_after (Err e) receipts_of opening kept before after is round numbered same = subst (λ (s : Stock). IsLedger opening kept s None) (sym same) is
+plain_after (Err e) receipts_of opening kept before after is round numbered same = subst (λ (s : StoreState). IsLedger opening kept s None) (sym same) is
 
 -- where a round was answered, its receipts are answers of the desk
-pub answered_where : {X E : Type 0} (result : Result X E) (receipts_of : X → List ReceiptState) (opening : Stock) (kept : Bool) (before after : Stock) (journal : Option JournalState) → IsLedger opening kept before journal
+pub answered_where : {X E : Type 0} (result : Result X E) (receipts_of : X → List ReceiptState) (opening : StoreState) (kept : Bool) (before after : StoreState) (journal : Option JournalState) → IsLedger opening kept before journal
     → IfOk result (λ x. IsRound before (receipts_of x) after) → IfOk result (λ x. AreNumbered (next_number journal) (receipts_of x)) → IfOk result (λ x. All (IsAnswered opening kept) (receipts_of x))
 answered_where (Ok x) receipts_of opening kept before after journal is round numbered = answered_by opening kept before after journal (receipts_of x) is round numbered
 answered_where (Err e) receipts_of opening kept before after journal is round numbered = tt

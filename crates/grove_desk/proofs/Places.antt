@@ -5,7 +5,7 @@ use Rattle.std.specs.List.{HoldsAt}
 use Rattle.std.specs.Option.{option_copied}
 use Rattle.std.proofs.lemmas.List.{same_lists, drop_more}
 use Rattle.std.proofs.lemmas.Option.{slice_get_within, slice_get_past, slice_get-get_or, get_or_from_slice_get}
-use Rattle.grove_store.specs.Stocks.{Stock}
+use Rattle.grove_store.specs.StoreStates.{StoreState}
 use Rattle.grove_desk.specs.Receipts.{ReceiptState}
 use Rattle.grove_desk.specs.Histories.{RoundState, receipts_in, StandsIn, Ascend, IsHistory}
 use Rattle.grove_desk.specs.Ledgers.{JournalState, IsJournal}
@@ -74,7 +74,7 @@ all_of receipts all stand rise many = same_lists receipts all many (λ (k : ℕ)
     sym (get_or_from_slice_get all k (get_or receipts k other) other (subst (λ (n : ℕ). slice_get all n ≡ Some (get_or receipts k other)) here (stand k other within))))
 
 -- a journal in which the receipts stand in order is their history
-pub history_of : (opening last : Stock) (receipts : List ReceiptState) (journal : JournalState) → IsJournal opening journal last → Ascend receipts × All (StandsIn journal.rounds) receipts → IsHistory opening receipts journal.rounds last
+pub history_of : (opening last : StoreState) (receipts : List ReceiptState) (journal : JournalState) → IsJournal opening journal last → Ascend receipts × All (StandsIn journal.rounds) receipts → IsHistory opening receipts journal.rounds last
 history_of opening last receipts journal is (rise, stand) = record {
   leads = is.leads;
   begins = is.begins;

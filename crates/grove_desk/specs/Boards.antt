@@ -1,16 +1,16 @@
 -- For the proofs alone: what lies behind a desk's lock.
 use Rattle.std.specs.Prelude.{Bool, IfOk}
-use Rattle.grove_store.specs.Stocks.{Stock}
+use Rattle.grove_store.specs.StoreStates.{StoreState}
 use Rattle.grove_desk.specs.Receipts.{IsAnswered}
 use Rattle.grove_desk.specs.declared.slot.State.{State}
 use Rattle.grove_desk.specs.declared.slot.State.TheVariants.{Waiting, Running, Done}
 use Rattle.grove_desk.specs.declared.slot.Slot.{Slot}
 
 -- a receipt that waits to be taken is one of a desk with this opening store
-abbrev pub KeepsState : Stock → Bool → State → Type 0
+abbrev pub KeepsState : StoreState → Bool → State → Type 0
 KeepsState opening kept (Waiting line) = Unit {0}
 KeepsState opening kept Running = Unit {0}
 KeepsState opening kept (Done done) = IfOk done (IsAnswered opening kept)
 
-abbrev pub Holds : Stock → Bool → Slot → Type 0
+abbrev pub Holds : StoreState → Bool → Slot → Type 0
 Holds opening kept slot = KeepsState opening kept slot.state

@@ -1,15 +1,15 @@
 -- A desk and a visit to it, as their callers see them.
 use Rattle.std.specs.Prelude.{◌≡◌, ℕ, ◌≤◌, Bool, List, Option, Some, None}
-use Rattle.grove_store.specs.Stocks.{Stock}
+use Rattle.grove_store.specs.StoreStates.{StoreState}
 use Rattle.grove_desk.specs.Receipts.{Names, ReceiptState, Allows}
 
 -- the store that a desk was opened with, and whether it keeps a journal
 pub record DeskState : Type 0 where
-  pub opening : Stock
+  pub opening : StoreState
   pub kept : Bool
 
 -- the names of a desk's tree, and the highest count of rounds that a visitor has seen
-pub record Visited : Type 0 where
+pub record VisitState : Type 0 where
   pub names : Names
   pub rounds : ℕ
 
@@ -19,7 +19,7 @@ rounds_seen None = 0
 rounds_seen (Some receipt) = receipt.rounds
 
 -- a lawful reply to a line among those of others: some round over these names allows it, and the count of rounds never falls
-pub record IsShared (old : Visited) (line reply : List ℕ) (new : Visited) : Type 0 where
+pub record IsShared (old : VisitState) (line reply : List ℕ) (new : VisitState) : Type 0 where
   pub names : new.names ≡ old.names
   pub rises : old.rounds ≤ new.rounds
   pub allowed : Allows old.names line reply new.rounds

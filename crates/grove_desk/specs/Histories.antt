@@ -1,31 +1,31 @@
 -- Histories: the rounds that a desk had answered, and the receipts that stand in them.
 use Rattle.std.specs.Prelude.{◌≡◌, ℕ, ◌+◌, ◌<◌, List, [], ◌∷◌, ◌++◌, Some, length, map, get_or, slice_get, All}
-use Rattle.grove_store.specs.Stocks.{Stock}
+use Rattle.grove_store.specs.StoreStates.{StoreState}
 use Rattle.grove_store.specs.Rounds.{IsLawfulRound}
 use Rattle.grove_desk.specs.Receipts.{ReceiptState, AreNumbered}
 
 -- a round that was answered: the store before it, and the receipts of its lines in order
 pub record RoundState : Type 0 where
-  pub before : Stock
+  pub before : StoreState
   pub receipts : List ReceiptState
 
 -- a lawful round over the receipts' lines, with their replies and their count of rounds
-pub record IsRound (before : Stock) (receipts : List ReceiptState) (after : Stock) : Type 0 where
+pub record IsRound (before : StoreState) (receipts : List ReceiptState) (after : StoreState) : Type 0 where
   pub round : IsLawfulRound before (map (λ receipt. receipt.line) receipts) (map (λ receipt. receipt.reply) receipts) after
   pub counted : All (λ receipt. receipt.rounds ≡ after.rounds) receipts
 
 -- the store before the first of the rounds, which is the last one where there are none
-abbrev pub store_before : List RoundState → Stock → Stock
+abbrev pub store_before : List RoundState → StoreState → StoreState
 store_before [] last = last
 store_before (round ∷ rounds) last = round.before
 
 -- each round leads from its store to that of the next, and the last one to the last store
-abbrev pub Leads : List RoundState → Stock → Type 0
+abbrev pub Leads : List RoundState → StoreState → Type 0
 Leads [] last = Unit {0}
 Leads (round ∷ rounds) last = IsRound round.before round.receipts (store_before rounds last) × Leads rounds last
 
 -- some lawful rounds lead from an opening store to the last one
-pub record Led (opening last : Stock) : Type 0 where
+pub record Led (opening last : StoreState) : Type 0 where
   pub rounds : List RoundState
   pub leads : Leads rounds last
   pub begins : store_before rounds last ≡ opening
@@ -45,7 +45,7 @@ Ascend receipts = (place : ℕ) (other : ReceiptState) → place + 1 < length re
 
 -- what led from an opening store to the last one, and how receipts stand in it: each once, and where they are as many as
 -- there are, they are all of it
-pub record IsHistory (opening : Stock) (receipts : List ReceiptState) (rounds : List RoundState) (last : Stock) : Type 0 where
+pub record IsHistory (opening : StoreState) (receipts : List ReceiptState) (rounds : List RoundState) (last : StoreState) : Type 0 where
   pub leads : Leads rounds last
   pub begins : store_before rounds last ≡ opening
   pub numbered : AreNumbered (Some 0) (receipts_in rounds)

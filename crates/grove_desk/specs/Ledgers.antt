@@ -1,6 +1,6 @@
 -- For the proofs alone: a store and its journal, which change together.
 use Rattle.std.specs.Prelude.{◌≡◌, ℕ, ◌+◌, ◌-◌, ◌^◌, ◌↔◌, min, Bool, true, List, [], ◌∷◌, ◌++◌, Option, Some, None, length, map, take, All, IsSome}
-use Rattle.grove_store.specs.Stocks.{Stock}
+use Rattle.grove_store.specs.StoreStates.{StoreState}
 use Rattle.grove_desk.specs.Receipts.{ReceiptState, AreNumbered}
 use Rattle.grove_desk.specs.Histories.{RoundState, Leads, Led, store_before, receipts_in}
 
@@ -10,7 +10,7 @@ pub record JournalState : Type 0 where
   pub lines : ℕ
 
 pub record LedgerState : Type 0 where
-  pub store : Stock
+  pub store : StoreState
   pub journal : Option JournalState
 
 -- a round more
@@ -26,18 +26,18 @@ next_number None = None
 next_number (Some journal) = Some journal.lines
 
 -- the rounds lead from the opening store to the last one, and their receipts are numbered
-pub record IsJournal (opening : Stock) (journal : JournalState) (last : Stock) : Type 0 where
+pub record IsJournal (opening : StoreState) (journal : JournalState) (last : StoreState) : Type 0 where
   pub leads : Leads journal.rounds last
   pub begins : store_before journal.rounds last ≡ opening
   pub counted : journal.lines ≡ min (length (receipts_in journal.rounds)) (2 ^ 64 - 1)
   pub numbered : AreNumbered (Some 0) (receipts_in journal.rounds)
 
-abbrev pub IsKept : Stock → Option JournalState → Stock → Type 0
+abbrev pub IsKept : StoreState → Option JournalState → StoreState → Type 0
 IsKept opening None last = Unit {0}
 IsKept opening (Some journal) last = IsJournal opening journal last
 
 -- lawful rounds lead from the opening store to this one, whether or not they were noted, and a journal has them all
-pub record IsLedger (opening : Stock) (kept : Bool) (store : Stock) (journal : Option JournalState) : Type 0 where
+pub record IsLedger (opening : StoreState) (kept : Bool) (store : StoreState) (journal : Option JournalState) : Type 0 where
   pub led : Led opening store
   pub account : IsKept opening journal store
   pub keeps : IsSome journal ↔ (kept ≡ true)

@@ -1,7 +1,7 @@
 -- Receipts: what a desk tells of a line that it answered.
 use Rattle.std.specs.Prelude.{◌≡◌, ℕ, ◌+◌, ◌-◌, ◌^◌, ◌<◌, ◌≤◌, min, Bool, true, false, List, Option, Some, None, length, get_or, slice_get, IfSome}
 use Rattle.grove_tree.specs.Weights.{unweighed}
-use Rattle.grove_store.specs.Stocks.{Stock}
+use Rattle.grove_store.specs.StoreStates.{StoreState}
 use Rattle.grove_store.specs.Rounds.{IsLawfulRound}
 
 -- the names of a tree: the parent and the name of each node
@@ -17,8 +17,8 @@ pub record ReceiptState : Type 0 where
 
 -- some lawful round over a store with these names answers the line so, alone or among others, and leaves this count of rounds
 pub record Allows (names : Names) (line reply : List ℕ) (rounds : ℕ) : Type 0 where
-  pub before : Stock
-  pub after : Stock
+  pub before : StoreState
+  pub after : StoreState
   pub lines : List (List ℕ)
   pub replies : List (List ℕ)
   pub place : ℕ
@@ -32,7 +32,7 @@ abbrev pub IsAllowed : Names → ReceiptState → Type 0
 IsAllowed names receipt = Allows names receipt.line receipt.reply receipt.rounds
 
 -- what a desk with this opening store answers: a receipt that its names allow, with the number 0 where no journal is kept
-pub record IsAnswered (opening : Stock) (kept : Bool) (receipt : ReceiptState) : Type 0 where
+pub record IsAnswered (opening : StoreState) (kept : Bool) (receipt : ReceiptState) : Type 0 where
   pub allowed : IsAllowed (unweighed opening.rows) receipt
   pub unnumbered : kept ≡ false → receipt.number ≡ 0
 

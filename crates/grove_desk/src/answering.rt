@@ -1,8 +1,7 @@
-ghost use Rattle.std.specs.Prelude.{◌≡◌, ◌<◌, ◌≤◌, [], length, map, take, drop, All, IfOk, OnErr};
+ghost use Rattle.std.specs.Prelude.{◌≡◌, ◌<◌, ◌≤◌, length, map, take, drop, All, IfOk, OnErr};
 ghost use Rattle.std.specs.Vec.{vec_capacity};
 ghost use Rattle.grove_desk.specs.Receipts.{AreNumbered, number_at};
 ghost use Rattle.grove_desk.specs.Histories.{IsRound};
-ghost use Rattle.grove_desk.specs.Ledgers.{IsNoted};
 
 use crate::Receipt;
 use crate::slot::{Asked, lines_of};
@@ -31,41 +30,21 @@ pub(crate) fn answer_taken<R: Threads + Wait + Sync, G: Gate + Sync>(
     ensures room { vec_capacity taken.new ≡ vec_capacity taken.old }
     ensures err { OnErr result (store.new ≡ store.old) }
 {
-    let receipts = Vec::with_capacity(alloc, taken.len())?;
+    let mut receipts = Vec::with_capacity(alloc, taken.len())?;
     let replies = {
         let lines = lines_of(alloc, taken)?;
         store.answer_round(rt, alloc, &lines, gate)?
     };
-    Ok(receipts_into(alloc, receipts, first, taken, replies, store.rounds()))
-}
-
-/// Moves the first of the lines, one for each reply, and the replies into receipts, for which there is room.
-fn receipts_into(
-    alloc: Global,
-    mut receipts: Vec<Receipt>,
-    first: Option<u64>,
-    taken: &mut Vec<Asked>,
-    replies: Vec<Vec<u8>>,
-    rounds: u64,
-) -> Vec<Receipt>
-    requires empty { receipts.items ≡ [] }
-    requires room { length taken.old.items ≤ vec_capacity receipts }
-    requires few { length replies.items ≤ length taken.old.items }
-    ensures noted { IsNoted first (map (λ asked. asked.line.bytes.items) taken.old.items) (map (λ reply. reply.items) replies.items) rounds result.items }
-    ensures left { drop (length result.items) taken.new.items ≡ drop (length result.items) taken.old.items }
-    ensures tickets { map (λ asked. asked.ticket) taken.new.items ≡ map (λ asked. asked.ticket) taken.old.items }
-    ensures room { vec_capacity taken.new ≡ vec_capacity taken.old }
-{
     for reply in replies {
         let place = receipts.len();
         receipts.push_reserved(Receipt {
             number: number_of(first, place),
             line: taken[place].line.take(alloc),
             reply,
-            rounds,
+            rounds: store.rounds(),
         });
     }
-    receipts
+    Ok(receipts)
 }
 
 /// The number of a line at a place of its round.

@@ -2,10 +2,10 @@ ghost use Rattle.std.specs.Prelude.{◌≡◌, ◌<◌, [], length, All, IfOk, I
 ghost use Rattle.std.specs.Prelude.{◌++◌};
 ghost use Rattle.std.specs.Option.{option_to_list};
 ghost use Rattle.std.specs.Vec.{vec_capacity};
-ghost use Rattle.grove_store.specs.Stocks.{Stock};
+ghost use Rattle.grove_store.specs.StoreStates.{StoreState};
 ghost use Rattle.grove_desk.specs.Receipts.{IsAnswered};
 ghost use Rattle.grove_desk.specs.Histories.{Led};
-ghost use Rattle.grove_desk.specs.Boards.{KeepsState, Holds};
+ghost use Rattle.grove_desk.specs.Boards.{KeepsState};
 
 use crate::ledger::Ledger;
 use crate::line::Line;
@@ -120,7 +120,14 @@ impl<B: Opening> Board<B> {
         if self.ledger.is_none() || self.copies > 0 {
             return None;
         }
-        start_waiting(&mut self.slots, taken);
+        for place in 0..self.slots.len() {
+            if taken.len() == taken.capacity() {
+                break;
+            }
+            if let Some(asked) = self.slots[place].start() {
+                taken.push_reserved(asked);
+            }
+        }
         if taken.is_empty() {
             return None;
         }
@@ -133,64 +140,19 @@ impl<B: Opening> Board<B> {
         &mut self,
         ledger: Ledger<B>,
         taken: &mut Vec<Asked>,
-        answered: Result<Vec<Receipt>, NoMemory>,
+        mut answered: Result<Vec<Receipt>, NoMemory>,
     )
         requires { IfOk answered (λ receipts. All (IsAnswered B.store B.kept) receipts.items) }
         ensures taken { taken.new.items ≡ [] }
         ensures room { vec_capacity taken.new ≡ vec_capacity taken.old }
     {
         self.ledger = Some(ledger);
-        match answered {
-            Ok(receipts) => settle(&mut self.slots, taken, receipts),
-            Err(NoMemory) => refuse(&mut self.slots, taken),
+        while let Some(asked) = taken.pop() {
+            let state = state_after(&mut answered, taken.len(), asked.line);
+            if let Some(place) = place_of(&self.slots, asked.ticket) {
+                self.slots[place].state = state;
+            }
         }
-    }
-}
-
-/// Moves the first lines that wait out of their slots, as many as have room.
-fn start_waiting(slots: &mut Vec<Slot>, taken: &mut Vec<Asked>)
-    ensures held { (opening : Stock) → (kept : Bool) → All (Holds opening kept) slots.old.items → All (Holds opening kept) slots.new.items }
-    ensures room { vec_capacity taken.new ≡ vec_capacity taken.old }
-{
-    for place in 0..slots.len() {
-        if taken.len() == taken.capacity() {
-            break;
-        }
-        if let Some(asked) = slots[place].start() {
-            taken.push_reserved(asked);
-        }
-    }
-}
-
-/// Leaves the receipts to the callers of the first lines. The others wait again.
-fn settle(slots: &mut Vec<Slot>, taken: &mut Vec<Asked>, mut receipts: Vec<Receipt>)
-    ensures held { (opening : Stock) → (kept : Bool) → All (IsAnswered opening kept) receipts.items → All (Holds opening kept) slots.old.items → All (Holds opening kept) slots.new.items }
-    ensures taken { taken.new.items ≡ [] }
-    ensures room { vec_capacity taken.new ≡ vec_capacity taken.old }
-{
-    while let Some(asked) = taken.pop() {
-        let receipt = pop_at(&mut receipts, taken.len());
-        restore(slots, asked.ticket, state_of(receipt, asked.line));
-    }
-}
-
-/// Leaves a refusal to the caller of each line.
-fn refuse(slots: &mut Vec<Slot>, taken: &mut Vec<Asked>)
-    ensures held { (opening : Stock) → (kept : Bool) → All (Holds opening kept) slots.old.items → All (Holds opening kept) slots.new.items }
-    ensures taken { taken.new.items ≡ [] }
-    ensures room { vec_capacity taken.new ≡ vec_capacity taken.old }
-{
-    while let Some(asked) = taken.pop() {
-        restore(slots, asked.ticket, State::Done(Err(NoMemory)));
-    }
-}
-
-/// Where the line of this ticket has got to now.
-fn restore(slots: &mut Vec<Slot>, ticket: u64, state: State)
-    ensures held { (opening : Stock) → (kept : Bool) → KeepsState opening kept state → All (Holds opening kept) slots.old.items → All (Holds opening kept) slots.new.items }
-{
-    if let Some(place) = place_of(slots, ticket) {
-        slots[place].state = state;
     }
 }
 
@@ -201,6 +163,21 @@ fn place_of(slots: &[Slot], ticket: u64) -> Option<usize>
     slots.iter().position(|slot| slot.ticket == ticket)
 }
 
+/// Where a round has brought the last of its lines that isn't settled yet, at this place: it has its receipt, the last of those
+/// that are left, or waits again where there is none for it; without memory each line is refused.
+fn state_after(answered: &mut Result<Vec<Receipt>, NoMemory>, place: usize, line: Line) -> State
+    ensures state { (opening : StoreState) → (kept : Bool) → IfOk answered.old (λ receipts. All (IsAnswered opening kept) receipts.items) → KeepsState opening kept result }
+    ensures left { (opening : StoreState) → (kept : Bool) → IfOk answered.old (λ receipts. All (IsAnswered opening kept) receipts.items) → IfOk answered.new (λ receipts. All (IsAnswered opening kept) receipts.items) }
+{
+    match answered {
+        Ok(receipts) => match pop_at(receipts, place) {
+            Some(receipt) => State::Done(Ok(receipt)),
+            None => State::Waiting(line),
+        },
+        Err(NoMemory) => State::Done(Err(NoMemory)),
+    }
+}
+
 /// The last of the receipts, where it is that of the line at this place.
 fn pop_at(receipts: &mut Vec<Receipt>, place: usize) -> Option<Receipt>
     ensures { receipts.old.items ≡ receipts.new.items ++ option_to_list result }
@@ -209,15 +186,5 @@ fn pop_at(receipts: &mut Vec<Receipt>, place: usize) -> Option<Receipt>
         receipts.pop()
     } else {
         None
-    }
-}
-
-/// A line that has its receipt, or waits again.
-fn state_of(receipt: Option<Receipt>, line: Line) -> State
-    ensures { (opening : Stock) → (kept : Bool) → IfSome receipt (IsAnswered opening kept) → KeepsState opening kept result }
-{
-    match receipt {
-        Some(receipt) => State::Done(Ok(receipt)),
-        None => State::Waiting(line),
     }
 }

@@ -3,9 +3,9 @@ use std::marker::Brand;
 /// What a desk was opened with: its store, and whether a journal is kept. Whoever opens one picks both.
 pub trait Opening {
     ghost use Rattle.std.specs.Prelude.{Bool};
-    ghost use Rattle.grove_store.specs.Stocks.{Stock};
+    ghost use Rattle.grove_store.specs.StoreStates.{StoreState};
 
-    ghost store: { Stock };
+    ghost store: { StoreState };
 
     ghost kept: { Bool };
 }

@@ -3,7 +3,7 @@ ghost use Rattle.std.specs.Io.KnownBytes.{Appends, Consumes};
 ghost use Rattle.grove_session.specs.declared.session_fault.SessionFault.TheVariants.{Turns};
 ghost use Rattle.grove_session.specs.Sessions.{SessionEnds, is_read, is_write};
 ghost use Rattle.grove_tree.specs.Weights.{unweighed};
-ghost use Rattle.grove_desk.specs.Desks.{Visited, IsShared};
+ghost use Rattle.grove_desk.specs.Desks.{VisitState, IsShared};
 
 use crate::fault::answer_fault;
 use crate::{Desk, Opening, Receipt};
@@ -24,9 +24,9 @@ pub struct Visit<'a, B: Opening> {
 
 impl<'a, B: Opening> Model for Visit<'a, B> {
     ghost use Rattle.grove_tree.specs.Weights.{unweighed};
-    ghost use Rattle.grove_desk.specs.Desks.{Visited, rounds_seen};
+    ghost use Rattle.grove_desk.specs.Desks.{VisitState, rounds_seen};
 
-    ghost Value = { Visited };
+    ghost Value = { VisitState };
 
     ghost view = { λ visit. record { names = unweighed visit.desk.now.opening.rows; rounds = rounds_seen visit.seen } };
 }
@@ -91,7 +91,7 @@ pub fn desk_session<B: Opening, R: Threads + Wait + Sync + AllocGlobal, I: Sourc
     requires sound_source { I.has_failed source.old ≡ false }
     requires sound_sink { O.has_failed sink.old ≡ false }
     requires reads { I.read_count source.old < 2 ^ 63 }
-    ensures text { (input out : List ℕ) × (new : Visited) × Consumes (I.remaining source.old) (I.remaining source.new) input
+    ensures text { (input out : List ℕ) × (new : VisitState) × Consumes (I.remaining source.old) (I.remaining source.new) input
         × Appends (O.contents sink.old) (O.contents sink.new) out
         × SessionEnds IsShared (record { names = unweighed desk.now.opening.rows; rounds = 0 }) result (I.remaining source.new) input out new }
     ensures source { I.has_failed source.new ≡ is_read result }

@@ -4,10 +4,10 @@ use Rattle.http_server.specs.declared.response.Response.{Response}
 use Rattle.http_server.specs.Response.{IsResponse}
 use Rattle.grove_session.specs.declared.session_fault.SessionFault.TheVariants.{Memory}
 use Rattle.grove_session.specs.Sessions.{is_write}
-use Rattle.grove_store.specs.Stocks.{Stock}
+use Rattle.grove_store.specs.StoreStates.{StoreState}
 use Rattle.grove_page.specs.Pages.{json, error_line, visitor, AnswersLines}
 
-pub no_line_is_read : (opening : Stock) (body : List ℕ) (r : Response)
+pub no_line_is_read : (opening : StoreState) (body : List ℕ) (r : Response)
     → IsResponse 503 json (error_line (codes "memory")) r → AnswersLines opening body r
 no_line_is_read opening body r said = (
   Err Memory,

@@ -15,9 +15,9 @@ use Rattle.grove_session.specs.declared.session_fault.SessionFault.TheVariants.{
 use Rattle.grove_session.specs.Sessions.{SessionEnds}
 use Rattle.grove_tree.specs.Weights.{unweighed}
 use Rattle.grove_wire.specs.Documents.{document_text, nodes_data}
-use Rattle.grove_store.specs.Stocks.{Stock}
+use Rattle.grove_store.specs.StoreStates.{StoreState}
 use Rattle.grove_desk.specs.Histories.{Led}
-use Rattle.grove_desk.specs.Desks.{Visited, IsShared}
+use Rattle.grove_desk.specs.Desks.{VisitState, IsShared}
 use Rattle.grove_page.specs.declared.route.Route.{Route}
 use Rattle.grove_page.specs.declared.route.Route.TheVariants.{Page, Lines, Document, Nodes, OnlyLook, LookOrSend, ForeignPage, Nowhere}
 use Rattle.grove_page.specs.Routes.{route_of}
@@ -25,7 +25,7 @@ use Rattle.grove_page.specs.Routes.{route_of}
 -- a page's text, and the store that its desk was opened with
 pub record PageState : Type 0 where
   pub page : List ℕ
-  pub opening : Stock
+  pub opening : StoreState
 
 -- ---- the parts of a reply
 
@@ -47,7 +47,7 @@ error_line name = codes "{\"error\":\"" ++ (name ++ codes "\"}\n")
 -- ---- lines
 
 -- a caller who has seen nothing yet
-abbrev pub visitor : Stock → Visited
+abbrev pub visitor : StoreState → VisitState
 visitor opening = record { names = unweighed opening.rows; rounds = 0 }
 
 -- the replies are a single one, and it is an error
@@ -65,33 +65,33 @@ TellsSession (Err Read) out r = IsResponse 500 json (out ++ error_line (codes "d
 TellsSession (Err Turns) out r = IsResponse 500 json (out ++ error_line (codes "device")) r
 
 -- a session over the body, as far as it was read
-pub record VisitsDesk (opening : Stock) (body : List ℕ) (result : Result ℕ SessionFault) (out : List ℕ) : Type 0 where
+pub record VisitsDesk (opening : StoreState) (body : List ℕ) (result : Result ℕ SessionFault) (out : List ℕ) : Type 0 where
   pub input : List ℕ
   pub left : List ℕ
-  pub new : Visited
+  pub new : VisitState
   pub read : body ≡ input ++ left
   pub ends : SessionEnds IsShared (visitor opening) result (Some left) input out new
   -- a reply that doesn't go out whole is one that these bytes end in
   pub cut : (written : ℕ) → result ≡ Err (Write written) → written ≡ 16777216
 
 -- the reply tells of a session over the body
-abbrev pub AnswersLines : Stock → List ℕ → Response → Type 0
+abbrev pub AnswersLines : StoreState → List ℕ → Response → Type 0
 AnswersLines opening body r = (result : Result ℕ SessionFault) × (out : List ℕ) × VisitsDesk opening body result out × TellsSession result out r
 
 -- ---- stores
 
 -- a store as a document, which opens one of the same tree and records
-abbrev pub document_line : Stock → List ℕ
-document_line stock = document_text stock.rows stock.records ++ 10 ∷ []
+abbrev pub document_line : StoreState → List ℕ
+document_line store = document_text store.rows store.records ++ 10 ∷ []
 
 -- where each node is, its record, its waits and its weight
-abbrev pub nodes_line : Stock → List ℕ
-nodes_line stock = compact_text (nodes_data stock.rows stock.records stock.waits) ++ 10 ∷ []
+abbrev pub nodes_line : StoreState → List ℕ
+nodes_line store = compact_text (nodes_data store.rows store.records store.waits) ++ 10 ∷ []
 
 -- the reply tells of a store to which lawful rounds lead from the opening one, or that there is no memory for it
-abbrev pub TellsStore : (Stock → List ℕ) → Stock → Response → Type 0
+abbrev pub TellsStore : (StoreState → List ℕ) → StoreState → Response → Type 0
 TellsStore line_of opening r =
-    ((stock : Stock) × Led opening stock × IsResponse 200 json (line_of stock) r) ⊎ IsResponse 503 json (error_line (codes "memory")) r
+    ((store : StoreState) × Led opening store × IsResponse 200 json (line_of store) r) ⊎ IsResponse 503 json (error_line (codes "memory")) r
 
 -- ---- requests
 

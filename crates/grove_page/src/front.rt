@@ -1,5 +1,5 @@
 ghost use Rattle.std.specs.Prelude.{◌≡◌, [], false, List, ℕ, Some, IfOk};
-ghost use Rattle.grove_store.specs.Stocks.{Stock};
+ghost use Rattle.grove_store.specs.StoreStates.{StoreState};
 ghost use Rattle.grove_desk.specs.Histories.{Led};
 ghost use Rattle.grove_page.specs.Pages.{VisitsDesk};
 
@@ -11,7 +11,7 @@ use grove_tree::NoMemory;
 /// What a page is served of: it answers lines, and gives copies of its store.
 pub trait Front<R> {
     /// The store that it was opened with.
-    ghost opening: { Self → Stock };
+    ghost opening: { Self → StoreState };
 
     /// What a visit asks of the runtime: that threads may share it.
     ghost asks: { Type 0 };

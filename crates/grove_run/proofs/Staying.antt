@@ -17,7 +17,7 @@ use Rattle.grove_core.specs.declared.event.Event.{Event}
 use Rattle.grove_core.specs.declared.event.Event.TheVariants.{Take, Mark}
 use Rattle.grove_core.specs.Runs.{list_of, plan_of, steps_done, next_step, holds, is_marked, AllLegal, deeds, deed_of, run_records}
 use Rattle.grove_core.specs.Serial.{Deed, deeds_records}
-use Rattle.grove_core.specs.Kept.{State, past_of}
+use Rattle.grove_core.specs.Kept.{CoreState, past_of}
 use Rattle.grove_core.specs.Carried.{records_of, IsOf}
 use Rattle.grove_core.proofs.CoreReads.{reverse_last}
 use Rattle.grove_core.proofs.RunSteps.{deeds_length}
@@ -69,7 +69,7 @@ known_left (k ∷ known) gone node other = elim (cases_eq k.node gone) [
 ]
 
 -- a mark changes nothing that a carry knows
-of_marked : (core : State) (carry : Carried) → IsOf core carry → IsOf (after_event core (Mark carry.txn)) carry
+of_marked : (core : CoreState) (carry : Carried) → IsOf core carry → IsOf (after_event core (Mark carry.txn)) carry
 of_marked core carry of =
     let past : past_of (after_event core (Mark carry.txn)) ≡ Mark carry.txn ∷ past_of core = reverse_last core.history (Mark carry.txn) in
     record {
@@ -80,14 +80,14 @@ of_marked core carry of =
       own = of.own;
     }
 
-stays_marked : (core : State) (carry : Carried) → IsOf core carry → IsOf (marked core carry.txn) carry
+stays_marked : (core : CoreState) (carry : Carried) → IsOf core carry → IsOf (marked core carry.txn) carry
 stays_marked core carry of = elim (cases_Bool (is_marked (past_of core) carry.txn)) [
-  | inl t ↦ subst (λ (s : State). IsOf s carry) (sym (cond-true (is_marked (past_of core) carry.txn) core (after_event core (Mark carry.txn)) t)) of
-  | inr f ↦ subst (λ (s : State). IsOf s carry) (sym (cond-false (is_marked (past_of core) carry.txn) core (after_event core (Mark carry.txn)) f)) (of_marked core carry of)
+  | inl t ↦ subst (λ (s : CoreState). IsOf s carry) (sym (cond-true (is_marked (past_of core) carry.txn) core (after_event core (Mark carry.txn)) t)) of
+  | inr f ↦ subst (λ (s : CoreState). IsOf s carry) (sym (cond-false (is_marked (past_of core) carry.txn) core (after_event core (Mark carry.txn)) f)) (of_marked core carry of)
 ]
 
 -- a step that is no access leaves the records
-records_left : (core : State) (t : ℕ) (step : Step) → next_step core.jobs (past_of core) t ≡ Some step → deed_of t (list_of core.jobs t) (Some step) ≡ []
+records_left : (core : CoreState) (t : ℕ) (step : Step) → next_step core.jobs (past_of core) t ≡ Some step → deed_of t (list_of core.jobs t) (Some step) ≡ []
     → records_of (after_event core (Take t)) ≡ records_of core
 records_left core t step next none =
     ap (λ (es : List Event). run_records core.jobs core.opening es) (reverse_last core.history (Take t))
@@ -95,11 +95,11 @@ records_left core t step next none =
     ∙ ap (λ (ds : List Deed). deeds_records ds core.opening) (append-nil (deeds core.jobs (past_of core)))
 
 -- what a job holds after its step
-held_after : (core : State) (t node : ℕ) → holds core.jobs (past_of (after_event core (Take t))) t node ≡ holds core.jobs (Take t ∷ past_of core) t node
+held_after : (core : CoreState) (t node : ℕ) → holds core.jobs (past_of (after_event core (Take t))) t node ≡ holds core.jobs (Take t ∷ past_of core) t node
 held_after core t node = ap (λ (es : List Event). holds core.jobs es t node) (reverse_last core.history (Take t))
 
 -- a carry with no entries is of a core if what it has out is what its job holds, known as it is
-of_settled : (core : State) (carry : Carried) → carry.entries ≡ [] → carry.txn < length core.jobs
+of_settled : (core : CoreState) (carry : Carried) → carry.entries ≡ [] → carry.txn < length core.jobs
     → ((node : ℕ) → is_some (known_at carry.known node) ≡ holds core.jobs (past_of core) carry.txn node)
     → ((node : ℕ) (value : ℤ) → known_at carry.known node ≡ Some value → slice_get (records_of core) node ≡ Some value) → IsOf core carry
 of_settled core carry none job out known = record {
@@ -111,7 +111,7 @@ of_settled core carry none job out known = record {
 }
 
 -- the node is locked, and its record taken in
-stays_locked : (core : State) (carry : Carried) (v : ℕ) (value : ℤ) → known_at carry.known v ≡ None → slice_get (records_of core) v ≡ Some value → IsOf core carry → carry.entries ≡ []
+stays_locked : (core : CoreState) (carry : Carried) (v : ℕ) (value : ℤ) → known_at carry.known v ≡ None → slice_get (records_of core) v ≡ Some value → IsOf core carry → carry.entries ≡ []
     → next_step core.jobs (past_of core) carry.txn ≡ Some (Lock v)
     → IsOf (after_event core (Take carry.txn)) (record carry { known = carry.known ++ record { node = v; value = value } ∷ [] })
 stays_locked core carry v value none there of settled next =
@@ -135,7 +135,7 @@ stays_locked core carry v value none there of settled next =
     ])
 
 -- the node is unlocked, and its record given back
-stays_unlocked : (core : State) (carry : Carried) (v : ℕ) → AreApart carry.known → IsOf core carry → carry.entries ≡ [] → next_step core.jobs (past_of core) carry.txn ≡ Some (Unlock v)
+stays_unlocked : (core : CoreState) (carry : Carried) (v : ℕ) → AreApart carry.known → IsOf core carry → carry.entries ≡ [] → next_step core.jobs (past_of core) carry.txn ≡ Some (Unlock v)
     → IsOf (after_event core (Take carry.txn)) (record carry { known = without carry.known v })
 stays_unlocked core carry v apart of settled next =
     let new : Carried = record carry { known = without carry.known v } in
@@ -156,13 +156,13 @@ stays_unlocked core carry v apart of settled next =
     ])
 
 -- the record of a node of the tree is there
-record_there : (core : State) (v : ℕ) → length core.opening ≡ length core.tree → v < length core.tree → slice_get (records_of core) v ≡ Some (record_at (records_of core) v)
+record_there : (core : CoreState) (v : ℕ) → length core.opening ≡ length core.tree → v < length core.tree → slice_get (records_of core) v ≡ Some (record_at (records_of core) v)
 record_there core v opened lt =
     let size : length (records_of core) ≡ length core.opening = deeds_length (deeds core.jobs (past_of core)) core.opening in
     slice_get-get_or (records_of core) v _ (omega arith)
 
 -- whatever comes of the step of a settled carry
-pub done_stays : (core after : State) (carry new : Carried) (step : Step) (result : CarryStep) → AllLegal core.tree core.jobs → length core.opening ≡ length core.tree → AreApart carry.known
+pub done_stays : (core after : CoreState) (carry new : Carried) (step : Step) (result : CarryStep) → AllLegal core.tree core.jobs → length core.opening ≡ length core.tree → AreApart carry.known
     → IsOf core carry → carry.entries ≡ [] → next_step core.jobs (past_of core) carry.txn ≡ Some step → IsDone core carry step result after new → IsOf after new
 done_stays core after carry new (Lock v) Stepped legal opened apart of settled next done =
     rw (done.0, done.1) (stays_locked core carry v (record_at (records_of core) v) (lock_not_out core carry v legal of next)

@@ -7,7 +7,7 @@ use Rattle.grove_core.specs.declared.job.Job.{Job}
 use Rattle.grove_core.specs.declared.fault.OpenFault.TheVariants.{BadPlan as BadOpen}
 use Rattle.grove_core.specs.Openings.{IsFirstFault}
 use Rattle.grove_core.specs.Runs.{AllLegal}
-use Rattle.grove_core.specs.Kept.{State}
+use Rattle.grove_core.specs.Kept.{CoreState}
 use Rattle.grove_core.specs.declared.run_fault.RunFault.{RunFault}
 use Rattle.grove_core.specs.declared.run_fault.RunFault.TheVariants.{BadPlan, Memory, Foreign, Unfinished}
 
@@ -26,14 +26,14 @@ IsRunFault rows jobs Foreign = AllLegal rows jobs
 IsRunFault rows jobs Unfinished = AllLegal rows jobs
 
 -- the core is one of these jobs over this tree and these records
-pub record IsCoreOf (rows : Rows) (jobs : List Job) (opening : List ℤ) (core : State) : Type 0 where
+pub record IsCoreOf (rows : Rows) (jobs : List Job) (opening : List ℤ) (core : CoreState) : Type 0 where
   pub tree : core.tree ≡ rows
   pub jobs_are : core.jobs ≡ jobs
   pub opened : core.opening ≡ opening
 
 -- a finished run's core, with the order in which its jobs may be done whole
 pub record FinishedState : Type 0 where
-  pub core : State
+  pub core : CoreState
   pub order : List ℕ
 
 -- the position of each of so many jobs in an order

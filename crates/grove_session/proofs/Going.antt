@@ -1,5 +1,5 @@
 -- How a session goes on with the bytes that it reads.
-use Rattle.std.proofs.Common.{◌≡◌, ℕ, ◌+◌, Bool, true, false, cond, List, [], ◌∷◌, ◌++◌, Option, None, Some, Result, Ok, Err, length, take, refl, sym, ap, subst, ◌∙◌, append_assoc, append-nil, inl, inr, arith, length-append}
+use Rattle.std.proofs.Common.{◌≡◌, ℕ, ◌+◌, Bool, true, false, cond, List, [], ◌∷◌, ◌++◌, Option, None, Some, Ok, Err, length, take, refl, sym, ap, subst, ◌∙◌, append_assoc, append-nil, inl, inr, arith, length-append}
 use Rattle.std.specs.Prelude.{slice_get, nat_lt}
 use Rattle.std.specs.Io.KnownBytes.{IsAtEnd}
 use Rattle.std.proofs.lemmas.List.{length_push}
@@ -11,7 +11,7 @@ use Rattle.grove_session.specs.declared.session_fault.SessionFault.{SessionFault
 use Rattle.grove_session.specs.declared.session_fault.SessionFault.TheVariants.{Read, Write, Memory, Turns, Foreign}
 use Rattle.grove_session.specs.Sessions.{Lawful, UnlessLong, whole_lines, rest_of, last_line, lines_of, lines_from, IsReplied, IsAnswered, StopsBefore, StopsWithin, SessionEnds}
 use Rattle.grove_session.specs.Cuts.{IsFeedless}
-use Rattle.grove_session.specs.Intakes.{clip, with_bytes, held_line, IsHeldReplied, RepliesWhole, FailsNext, AnswersNext, TakesBytes, IsUnderWay, EndsAmong, Continues, Breaks, Finishes}
+use Rattle.grove_session.specs.Intakes.{clip, with_bytes, held_line, IsHeldReplied, RepliesWhole, FailsNext, IsUnderWay, EndsAmong, Continues, Breaks, Finishes}
 use Rattle.grove_session.proofs.Lines.{whole_lines-feed, rest_of-feed, whole_lines-feedless, rest_of-feedless, lines_from-append}
 use Rattle.grove_session.proofs.Answering.{one_more_answer, get_here, take_before, stops_before, stops_within, ends_among}
 
@@ -168,26 +168,6 @@ module _ {S : Type 0} (lawful : Lawful S) where
     off = λ first input text under. subst (λ (ls : List (List ℕ)). StopsBefore lawful first ls (text ++ []) old) (sym (lines_from-append [] input bytes))
         (stops_before lawful (whole_lines input) (lines_from (rest_of input) bytes) first old (text ++ []) (still first old old input text [] before under refl refl));
   }
-
-  -- a line feed, whose line is answered or not
-  takes_feed : {T : Type 0} (old new : S) (before after : Intake) (result : Result T SessionFault) (more : List ℕ)
-      → AnswersNext lawful old before result more new after → TakesBytes lawful old before (10 ∷ []) result more new after
-  takes_feed old new before after (Ok done) more h = feed_goes old new before after more h
-  takes_feed old new before after (Err fault) more h = feed_breaks old new before more fault h
-
-  -- bytes that go, and bytes behind them
-  takes_then : {T : Type 0} (old mid new : S) (before between after : Intake) (xs ys more others : List ℕ) (result : Result T SessionFault)
-      → Continues lawful old before xs more mid between → TakesBytes lawful mid between ys result others new after
-      → TakesBytes lawful old before (xs ++ ys) result (more ++ others) new after
-  takes_then old mid new before between after xs ys more others (Ok done) one two = continues_then old mid new before between after xs ys more others one two
-  takes_then old mid new before between after xs ys more others (Err fault) one two = breaks_then old mid new before between xs ys more others fault one two
-
-  -- the end of a line and its line feed
-  pub takes_end : {T : Type 0} (old new : S) (before between after : Intake) (end : List ℕ) (result : Result T SessionFault) (more : List ℕ)
-      → Continues lawful old before end [] old between → AnswersNext lawful old between result more new after
-      → TakesBytes lawful old before (end ++ 10 ∷ []) result more new after
-  takes_end old new before between after end result more one h =
-      takes_then old old new before between after end (10 ∷ []) [] more result one (takes_feed old new between after result more h)
 
   -- ---- ends
 

@@ -1,8 +1,7 @@
-ghost use Rattle.std.specs.Prelude.{◌≡◌, ℕ, ◌+◌, ◌*◌, ◌^◌, ◌<◌, ◌≤◌, ◌||◌, true, [], ◌∷◌, ◌++◌, List, Some, Err, length, take, OnOk, IfErr, is_err};
+ghost use Rattle.std.specs.Prelude.{◌≡◌, ℕ, ◌+◌, ◌*◌, ◌^◌, ◌<◌, ◌≤◌, ◌||◌, true, [], ◌++◌, List, Some, Err, length, take, OnOk, IfErr, is_err};
 ghost use Rattle.std.specs.Io.KnownBytes.{Appends};
 ghost use Rattle.grove_session.specs.declared.session_fault.SessionFault.TheVariants.{Foreign};
 ghost use Rattle.grove_session.specs.Sessions.{is_write};
-ghost use Rattle.grove_session.specs.Cuts.{IsFeedless};
 
 use crate::line::Line;
 use crate::whole::{Cut, write_until_cut};
@@ -55,32 +54,12 @@ impl Intake {
     {
         let mut rest = bytes;
         while let Some(length) = memchr(b'\n', rest) {
-            self.take_end(rt, answers, sink, &rest[..length])?;
+            self.line.extend(&rest[..length])?;
+            self.answer(rt, answers, sink)?;
             rest = &rest[length + 1..];
         }
         self.line.extend(rest)?;
         Ok(())
-    }
-
-    /// Answers the line that is held once this end is behind it; a line feed comes next.
-    fn take_end<R, A: Answers<R>, O: Sink>(
-        &mut self,
-        rt: &R,
-        answers: &mut A,
-        sink: &mut O,
-        end: &[u8],
-    ) -> Result<(), SessionFault>
-        requires asks { A.asks }
-        requires room { self.old.answered + 1 < 2 ^ 63 }
-        requires feedless { IsFeedless end.now }
-        ensures taken { (more : List ℕ) × Appends (O.contents sink.old) (O.contents sink.new) more × TakesBytes A.lawful answers.old self.old (end.now ++ 10 ∷ []) result more answers.new self.new }
-        ensures few { OnOk result (self.new.answered ≤ self.old.answered + 1) }
-        ensures failed { O.has_failed sink.new ≡ (O.has_failed sink.old || is_write result) }
-        ensures foreign { result ≡ Err Foreign → A.is_shared ≡ true }
-        ensures apart { IsApart result }
-    {
-        self.line.extend(end)?;
-        self.answer(rt, answers, sink)
     }
 
     /// Answers a last line, where there is one, and gives the number of lines that are answered.

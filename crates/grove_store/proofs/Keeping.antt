@@ -7,7 +7,7 @@ use Rattle.grove_core.specs.declared.job.Job.{Job}
 use Rattle.grove_core.specs.declared.event.Event.{Event}
 use Rattle.grove_core.specs.Runs.{deeds, waits_of}
 use Rattle.grove_core.proofs.RunSteps.{deeds_length}
-use Rattle.grove_store.specs.Stocks.{Stock, IsStock}
+use Rattle.grove_store.specs.StoreStates.{StoreState, IsStore}
 use Rattle.grove_store.specs.Rounds.{waits_after}
 use Rattle.grove_store.specs.Parts.{LeavesRound}
 use Rattle.grove_store.proofs.Telling.{mapped_long}
@@ -18,7 +18,7 @@ waits_few jobs past waits =
     All-map (λ n. n ≤ 1000) (λ (node : ℕ). min 1000 (get_or waits node 0 + waits_of jobs past node)) (numbers_below (length waits)) (λ k d lt. omega arith)
 
 -- there are as many records and waits as nodes
-pub left_fits : (before : Stock) (jobs : List Job) (counts : List ℕ) (replies : List (List ℕ)) (records : List ℤ) (waits : List ℕ) → IsStock before → LeavesRound before jobs counts replies records waits
+pub left_fits : (before : StoreState) (jobs : List Job) (counts : List ℕ) (replies : List (List ℕ)) (records : List ℤ) (waits : List ℕ) → IsStore before → LeavesRound before jobs counts replies records waits
     → (length records ≡ length before.rows) × (length waits ≡ length before.rows) × All (λ n. n ≤ 1000) waits
 left_fits before jobs counts replies records waits is leaves = (
   ap length leaves.recorded ∙ deeds_length (deeds jobs leaves.past) before.records ∙ is.recorded,

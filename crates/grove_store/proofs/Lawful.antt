@@ -10,7 +10,7 @@ use Rattle.grove_wire.specs.declared.fault.WireFault.{WireFault}
 use Rattle.grove_wire.specs.declared.fault.WireFault.TheVariants.{BadJson, Shape, NoPath, BadLength, Limit, Tree, Memory}
 use Rattle.grove_wire.specs.Outcomes.{Fails}
 use Rattle.grove_wire.specs.Requests.{Asked, Batch, request_of}
-use Rattle.grove_store.specs.Stocks.{Stock, IsStock}
+use Rattle.grove_store.specs.StoreStates.{StoreState, IsStore}
 use Rattle.grove_store.specs.Alone.{RepliesAlone}
 use Rattle.grove_store.specs.Rounds.{lists_asked, lists_in, batches_in, joined, first_fits, fitting, round_length, RunsRound, FailsRound, AnswersLines, IsLawfulRound}
 use Rattle.grove_store.specs.Parts.{IsRoundOf, AnswersRound}
@@ -18,7 +18,7 @@ use Rattle.grove_store.proofs.Together.{counts_one, first_line}
 use Rattle.grove_store.proofs.Leaving.{answered_long}
 
 -- a first line that is no batch is a round by itself
-alone_lawful : (before after : Stock) (line : List ℕ) (others : List (List ℕ)) (asked : Result Asked WireFault) (reply : Data) (text : List ℕ) (replies : List (List ℕ)) → IsStock before
+alone_lawful : (before after : StoreState) (line : List ℕ) (others : List (List ℕ)) (asked : Result Asked WireFault) (reply : Data) (text : List ℕ) (replies : List (List ℕ)) → IsStore before
     → request_of before.rows line ≡ asked → lists_asked asked ≡ None → RepliesAlone before asked reply after → text ≡ compact_text reply → replies ≡ text ∷ []
     → (length replies ≡ round_length before.rows (line ∷ others)) × IsLawfulRound before (take (length replies) (line ∷ others)) replies after
 alone_lawful before after line others asked reply text replies store read none answers told one =
@@ -36,7 +36,7 @@ alone_lawful before after line others asked reply text replies store read none a
     )
 
 -- batches that are answered together
-round_lawful : (before after : Stock) (line : List ℕ) (others : List (List ℕ)) (first lists : List (List Access)) (counts : List ℕ) (replies : List (List ℕ)) → IsStock before
+round_lawful : (before after : StoreState) (line : List ℕ) (others : List (List ℕ)) (first lists : List (List Access)) (counts : List ℕ) (replies : List (List ℕ)) → IsStore before
     → lists_in before.rows line ≡ Some first → length first ≤ 256 → IsRoundOf before.rows first others counts lists → AnswersRound before lists counts replies after
     → (length replies ≡ round_length before.rows (line ∷ others)) × IsLawfulRound before (take (length replies) (line ∷ others)) replies after
 round_lawful before after line others first lists counts replies store here few round answers =
@@ -59,7 +59,7 @@ round_lawful before after line others first lists counts replies store here few 
     )
 
 -- the same of lines as they are handed in
-pub first_alone : (before after : Stock) (rows : Rows) (lines : List (Bor (List ℕ))) (d : Bor (List ℕ)) (asked : Result Asked WireFault) (reply : Data) (text : List ℕ) (replies : List (List ℕ)) (n : ℕ) → IsStock before
+pub first_alone : (before after : StoreState) (rows : Rows) (lines : List (Bor (List ℕ))) (d : Bor (List ℕ)) (asked : Result Asked WireFault) (reply : Data) (text : List ℕ) (replies : List (List ℕ)) (n : ℕ) → IsStore before
     → rows ≡ before.rows → 0 < length lines → request_of rows (get_or lines 0 d).now ≡ asked → lists_asked asked ≡ None → RepliesAlone before asked reply after → text ≡ compact_text reply → replies ≡ text ∷ []
     → n ≡ length replies → (n ≡ round_length before.rows (map (λ line. line.now) lines)) × IsLawfulRound before (take n (map (λ line. line.now) lines)) replies after
 first_alone before after rows lines d asked reply text replies n store same some read none answers told one long =
@@ -71,15 +71,15 @@ first_alone before after rows lines d asked reply text replies n store same some
     )
 
 -- and where the store is as it was
-pub first_kept : (before now : Stock) (lines : List (Bor (List ℕ))) (d : Bor (List ℕ)) (asked : Result Asked WireFault) (reply : Data) (text : List ℕ) (replies : List (List ℕ)) (n : ℕ) → before ≡ now → IsStock before
+pub first_kept : (before now : StoreState) (lines : List (Bor (List ℕ))) (d : Bor (List ℕ)) (asked : Result Asked WireFault) (reply : Data) (text : List ℕ) (replies : List (List ℕ)) (n : ℕ) → before ≡ now → IsStore before
     → 0 < length lines → request_of before.rows (get_or lines 0 d).now ≡ asked → lists_asked asked ≡ None → RepliesAlone before asked reply before → text ≡ compact_text reply → replies ≡ text ∷ []
     → n ≡ length replies → (n ≡ round_length now.rows (map (λ line. line.now) lines)) × IsLawfulRound now (take n (map (λ line. line.now) lines)) replies now
 first_kept before now lines d asked reply text replies n same store some read none answers told one long =
-    subst (λ (s : Stock). (n ≡ round_length s.rows (map (λ line. line.now) lines)) × IsLawfulRound s (take n (map (λ line. line.now) lines)) replies s) same
+    subst (λ (s : StoreState). (n ≡ round_length s.rows (map (λ line. line.now) lines)) × IsLawfulRound s (take n (map (λ line. line.now) lines)) replies s) same
     (first_alone before before before.rows lines d asked reply text replies n store refl some read none answers told one long)
 
 -- batches, as they are handed in
-pub first_round : (before after : Stock) (rows : Rows) (lines others : List (Bor (List ℕ))) (d : Bor (List ℕ)) (first lists : List (List Access)) (counts : List ℕ) (replies : List (List ℕ)) (n : ℕ) → IsStock before
+pub first_round : (before after : StoreState) (rows : Rows) (lines others : List (Bor (List ℕ))) (d : Bor (List ℕ)) (first lists : List (List Access)) (counts : List ℕ) (replies : List (List ℕ)) (n : ℕ) → IsStore before
     → rows ≡ before.rows → 0 < length lines → others ≡ drop 1 lines → request_of rows (get_or lines 0 d).now ≡ Ok (Batch first) → length first ≤ 256
     → IsRoundOf rows first (map (λ line. line.now) others) counts lists → AnswersRound before lists counts replies after → n ≡ length replies
     → (n ≡ round_length before.rows (map (λ line. line.now) lines)) × IsLawfulRound before (take n (map (λ line. line.now) lines)) replies after

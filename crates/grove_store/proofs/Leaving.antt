@@ -4,7 +4,7 @@ use Rattle.std.specs.Prelude.{codes}
 use Rattle.std.proofs.lemmas.List.{length-map, length-replicate}
 use Rattle.grove_access.specs.declared.access.Access.{Access}
 use Rattle.grove_core.specs.declared.job.Job.{Job}
-use Rattle.grove_core.specs.Kept.{State, past_of}
+use Rattle.grove_core.specs.Kept.{CoreState, past_of}
 use Rattle.grove_core.specs.Orders.{placement_order}
 use Rattle.grove_core.specs.Runs.{IsRun, IsFinished, run_records}
 use Rattle.grove_core.specs.declared.run_fault.RunFault.{RunFault}
@@ -12,13 +12,13 @@ use Rattle.grove_core.specs.declared.run_fault.RunFault.TheVariants.{BadPlan, Me
 use Rattle.grove_run.specs.Runs.{IsCoreOf, IsLegalRunFault, places_of}
 use Rattle.grove_wire.specs.Names.{run_name}
 use Rattle.grove_wire.specs.Replies.{error_text}
-use Rattle.grove_store.specs.Stocks.{Stock}
+use Rattle.grove_store.specs.StoreStates.{StoreState}
 use Rattle.grove_store.specs.Rounds.{AreSettledJobs, replies_of, waits_after, round_texts, RunsRound, RefusesRound, FailsRound}
 use Rattle.grove_store.specs.Parts.{texts_of, LeavesRound, AnswersRound}
 use Rattle.grove_store.proofs.Telling.{texts_by_counts, texts_long}
 
 -- what the core of a finished run tells is what the jobs leave
-pub leaves_round : (before : Stock) (jobs : List Job) (counts order : List ℕ) (core : State) (replies : List (List ℕ)) (records : List ℤ) (waits : List ℕ) → IsCoreOf before.rows jobs before.records core
+pub leaves_round : (before : StoreState) (jobs : List Job) (counts order : List ℕ) (core : CoreState) (replies : List (List ℕ)) (records : List ℤ) (waits : List ℕ) → IsCoreOf before.rows jobs before.records core
     → IsRun jobs (past_of core) → IsFinished jobs (past_of core) → order ≡ placement_order before.rows jobs (past_of core)
     → replies ≡ texts_of (before.rounds + 1) counts (places_of order (length core.jobs)) (replies_of core.jobs core.opening (past_of core))
     → records ≡ run_records core.jobs core.opening (past_of core) → waits ≡ waits_after core.jobs (past_of core) before.waits
@@ -36,7 +36,7 @@ leaves_round before jobs counts order core replies records waits of run finished
 }
 
 -- once that is put in place, the round was run
-pub runs_round : (before after : Stock) (lists : List (List Access)) (jobs : List Job) (counts : List ℕ) (replies : List (List ℕ)) (records : List ℤ) (waits : List ℕ)
+pub runs_round : (before after : StoreState) (lists : List (List Access)) (jobs : List Job) (counts : List ℕ) (replies : List (List ℕ)) (records : List ℤ) (waits : List ℕ)
     → AreSettledJobs before.rows lists jobs → before.rounds < 2 ^ 64 - 1 → LeavesRound before jobs counts replies records waits
     → after ≡ record before { records = records; waits = waits; rounds = before.rounds + 1 } → AnswersRound before lists counts replies after
 runs_round before after lists jobs counts replies records waits settled room leaves is batches joins counted = inl (record {
@@ -49,14 +49,14 @@ runs_round before after lists jobs counts replies records waits settled room lea
   told = leaves.told
       ∙ ap (λ (ns : List ℕ). texts_of (before.rounds + 1) ns (places_of (placement_order before.rows jobs leaves.past) (length jobs)) (replies_of jobs before.records leaves.past)) (sym counted)
       ∙ texts_by_counts (before.rounds + 1) batches (places_of (placement_order before.rows jobs leaves.past) (length jobs)) (replies_of jobs before.records leaves.past)
-      ∙ ap (λ (n : ℕ). round_texts n batches (places_of (placement_order before.rows jobs leaves.past) (length jobs)) (replies_of jobs before.records leaves.past)) (sym (ap (λ (s : Stock). s.rounds) is));
+      ∙ ap (λ (n : ℕ). round_texts n batches (places_of (placement_order before.rows jobs leaves.past) (length jobs)) (replies_of jobs before.records leaves.past)) (sym (ap (λ (s : StoreState). s.rounds) is));
   left = is
       ∙ ap (λ (rs : List ℤ). record before { records = rs; waits = waits; rounds = before.rounds + 1 }) leaves.recorded
       ∙ ap (λ (ws : List ℕ). record before { records = run_records jobs before.records leaves.past; waits = ws; rounds = before.rounds + 1 }) leaves.waited;
 })
 
 -- a refusal of each line
-refuses : (name : List ℕ) (before : Stock) (counts : List ℕ) (batches : List (List (List Access))) (replies : List (List ℕ)) → map length batches ≡ counts
+refuses : (name : List ℕ) (before : StoreState) (counts : List ℕ) (batches : List (List (List Access))) (replies : List (List ℕ)) → map length batches ≡ counts
     → replies ≡ replicate (length counts) (error_text name) → RefusesRound name before batches replies before
 refuses name before counts batches replies counted is = (
   is ∙ ap (λ (n : ℕ). replicate n (error_text name)) (sym (ap length counted) ∙ length-map batches length),
@@ -64,21 +64,21 @@ refuses name before counts batches replies counted is = (
 )
 
 -- a run that failed
-fails_foreign : (before : Stock) (lists : List (List Access)) (counts : List ℕ) (replies : List (List ℕ)) → before.rounds < 2 ^ 64 - 1 → replies ≡ replicate (length counts) (error_text (codes "foreign"))
+fails_foreign : (before : StoreState) (lists : List (List Access)) (counts : List ℕ) (replies : List (List ℕ)) → before.rounds < 2 ^ 64 - 1 → replies ≡ replicate (length counts) (error_text (codes "foreign"))
     → AnswersRound before lists counts replies before
 fails_foreign before lists counts replies room is batches joins counted = inr (inl (room, inl (refuses (codes "foreign") before counts batches replies counted is)))
 
-fails_unfinished : (before : Stock) (lists : List (List Access)) (counts : List ℕ) (replies : List (List ℕ)) → before.rounds < 2 ^ 64 - 1 → replies ≡ replicate (length counts) (error_text (codes "unfinished"))
+fails_unfinished : (before : StoreState) (lists : List (List Access)) (counts : List ℕ) (replies : List (List ℕ)) → before.rounds < 2 ^ 64 - 1 → replies ≡ replicate (length counts) (error_text (codes "unfinished"))
     → AnswersRound before lists counts replies before
 fails_unfinished before lists counts replies room is batches joins counted = inr (inl (room, inr (refuses (codes "unfinished") before counts batches replies counted is)))
 
 -- a count of rounds that can't grow
-pub fails_full : (before : Stock) (lists : List (List Access)) (counts : List ℕ) (replies : List (List ℕ)) → before.rounds ≡ 2 ^ 64 - 1 → replies ≡ replicate (length counts) (error_text (codes "rounds"))
+pub fails_full : (before : StoreState) (lists : List (List Access)) (counts : List ℕ) (replies : List (List ℕ)) → before.rounds ≡ 2 ^ 64 - 1 → replies ≡ replicate (length counts) (error_text (codes "rounds"))
     → AnswersRound before lists counts replies before
 fails_full before lists counts replies full is batches joins counted = inr (inr (full, refuses (codes "rounds") before counts batches replies counted is))
 
 -- each line of a round has a reply
-pub answered_long : (before : Stock) (batches : List (List (List Access))) (replies : List (List ℕ)) (after : Stock) → RunsRound before batches replies after ⊎ FailsRound before batches replies after → length replies ≡ length batches
+pub answered_long : (before : StoreState) (batches : List (List (List Access))) (replies : List (List ℕ)) (after : StoreState) → RunsRound before batches replies after ⊎ FailsRound before batches replies after → length replies ≡ length batches
 answered_long before batches replies after (inl runs) =
     ap length runs.told ∙ texts_long after.rounds batches (places_of (placement_order before.rows runs.jobs runs.past) (length runs.jobs)) (replies_of runs.jobs before.records runs.past)
 answered_long before batches replies after (inr (inl (room, inl refused))) = ap length refused.0 ∙ length-replicate (length batches) _
@@ -86,7 +86,7 @@ answered_long before batches replies after (inr (inl (room, inr refused))) = ap 
 answered_long before batches replies after (inr (inr (full, refused))) = ap length refused.0 ∙ length-replicate (length batches) _
 
 -- a run of legal plans fails for one of two reasons, want of memory aside
-pub fails_run : (before : Stock) (lists : List (List Access)) (counts : List ℕ) (replies : List (List ℕ)) (fault : RunFault)
+pub fails_run : (before : StoreState) (lists : List (List Access)) (counts : List ℕ) (replies : List (List ℕ)) (fault : RunFault)
     → before.rounds < 2 ^ 64 - 1 → IsLegalRunFault fault → fault ≢ Memory → replies ≡ replicate (length counts) (error_text (run_name fault)) → AnswersRound before lists counts replies before
 fails_run before lists counts replies (BadPlan t fault) room bad found is = absurd bad
 fails_run before lists counts replies Memory room bad found is = absurd (found refl)

@@ -11,34 +11,34 @@ use Rattle.grove_core.specs.Runs.{deeds, waits_of}
 use Rattle.grove_core.proofs.RunSteps.{deeds_length}
 use Rattle.grove_wire.specs.declared.fault.WireFault.{WireFault}
 use Rattle.grove_wire.specs.Requests.{Asked, Plan, Check, Batch, Weights, Reweigh, request_of}
-use Rattle.grove_store.specs.Stocks.{Stock, IsStock, reweighed_stock}
+use Rattle.grove_store.specs.StoreStates.{StoreState, IsStore, reweighed_store}
 use Rattle.grove_store.specs.Alone.{RepliesAlone}
-use Rattle.grove_store.specs.Rounds.{lists_in, batches_in, stock_after, RunsRound, FailsRound, AnswersLines, IsLawfulRound}
+use Rattle.grove_store.specs.Rounds.{lists_in, batches_in, store_after, RunsRound, FailsRound, AnswersLines, IsLawfulRound}
 use Rattle.grove_store.proofs.Reweighing.{reweighed_keeps}
 use Rattle.grove_store.proofs.Keeping.{waits_few}
 use Rattle.grove_store.proofs.Leaving.{answered_long}
 use Rattle.grove_store.proofs.Telling.{mapped_long}
 use Rattle.grove_store.proofs.Together.{parts_of_batches}
 
-pub record Keeps (before after : Stock) : Type 0 where
+pub record Keeps (before after : StoreState) : Type 0 where
   pub names : unweighed after.rows ≡ unweighed before.rows
   pub workers : after.workers ≡ before.workers
-  pub store : IsStock after
+  pub store : IsStore after
   pub rises : before.rounds ≤ after.rounds
 
 same_names : (weight : ℕ → ℕ → ℕ) (node : ℕ) (rows : Rows) → unweighed (weighed_from weight node rows) ≡ unweighed rows
 same_names weight node [] = refl
 same_names weight node (row ∷ rows) = ap (λ (names : List (Option ℕ × List ℕ)). (row.parent, row.name) ∷ names) (same_names weight (suc node) rows)
 
-keeps_all : (before after : Stock) → IsStock before → after ≡ before → Keeps before after
-keeps_all before after is same = subst (λ (s : Stock). Keeps before s) (sym same) (record { names = refl; workers = refl; store = is; rises = omega arith })
+keeps_all : (before after : StoreState) → IsStore before → after ≡ before → Keeps before after
+keeps_all before after is same = subst (λ (s : StoreState). Keeps before s) (sym same) (record { names = refl; workers = refl; store = is; rises = omega arith })
 
-keeps_names : (before after : Stock) → IsStock before → after ≡ reweighed_stock before → Keeps before after
-keeps_names before after is same = subst (λ (s : Stock). Keeps before s) (sym same)
+keeps_names : (before after : StoreState) → IsStore before → after ≡ reweighed_store before → Keeps before after
+keeps_names before after is same = subst (λ (s : StoreState). Keeps before s) (sym same)
     (record { names = same_names _ 0 before.rows; workers = refl; store = reweighed_keeps before is; rises = omega arith })
 
 -- the store after a run is one
-pub run_keeps : (before : Stock) (jobs : List Job) (past : List Event) → IsStock before → before.rounds < 2 ^ 64 - 1 → IsStock (stock_after before jobs past)
+pub run_keeps : (before : StoreState) (jobs : List Job) (past : List Event) → IsStore before → before.rounds < 2 ^ 64 - 1 → IsStore (store_after before jobs past)
 run_keeps before jobs past is room = record {
   tree = is.tree;
   limits = is.limits;
@@ -50,14 +50,14 @@ run_keeps before jobs past is room = record {
   counted = omega arith;
 }
 
-keeps_round : (before : Stock) (batches : List (List (List Access))) (replies : List (List ℕ)) (after : Stock) → IsStock before → RunsRound before batches replies after ⊎ FailsRound before batches replies after → Keeps before after
-keeps_round before batches replies after is (inl runs) = subst (λ (s : Stock). Keeps before s) (sym runs.left)
+keeps_round : (before : StoreState) (batches : List (List (List Access))) (replies : List (List ℕ)) (after : StoreState) → IsStore before → RunsRound before batches replies after ⊎ FailsRound before batches replies after → Keeps before after
+keeps_round before batches replies after is (inl runs) = subst (λ (s : StoreState). Keeps before s) (sym runs.left)
     (record { names = refl; workers = refl; store = run_keeps before runs.jobs runs.past is runs.room; rises = omega arith })
 keeps_round before batches replies after is (inr (inl (room, inl refused))) = keeps_all before after is refused.1
 keeps_round before batches replies after is (inr (inl (room, inr refused))) = keeps_all before after is refused.1
 keeps_round before batches replies after is (inr (inr (full, refused))) = keeps_all before after is refused.1
 
-keeps_alone : (before after : Stock) (asked : Result Asked WireFault) (reply : Data) → IsStock before → RepliesAlone before asked reply after → Keeps before after
+keeps_alone : (before after : StoreState) (asked : Result Asked WireFault) (reply : Data) → IsStore before → RepliesAlone before asked reply after → Keeps before after
 keeps_alone before after (Err fault) reply is answers = keeps_all before after is answers.1
 keeps_alone before after (Ok (Plan list)) reply is answers = keeps_all before after is answers.1
 keeps_alone before after (Ok (Check list plan flow)) reply is answers = keeps_all before after is answers.1
@@ -72,7 +72,7 @@ batches_long rows (line ∷ lines) batches read =
     let (first, others, is_first, are_others, parts) = parts_of_batches (lists_in rows line) (batches_in rows lines) batches read in
     ap length parts ∙ ap suc (batches_long rows lines others are_others)
 
-keeps_lines : (before after : Stock) (lines replies : List (List ℕ)) (asked : Option (List (List (List Access)))) → IsStock before → batches_in before.rows lines ≡ asked → AnswersLines before lines asked replies after
+keeps_lines : (before after : StoreState) (lines replies : List (List ℕ)) (asked : Option (List (List (List Access)))) → IsStore before → batches_in before.rows lines ≡ asked → AnswersLines before lines asked replies after
     → Keeps before after × (length replies ≡ length lines)
 keeps_lines before after lines replies None is read (line, reply, one, told, (answer, answers, text)) =
     (keeps_alone before after (request_of before.rows line) answer is answers, ap length told ∙ sym (ap length one))
@@ -80,5 +80,5 @@ keeps_lines before after lines replies (Some batches) is read (some, few, answer
     (keeps_round before batches replies after is answered, answered_long before batches replies after answered ∙ batches_long before.rows lines batches read)
 
 -- a lawful round keeps all that, and has a reply for each line
-pub round_keeps : (before : Stock) (lines replies : List (List ℕ)) (after : Stock) → IsLawfulRound before lines replies after → Keeps before after × (length replies ≡ length lines)
+pub round_keeps : (before : StoreState) (lines replies : List (List ℕ)) (after : StoreState) → IsLawfulRound before lines replies after → Keeps before after × (length replies ≡ length lines)
 round_keeps before lines replies after round = keeps_lines before after lines replies (batches_in before.rows lines) round.store refl round.answered

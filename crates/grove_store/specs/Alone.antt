@@ -18,7 +18,7 @@ use Rattle.grove_wire.specs.declared.fault.WireFault.{WireFault}
 use Rattle.grove_wire.specs.Requests.{Asked, Plan, Check, Batch, Weights, Reweigh, request_of}
 use Rattle.grove_wire.specs.Replies.{error_data, planned_data, cost_data, weights_of, weights_data, changed_data}
 use Rattle.grove_wire.specs.Names.{wire_name, proof_name}
-use Rattle.grove_store.specs.Stocks.{Stock, changes, reweighed_stock}
+use Rattle.grove_store.specs.StoreStates.{StoreState, changes, reweighed_store}
 
 -- the settled plan of the list, its cost, and any flow that certifies it
 pub record TellsPlan (rows : Rows) (list : List Access) (reply : Data) : Type 0 where
@@ -42,7 +42,7 @@ pub record TellsFault (rows : Rows) (list : List Access) (plan : List Step) (flo
   pub told : reply ≡ error_data (proof_name fault)
 
 -- what a line is answered by what it asks, and the store that it leaves; a batch isn't answered alone
-abbrev pub RepliesAlone : Stock → Result Asked WireFault → Data → Stock → Type 0
+abbrev pub RepliesAlone : StoreState → Result Asked WireFault → Data → StoreState → Type 0
 RepliesAlone before (Err fault) reply after = (reply ≡ error_data (wire_name fault)) × (after ≡ before)
 RepliesAlone before (Ok (Plan list)) reply after = TellsPlan before.rows list reply × (after ≡ before)
 RepliesAlone before (Ok (Check list plan flow)) reply after =
@@ -50,8 +50,8 @@ RepliesAlone before (Ok (Check list plan flow)) reply after =
 RepliesAlone before (Ok (Batch lists)) reply after = ⊥
 RepliesAlone before (Ok Weights) reply after = (reply ≡ weights_data before.waits (weights_of before.rows)) × (after ≡ before)
 RepliesAlone before (Ok Reweigh) reply after =
-    (reply ≡ changed_data (changes before.rows (reweighed before.waits before.rows))) × (after ≡ reweighed_stock before)
+    (reply ≡ changed_data (changes before.rows (reweighed before.waits before.rows))) × (after ≡ reweighed_store before)
 
 -- the text of such an answer
-abbrev pub AnswersAlone : Stock → List ℕ → List ℕ → Stock → Type 0
+abbrev pub AnswersAlone : StoreState → List ℕ → List ℕ → StoreState → Type 0
 AnswersAlone before line text after = (reply : Data) × RepliesAlone before (request_of before.rows line) reply after × (text ≡ compact_text reply)

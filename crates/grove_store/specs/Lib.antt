@@ -1,4 +1,4 @@
-pub mod Stocks
+pub mod StoreStates
 pub mod Alone
 pub mod Rounds
 pub mod Parts

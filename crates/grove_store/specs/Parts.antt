@@ -13,7 +13,7 @@ use Rattle.grove_core.specs.Orders.{placement_order}
 use Rattle.grove_run.specs.Runs.{places_of}
 use Rattle.grove_wire.specs.Replies.{round_data, changed_data}
 use Rattle.grove_meter.specs.Waits.{reweighed}
-use Rattle.grove_store.specs.Stocks.{Stock, changes, reweighed_stock}
+use Rattle.grove_store.specs.StoreStates.{StoreState, changes, reweighed_store}
 use Rattle.grove_store.specs.Rounds.{batches_in, joined, first_fits, fitting, replies_of, waits_after, RunsRound, FailsRound}
 
 -- the text of a reply of which something holds
@@ -49,7 +49,7 @@ pub record IsRoundOf (rows : Rows) (first : List (List Access)) (lines : List (L
   pub has : HasBatches rows first lines (fitting rows (256 - length first) lines) counts lists
 
 -- what the jobs of a round leave
-pub record LeavesRound (before : Stock) (jobs : List Job) (counts : List ℕ) (replies : List (List ℕ)) (records : List ℤ) (waits : List ℕ) : Type 0 where
+pub record LeavesRound (before : StoreState) (jobs : List Job) (counts : List ℕ) (replies : List (List ℕ)) (records : List ℤ) (waits : List ℕ) : Type 0 where
   pub past : List Event
   pub run : IsRun jobs past
   pub finished : IsFinished jobs past
@@ -66,11 +66,11 @@ abbrev pub AreOldOrNew : (ℕ → ℕ) → List ℕ → List ℕ → Type 0
 AreOldOrNew new before after = (node : ℕ) → (get_or after node 0 ≡ get_or before node 0) ⊎ (get_or after node 0 ≡ new node)
 
 -- a round over lists, of which each line has so many
-abbrev pub AnswersRound : Stock → List (List Access) → List ℕ → List (List ℕ) → Stock → Type 0
+abbrev pub AnswersRound : StoreState → List (List Access) → List ℕ → List (List ℕ) → StoreState → Type 0
 AnswersRound before lists counts replies after = (batches : List (List (List Access))) → joined batches ≡ lists → map length batches ≡ counts
     → RunsRound before batches replies after ⊎ FailsRound before batches replies after
 
 -- the one reply to a reweighing
-abbrev pub AnswersReweigh : Stock → List (List ℕ) → Stock → Type 0
+abbrev pub AnswersReweigh : StoreState → List (List ℕ) → StoreState → Type 0
 AnswersReweigh before replies after =
-    (replies ≡ compact_text (changed_data (changes before.rows (reweighed before.waits before.rows))) ∷ []) × (after ≡ reweighed_stock before)
+    (replies ≡ compact_text (changed_data (changes before.rows (reweighed before.waits before.rows))) ∷ []) × (after ≡ reweighed_store before)

@@ -15,7 +15,7 @@ use Rattle.grove_run.specs.Runs.{places_of}
 use Rattle.grove_wire.specs.declared.fault.WireFault.{WireFault}
 use Rattle.grove_wire.specs.Requests.{Asked, Plan, Check, Batch, Weights, Reweigh, request_of}
 use Rattle.grove_wire.specs.Replies.{error_text, round_data}
-use Rattle.grove_store.specs.Stocks.{Stock, IsStock}
+use Rattle.grove_store.specs.StoreStates.{StoreState, IsStore}
 use Rattle.grove_store.specs.Alone.{AnswersAlone}
 
 -- ---- which lines are answered together
@@ -80,8 +80,8 @@ abbrev pub waits_after : List Job → List Event → List ℕ → List ℕ
 waits_after jobs past waits = map (λ node. min 1000 (get_or waits node 0 + waits_of jobs past node)) (numbers_below (length waits))
 
 -- the store after a round
-abbrev pub stock_after : Stock → List Job → List Event → Stock
-stock_after before jobs past = record {
+abbrev pub store_after : StoreState → List Job → List Event → StoreState
+store_after before jobs past = record {
   rows = before.rows;
   records = run_records jobs before.records past;
   waits = waits_after jobs past before.waits;
@@ -90,7 +90,7 @@ stock_after before jobs past = record {
 }
 
 -- the batches were run as one, from the store's records
-pub record RunsRound (before : Stock) (batches : List (List (List Access))) (replies : List (List ℕ)) (after : Stock) : Type 0 where
+pub record RunsRound (before : StoreState) (batches : List (List (List Access))) (replies : List (List ℕ)) (after : StoreState) : Type 0 where
   pub jobs : List Job
   pub past : List Event
   pub settled : AreSettledJobs before.rows (joined batches) jobs
@@ -98,21 +98,21 @@ pub record RunsRound (before : Stock) (batches : List (List (List Access))) (rep
   pub finished : IsFinished jobs past
   pub room : before.rounds < 2 ^ 64 - 1
   pub told : replies ≡ round_texts after.rounds batches (places_of (placement_order before.rows jobs past) (length jobs)) (replies_of jobs before.records past)
-  pub left : after ≡ stock_after before jobs past
+  pub left : after ≡ store_after before jobs past
 
 -- each line has the same refusal, and the store is as it was
-abbrev pub RefusesRound : List ℕ → Stock → List (List (List Access)) → List (List ℕ) → Stock → Type 0
+abbrev pub RefusesRound : List ℕ → StoreState → List (List (List Access)) → List (List ℕ) → StoreState → Type 0
 RefusesRound name before batches replies after = (replies ≡ replicate (length batches) (error_text name)) × (after ≡ before)
 
 -- a run that failed, or a count of rounds that can't grow
-abbrev pub FailsRound : Stock → List (List (List Access)) → List (List ℕ) → Stock → Type 0
+abbrev pub FailsRound : StoreState → List (List (List Access)) → List (List ℕ) → StoreState → Type 0
 FailsRound before batches replies after =
     ((before.rounds < 2 ^ 64 - 1)
     × (RefusesRound (codes "foreign") before batches replies after ⊎ RefusesRound (codes "unfinished") before batches replies after))
     ⊎ ((before.rounds ≡ 2 ^ 64 - 1) × RefusesRound (codes "rounds") before batches replies after)
 
 -- lines that are all batches are a round; any other line is answered alone
-abbrev pub AnswersLines : Stock → List (List ℕ) → Option (List (List (List Access))) → List (List ℕ) → Stock → Type 0
+abbrev pub AnswersLines : StoreState → List (List ℕ) → Option (List (List (List Access))) → List (List ℕ) → StoreState → Type 0
 AnswersLines before lines None replies after =
     (line : List ℕ) × (reply : List ℕ) × (lines ≡ line ∷ []) × (replies ≡ reply ∷ []) × AnswersAlone before line reply after
 AnswersLines before lines (Some batches) replies after =
@@ -120,10 +120,10 @@ AnswersLines before lines (Some batches) replies after =
     × (RunsRound before batches replies after ⊎ FailsRound before batches replies after)
 
 -- a lawful round: what lines are answered together, and the store that they leave
-pub record IsLawfulRound (before : Stock) (lines replies : List (List ℕ)) (after : Stock) : Type 0 where
-  pub store : IsStock before
+pub record IsLawfulRound (before : StoreState) (lines replies : List (List ℕ)) (after : StoreState) : Type 0 where
+  pub store : IsStore before
   pub answered : AnswersLines before lines (batches_in before.rows lines) replies after
 
 -- a lawful answer: that of one line
-abbrev pub IsLawfulAnswer : Stock → List ℕ → List ℕ → Stock → Type 0
+abbrev pub IsLawfulAnswer : StoreState → List ℕ → List ℕ → StoreState → Type 0
 IsLawfulAnswer before line reply after = IsLawfulRound before (line ∷ []) (reply ∷ []) after

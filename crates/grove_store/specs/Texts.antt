@@ -1,9 +1,9 @@
 -- What holds of the replies of every lawful round.
 use Rattle.std.specs.Prelude.{◌≢◌, ℕ, List, All}
-use Rattle.grove_store.specs.Stocks.{Stock}
+use Rattle.grove_store.specs.StoreStates.{StoreState}
 use Rattle.grove_store.specs.Rounds.{IsLawfulRound}
 
 -- no byte of any reply is a line feed
 abbrev pub RepliesAreFeedless : Type 0
-RepliesAreFeedless = (before after : Stock) (lines replies : List (List ℕ)) → IsLawfulRound before lines replies after
+RepliesAreFeedless = (before after : StoreState) (lines replies : List (List ℕ)) → IsLawfulRound before lines replies after
     → All (λ reply. All (λ byte. byte ≢ 10) reply) replies

@@ -87,29 +87,17 @@ pub fn outcome_of(
     ensures records { IfOk result (λ outcome. outcome.records ≡ run_records finished.entry.core.jobs finished.entry.core.opening (past_of finished.entry.core)) }
     ensures waits { IfOk result (λ outcome. outcome.waits.items ≡ waits_after finished.entry.core.jobs (past_of finished.entry.core) waits.now) }
 {
-    let replies = texts_after(alloc, &finished, round, counts)?;
+    let replies = {
+        let places = finished.places(alloc)?;
+        let replies = replies_of(alloc, finished.core())?;
+        round_texts(alloc, round, counts, &places, &replies)?
+    };
     let waits = waits_after(alloc, finished.core(), waits)?;
     Ok(Outcome {
         replies,
         records: finished.into_records(),
         waits,
     })
-}
-
-/// What the lines of a round of this number are answered.
-fn texts_after(
-    alloc: Global,
-    finished: &Finished,
-    round: u64,
-    counts: &[usize],
-) -> Result<Vec<Vec<u8>>, NoMemory>
-    requires { sum counts.now ≡ length finished.now.core.jobs }
-    ensures { IfOk result (λ texts. map (λ text. text.items) texts.items ≡ texts_of round counts.now
-        (places_of finished.now.order (length finished.now.core.jobs)) (replies_of finished.now.core.jobs finished.now.core.opening (past_of finished.now.core))) }
-{
-    let places = finished.places(alloc)?;
-    let replies = replies_of(alloc, finished.core())?;
-    round_texts(alloc, round, counts, &places, &replies)
 }
 
 /// The replies of each job.

@@ -1,5 +1,5 @@
 ghost use Rattle.std.specs.Prelude.{◌≡◌, ◌≤◌, ◌↔◌, length, IsTrue, IfOk, IfErr};
-ghost use Rattle.grove_store.specs.Stocks.{IsStock, opened};
+ghost use Rattle.grove_store.specs.StoreStates.{IsStore, opened};
 
 use crate::NoStore;
 use crate::same::{same_records, same_trees};
@@ -28,13 +28,13 @@ pub struct Store {
 
 impl Model for Store {
     ghost use Rattle.grove_build.specs.KeptPlans.{AreSettledFor};
-    ghost use Rattle.grove_store.specs.Stocks.{Stock, IsStock};
+    ghost use Rattle.grove_store.specs.StoreStates.{StoreState, IsStore};
 
-    ghost Value = { Stock };
+    ghost Value = { StoreState };
 
     ghost view = { λ store. record { rows = store.tree; records = store.records; waits = store.waits.items; workers = store.workers; rounds = store.rounds } };
 
-    ghost invariant = { λ store. IsStock (record { rows = store.tree; records = store.records; waits = store.waits.items; workers = store.workers; rounds = store.rounds }) × AreSettledFor store.tree store.plans };
+    ghost invariant = { λ store. IsStore (record { rows = store.tree; records = store.records; waits = store.waits.items; workers = store.workers; rounds = store.rounds }) × AreSettledFor store.tree store.plans };
 }
 
 impl Store {
@@ -63,7 +63,7 @@ impl Store {
     /// The tree, with the weights that it has learned. What holds of every store is told here.
     pub fn tree(&self) -> &Tree
         ensures rows { result.now ≡ self.now.rows }
-        ensures store { IsStock self.now }
+        ensures store { IsStore self.now }
     {
         &self.tree
     }

@@ -1,5 +1,5 @@
 ghost use Rattle.std.specs.Prelude.{◌≡◌, true, false, [], None, Some, IfOk, IfErr, IfSome, OnErr};
-ghost use Rattle.grove_store.specs.Stocks.{Stock};
+ghost use Rattle.grove_store.specs.StoreStates.{StoreState};
 ghost use Rattle.grove_desk.specs.Histories.{IsHistory, Led};
 ghost use Rattle.grove_desk.specs.Ledgers.{IsJournal};
 
@@ -43,10 +43,10 @@ impl<B: Opening> Desk<B> {
 
 /// The store and its journal, where the receipts stand in it, each once.
 fn settled(store: Store, journal: Journal, receipts: &[Receipt]) -> Result<Closed, Option<Store>>
-    ensures history { (opening : Stock) → IsJournal opening journal store → IfOk result (λ closed. IsHistory opening receipts.now closed.journal.items closed.store) }
+    ensures history { (opening : StoreState) → IsJournal opening journal store → IfOk result (λ closed. IsHistory opening receipts.now closed.journal.items closed.store) }
     ensures store { IfOk result (λ closed. closed.store ≡ store) }
     ensures back { IfErr result (λ back. back ≡ Some store) }
-    ensures refused { (opening : Stock) → OnErr result (IsHistory opening receipts.now journal.rounds store → ⊥) }
+    ensures refused { (opening : StoreState) → OnErr result (IsHistory opening receipts.now journal.rounds store → ⊥) }
 {
     if !journal.has(receipts) {
         return Err(Some(store));

@@ -1,5 +1,5 @@
 use Rattle.std.proofs.Common.{option_map, subst}
-use Rattle.grove_core.specs.Kept.{State}
+use Rattle.grove_core.specs.Kept.{CoreState}
 use Rattle.grove_wire.specs.Histories.{standing_of}
 use Rattle.grove_answer.specs.Says.{Says}
 use Rattle.grove_answer.specs.Outcomes.{IsAudited}
@@ -12,5 +12,5 @@ of_replay-requires c = replay_fault_fits c.args.history.now.tree c.deref.result.
 pub returns-in-Ok : goal.returns-in-Ok
 returns-in-Ok c =
     rw (← c.deref.ensures.value, ← c.deref-2.ensures.value)
-    (subst (λ (core : State). Says (IsAudited record { tree = core.tree; records = core.opening; jobs = core.jobs; events = core.history; standing = option_map standing_of c.args.history.now.standing }) c.finished_lines.result)
+    (subst (λ (core : CoreState). Says (IsAudited record { tree = core.tree; records = core.opening; jobs = core.jobs; events = core.history; standing = option_map standing_of c.args.history.now.standing }) c.finished_lines.result)
     c.in-Ok.ensures.replayed c.finished_lines.ensures)

@@ -1,15 +1,15 @@
 use Rattle.std.proofs.Common.{◌≡◌}
 use Rattle.std.specs.Prelude.{All, Bool}
 use Rattle.std.specs.Vec.{vec_capacity}
-use Rattle.grove_store.specs.Stocks.{Stock}
+use Rattle.grove_store.specs.StoreStates.{StoreState}
 use Rattle.grove_desk.specs.Receipts.{IsAnswered}
 use Rattle.grove_desk.specs.Boards.{Holds}
 use Rattle.grove_desk.proofs.board.settle.Given as goal
 
 abbrev pub invariant-loop-asked : goal.invariant-loop-asked
 invariant-loop-asked l = record {
-  answered : (opening : Stock) (kept : Bool) → All (IsAnswered opening kept) l.fn.receipts.items → All (IsAnswered opening kept) l.receipts.items;
-  held : (opening : Stock) (kept : Bool) → All (IsAnswered opening kept) l.fn.receipts.items → All (Holds opening kept) l.fn.slots.items → All (Holds opening kept) l.slots.items;
+  answered : (opening : StoreState) (kept : Bool) → All (IsAnswered opening kept) l.fn.receipts.items → All (IsAnswered opening kept) l.receipts.items;
+  held : (opening : StoreState) (kept : Bool) → All (IsAnswered opening kept) l.fn.receipts.items → All (Holds opening kept) l.fn.slots.items → All (Holds opening kept) l.slots.items;
   room : vec_capacity l.taken ≡ vec_capacity l.fn.taken;
 }
 

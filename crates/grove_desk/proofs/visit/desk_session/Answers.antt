@@ -1,6 +1,6 @@
 use Rattle.std.proofs.Common.{subst}
 use Rattle.grove_session.specs.Sessions.{SessionEnds}
-use Rattle.grove_desk.specs.Desks.{Visited, IsShared}
+use Rattle.grove_desk.specs.Desks.{VisitState, IsShared}
 use Rattle.grove_desk.proofs.visit.desk_session.Goals as goal
 
 pub returns-clause-text : goal.returns-clause-text
@@ -11,5 +11,5 @@ returns-clause-text g c =
       c.session.new.answers,
       consumed,
       appended,
-      subst (λ (visited : Visited). SessionEnds IsShared visited c.session.result (g.I.Source.remaining c.session.new.source) input out c.session.new.answers) c.new-visit.ensures ends,
+      subst (λ (visited : VisitState). SessionEnds IsShared visited c.session.result (g.I.Source.remaining c.session.new.source) input out c.session.new.answers) c.new-visit.ensures ends,
     )

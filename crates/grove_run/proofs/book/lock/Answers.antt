@@ -4,7 +4,7 @@ use Rattle.grove_access.specs.Carries.{known_at}
 use Rattle.grove_plan.specs.declared.step.Step.TheVariants.{Lock}
 use Rattle.grove_core.specs.declared.event.Event.TheVariants.{Take}
 use Rattle.grove_core.specs.Runs.{next_step, IsRefused}
-use Rattle.grove_core.specs.Kept.{State, past_of}
+use Rattle.grove_core.specs.Kept.{CoreState, past_of}
 use Rattle.grove_run.specs.Books.{marked, IsBlockedAt}
 use Rattle.grove_run.proofs.Stepping.{lock_within, lock_not_out, blocked_at}
 use Rattle.grove_run.proofs.book.lock.Goals as goal
@@ -19,7 +19,7 @@ pub mark-requires : goal.mark-requires
 mark-requires c =
     let next : next_step c.args.core.now.jobs (past_of c.args.core.now) c.txn-txn.result ≡ Some (Lock c.args.node) =
     ap (λ (t : ℕ). next_step c.args.core.now.jobs (past_of c.args.core.now) t) c.txn-txn.ensures.txn ∙ c.requires.next in
-    subst (λ (s : State). IsBlockedAt s c.txn-txn.result) (sym c.in-Err.ensures.unchanged)
+    subst (λ (s : CoreState). IsBlockedAt s c.txn-txn.result) (sym c.in-Err.ensures.unchanged)
     (blocked_at c.args.core.now c.txn-txn.result c.args.node c.in-Err.field-0 next c.in-Err.ensures.refused)
 
 pub returns-in-Ok-2-clause-fits : goal.returns-in-Ok-2-clause-fits
@@ -33,6 +33,6 @@ returns-in-Err-clause-done c = λ other.
     let is : c.try_lock.new.self ≡ c.args.core.now = c.in-Err.ensures.unchanged in (
       blocked_at c.args.core.now c.args.carry.now.txn c.args.node c.in-Err.field-0 c.requires.next
           (subst (λ (t : ℕ). IsRefused c.args.core.now.jobs (past_of c.args.core.now) (Take t) c.in-Err.field-0) c.txn-txn.ensures.txn c.in-Err.ensures.refused),
-      c.mark.ensures ∙ ap (λ (s : State). marked s c.txn-txn.result) is ∙ ap (marked c.args.core.now) c.txn-txn.ensures.txn,
+      c.mark.ensures ∙ ap (λ (s : CoreState). marked s c.txn-txn.result) is ∙ ap (marked c.args.core.now) c.txn-txn.ensures.txn,
       refl,
     )

@@ -1,6 +1,6 @@
 use Rattle.std.proofs.Common.{◌≡◌, length, sym, ◌∙◌, ap, arith}
 use Rattle.std.proofs.lemmas.List.{length-map}
-use Rattle.grove_core.specs.Kept.{State}
+use Rattle.grove_core.specs.Kept.{CoreState}
 use Rattle.grove_store.proofs.Telling.{mapped_long}
 use Rattle.grove_store.proofs.running.texts_after.Goals as goal
 
@@ -13,5 +13,5 @@ pub round_texts-requires-clause-replies : goal.round_texts-requires-clause-repli
 round_texts-requires-clause-replies c =
     let long : length c.deref-2.result.now ≡ length c.args.finished.now.core.jobs =
     ap length c.deref-2.ensures.value ∙ sym (length-map c.in_ok-replies.replies.items (λ list. list.now)) ∙ ap length c.in_ok-replies.ensures ∙ mapped_long _ _
-    ∙ ap (λ (core : State). length core.jobs) c.core.ensures.core in
+    ∙ ap (λ (core : CoreState). length core.jobs) c.core.ensures.core in
     omega (arith, c.requires)

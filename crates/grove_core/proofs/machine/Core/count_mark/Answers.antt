@@ -4,16 +4,14 @@ use Rattle.std.specs.Vec.{vec_len, vec_capacity}
 use Rattle.std.proofs.lemmas.List.{length-reverse}
 use Rattle.grove_plan.specs.declared.step.Step.TheVariants.{Lock}
 use Rattle.grove_core.specs.declared.event.Event.TheVariants.{Mark}
-use Rattle.grove_core.proofs.CoreReads.{closed, progress_there, event_room, wait_room, wait_there, progress_at, wait_seen}
+use Rattle.grove_core.proofs.CoreReads.{closed, progress_within, event_room, wait_room, wait_there, progress_at, wait_seen}
 use Rattle.grove_core.proofs.CoreSteps.{locked_within, core_marked}
 use Rattle.grove_core.proofs.machine.Core.count_mark.Goals as goal
 
 pub index_mut-progress-requires : goal.index_mut-progress-requires
 index_mut-progress-requires c =
     let next = rw (← c.self.view_is) at c.requires.next in
-    let lt : c.args.txn < length c.self.inside.progress.items = progress_there _ _ _ _ _ _ _ _ c.self.invariant.0 c.args.txn (Lock c.args.node) next in
-    let e : vec_len c.self.inside.progress ≡ length c.self.inside.progress.items = c.self.inside.progress.ok.0 in
-    omega arith
+    progress_within _ _ _ _ _ _ _ _ c.self.invariant.0 c.args.txn (Lock c.args.node) next (vec_len c.self.inside.progress) c.self.inside.progress.ok.0
 
 pub index_mut-requires : goal.index_mut-requires
 index_mut-requires c =

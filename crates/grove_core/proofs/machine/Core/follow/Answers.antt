@@ -4,7 +4,7 @@ use Rattle.std.proofs.lemmas.Option.{slice_get-get_or}
 use Rattle.grove_core.specs.declared.event.Event.{Event}
 use Rattle.grove_core.specs.declared.event.Event.TheVariants.{Take}
 use Rattle.grove_core.specs.Runs.{IsRefused}
-use Rattle.grove_core.specs.Kept.{State, past_of}
+use Rattle.grove_core.specs.Kept.{CoreState, past_of}
 use Rattle.grove_core.proofs.Replaying.{followed}
 use Rattle.grove_core.proofs.machine.Core.follow.Goals as goal
 
@@ -21,7 +21,7 @@ returns-in-Err-clause-refused c =
       event = event;
       there = slice_get-get_or c.args.events.now c.loop-at.at (Take 0) c.loop-at-test.true;
       before = c.loop-at.invariant.run;
-      refused = subst (λ (core : State). IsRefused core.jobs (past_of core) event c.in-Err.fault) c.loop-at.invariant.history c.in-Err.ensures.refused;
+      refused = subst (λ (core : CoreState). IsRefused core.jobs (past_of core) event c.in-Err.fault) c.loop-at.invariant.history c.in-Err.ensures.refused;
     }
 
 pub loop-at-preserved : goal.loop-at-preserved

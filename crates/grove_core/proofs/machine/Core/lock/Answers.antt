@@ -4,16 +4,14 @@ use Rattle.std.specs.Vec.{vec_len, vec_capacity}
 use Rattle.std.proofs.lemmas.List.{length-reverse}
 use Rattle.grove_plan.specs.declared.step.Step.TheVariants.{Lock}
 use Rattle.grove_core.specs.declared.event.Event.TheVariants.{Take}
-use Rattle.grove_core.proofs.CoreReads.{closed, progress_there, steps_small, event_room, owner_there, progress_at, held_small, lock_room}
+use Rattle.grove_core.proofs.CoreReads.{closed, progress_within, steps_small, event_room, owner_there, progress_at, held_small, lock_room}
 use Rattle.grove_core.proofs.CoreSteps.{locked_within, may_lock, core_locked}
 use Rattle.grove_core.proofs.machine.Core.lock.Goals as goal
 
 pub index_mut-progress-requires : goal.index_mut-progress-requires
 index_mut-progress-requires c =
     let next = rw (← c.self.view_is) at c.requires.next in
-    let lt : c.args.txn < length c.self.inside.progress.items = progress_there _ _ _ _ _ _ _ _ c.self.invariant.0 c.args.txn (Lock c.args.node) next in
-    let e : vec_len c.self.inside.progress ≡ length c.self.inside.progress.items = c.self.inside.progress.ok.0 in
-    omega arith
+    progress_within _ _ _ _ _ _ _ _ c.self.invariant.0 c.args.txn (Lock c.args.node) next (vec_len c.self.inside.progress) c.self.inside.progress.ok.0
 
 pub lock_to_keep-kept-requires : goal.lock_to_keep-kept-requires
 lock_to_keep-kept-requires c =

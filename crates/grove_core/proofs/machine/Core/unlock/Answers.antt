@@ -6,16 +6,14 @@ use Rattle.grove_plan.specs.declared.step.Step.TheVariants.{Unlock}
 use Rattle.grove_core.specs.declared.event.Event.TheVariants.{Take}
 use Rattle.grove_base.proofs.Lists.{item_there}
 use Rattle.grove_core.specs.declared.owner.Owner.{Owner}
-use Rattle.grove_core.proofs.CoreReads.{closed, progress_there, steps_small, unlocked_within, event_room, owner_there, may_unlock, progress_at, unlocks_some}
+use Rattle.grove_core.proofs.CoreReads.{closed, progress_within, steps_small, unlocked_within, event_room, owner_there, may_unlock, progress_at, unlocks_some}
 use Rattle.grove_core.proofs.CoreSteps.{core_unlocked}
 use Rattle.grove_core.proofs.machine.Core.unlock.Goals as goal
 
 pub index_mut-progress-requires : goal.index_mut-progress-requires
 index_mut-progress-requires c =
     let next = rw (← c.self.view_is) at c.requires in
-    let lt : c.args.txn < length c.self.inside.progress.items = progress_there _ _ _ _ _ _ _ _ c.self.invariant.0 c.args.txn (Unlock c.args.node) next in
-    let e : vec_len c.self.inside.progress ≡ length c.self.inside.progress.items = c.self.inside.progress.ok.0 in
-    omega arith
+    progress_within _ _ _ _ _ _ _ _ c.self.invariant.0 c.args.txn (Unlock c.args.node) next (vec_len c.self.inside.progress) c.self.inside.progress.ok.0
 
 pub unlock-requires-clause-few : goal.unlock-requires-clause-few
 unlock-requires-clause-few c =

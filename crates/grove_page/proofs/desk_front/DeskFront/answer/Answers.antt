@@ -3,7 +3,7 @@ use Rattle.std.specs.Prelude.{unwrap_or}
 use Rattle.grove_session.specs.declared.session_fault.SessionFault.{SessionFault}
 use Rattle.grove_session.specs.declared.session_fault.SessionFault.TheVariants.{Write}
 use Rattle.grove_session.specs.Sessions.{SessionEnds, Lawful, is_write}
-use Rattle.grove_desk.specs.Desks.{Visited, IsShared}
+use Rattle.grove_desk.specs.Desks.{VisitState, IsShared}
 use Rattle.grove_page.proofs.desk_front.DeskFront.answer.Goals as goal
 
 -- a session that couldn't write tells how much it wrote
@@ -23,7 +23,7 @@ returns g c =
         left = c.session.new.source.rest.now;
         new = c.session.new.answers;
         read = sym (ap bytes_of c.new-source.ensures.remaining) ∙ consumed;
-        ends = subst (λ (visited : Visited). SessionEnds IsShared visited c.session.result (Some c.session.new.source.rest.now) input out c.session.new.answers) c.new-visit.ensures ends;
+        ends = subst (λ (visited : VisitState). SessionEnds IsShared visited c.session.result (Some c.session.new.source.rest.now) input out c.session.new.answers) c.new-visit.ensures ends;
         cut = λ (written : ℕ) is. written_is _ _ _ _ _ _ _ written ends is ∙ sym (ap length (ap bytes_of holds)) ∙ c.session.new.sink.full (c.session.ensures.sink ∙ ap is_write is);
       },
     )

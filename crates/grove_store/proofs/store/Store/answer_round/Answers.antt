@@ -6,7 +6,7 @@ use Rattle.grove_meter.specs.Waits.{reweighed}
 use Rattle.grove_wire.specs.Names.{wire_name}
 use Rattle.grove_wire.specs.Replies.{error_data, weights_data, weights_of, changed_data}
 use Rattle.grove_wire.specs.Requests.{Plan, Check, Weights, Reweigh}
-use Rattle.grove_store.specs.Stocks.{Stock, IsStock, changes}
+use Rattle.grove_store.specs.StoreStates.{StoreState, IsStore, changes}
 use Rattle.grove_store.specs.Rounds.{IsLawfulRound}
 use Rattle.grove_store.proofs.Together.{counts_all}
 use Rattle.grove_store.proofs.Telling.{text_made}
@@ -22,7 +22,7 @@ returns-in_ok-round-in-Ok-Batch-clause-length g c =
     let read = rw c.in-Ok-Batch.field-0-is at c.in-Ok-Batch.ensures.read in
     let some : 0 < length c.args.lines.now = c.requires.count.0 in
     IfOk-weaker c.run_round.result _ _ (λ replies answers. (first_round c.args.self.now c.run_round.new.self c.self.inside.tree c.args.lines.now _ _ c.in-Ok-Batch.lists.items _ _
-    (map (λ reply. reply.items) replies.items) (length replies.items) (subst IsStock c.self.view_is c.self.invariant.0) (ap (λ (s : Stock). s.rows) c.self.view_is) some (take_rest c.args.lines.now 1)
+    (map (λ reply. reply.items) replies.items) (length replies.items) (subst IsStore c.self.view_is c.self.invariant.0) (ap (λ (s : StoreState). s.rows) c.self.view_is) some (take_rest c.args.lines.now 1)
     read fits.0 c.in_ok-round-in-Ok-Batch.ensures answers (sym (length-map replies.items (λ reply. reply.items)))).0) c.run_round.ensures.round
 
 pub returns-in_ok-round-in-Ok-Batch-clause-round : goal.returns-in_ok-round-in-Ok-Batch-clause-round
@@ -31,7 +31,7 @@ returns-in_ok-round-in-Ok-Batch-clause-round g c =
     let read = rw c.in-Ok-Batch.field-0-is at c.in-Ok-Batch.ensures.read in
     let some : 0 < length c.args.lines.now = c.requires.count.0 in
     IfOk-weaker c.run_round.result _ _ (λ replies answers. (first_round c.args.self.now c.run_round.new.self c.self.inside.tree c.args.lines.now _ _ c.in-Ok-Batch.lists.items _ _
-    (map (λ reply. reply.items) replies.items) (length replies.items) (subst IsStock c.self.view_is c.self.invariant.0) (ap (λ (s : Stock). s.rows) c.self.view_is) some (take_rest c.args.lines.now 1)
+    (map (λ reply. reply.items) replies.items) (length replies.items) (subst IsStore c.self.view_is c.self.invariant.0) (ap (λ (s : StoreState). s.rows) c.self.view_is) some (take_rest c.args.lines.now 1)
     read fits.0 c.in_ok-round-in-Ok-Batch.ensures answers (sym (length-map replies.items (λ reply. reply.items)))).1) c.run_round.ensures.round
 
 pub returns-in-Ok-Plan-clause-length : goal.returns-in-Ok-Plan-clause-length
@@ -48,7 +48,7 @@ returns-in-Ok-Plan-clause-round g c =
     let read = rw c.in-Ok-Plan.field-0-is at c.in-Ok-Plan.ensures.read in
     let some : 0 < length c.args.lines.now = c.requires.count.0 in
     IfOk-weaker c.alone.result _ _ (λ replies one. let made = text_made (λ text. text.items) c.plan_text.result (map (λ reply. reply.items) replies.items) c.plan_text.ensures.text one in
-    subst (λ (after : Stock). IsLawfulRound c.args.self.now (take (length replies.items) (map (λ line. line.now) c.args.lines.now)) (map (λ reply. reply.items) replies.items) after) (sym c.self.view_is)
+    subst (λ (after : StoreState). IsLawfulRound c.args.self.now (take (length replies.items) (map (λ line. line.now) c.args.lines.now)) (map (λ reply. reply.items) replies.items) after) (sym c.self.view_is)
     (first_kept _ c.args.self.now c.args.lines.now _ (Ok (Plan c.in-Ok-Plan.list)) made.1.0 made.0.items
     (map (λ reply. reply.items) replies.items) (length replies.items) c.self.view_is c.self.invariant.0 some read refl (made.1.1, refl) made.1.2 made.2
     (sym (length-map replies.items (λ reply. reply.items)))).1) c.alone.ensures
@@ -111,8 +111,8 @@ returns-in-Ok-Reweigh-clause-length g c =
     let now = c.args.self.now in
     let some : 0 < length c.args.lines.now = c.requires.count.0 in
     IfOk-weaker c.reweigh.result _ _ (λ replies answers. (first_alone now c.reweigh.new.self c.self.inside.tree c.args.lines.now _ (Ok Reweigh) (changed_data (changes now.rows (reweighed now.waits now.rows))) _
-    (map (λ reply. reply.items) replies.items) (length replies.items) (subst IsStock c.self.view_is c.self.invariant.0)
-    (ap (λ (s : Stock). s.rows) c.self.view_is) some read refl (refl, answers.1) refl answers.0
+    (map (λ reply. reply.items) replies.items) (length replies.items) (subst IsStore c.self.view_is c.self.invariant.0)
+    (ap (λ (s : StoreState). s.rows) c.self.view_is) some read refl (refl, answers.1) refl answers.0
     (sym (length-map replies.items (λ reply. reply.items)))).0) c.reweigh.ensures.reply
 
 pub returns-in-Ok-Reweigh-clause-round : goal.returns-in-Ok-Reweigh-clause-round
@@ -121,6 +121,6 @@ returns-in-Ok-Reweigh-clause-round g c =
     let now = c.args.self.now in
     let some : 0 < length c.args.lines.now = c.requires.count.0 in
     IfOk-weaker c.reweigh.result _ _ (λ replies answers. (first_alone now c.reweigh.new.self c.self.inside.tree c.args.lines.now _ (Ok Reweigh) (changed_data (changes now.rows (reweighed now.waits now.rows))) _
-    (map (λ reply. reply.items) replies.items) (length replies.items) (subst IsStock c.self.view_is c.self.invariant.0)
-    (ap (λ (s : Stock). s.rows) c.self.view_is) some read refl (refl, answers.1) refl answers.0
+    (map (λ reply. reply.items) replies.items) (length replies.items) (subst IsStore c.self.view_is c.self.invariant.0)
+    (ap (λ (s : StoreState). s.rows) c.self.view_is) some read refl (refl, answers.1) refl answers.0
     (sym (length-map replies.items (λ reply. reply.items)))).1) c.reweigh.ensures.reply

@@ -2,7 +2,7 @@ use Rattle.std.proofs.Common.{◌≡◌, ℕ, List, ◌∙◌, sym, ap, subst, l
 use Rattle.grove_tree.specs.Trees.{Rows}
 use Rattle.grove_meter.specs.Waits.{reweighed}
 use Rattle.grove_build.specs.KeptPlans.{AreSettledFor}
-use Rattle.grove_store.specs.Stocks.{Stock}
+use Rattle.grove_store.specs.StoreStates.{StoreState}
 use Rattle.grove_store.specs.Parts.{AnswersReweigh}
 use Rattle.grove_store.proofs.NothingKept.{nothing_kept}
 use Rattle.grove_store.proofs.Telling.{text_made}
@@ -26,8 +26,8 @@ returns-clause-reply g c =
     let waited : length waits.items ≡ length c.self.inside.tree = c.self.invariant.0.waited in
     let long : vec_len waits ≡ length c.self.inside.tree = omega (arith, waits.ok.0) in
     let made = text_made (λ text. text.items) c.changed_text.result (map (λ reply. reply.items) c.in_ok-replies.replies.items) c.changed_text.ensures c.in_ok-replies.ensures in
-    let before : Stock = record { rows = c.self.inside.tree; records = c.self.inside.records; waits = waits.items; workers = c.self.inside.workers; rounds = c.self.inside.rounds } in
-    subst (λ (stock : Stock). AnswersReweigh stock (map (λ reply. reply.items) c.in_ok-replies.replies.items) (record before { rows = c.reweigh-changed.new.tree; waits = c.fill.new.self.items })) c.self.view_is
+    let before : StoreState = record { rows = c.self.inside.tree; records = c.self.inside.records; waits = waits.items; workers = c.self.inside.workers; rounds = c.self.inside.rounds } in
+    subst (λ (store : StoreState). AnswersReweigh store (map (λ reply. reply.items) c.in_ok-replies.replies.items) (record before { rows = c.reweigh-changed.new.tree; waits = c.fill.new.self.items })) c.self.view_is
     (reweigh_answers before c.in_ok-tree.tree c.reweigh-changed.new.tree c.deref.result.now c.fill.new.self.items made.0.items c.reweigh-changed.result _
     c.in_ok-tree.ensures c.deref.ensures.value c.reweigh-changed.ensures.rows c.reweigh-changed.ensures.count (c.fill.ensures.items (λ y e. e) ∙ ap (λ (n : ℕ). replicate n 0) long)
     made.1 made.2)

@@ -6,7 +6,7 @@ use Rattle.grove_tree.specs.Rules.{IsWithinLimits}
 use Rattle.grove_meter.specs.Waits.{reweighed}
 
 -- a tree, a record and the waits of each node, the number of workers, and how many rounds were run
-pub record Stock : Type 0 where
+pub record StoreState : Type 0 where
   pub rows : Rows
   pub records : List ℤ
   pub waits : List ℕ
@@ -14,18 +14,18 @@ pub record Stock : Type 0 where
   pub rounds : ℕ
 
 -- what holds of every store
-pub record IsStock (stock : Stock) : Type 0 where
-  pub tree : IsTree stock.rows
-  pub limits : IsWithinLimits stock.rows
-  pub recorded : length stock.records ≡ length stock.rows
-  pub waited : length stock.waits ≡ length stock.rows
-  pub few : All (λ waits. waits ≤ 1000) stock.waits
-  pub some_workers : 1 ≤ stock.workers
-  pub few_workers : stock.workers ≤ 16
-  pub counted : stock.rounds < 2 ^ 64
+pub record IsStore (store : StoreState) : Type 0 where
+  pub tree : IsTree store.rows
+  pub limits : IsWithinLimits store.rows
+  pub recorded : length store.records ≡ length store.rows
+  pub waited : length store.waits ≡ length store.rows
+  pub few : All (λ waits. waits ≤ 1000) store.waits
+  pub some_workers : 1 ≤ store.workers
+  pub few_workers : store.workers ≤ 16
+  pub counted : store.rounds < 2 ^ 64
 
 -- a store that has answered nothing yet
-abbrev pub opened : Rows → List ℤ → ℕ → Stock
+abbrev pub opened : Rows → List ℤ → ℕ → StoreState
 opened rows records workers = record { rows = rows; records = records; waits = replicate (length rows) 0; workers = workers; rounds = 0 }
 
 -- how many nodes have another weight in the new rows than in the old ones
@@ -33,8 +33,8 @@ abbrev pub changes : Rows → Rows → ℕ
 changes old new = count_below (length old) (λ node. not (weight_of new node == weight_of old node))
 
 -- the store whose weights have learned from its waits, which begin anew
-abbrev pub reweighed_stock : Stock → Stock
-reweighed_stock before = record {
+abbrev pub reweighed_store : StoreState → StoreState
+reweighed_store before = record {
   rows = reweighed before.waits before.rows;
   records = before.records;
   waits = replicate (length before.rows) 0;
