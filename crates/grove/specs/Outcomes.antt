@@ -34,15 +34,8 @@ MaySay Ask in_document document = λ outcome. ⊥
 
 -- the document that bytes are for a command; an audit's may be longer
 abbrev pub document_for : Command → List ℕ → Result Data WireFault
-document_for Judge bytes = document_of bytes
-document_for Check bytes = document_of bytes
-document_for Plan bytes = document_of bytes
-document_for Draw bytes = document_of bytes
-document_for Run bytes = document_of bytes
 document_for Audit bytes = history_of bytes
-document_for Serve bytes = document_of bytes
-document_for Page bytes = document_of bytes
-document_for Ask bytes = document_of bytes
+document_for _ bytes = document_of bytes
 
 abbrev pub IsOutcome : Command → Bool → List ℕ → Outcome → Type 0
 IsOutcome command in_document bytes = ThenSays (document_for command bytes) (MaySay command in_document)
