@@ -2,7 +2,7 @@
 use Rattle.std.specs.Prelude.{◌≡◌, ℕ, codes, List, ◌++◌, false, Some, Ok}
 use Rattle.json.specs.Lex.{tokens}
 use Rattle.json.specs.Print.{print}
-use Rattle.serde_json.specs.Data.{Data, null, boolean, number, string, array, object, put}
+use Rattle.serde_json.specs.Data.{Data, object, put}
 use Rattle.serde_json.specs.Written.{compact_text, has_float}
 use Rattle.grove_tree.specs.Trees.{Rows}
 use Rattle.grove_access.specs.Lists.{nodes_of, lengths_of}
@@ -18,12 +18,8 @@ use Rattle.grove_answer.specs.Outcomes.{Outcome, claim_in}
 
 -- an object with a member put in, in place of any of that name
 abbrev pub with_member : List ℕ → Data → Data → Data
-with_member name d null = null
-with_member name d (boolean b) = boolean b
-with_member name d (number n) = number n
-with_member name d (string s) = string s
-with_member name d (array ds) = array ds
 with_member name d (object ms) = object (put name d ms)
+with_member name d other = other
 
 abbrev pub planned_document : Rows → List Step → List FlowRow → Data → Data
 planned_document tree plan flow document = with_member (codes "plan") (plan_data tree plan) (with_member (codes "flow") (flow_data tree flow) document)

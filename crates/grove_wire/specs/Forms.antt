@@ -1,6 +1,6 @@
 -- The forms of rows, accesses and flow rows, as JSON values.
 use Rattle.std.specs.Prelude.{◌≡◌, ℕ, ◌≤◌, length, ◌^◌, ◌==◌, nat_lt, Bool, false, codes, bytes_eq, ℤ, pos, List, [], ◌∷◌, Option, Some, None, is_some, is_none, option_map, option_and_then, unwrap_or, if◌then◌else◌}
-use Rattle.serde_json.specs.Data.{Data, null, boolean, number, string, array, object, Items, no_items, item, Members, no_members, member}
+use Rattle.serde_json.specs.Data.{Data, array, object, Items, no_items, item, Members, no_members, member}
 use Rattle.serde_json.specs.Find.{get, as_null, as_number, as_str, as_array, as_i64, as_u64}
 use Rattle.grove_tree.specs.Trees.{NodeRow}
 use Rattle.grove_access.specs.declared.access.Op.{Op}
@@ -35,12 +35,9 @@ HasShortArrays d = HasArraysWithin 67108864 d
 -- each array in a value, however deep it lies, has at most n items
 abbrev mutual
   pub AllArraysWithin : ℕ → Data → Type 0
-  AllArraysWithin n null = Unit {0}
-  AllArraysWithin n (boolean b) = Unit {0}
-  AllArraysWithin n (number m) = Unit {0}
-  AllArraysWithin n (string s) = Unit {0}
   AllArraysWithin n (array ds) = (length (list_items ds) ≤ n) × ItemsWithin n ds
   AllArraysWithin n (object ms) = MembersWithin n ms
+  AllArraysWithin n _ = Unit {0}
 
   pub ItemsWithin : ℕ → Items → Type 0
   ItemsWithin n no_items = Unit {0}
@@ -138,12 +135,10 @@ abbrev pub with_length : Data → Option Op → Data → Option AccessForm
 with_length path op length = option_and_then (λ slots. form_with path op (Some slots)) (option_and_then as_u64 (as_number length))
 
 abbrev pub form_of : List Data → Option AccessForm
-form_of [] = None
-form_of (word ∷ []) = None
 form_of (word ∷ path ∷ []) = form_with path (get_of word) None
 form_of (word ∷ path ∷ third ∷ []) = if is_word (codes "get") word then with_length path (Some Get) third else form_with path (numbered_op word third) None
 form_of (word ∷ path ∷ value ∷ length ∷ []) = with_length path (numbered_op word value) length
-form_of (word ∷ path ∷ value ∷ length ∷ other ∷ others) = None
+form_of _ = None
 
 -- no access tells a length in the first version
 abbrev pub allowed : Version → AccessForm → Option AccessForm
@@ -194,10 +189,8 @@ event_named word job =
     else None
 
 abbrev pub event_of : List Data → Option Event
-event_of [] = None
-event_of (word ∷ []) = None
 event_of (word ∷ job ∷ []) = option_and_then (event_named word) (as_short job)
-event_of (word ∷ job ∷ other ∷ others) = None
+event_of _ = None
 
 unfoldable pub event_form : Data → Option Event
 event_form d = option_and_then event_of (as_list d)

@@ -147,10 +147,8 @@ step_of tree place word operand =
 
 -- a step has a word and what it is done to, and no further items
 abbrev pub step_on : Rows → Place → List Data → Result Step WireFault
-step_on tree place [] = Err (Shape place)
-step_on tree place (word ∷ []) = Err (Shape place)
 step_on tree place (word ∷ operand ∷ []) = step_of tree place word operand
-step_on tree place (word ∷ operand ∷ other ∷ others) = Err (Shape place)
+step_on tree place _ = Err (Shape place)
 
 unfoldable pub step_at : Rows → Place → Data → Result Step WireFault
 step_at tree place d = or_fault (Shape place) (as_list d) >>= step_on tree place

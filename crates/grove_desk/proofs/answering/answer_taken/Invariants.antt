@@ -1,0 +1,18 @@
+use Rattle.std.proofs.Common.{◌≡◌, ◌≤◌, length, map, take, drop}
+use Rattle.std.specs.Vec.{vec_capacity}
+use Rattle.grove_desk.specs.Ledgers.{IsNoted}
+use Rattle.grove_desk.proofs.answering.answer_taken.Given as goal
+
+abbrev pub invariant-loop-reply : goal.invariant-loop-reply
+invariant-loop-reply g l = record {
+  next : (goal.iterator-loop-reply g).can_next l.reply-iterator;
+  ends : (goal.iterator-loop-reply g).is_finite l.reply-iterator;
+  rest : l.reply-iterator.rest.items ≡ drop (length l.receipts.items) l.initial.reply-iterator.rest.items;
+  within : length l.receipts.items ≤ length l.initial.reply-iterator.rest.items;
+  noted : IsNoted l.first (map (λ asked. asked.line.bytes.items) l.initial.taken.items) (take (length l.receipts.items) (map (λ reply. reply.items) l.initial.reply-iterator.rest.items)) l.store.rounds l.receipts.items;
+  room : vec_capacity l.receipts ≡ vec_capacity l.initial.receipts;
+  long : length l.taken.items ≡ length l.initial.taken.items;
+  left : drop (length l.receipts.items) l.taken.items ≡ drop (length l.receipts.items) l.initial.taken.items;
+  tickets : map (λ asked. asked.ticket) l.taken.items ≡ map (λ asked. asked.ticket) l.initial.taken.items;
+  stays : vec_capacity l.taken ≡ vec_capacity l.initial.taken;
+}

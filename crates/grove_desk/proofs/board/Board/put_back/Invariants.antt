@@ -1,0 +1,16 @@
+use Rattle.std.proofs.Common.{◌≡◌}
+use Rattle.std.specs.Prelude.{All, IfOk}
+use Rattle.std.specs.Vec.{vec_capacity}
+use Rattle.grove_desk.specs.Receipts.{IsAnswered}
+use Rattle.grove_desk.specs.Boards.{Holds}
+use Rattle.grove_desk.proofs.board.Board.put_back.Given as goal
+
+abbrev pub invariant-loop-asked : goal.invariant-loop-asked
+invariant-loop-asked g l = record {
+  answered : IfOk l.answered (λ receipts. All (IsAnswered g.B.Opening.store g.B.Opening.kept) receipts.items);
+  held : All (Holds g.B.Opening.store g.B.Opening.kept) l.self.slots.items;
+  room : vec_capacity l.taken ≡ vec_capacity l.initial.taken;
+}
+
+abbrev pub decreases-loop-asked : goal.decreases-loop-asked
+decreases-loop-asked g l = l.taken.len
