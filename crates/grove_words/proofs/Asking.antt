@@ -4,14 +4,15 @@ use Rattle.std.specs.Str.{bytes_eq}
 use Rattle.clap.specs.Words.{is_simple, is_simple_and_free, subcommand_of, Row, Rule, Shape, Text, fault_of, built}
 use Rattle.std.proofs.lemmas.Slice.Eq.{bytes_eq-Decides}
 use Rattle.clap.proofs.WalkLemmas.{walk_stopped}
-use Rattle.clap.specs.Simple.{entered, names_of}
+use Rattle.clap.specs.Simple.{built_leaf, entered, inherited, names_of}
 use Rattle.clap.specs.Walk.{subcommand_met, Names, walk, rows_after, Walk, idle, nothing_held, walked, walk_from, word_met, value}
 use Rattle.clap.specs.Faults.{word_fault, step_fault, entered_fault, level_fault, turn_fault, walk_fault}
 use Rattle.clap.specs.Kinds.{Kinds}
 use Rattle.clap.proofs.OnLiterals.{clap_on_literals}
-use Rattle.grove_words.specs.CommandLines.{command_named, grove_command, has_place, hyphens, is_option, AreDocument, AreFor, AreTakenFor, AskFor, GivePlace, IsPlaceIn, word_of, text_of}
-use Rattle.grove_words.proofs.Words.{IsFaulty, or_faulty, or_later, not_none, top_rules, leaf_rules, planning_rules, drawing_rules, batch_rules, port_rules, asking_rules, top_long, top_short, IsOption, option_refused, HasNoFlag, no_flag, no_bundle, differs, Kind, hyphens_kind, option_kind, plain_kind, kind_of}
-use Rattle.grove_words.proofs.Documents.{document_in, leaf, planning_leaf, drawing_leaf, batch_leaf, port_leaf, asking_leaf}
+use Rattle.grove_words.specs.CommandLines.{grove_command, has_place, shape_for, is_option, AreDocument, AreFor, AreTakenFor, AskFor, GivePlace, text_of}
+use Rattle.grove_words.specs.Steps.{command_named}
+use Rattle.grove_words.proofs.Words.{IsFaulty, or_faulty, or_later, not_none, hyphens, top_rules, top_long, top_short, IsOption, option_refused, HasNoFlag, no_flag, no_bundle, differs, Kind, hyphens_kind, option_kind, plain_kind, kind_of}
+use Rattle.grove_words.proofs.Documents.{document_in}
 use Rattle.grove_words.specs.declared.order.Command.{Command}
 use Rattle.grove_words.specs.declared.order.Command.TheVariants.{Judge, Check, Plan, Draw, Run, Audit, Serve, Page, Ask}
 use Rattle.grove_words.specs.declared.order.Order.{Order}
@@ -39,36 +40,27 @@ top = (built grove_command).top
 abbrev pub at_command : Text → Walk
 at_command command = record { held = nothing_held; waiting = idle; position = 1; is_trailing = false; stopped = Some (command, []) }
 
--- what the code makes of what clap found
-pub record IsFound (rows : Option (Text × List Row)) (found : Order) : Type 0 where
-  pub bare : rows ≡ None → (found.command ≡ Judge) × (found.document ≡ None)
-  pub command : (word : Text) (below : List Row) → rows ≡ Some (word, below) → found.command ≡ command_named word
-  pub document : (word : Text) (below : List Row) → rows ≡ Some (word, below) → text_of found.document ≡ document_in below
-  pub place : has_place found.command ≡ true → (place : Place) × IsPlaceIn rows place
+-- what the code makes of what clap found in the words
+pub record IsFound (words : List Text) (found : Order) : Type 0 where
+  pub bare : subcommand_of grove_command words ≡ None → (found.command ≡ Judge) × (found.document ≡ None)
+  pub command : (word : Text) (below : List Row) → subcommand_of grove_command words ≡ Some (word, below) → found.command ≡ command_named word
+  pub document : (word : Text) (below : List Row) → subcommand_of grove_command words ≡ Some (word, below) → text_of found.document ≡ document_in below
+  pub place : has_place found.command ≡ true → (place : Place) × GivePlace words place
 
 -- a place that is told is one
-pub place_told : (found : Option (Text × List Row)) (place : Option Place) → IsSomeAnd place (IsPlaceIn found) → (p : Place) × IsPlaceIn found p
-place_told found None is = absurd is
-place_told found (Some p) is = (p, is)
+pub place_told : (words : List Text) (place : Option Place) → IsSomeAnd place (GivePlace words) → (p : Place) × GivePlace words p
+place_told words None is = absurd is
+place_told words (Some p) is = (p, is)
+
+abbrev pub word_of : Command → Text
+word_of command = (shape_for command).name
 
 -- what clap reads the words after a command by
 abbrev pub shape_of : Command → Shape
-shape_of Plan = planning_leaf (word_of Plan)
-shape_of Draw = drawing_leaf (word_of Draw)
-shape_of Run = batch_leaf (word_of Run)
-shape_of Serve = port_leaf (word_of Serve)
-shape_of Page = port_leaf (word_of Page)
-shape_of Ask = asking_leaf (word_of Ask)
-shape_of command = leaf (word_of command)
+shape_of command = built_leaf (inherited grove_command.top (shape_for command))
 
 abbrev pub rules_of : Command → List Rule
-rules_of Plan = planning_rules
-rules_of Draw = drawing_rules
-rules_of Run = batch_rules
-rules_of Serve = port_rules
-rules_of Page = port_rules
-rules_of Ask = asking_rules
-rules_of command = leaf_rules
+rules_of command = (shape_of command).rules
 
 abbrev pub below_fault : Command → List Text → Kinds
 below_fault command rest = level_fault (shape_of command) [] nothing_held rest false []
@@ -184,36 +176,20 @@ hyphens_found = refl
 
 -- it is an order that the words ask for
 abbrev IsReadLine : List Text → Type 0
-IsReadLine words = (found : Order) → IsFound (subcommand_of grove_command words) found → AskFor words found
+IsReadLine words = (found : Order) → IsFound words found → AskFor words found
 
 bare_reads : (words : List Text) → AreDocument words None → subcommand_of grove_command words ≡ None → IsReadLine words
 bare_reads words are none found is = inr (are, (is.bare none).0, (is.bare none).1)
 
--- what follows the word of a command gives its document
-with_document : (command : Command) (rest : List Text) → fault_of grove_command (word_of command ∷ rest) ≡ []
-    → (found : Order) → IsFound (subcommand_of grove_command (word_of command ∷ rest)) found → AreTakenFor (word_of command) (word_of command ∷ rest) (text_of found.document)
-with_document command rest taken found is =
-    (taken, rows_after (rules_of command) [] rest, rows_are command rest, sym (is.document (word_of command) (rows_after (rules_of command) [] rest) (rows_are command rest)))
-
--- what follows the word of a command that has a place gives its document and the place
-with_place : (command : Command) (rest : List Text) → fault_of grove_command (word_of command ∷ rest) ≡ []
-    → (found : Order) → IsFound (subcommand_of grove_command (word_of command ∷ rest)) found → has_place found.command ≡ true
-    → AreTakenFor (word_of command) (word_of command ∷ rest) (text_of found.document) × (place : Place) × GivePlace (word_of command ∷ rest) place
-with_place command rest taken found is placed = (with_document command rest taken found is, (is.place placed).0, (is.place placed).1)
-
--- the words after a command that are taken name the command's document
+-- the words after a command that are taken name the command's document, and its place
 names_document : (command : Command) (rest : List Text) → fault_of grove_command (word_of command ∷ rest) ≡ []
-    → (found : Order) → IsFound (subcommand_of grove_command (word_of command ∷ rest)) found → found.command ≡ command
+    → (found : Order) → IsFound (word_of command ∷ rest) found → found.command ≡ command
     → AreFor command (word_of command ∷ rest) (text_of found.document)
-names_document Judge rest taken found is same = inr (with_document Judge rest taken found is)
-names_document Check rest taken found is same = inr (with_document Check rest taken found is)
-names_document Plan rest taken found is same = with_document Plan rest taken found is
-names_document Draw rest taken found is same = with_document Draw rest taken found is
-names_document Run rest taken found is same = with_document Run rest taken found is
-names_document Audit rest taken found is same = inr (with_document Audit rest taken found is)
-names_document Serve rest taken found is same = with_place Serve rest taken found is (ap has_place same)
-names_document Page rest taken found is same = with_place Page rest taken found is (ap has_place same)
-names_document Ask rest taken found is same = with_place Ask rest taken found is (ap has_place same)
+names_document command rest taken found is same =
+    let rows = rows_after (rules_of command) [] rest in
+    let taken_for : AreTakenFor command (word_of command ∷ rest) (text_of found.document) =
+    (taken, rows, rows_are command rest, sym (is.document (word_of command) rows (rows_are command rest))) in
+    (inr taken_for, λ placed. is.place (ap has_place same ∙ placed))
 
 command_reads : (command : Command) (rest : List Text) → fault_of grove_command (word_of command ∷ rest) ≡ [] → IsReadLine (word_of command ∷ rest)
 command_reads command rest taken found is =

@@ -6,30 +6,15 @@ use Rattle.clap.specs.Walk.{rows_after, Walk, idle, nothing_held, walked, walk_f
 use Rattle.clap.specs.Faults.{level_fault}
 use Rattle.clap.specs.Kinds.{Kinds}
 use Rattle.clap.proofs.OnLiterals.{clap_on_literals}
-use Rattle.grove_words.specs.CommandLines.{asking_command, batch_command, document_command, drawing_command, no_command, planning_command, port_command, hyphens, is_option, AreDocument}
-use Rattle.grove_words.proofs.Words.{leaf_rules, held_with, HasNoFlag, no_flag, met_plain}
+use Rattle.grove_words.specs.CommandLines.{command_with, grove_command, reading, is_option, AreDocument}
+use Rattle.grove_words.proofs.Words.{leaf_rules, held_with, hyphens, HasNoFlag, no_flag, met_plain}
 
 -- the document that rows name
 abbrev pub document_in : List Row → Option Text
 document_in rows = first_of (codes "DOC") rows
 
 abbrev pub leaf : Text → Shape
-leaf name = built_leaf (inherited no_command.top (document_command name).top)
-
-abbrev pub drawing_leaf : Text → Shape
-drawing_leaf name = built_leaf (inherited no_command.top (drawing_command name).top)
-
-abbrev pub planning_leaf : Text → Shape
-planning_leaf name = built_leaf (inherited no_command.top (planning_command name).top)
-
-abbrev pub batch_leaf : Text → Shape
-batch_leaf name = built_leaf (inherited no_command.top (batch_command name).top)
-
-abbrev pub port_leaf : Text → Shape
-port_leaf name = built_leaf (inherited no_command.top (port_command name).top)
-
-abbrev pub asking_leaf : Text → Shape
-asking_leaf name = built_leaf (inherited no_command.top (asking_command name).top)
+leaf name = built_leaf (inherited grove_command.top (command_with name reading))
 
 -- after a plain word a document has a name
 abbrev pub named : Text → Walk

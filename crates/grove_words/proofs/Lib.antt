@@ -3,3 +3,4 @@ pub mod Documents
 pub mod Words
 pub mod Orders
 pub mod Ports
+pub mod Rules

@@ -1,10 +1,10 @@
 -- Words that are an order are taken by clap, and are no second order.
 use Rattle.std.proofs.Common.{◌≡◌, ◌≢◌, ◌∙◌, ap, refl, sym, subst, true, false, List, [], ◌∷◌, length, Option, Some, None, IsSomeAnd, ◌⊎◌, inl, inr, codes, fold}
 use Rattle.std.specs.Prelude.{is_some}
-use Rattle.clap.specs.Words.{Row, Text, fault_of, first_of, subcommand_of, built}
+use Rattle.clap.specs.Words.{Row, Shape, Text, fault_of, first_of, subcommand_of, built}
 use Rattle.clap.specs.Walk.{Walk, idle, nothing_held, walk, walked, walk_from, word_met, settled, finished, rows_after}
 use Rattle.clap.specs.Faults.{word_fault, step_fault, turn_fault, walk_fault, settle_fault, defaults_fault, check_fault, entered_fault, level_fault}
-use Rattle.clap.specs.Simple.{entered}
+use Rattle.clap.specs.Simple.{built_leaf, entered, inherited}
 use Rattle.clap.specs.Kinds.{or_else, Kinds}
 use Rattle.clap.specs.Words.{HasKind, IsAmong, kind_of}
 use Rattle.clap.specs.declared.error.Error.{Error}
@@ -17,11 +17,12 @@ use Rattle.grove_words.specs.declared.order.Command.{Command}
 use Rattle.grove_words.specs.declared.order.Command.TheVariants.{Judge, Check, Plan, Draw, Run, Audit, Serve, Page, Ask}
 use Rattle.grove_words.specs.declared.order.Order.{Order}
 use Rattle.grove_words.specs.declared.order.Place.{Place}
-use Rattle.grove_words.specs.CommandLines.{command_named, grove_command, has_place, serves, hyphens, IsPlain, AreCommand, AreDocument, AreFor, AreGiven, AreTakenFor, AskFor, AskToServe, AskToShow, AreWrong, GivePlace, IsPlaceIn, word_of, text_of}
+use Rattle.grove_words.specs.CommandLines.{command_with, grove_command, has_place, serves, shape_for, IsPlain, AreCommand, AreDocument, AreFor, AreTakenFor, AskFor, AskToServe, AskToShow, AreWrong, GivePlace, text_of}
+use Rattle.grove_words.specs.Steps.{command_named}
 use Rattle.grove_words.specs.Refusals.{IsNowhere}
-use Rattle.grove_words.proofs.Words.{top_rules, leaf_rules, HasNoFlag, no_flag, differs, met_plain}
+use Rattle.grove_words.proofs.Words.{hyphens, top_rules, leaf_rules, HasNoFlag, no_flag, differs, met_plain}
 use Rattle.grove_words.proofs.Documents.{leaf, leaf_fault, leaf_reads, walked_plain, hyphens_after}
-use Rattle.grove_words.proofs.Asking.{names, top, at_command, is_one_of, shape_of, rules_of, below_fault, rows_are, no_command_found, hyphens_found}
+use Rattle.grove_words.proofs.Asking.{names, top, at_command, is_one_of, shape_of, rules_of, word_of, below_fault, rows_are, no_command_found, hyphens_found}
 
 or_nil : (a b : Kinds) → a ≡ [] → b ≡ [] → or_else a b ≡ []
 or_nil a b none nothing = ap (λ (k : Kinds). or_else k b) none ∙ nothing
@@ -102,34 +103,34 @@ two_hyphens_taken : fault_of grove_command (hyphens ∷ []) ≡ []
 unfolding clap_on_literals
 two_hyphens_taken = refl
 
+-- a command is its word with its rules
+command_is : (command : Command) → shape_for command ≡ command_with (word_of command) (shape_for command).rules
+command_is Judge = refl
+command_is Check = refl
+command_is Plan = refl
+command_is Draw = refl
+command_is Run = refl
+command_is Audit = refl
+command_is Serve = refl
+command_is Page = refl
+command_is Ask = refl
+
 -- words of a command and its document alone are taken for it
-alone_taken : (command : Command) (words : List Text) (document : Option Text) → shape_of command ≡ leaf (word_of command) → rules_of command ≡ leaf_rules
-    → AreCommand (word_of command) words document → AreTakenFor (word_of command) words document
-alone_taken command words document shape rules (rest, is, are) = (
-  ap (fault_of grove_command) is
-      ∙ command_taken command rest (ap (λ s. level_fault s [] nothing_held rest false []) shape ∙ leaf_taken (word_of command) rest document are),
-  rows_after (rules_of command) [] rest,
-  ap (subcommand_of grove_command) is ∙ rows_are command rest,
-  ap (λ r. first_of (codes "DOC") (rows_after r [] rest)) rules ∙ leaf_reads rest document are,
-)
+alone_taken : (command : Command) (words : List Text) (document : Option Text) → AreCommand command words document → AreTakenFor command words document
+alone_taken command words document (alone, rest, is, are) =
+    let shape : shape_of command ≡ leaf (word_of command) =
+    ap (λ (s : Shape). built_leaf (inherited grove_command.top s)) (command_is command ∙ ap (command_with (word_of command)) alone) in (
+      ap (fault_of grove_command) is
+          ∙ command_taken command rest (ap (λ (s : Shape). level_fault s [] nothing_held rest false []) shape ∙ leaf_taken (word_of command) rest document are),
+      rows_after (rules_of command) [] rest,
+      ap (subcommand_of grove_command) is ∙ rows_are command rest,
+      ap (λ (s : Shape). first_of (codes "DOC") (rows_after s.rules [] rest)) shape ∙ leaf_reads rest document are,
+    )
 
 -- and so are those with its options
-given_taken : (command : Command) (words : List Text) (document : Option Text) → shape_of command ≡ leaf (word_of command) → rules_of command ≡ leaf_rules
-    → AreGiven (word_of command) words document → AreTakenFor (word_of command) words document
-given_taken command words document shape rules (inl are) = alone_taken command words document shape rules are
-given_taken command words document shape rules (inr are) = are
-
--- and so for each command
-taken_as : (command : Command) (words : List Text) (document : Option Text) → AreFor command words document → AreTakenFor (word_of command) words document
-taken_as Judge words document are = given_taken Judge words document refl refl are
-taken_as Check words document are = given_taken Check words document refl refl are
-taken_as Plan words document are = are
-taken_as Draw words document are = are
-taken_as Run words document are = are
-taken_as Audit words document are = given_taken Audit words document refl refl are
-taken_as Serve words document are = are.0
-taken_as Page words document are = are.0
-taken_as Ask words document are = are.0
+taken_as : (command : Command) (words : List Text) (document : Option Text) → AreFor command words document → AreTakenFor command words document
+taken_as command words document (inl alone, placed) = alone_taken command words document alone
+taken_as command words document (inr taken, placed) = taken
 
 -- the words have this command's rows
 abbrev HasRows : Command → List Text → Type 0
@@ -178,13 +179,13 @@ not_bare words order are none =
     let rows : HasRows order.command words = found_for order.command words (text_of order.document) are in
     none_found (subcommand_of grove_command words) (word_of order.command) rows.0 (nothing_found words none) rows.1
 
-one_taken : (command : Text) (words : List Text) (name : Text) → AreTakenFor command words None → AreTakenFor command words (Some name) → ⊥
+one_taken : (command : Command) (words : List Text) (name : Text) → AreTakenFor command words None → AreTakenFor command words (Some name) → ⊥
 one_taken command words name (taken, rows, at, none) (again, others, be, some) =
-    let same : rows ≡ others = one_rows (subcommand_of grove_command words) command command rows others at be in
+    let same : rows ≡ others = one_rows (subcommand_of grove_command words) (word_of command) (word_of command) rows others at be in
     none_named (first_of (codes "DOC") rows) name none (ap (first_of (codes "DOC")) same ∙ some)
 
 one_name : (command : Command) (words : List Text) (name : Text) → AreFor command words None → AreFor command words (Some name) → ⊥
-one_name command words name none some = one_taken (word_of command) words name (taken_as command words None none) (taken_as command words (Some name) some)
+one_name command words name none some = one_taken command words name (taken_as command words None none) (taken_as command words (Some name) some)
 
 -- two orders that the same words ask for have one command
 pub same_command : (words : List Text) (a b : Order) → AskFor words a → AskFor words b → a.command ≡ b.command
@@ -242,18 +243,6 @@ serves_placed Draw serving = absurd (cc)
 serves_placed Run serving = absurd (cc)
 serves_placed Audit serving = absurd (cc)
 
--- words for a command that has a place give it
-place_given : (command : Command) (words : List Text) (document : Option Text) → has_place command ≡ true → AreFor command words document → (place : Place) × GivePlace words place
-place_given Serve words document placed are = (are.1, are.2)
-place_given Page words document placed are = (are.1, are.2)
-place_given Ask words document placed are = (are.1, are.2)
-place_given Judge words document placed are = absurd (cc)
-place_given Check words document placed are = absurd (cc)
-place_given Plan words document placed are = absurd (cc)
-place_given Draw words document placed are = absurd (cc)
-place_given Run words document placed are = absurd (cc)
-place_given Audit words document placed are = absurd (cc)
-
 -- words for such a command without a place are no order
 pub placeless : (words : List Text) → (subcommand_of grove_command words ≡ None → ⊥)
     → ((word : Text) (rows : List Row) → subcommand_of grove_command words ≡ Some (word, rows) → has_place (command_named word) ≡ true)
@@ -262,7 +251,7 @@ placeless words some placed nowhere order (inr (none, judge, nameless)) = some (
 placeless words some placed nowhere order (inl are) =
     let found : HasRows order.command words = found_for order.command words (text_of order.document) are in
     let is : has_place order.command ≡ true = ap has_place (sym (is_one_of order.command).named) ∙ placed (word_of order.command) found.0 found.1 in
-    let given = place_given order.command words (text_of order.document) is are in
+    let given = are.1 is in
     nowhere given.0 given.1
 
 -- what words are told that aren't an order
@@ -302,6 +291,6 @@ shown_told words error (inr version) (inr nowhere) = absurd (not_both (fault_of 
 
 -- and where they serve, they do at the place that was found
 pub served_at : (words : List Text) (found : Order) (place : Option Place) → AskFor words found → serves found.command ≡ true
-    → IsSomeAnd place (IsPlaceIn (subcommand_of grove_command words)) → IsSomeAnd place (AskToServe words)
+    → IsSomeAnd place (GivePlace words) → IsSomeAnd place (AskToServe words)
 served_at words found None asks serves at = absurd at
 served_at words found (Some place) asks serves at = (found, asks, serves, at)

@@ -1,13 +1,15 @@
--- The word that clap finds is the command's, and the place is the one that its texts write. It, the workers and the form are those of the command.
-use Rattle.std.proofs.Common.{◌≡◌, ◌∙◌, ℕ, ap, ◌<◌, ◌⊎◌, Bool, codes, List, [], unwrap_or, Option, Some, None, Result, Ok, Err, IfSome, IsSomeAnd, inl, inr, option_map, refl, subst, sym, arith}
+-- The word that clap finds is the command's, and the place is the one that its texts write. What an order says by the texts of a command, it says by the words.
+use Rattle.std.proofs.Common.{◌≡◌, ◌∙◌, ℕ, ap, ◌<◌, ◌⊎◌, codes, false, List, [], true, unwrap_or, Option, Some, None, Result, Ok, Err, IfSome, IsSomeAnd, inl, inr, option_map, refl, subst, sym, arith}
+use Rattle.std.specs.Prelude.{option_and_then}
 use Rattle.std.specs.Net.Grammar.{IsIpText, Parses}
 use Rattle.std.specs.Str.Parse.{ParsesUnsigned, digits_value, without_leading_plus}
 use Rattle.std.specs.declared.net.ip_addr.IpAddr.{IpAddr}
-use Rattle.clap.specs.Words.{ReadsOne, Row, Text, all_of, one_of}
-use Rattle.grove_words.specs.declared.order.Form.{Form}
-use Rattle.grove_words.specs.declared.order.Patience.{Patience}
+use Rattle.clap.specs.Words.{ReadsOne, Row, Text, all_of, one_of, subcommand_of}
+use Rattle.grove_words.specs.declared.order.Form.TheVariants.{Svg, Text as Written}
+use Rattle.grove_words.specs.declared.order.Order.{Order}
 use Rattle.grove_words.specs.declared.order.Place.{Place}
-use Rattle.grove_words.specs.CommandLines.{lines_in, IsPatience, IsPatienceIn, IsPlace, IsPlaceIn, AreWorkers, AreWorkersIn, IsForm, IsFormIn, IsSet, IsSetIn, Writes}
+use Rattle.grove_words.specs.CommandLines.{grove_command, lines_given, text_given, AreWorkers, Chooses, IsIdle, IsPlace, Writes}
+use Rattle.grove_words.specs.Steps.{Says}
 
 -- an address that is read is what its text writes
 address_read : {E : Type 0} (gives : Text → Result IpAddr E → Type 0) (found : Option Text) (address : Option IpAddr) → (found ≡ None → address ≡ None)
@@ -79,69 +81,54 @@ pub place_unread : {E F : Type 0} (gives : Text → Result IpAddr E → Type 0) 
 place_unread gives offers bound ported address port text parses ported_text reads (inl none) p is = address_unread gives bound address text parses none p.address is.0
 place_unread gives offers bound ported address port text parses ported_text reads (inr none) p is = port_unread offers ported port ported_text reads none p.port is.1
 
--- among a command's rows the place is that of the command
-pub place_among : (found : Option (Text × List Row)) (rows : List Row) (place : Place) → Some rows ≡ option_map (λ f. f.1) found
-    → IsPlace (one_of (codes "address") rows) (one_of (codes "port") rows) place → IsPlaceIn found place
-place_among None rows place at is = absurd (cc)
-place_among (Some (word, below)) rows place at is =
+-- the text under a name among a command's rows is the one that the words give
+pub text_among : (words : List Text) (found : Option (Text × List Row)) (rows : List Row) (name : Text) → Some rows ≡ option_map (λ f. f.1) found
+    → found ≡ subcommand_of grove_command words → one_of name rows ≡ text_given words name
+text_among words None rows name at is = absurd (cc)
+text_among words (Some (word, below)) rows name at is =
     let same : rows ≡ below = cc in
-    subst (λ r. IsPlace (one_of (codes "address") r) (one_of (codes "port") r) place) same is
+    ap (one_of name) same ∙ ap (option_and_then (λ (f : Text × List Row). one_of name f.1)) is
 
-pub places_among : (found : Option (Text × List Row)) (rows : List Row) (bound ported : Option Text) (place : Option Place) → Some rows ≡ option_map (λ f. f.1) found
-    → bound ≡ one_of (codes "address") rows → ported ≡ one_of (codes "port") rows → IsSomeAnd place (IsPlace bound ported) → IsSomeAnd place (IsPlaceIn found)
-places_among found rows bound ported None at address port is = absurd is
-places_among found rows bound ported (Some place) at address port is =
-    place_among found rows place at (subst (λ t. IsPlace (one_of (codes "address") rows) t place) port (subst (λ t. IsPlace t ported place) address is))
+-- what an order says by some texts, it says by the same texts
+pub says_same : (texts others : Text → Option Text) (order : Order) → ((name : Text) → texts name ≡ others name) → Says texts order → Says others order
+says_same texts others order same says = record {
+  workers = subst (λ t. AreWorkers t order.workers) (same (codes "workers")) says.workers;
+  form = subst (λ t. Chooses Written Svg t order.form) (same (codes "text")) says.form;
+  in_document = subst (λ t. Chooses true false t order.in_document) (same (codes "document")) says.in_document;
+  explain = subst (λ t. Chooses true false t order.explain) (same (codes "explain")) says.explain;
+  verbose = subst (λ t. Chooses true false t order.verbose) (same (codes "verbose")) says.verbose;
+  idle = subst (λ t. IsIdle t order.patience.idle) (same (codes "idle")) says.idle;
+  busy = subst (λ t. Chooses true false t order.patience.tells_busy) (same (codes "busy")) says.busy;
+  place = λ placed. subst (λ t. IsSomeAnd order.place (IsPlace t (others (codes "port")))) (same (codes "address"))
+      (subst (λ t. IsSomeAnd order.place (IsPlace (texts (codes "address")) t)) (same (codes "port")) (says.place placed));
+}
 
--- and none but that
-pub place_below : (found : Option (Text × List Row)) (rows : List Row) (place : Place) → Some rows ≡ option_map (λ f. f.1) found
-    → IsPlaceIn found place → IsPlace (one_of (codes "address") rows) (one_of (codes "port") rows) place
-place_below None rows place at is = absurd (cc)
-place_below (Some (word, below)) rows place at is =
-    let same : below ≡ rows = cc in
-    subst (λ r. IsPlace (one_of (codes "address") r) (one_of (codes "port") r) place) same is
+-- without a command an order says what it does by no text
+pub says_bare : (words : List Text) (found : Option (Text × List Row)) (order : Order) → None ≡ option_map (λ f. f.1) found → found ≡ subcommand_of grove_command words
+    → Says (λ name. None) order → Says (text_given words) order
+says_bare words None order none is says =
+    says_same (λ name. None) (text_given words) order (λ name. ap (option_and_then (λ (f : Text × List Row). one_of name f.1)) is) says
+says_bare words (Some f) order none is says = absurd (cc)
 
--- and so are the workers among them
-pub workers_among : (found : Option (Text × List Row)) (rows : List Row) (workers : ℕ) → Some rows ≡ option_map (λ f. f.1) found
-    → AreWorkers (one_of (codes "workers") rows) workers → AreWorkersIn found workers
-workers_among None rows workers at are = absurd (cc)
-workers_among (Some (word, below)) rows workers at are =
+-- the lines of a command, of what clap found
+abbrev lines_of : Option (Text × List Row) → List Text
+lines_of found = unwrap_or (option_and_then (λ (f : Text × List Row). all_of (codes "LINE") f.1) found) []
+
+-- those among a command's rows are the lines that the words give
+pub lines_among : (words : List Text) (found : Option (Text × List Row)) (rows : List Row) → Some rows ≡ option_map (λ f. f.1) found
+    → found ≡ subcommand_of grove_command words → unwrap_or (all_of (codes "LINE") rows) [] ≡ lines_given words
+lines_among words None rows at is = absurd (cc)
+lines_among words (Some (word, below)) rows at is =
     let same : rows ≡ below = cc in
-    subst (λ r. AreWorkers (one_of (codes "workers") r) workers) same are
+    ap (λ r. unwrap_or (all_of (codes "LINE") r) []) same ∙ ap lines_of is
 
--- and so is the form
-pub form_among : (found : Option (Text × List Row)) (rows : List Row) (form : Form) → Some rows ≡ option_map (λ f. f.1) found
-    → IsForm (one_of (codes "text") rows) form → IsFormIn found form
-form_among None rows form at is = absurd (cc)
-form_among (Some (word, below)) rows form at is =
-    let same : rows ≡ below = cc in
-    subst (λ r. IsForm (one_of (codes "text") r) form) same is
+-- and without a command there are none
+pub no_lines : (words : List Text) (found : Option (Text × List Row)) → None ≡ option_map (λ f. f.1) found → found ≡ subcommand_of grove_command words
+    → [] ≡ lines_given words
+no_lines words None none is = ap lines_of is
+no_lines words (Some f) none is = absurd (cc)
 
--- and so is a flag
-pub flag_among : (name : Text) (found : Option (Text × List Row)) (rows : List Row) (flag : Bool) → Some rows ≡ option_map (λ f. f.1) found
-    → IsSet (one_of name rows) flag → IsSetIn name found flag
-flag_among name None rows flag at is = absurd (cc)
-flag_among name (Some (word, below)) rows flag at is =
-    let same : rows ≡ below = cc in
-    subst (λ r. IsSet (one_of name r) flag) same is
-
--- and so is the patience
-pub patience_among : (found : Option (Text × List Row)) (rows : List Row) (patience : Patience) → Some rows ≡ option_map (λ f. f.1) found
-    → IsPatience (one_of (codes "idle") rows) (one_of (codes "busy") rows) patience → IsPatienceIn found patience
-patience_among None rows patience at is = absurd (cc)
-patience_among (Some (word, below)) rows patience at is =
-    let same : rows ≡ below = cc in
-    subst (λ r. IsPatience (one_of (codes "idle") r) (one_of (codes "busy") r) patience) same is
-
--- and so are the lines
-pub lines_below : (found : Option (Text × List Row)) (rows : List Row) → Some rows ≡ option_map (λ f. f.1) found
-    → unwrap_or (all_of (codes "LINE") rows) [] ≡ lines_in found
-lines_below None rows at = absurd (cc)
-lines_below (Some (word, below)) rows at =
-    let same : rows ≡ below = cc in
-    ap (λ r. unwrap_or (all_of (codes "LINE") r) []) same
-
--- and so is the word
+-- the word that clap finds is the command's
 pub word_among : {A B : Type 0} (name : A → Text) (below : A → B) (found : Option A) (word other : Text) (rows : B) → Some word ≡ option_map name found
     → option_map {U = Text × B} (λ a. (name a, below a)) found ≡ Some (other, rows) → word ≡ other
 word_among name below None word other rows is at = absurd (cc)

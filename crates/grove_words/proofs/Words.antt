@@ -9,7 +9,10 @@ use Rattle.clap.specs.Simple.{help_rule, version_rule, filled, with_index}
 use Rattle.clap.specs.Walk.{Held, idle, word_met, bundle_met, plain, value, arg_by_long, arg_by_short, settled, reacted}
 use Rattle.clap.specs.Faults.{flag_word_fault, long_fault, short_fault, flags_fault, settle_fault, use_fault, react_fault}
 use Rattle.clap.specs.Kinds.{or_else, Kinds}
-use Rattle.grove_words.specs.CommandLines.{address_rule, busy_rule, document_rule, explain_rule, idle_rule, lines_rule, port_rule, server_address_rule, server_port_rule, text_rule, tree_rule, verbose_rule, workers_rule, hyphens, is_option}
+use Rattle.grove_words.specs.CommandLines.{flag, is_option}
+
+abbrev pub hyphens : Text
+hyphens = codes "--"
 
 -- some kind is among them
 abbrev pub IsFaulty : Kinds → Type 0
@@ -38,23 +41,7 @@ abbrev pub top_rules : List Rule
 top_rules = help_option ∷ version_option ∷ []
 
 abbrev pub leaf_rules : List Rule
-leaf_rules = document_argument ∷ filled explain_rule ∷ help_option ∷ []
-
-abbrev pub drawing_rules : List Rule
-drawing_rules = document_argument ∷ filled explain_rule ∷ filled text_rule ∷ help_option ∷ []
-
-abbrev pub planning_rules : List Rule
-planning_rules = document_argument ∷ filled explain_rule ∷ filled document_rule ∷ help_option ∷ []
-
-abbrev pub batch_rules : List Rule
-batch_rules = document_argument ∷ filled explain_rule ∷ with_index 1 (filled workers_rule) ∷ help_option ∷ []
-
-abbrev pub port_rules : List Rule
-port_rules =
-    filled tree_rule ∷ filled port_rule ∷ filled address_rule ∷ filled explain_rule ∷ filled workers_rule ∷ filled idle_rule ∷ filled busy_rule ∷ filled verbose_rule ∷ help_option ∷ []
-
-abbrev pub asking_rules : List Rule
-asking_rules = filled server_port_rule ∷ filled server_address_rule ∷ filled explain_rule ∷ with_index 1 (filled lines_rule) ∷ help_option ∷ []
+leaf_rules = document_argument ∷ filled (flag (codes "explain")) ∷ help_option ∷ []
 
 -- they are asked for, and no order is given
 

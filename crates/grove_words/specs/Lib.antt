@@ -1,3 +1,4 @@
 pub mod CommandLines
 pub mod NoOrders
 pub mod Refusals
+pub mod Steps

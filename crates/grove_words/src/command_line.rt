@@ -1,8 +1,9 @@
-ghost use Rattle.std.specs.Prelude.{◌≡◌, ◌≤◌, ◌⊎◌, ℕ, List, [], true, codes, map, Some, None, IfOk, IfErr, IfSome, IsErrAnd, IsSomeAnd, string_bytes, unwrap_or};
+ghost use Rattle.std.specs.Prelude.{◌≡◌, ◌≤◌, ◌⊎◌, ℕ, List, [], true, false, codes, map, Some, None, IfOk, IfErr, IfSome, IsErrAnd, IsSomeAnd, string_bytes, unwrap_or};
 ghost use Rattle.clap.specs.Words.{HasKind, Row, all_of, rows_of, fault_of, first_of, first_value, found_of, kind_of, one_text, subcommand_of, subcommand_rows_of};
-ghost use Rattle.grove_words.specs.CommandLines.{command_named, grove_command, AreWorkers, AreWorkersIn, has_place, lines_given, lines_in, serves, AreWrong, AskFor, AskForDocument, AskForForm, AskForPatience, AskForWorkers, AskToExplain, AskToServe, AskToShow, AskToTell, GivePlace, IsForm, IsFormIn, IsIdle, IsPatience, IsPatienceIn, IsPlace, IsPlaceIn, IsSet, IsSetIn, text_of};
+ghost use Rattle.grove_words.specs.CommandLines.{grove_command, AreWorkers, has_place, lines_given, serves, AreWrong, AskFor, AskForDocument, AskForForm, AskForPatience, AskForWorkers, AskToExplain, AskToServe, AskToShow, AskToTell, Chooses, GivePlace, IsIdle, IsPlace, text_given, text_of};
 ghost use Rattle.grove_words.specs.NoOrders.{HasText, TellsShown, TellsWrong};
 ghost use Rattle.grove_words.specs.Refusals.{IsNowhere};
+ghost use Rattle.grove_words.specs.Steps.{command_named, Says};
 
 use crate::definitions::command_line;
 use crate::no_order::{NoOrder, no_order};
@@ -64,7 +65,8 @@ fn lines_among<'a>(alloc: Global, words: &'a [String]) -> Result<Vec<&'a str>, E
 
 /// The lines that were found.
 fn lines_in<'a>(alloc: Global, matches: &ArgMatches<'a>) -> Result<Vec<&'a str>, AllocError>
-    ensures { IfOk result (λ lines. map (λ line. line.now) lines.items ≡ lines_in (subcommand_rows_of matches.now)) }
+    ensures { (words : List (List ℕ)) → subcommand_rows_of matches.now ≡ subcommand_of grove_command words
+        → IfOk result (λ lines. map (λ line. line.now) lines.items ≡ lines_given words) }
 {
     match matches.subcommand() {
         Some((_word, given)) => lines_given(alloc, given),
@@ -94,14 +96,8 @@ fn copied<'a>(alloc: Global, lines: &[&'a str]) -> Result<Vec<&'a str>, AllocErr
 fn order_among<'a>(alloc: Global, words: &'a [String]) -> Result<Order<'a>, Error>
     ensures asked { IfOk result (AskFor (map string_bytes words.now)) }
     ensures workers { IfOk result (λ order. (1 ≤ order.workers) × (order.workers ≤ 16)) }
-    ensures given { IfOk result (λ order. AreWorkersIn (subcommand_of grove_command (map string_bytes words.now)) order.workers) }
-    ensures form { IfOk result (λ order. IsFormIn (subcommand_of grove_command (map string_bytes words.now)) order.form) }
-    ensures in_document { IfOk result (λ order. IsSetIn (codes "document") (subcommand_of grove_command (map string_bytes words.now)) order.in_document) }
-    ensures explain { IfOk result (λ order. IsSetIn (codes "explain") (subcommand_of grove_command (map string_bytes words.now)) order.explain) }
-    ensures verbose { IfOk result (λ order. IsSetIn (codes "verbose") (subcommand_of grove_command (map string_bytes words.now)) order.verbose) }
-    ensures patience { IfOk result (λ order. IsPatienceIn (subcommand_of grove_command (map string_bytes words.now)) order.patience) }
     ensures idle { IfOk result (λ order. IfSome order.patience.idle (λ seconds. (1 ≤ seconds) × (seconds ≤ 86400))) }
-    ensures place { IfOk result (λ order. has_place order.command ≡ true → IsSomeAnd order.place (IsPlaceIn (subcommand_of grove_command (map string_bytes words.now)))) }
+    ensures said { IfOk result (Says (text_given (map string_bytes words.now))) }
     ensures refused { IfErr result (λ error. HasKind (fault_of grove_command (map string_bytes words.now)) error ⊎ IsNowhere (map string_bytes words.now) error) }
 {
     let matches = command_line(alloc)?.try_get_matches_from(words)?;
@@ -127,17 +123,12 @@ fn order_in<'a>(matches: &ArgMatches<'a>) -> Option<Order<'a>>
     ensures document { (word : List ℕ) (rows : List Row) → subcommand_rows_of matches.now ≡ Some (word, rows)
         → IfSome result (λ order. text_of order.document ≡ first_of (codes "DOC") rows) }
     ensures workers { IfSome result (λ order. (1 ≤ order.workers) × (order.workers ≤ 16)) }
-    ensures given { IfSome result (λ order. AreWorkersIn (subcommand_rows_of matches.now) order.workers) }
-    ensures form { IfSome result (λ order. IsFormIn (subcommand_rows_of matches.now) order.form) }
-    ensures in_document { IfSome result (λ order. IsSetIn (codes "document") (subcommand_rows_of matches.now) order.in_document) }
-    ensures explain { IfSome result (λ order. IsSetIn (codes "explain") (subcommand_rows_of matches.now) order.explain) }
-    ensures verbose { IfSome result (λ order. IsSetIn (codes "verbose") (subcommand_rows_of matches.now) order.verbose) }
-    ensures patience { IfSome result (λ order. IsPatienceIn (subcommand_rows_of matches.now) order.patience) }
     ensures idle { IfSome result (λ order. IfSome order.patience.idle (λ seconds. (1 ≤ seconds) × (seconds ≤ 86400))) }
-    ensures place { IfSome result (λ order. has_place order.command ≡ true → IsSomeAnd order.place (IsPlaceIn (subcommand_rows_of matches.now))) }
+    ensures said { (words : List (List ℕ)) → subcommand_rows_of matches.now ≡ subcommand_of grove_command words → IfSome result (Says (text_given words)) }
     ensures placed { result ≡ None → (word : List ℕ) (rows : List Row) → subcommand_rows_of matches.now ≡ Some (word, rows)
         → has_place (command_named word) ≡ true }
-    ensures nowhere { result ≡ None → (place : Place) → ¬ IsPlaceIn (subcommand_rows_of matches.now) place }
+    ensures nowhere { result ≡ None → (words : List (List ℕ)) → subcommand_rows_of matches.now ≡ subcommand_of grove_command words
+        → (place : Place) → ¬ GivePlace words place }
 {
     match matches.subcommand() {
         Some((word, given)) => order_with(word, given),
@@ -163,15 +154,8 @@ fn order_with<'a>(word: &str, given: &ArgMatches<'a>) -> Option<Order<'a>>
     ensures command { IfSome result (λ order. order.command ≡ command_named word.now) }
     ensures document { IfSome result (λ order. text_of order.document ≡ first_value (found_of given.now) (codes "DOC")) }
     ensures workers { IfSome result (λ order. (1 ≤ order.workers) × (order.workers ≤ 16)) }
-    ensures given { IfSome result (λ order. AreWorkers (one_text (found_of given.now) (codes "workers")) order.workers) }
-    ensures form { IfSome result (λ order. IsForm (one_text (found_of given.now) (codes "text")) order.form) }
-    ensures in_document { IfSome result (λ order. IsSet (one_text (found_of given.now) (codes "document")) order.in_document) }
-    ensures explain { IfSome result (λ order. IsSet (one_text (found_of given.now) (codes "explain")) order.explain) }
-    ensures verbose { IfSome result (λ order. IsSet (one_text (found_of given.now) (codes "verbose")) order.verbose) }
-    ensures patience { IfSome result (λ order. IsPatience (one_text (found_of given.now) (codes "idle")) (one_text (found_of given.now) (codes "busy")) order.patience) }
     ensures idle { IfSome result (λ order. IfSome order.patience.idle (λ seconds. (1 ≤ seconds) × (seconds ≤ 86400))) }
-    ensures place { IfSome result (λ order. has_place order.command ≡ true
-        → IsSomeAnd order.place (IsPlace (one_text (found_of given.now) (codes "address")) (one_text (found_of given.now) (codes "port")))) }
+    ensures said { IfSome result (Says (one_text (found_of given.now))) }
     ensures placed { result ≡ None → has_place (command_named word.now) ≡ true }
     ensures nowhere { result ≡ None → (place : Place) → ¬ IsPlace (one_text (found_of given.now) (codes "address")) (one_text (found_of given.now) (codes "port")) place }
 {
@@ -189,7 +173,10 @@ fn order_with<'a>(word: &str, given: &ArgMatches<'a>) -> Option<Order<'a>>
         in_document: is_set(given, "document"),
         explain: is_set(given, "explain"),
         verbose: is_set(given, "verbose"),
-        patience: patience_in(given),
+        patience: Patience {
+            idle: idle_in(given),
+            tells_busy: is_set(given, "busy"),
+        },
     })
 }
 
@@ -223,17 +210,6 @@ fn workers_in(given: &ArgMatches<'_>) -> u32
     workers.max(1).min(MOST_WORKERS)
 }
 
-/// The patience that the words of a command give.
-fn patience_in(given: &ArgMatches<'_>) -> Patience
-    ensures given { IsPatience (one_text (found_of given.now) (codes "idle")) (one_text (found_of given.now) (codes "busy")) result }
-    ensures within { IfSome result.idle (λ seconds. (1 ≤ seconds) × (seconds ≤ 86400)) }
-{
-    Patience {
-        idle: idle_in(given),
-        tells_busy: is_set(given, "busy"),
-    }
-}
-
 /// The seconds that a connection may idle. Clap lets none but those from 1 to 86,400 through.
 fn idle_in(given: &ArgMatches<'_>) -> Option<u32>
     ensures given { IsIdle (one_text (found_of given.now) (codes "idle")) result }
@@ -245,14 +221,14 @@ fn idle_in(given: &ArgMatches<'_>) -> Option<u32>
 
 /// Whether a flag is set.
 fn is_set(given: &ArgMatches<'_>, flag: &str) -> bool
-    ensures { IsSet (one_text (found_of given.now) flag.now) result }
+    ensures { Chooses true false (one_text (found_of given.now) flag.now) result }
 {
     given.get_flag(flag)
 }
 
 /// The form of a drawing, for a command that has one.
 fn form_in(given: &ArgMatches<'_>) -> Form
-    ensures { IsForm (one_text (found_of given.now) (codes "text")) result }
+    ensures { Chooses Form.Text Form.Svg (one_text (found_of given.now) (codes "text")) result }
 {
     if given.get_flag("text") {
         Form::Text

@@ -1,7 +1,6 @@
-use Rattle.std.proofs.Common.{rules, [], IsSomeAnd, ◌≡◌, ◌∙◌, ap, codes, inr, refl, sym, subst, map, string_bytes}
+use Rattle.std.proofs.Common.{rules, [], ◌≡◌, ◌∙◌, ap, inr, refl, sym, subst, map, string_bytes}
 use Rattle.clap.specs.Words.{App, HasKind, app_of, is_simple, is_simple_and_free, subcommand_of, subcommand_rows_of, fault_of}
-use Rattle.grove_words.specs.declared.order.Place.{Place}
-use Rattle.grove_words.specs.CommandLines.{grove_command, AreWorkersIn, IsFormIn, IsPatienceIn, IsPlaceIn, IsSetIn}
+use Rattle.grove_words.specs.CommandLines.{grove_command}
 use Rattle.grove_words.proofs.Asking.{is_simple_line, is_free_line, line_reads, place_told}
 use Rattle.grove_words.proofs.Orders.{placeless}
 use Rattle.grove_words.proofs.command_line.order_among.Goals as goal
@@ -18,57 +17,14 @@ returns-in-Some-clause-asked c =
       bare = λ none. c.in-Some.ensures.bare (rows ∙ none);
       command = λ word below at. c.in-Some.ensures.command word below (rows ∙ at);
       document = λ word below at. c.in-Some.ensures.document word below (rows ∙ at);
-      place = λ serves. subst (λ found. (p : Place) × IsPlaceIn found p) rows (place_told (subcommand_rows_of c.in_ok-matches.matches) c.in-Some.order.place (c.in-Some.ensures.place serves));
+      place = λ placed. place_told words c.in-Some.order.place ((c.in-Some.ensures.said words rows).place placed);
     })
 
-pub returns-in-Some-clause-given : goal.returns-in-Some-clause-given
-returns-in-Some-clause-given c =
+pub returns-in-Some-clause-said : goal.returns-in-Some-clause-said
+returns-in-Some-clause-said c =
     let words = map string_bytes c.args.words.now in
     let line : app_of c.in_ok-command_line.field-0 ≡ grove_command = c.in_ok-command_line.ensures in
-    let rows : subcommand_rows_of c.in_ok-matches.matches ≡ subcommand_of grove_command words = (c.in_ok-matches.ensures.matches (ap is_simple line ∙ is_simple_line)).1 ∙ ap (λ (app : App). subcommand_of app words) line in
-    subst (λ found. AreWorkersIn found c.in-Some.order.workers) rows c.in-Some.ensures.given
-
-pub returns-in-Some-clause-form : goal.returns-in-Some-clause-form
-returns-in-Some-clause-form c =
-    let words = map string_bytes c.args.words.now in
-    let line : app_of c.in_ok-command_line.field-0 ≡ grove_command = c.in_ok-command_line.ensures in
-    let rows : subcommand_rows_of c.in_ok-matches.matches ≡ subcommand_of grove_command words = (c.in_ok-matches.ensures.matches (ap is_simple line ∙ is_simple_line)).1 ∙ ap (λ (app : App). subcommand_of app words) line in
-    subst (λ found. IsFormIn found c.in-Some.order.form) rows c.in-Some.ensures.form
-
-pub returns-in-Some-clause-in_document : goal.returns-in-Some-clause-in_document
-returns-in-Some-clause-in_document c =
-    let words = map string_bytes c.args.words.now in
-    let line : app_of c.in_ok-command_line.field-0 ≡ grove_command = c.in_ok-command_line.ensures in
-    let rows : subcommand_rows_of c.in_ok-matches.matches ≡ subcommand_of grove_command words = (c.in_ok-matches.ensures.matches (ap is_simple line ∙ is_simple_line)).1 ∙ ap (λ (app : App). subcommand_of app words) line in
-    subst (λ found. IsSetIn (codes "document") found c.in-Some.order.in_document) rows c.in-Some.ensures.in_document
-
-pub returns-in-Some-clause-explain : goal.returns-in-Some-clause-explain
-returns-in-Some-clause-explain c =
-    let words = map string_bytes c.args.words.now in
-    let line : app_of c.in_ok-command_line.field-0 ≡ grove_command = c.in_ok-command_line.ensures in
-    let rows : subcommand_rows_of c.in_ok-matches.matches ≡ subcommand_of grove_command words = (c.in_ok-matches.ensures.matches (ap is_simple line ∙ is_simple_line)).1 ∙ ap (λ (app : App). subcommand_of app words) line in
-    subst (λ found. IsSetIn (codes "explain") found c.in-Some.order.explain) rows c.in-Some.ensures.explain
-
-pub returns-in-Some-clause-verbose : goal.returns-in-Some-clause-verbose
-returns-in-Some-clause-verbose c =
-    let words = map string_bytes c.args.words.now in
-    let line : app_of c.in_ok-command_line.field-0 ≡ grove_command = c.in_ok-command_line.ensures in
-    let rows : subcommand_rows_of c.in_ok-matches.matches ≡ subcommand_of grove_command words = (c.in_ok-matches.ensures.matches (ap is_simple line ∙ is_simple_line)).1 ∙ ap (λ (app : App). subcommand_of app words) line in
-    subst (λ found. IsSetIn (codes "verbose") found c.in-Some.order.verbose) rows c.in-Some.ensures.verbose
-
-pub returns-in-Some-clause-patience : goal.returns-in-Some-clause-patience
-returns-in-Some-clause-patience c =
-    let words = map string_bytes c.args.words.now in
-    let line : app_of c.in_ok-command_line.field-0 ≡ grove_command = c.in_ok-command_line.ensures in
-    let rows : subcommand_rows_of c.in_ok-matches.matches ≡ subcommand_of grove_command words = (c.in_ok-matches.ensures.matches (ap is_simple line ∙ is_simple_line)).1 ∙ ap (λ (app : App). subcommand_of app words) line in
-    subst (λ found. IsPatienceIn found c.in-Some.order.patience) rows c.in-Some.ensures.patience
-
-pub returns-in-Some-clause-place : goal.returns-in-Some-clause-place
-returns-in-Some-clause-place c serves =
-    let words = map string_bytes c.args.words.now in
-    let line : app_of c.in_ok-command_line.field-0 ≡ grove_command = c.in_ok-command_line.ensures in
-    let rows : subcommand_rows_of c.in_ok-matches.matches ≡ subcommand_of grove_command words = (c.in_ok-matches.ensures.matches (ap is_simple line ∙ is_simple_line)).1 ∙ ap (λ (app : App). subcommand_of app words) line in
-    subst (λ found. IsSomeAnd c.in-Some.order.place (IsPlaceIn found)) rows (c.in-Some.ensures.place serves)
+    c.in-Some.ensures.said words ((c.in_ok-matches.ensures.matches (ap is_simple line ∙ is_simple_line)).1 ∙ ap (λ (app : App). subcommand_of app words) line)
 
 pub returns-clause-refused : goal.returns-clause-refused
 returns-clause-refused c =
@@ -81,7 +37,7 @@ returns-clause-refused c =
       c.in_ok-nowhere-in-None.ensures,
       taken,
       placeless words (λ none. c.in-None.ensures.bare (rows ∙ none)) (λ word below at. c.in-None.ensures.placed refl word below (rows ∙ at))
-          (λ place is. c.in-None.ensures.nowhere refl place (subst (λ found. IsPlaceIn found place) (sym rows) is)),
+          (c.in-None.ensures.nowhere refl words rows),
     )
 
 pub returns-in_err-matches-clause-refused : goal.returns-in_err-matches-clause-refused

@@ -1,11 +1,12 @@
-use Rattle.std.proofs.Common.{◌≡◌, ◌∙◌, ap, sym, subst, codes, Some, option_map}
+use Rattle.std.proofs.Common.{◌≡◌, ◌∙◌, ap, refl, sym, subst, codes, Some, option_map}
 use Rattle.std.proofs.lemmas.Option.{IfSome_then}
-use Rattle.clap.specs.Words.{found_of, first_of, one_of, one_text, subcommand_rows_of}
+use Rattle.clap.specs.Words.{found_of, first_of, one_text, subcommand_rows_of}
 use Rattle.clap.specs.declared.parser.matches.ArgMatches.TheViews.{out-ArgMatches}
 use Rattle.clap.specs.Walk.{rows_of}
 use Rattle.clap.proofs.WalkLemmas.{first_value-rows, one_text-rows}
-use Rattle.grove_words.specs.CommandLines.{command_named, AreWorkers, IsForm, IsPatience, IsPlace, IsSet}
-use Rattle.grove_words.proofs.Ports.{place_below, places_among, workers_among, flag_among, form_among, patience_among, word_among}
+use Rattle.grove_words.specs.CommandLines.{text_given, IsPlace}
+use Rattle.grove_words.specs.Steps.{command_named}
+use Rattle.grove_words.proofs.Ports.{says_bare, says_same, text_among, word_among}
 use Rattle.grove_words.proofs.command_line.order_in.Goals as goal
 
 pub returns-in-Some-clause-document : goal.returns-in-Some-clause-document
@@ -14,57 +15,25 @@ returns-in-Some-clause-document c word rows at =
     let same : rows_of (found_of c.in-Some.given.now) ≡ rows = cc in
     IfSome_then c.order_with.result c.order_with.ensures.document (λ order is. is ∙ first_value-rows (found_of c.in-Some.given.now) (codes "DOC") ∙ ap (first_of (codes "DOC")) same)
 
-pub returns-in-Some-clause-given : goal.returns-in-Some-clause-given
-returns-in-Some-clause-given c =
-    let rows = rows_of (found_of c.in-Some.given.now) in
-    IfSome_then c.order_with.result c.order_with.ensures.given (λ order are. workers_among (subcommand_rows_of c.args.matches.now) rows order.workers c.in-Some.ensures.rows
-    (subst (λ text. AreWorkers text order.workers) (one_text-rows (found_of c.in-Some.given.now) (codes "workers")) are))
-
-pub returns-in-Some-clause-place : goal.returns-in-Some-clause-place
-returns-in-Some-clause-place c =
+pub returns-in-Some-clause-said : goal.returns-in-Some-clause-said
+returns-in-Some-clause-said c words is =
     let found = found_of c.in-Some.given.now in
-    IfSome_then c.order_with.result c.order_with.ensures.place (λ order at serves.
-    places_among (subcommand_rows_of c.args.matches.now) (rows_of found) (one_text found (codes "address")) (one_text found (codes "port")) order.place c.in-Some.ensures.rows
-    (one_text-rows found (codes "address")) (one_text-rows found (codes "port")) (at serves))
+    IfSome_then c.order_with.result c.order_with.ensures.said (λ order says. says_same (one_text found) (text_given words) order
+    (λ name. one_text-rows found name ∙ text_among words (subcommand_rows_of c.args.matches.now) (rows_of found) name c.in-Some.ensures.rows is) says)
 
 pub returns-in-Some-clause-nowhere : goal.returns-in-Some-clause-nowhere
-returns-in-Some-clause-nowhere c none place is =
+returns-in-Some-clause-nowhere c none words are place is =
     let found = found_of c.in-Some.given.now in
-    let below = place_below (subcommand_rows_of c.args.matches.now) (rows_of found) place c.in-Some.ensures.rows is in
+    let same : (name : _) → text_given words name ≡ one_text found name =
+    λ name. sym (one_text-rows found name ∙ text_among words (subcommand_rows_of c.args.matches.now) (rows_of found) name c.in-Some.ensures.rows are) in
     c.order_with.ensures.nowhere none place
-    (subst (λ t. IsPlace (one_text found (codes "address")) t place) (sym (one_text-rows found (codes "port")))
-    (subst (λ t. IsPlace t (one_of (codes "port") (rows_of found)) place) (sym (one_text-rows found (codes "address"))) below))
+    (subst (λ t. IsPlace (one_text found (codes "address")) t place) (same (codes "port"))
+    (subst (λ t. IsPlace t (text_given words (codes "port")) place) (same (codes "address")) is))
 
-pub returns-in-Some-clause-form : goal.returns-in-Some-clause-form
-returns-in-Some-clause-form c =
-    let rows = rows_of (found_of c.in-Some.given.now) in
-    IfSome_then c.order_with.result c.order_with.ensures.form (λ order is. form_among (subcommand_rows_of c.args.matches.now) rows order.form c.in-Some.ensures.rows
-    (subst (λ text. IsForm text order.form) (one_text-rows (found_of c.in-Some.given.now) (codes "text")) is))
-
-pub returns-in-Some-clause-in_document : goal.returns-in-Some-clause-in_document
-returns-in-Some-clause-in_document c =
-    let rows = rows_of (found_of c.in-Some.given.now) in
-    IfSome_then c.order_with.result c.order_with.ensures.in_document (λ order is. flag_among (codes "document") (subcommand_rows_of c.args.matches.now) rows order.in_document
-    c.in-Some.ensures.rows (subst (λ text. IsSet text order.in_document) (one_text-rows (found_of c.in-Some.given.now) (codes "document")) is))
-
-pub returns-in-Some-clause-explain : goal.returns-in-Some-clause-explain
-returns-in-Some-clause-explain c =
-    let rows = rows_of (found_of c.in-Some.given.now) in
-    IfSome_then c.order_with.result c.order_with.ensures.explain (λ order is. flag_among (codes "explain") (subcommand_rows_of c.args.matches.now) rows order.explain
-    c.in-Some.ensures.rows (subst (λ text. IsSet text order.explain) (one_text-rows (found_of c.in-Some.given.now) (codes "explain")) is))
-
-pub returns-in-Some-clause-verbose : goal.returns-in-Some-clause-verbose
-returns-in-Some-clause-verbose c =
-    let rows = rows_of (found_of c.in-Some.given.now) in
-    IfSome_then c.order_with.result c.order_with.ensures.verbose (λ order is. flag_among (codes "verbose") (subcommand_rows_of c.args.matches.now) rows order.verbose
-    c.in-Some.ensures.rows (subst (λ text. IsSet text order.verbose) (one_text-rows (found_of c.in-Some.given.now) (codes "verbose")) is))
-
-pub returns-in-Some-clause-patience : goal.returns-in-Some-clause-patience
-returns-in-Some-clause-patience c =
-    let found = found_of c.in-Some.given.now in
-    IfSome_then c.order_with.result c.order_with.ensures.patience (λ order is. patience_among (subcommand_rows_of c.args.matches.now) (rows_of found) order.patience
-    c.in-Some.ensures.rows (subst (λ text. IsPatience text (one_of (codes "busy") (rows_of found)) order.patience) (one_text-rows found (codes "idle"))
-    (subst (λ text. IsPatience (one_text found (codes "idle")) text order.patience) (one_text-rows found (codes "busy")) is)))
+pub returns-in-None-clause-said : goal.returns-in-None-clause-said
+returns-in-None-clause-said c words is =
+    says_bare words (subcommand_rows_of c.args.matches.now) _ c.in-None.ensures.rows is
+    (record { workers = refl; form = refl; in_document = refl; explain = refl; verbose = refl; idle = refl; busy = refl; place = λ placed. absurd (cc) })
 
 pub returns-in-Some-clause-command : goal.returns-in-Some-clause-command
 returns-in-Some-clause-command c word rows at =

@@ -1,17 +1,17 @@
-use Rattle.std.proofs.Common.{◌≡◌, ◌∙◌, ap, ap₂, codes}
+use Rattle.std.proofs.Common.{[], Some, codes, rules}
 use Rattle.std.proofs.lemmas.Result.{IfOk-weaker}
-use Rattle.clap.specs.Words.{app_of, new_app, with_rule}
-use Rattle.clap.specs.Simple.{app_of_fields}
-use Rattle.grove_words.specs.CommandLines.{server_port_rule}
+use Rattle.clap.specs.Words.{new_rule}
+use Rattle.clap.specs.declared.builder.action.ArgAction.TheVariants.{Append}
+use Rattle.grove_words.specs.CommandLines.{command_with}
+use Rattle.grove_words.specs.Steps.{HasRule, HasShape}
+use Rattle.grove_words.proofs.Rules.{none_yet, one_more}
 use Rattle.grove_words.proofs.definitions.ask.Goals as goal
 
-pub returns-clause-app : goal.returns-clause-app
-returns-clause-app c =
-    let bare : app_of c.about.result ≡ new_app (codes "ask") = ap app_of_fields c.about.ensures ∙ c.new.ensures.app in
-    let with_port : app_of c.in_ok-arg.field-0 ≡ with_rule (new_app (codes "ask")) server_port_rule =
-    c.in_ok-arg.ensures.shape c.server_port.ensures.local ∙ ap₂ with_rule bare c.server_port.ensures.rule in
-    let with_address = c.in_ok-arg-2.ensures.shape c.server_address.ensures.local ∙ ap₂ with_rule with_port c.server_address.ensures.rule in
-    let with_explain = c.in_ok-arg-3.ensures.shape c.explain.ensures.local ∙ ap₂ with_rule with_address c.explain.ensures.rule in
-    IfOk-weaker c.arg-4.result _ _
-    (λ command added. added.shape c.lines.ensures.local ∙ ap₂ with_rule with_explain c.lines.ensures.rule)
-    c.arg-4.ensures
+pub returns : goal.returns
+returns c =
+    let bare : HasShape (command_with (codes "ask") []) c.about.result = none_yet _ _ c.new.ensures.app c.new.ensures.local c.about.ensures in
+    let lines : HasRule (record (new_rule (codes "LINE")) { action = Some Append }) c.help.result = search rules in
+    let with_port = one_more c.in_ok-arg.ensures bare c.server_port.ensures in
+    let with_address = one_more c.in_ok-arg-2.ensures with_port c.address.ensures in
+    let with_explain = one_more c.in_ok-arg-3.ensures with_address c.explain.ensures in
+    IfOk-weaker c.arg-4.result _ _ (λ command adds. one_more adds with_explain lines) c.arg-4.ensures

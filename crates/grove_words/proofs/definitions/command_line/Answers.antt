@@ -1,15 +1,16 @@
-use Rattle.std.proofs.Common.{codes}
-use Rattle.grove_words.specs.CommandLines.{asking_command, batch_command, document_command, drawing_command, no_command, planning_command, port_command, with_command}
+use Rattle.grove_words.specs.declared.order.Command.TheVariants.{Judge, Check, Plan, Draw, Run, Audit, Serve, Page, Ask}
+use Rattle.grove_words.specs.CommandLines.{shape_for}
+use Rattle.grove_words.specs.Steps.{no_command}
 use Rattle.grove_words.proofs.definitions.command_line.Goals as goal
 
 pub returns : goal.returns
 returns c =
-    let judges = c.add-judges.ensures no_command (document_command (codes "judge")) c.program.ensures.app c.judge.ensures.app in
-    let checks = c.add-checks.ensures (with_command no_command (codes "judge")) (document_command (codes "check")) judges c.check.ensures.app in
-    let plans = c.add-plans.ensures (with_command (with_command no_command (codes "judge")) (codes "check")) (planning_command (codes "plan")) checks c.plan.ensures.app in
-    let draws = c.add-draws.ensures _ (drawing_command (codes "draw")) plans c.draw.ensures.app in
-    let runs = c.add-runs.ensures _ (batch_command (codes "run")) draws c.run.ensures.app in
-    let audits = c.add-audits.ensures _ (document_command (codes "audit")) runs c.audit.ensures.app in
-    let serves = c.add-serves.ensures _ (port_command (codes "serve")) audits c.serve.ensures.app in
-    let pages = c.add-pages.ensures _ (port_command (codes "page")) serves c.page.ensures.app in
-    c.add.ensures _ (asking_command (codes "ask")) pages c.ask.ensures.app
+    let judges = c.add-judges.ensures no_command (shape_for Judge) c.program.ensures c.reading.ensures in
+    let checks = c.add-checks.ensures _ (shape_for Check) judges c.reading-2.ensures in
+    let plans = c.add-plans.ensures _ (shape_for Plan) checks c.plan.ensures in
+    let draws = c.add-draws.ensures _ (shape_for Draw) plans c.draw.ensures in
+    let runs = c.add-runs.ensures _ (shape_for Run) draws c.run.ensures in
+    let audits = c.add-audits.ensures _ (shape_for Audit) runs c.reading-3.ensures in
+    let serves = c.add-serves.ensures _ (shape_for Serve) audits c.serving.ensures in
+    let pages = c.add-pages.ensures _ (shape_for Page) serves c.serving-2.ensures in
+    c.add.ensures _ (shape_for Ask) pages c.ask.ensures

@@ -9,7 +9,7 @@ without_name a = record { top = record (a.top) { no_binary_name = true }; subs =
 abbrev with_version : App → App
 with_version a = record { top = record (a.top) { has_version = true }; subs = a.subs }
 
-pub returns-clause-app : goal.returns-clause-app
-returns-clause-app c =
+pub returns : goal.returns
+returns c =
     ap app_of_fields c.about.ensures ∙ ap app_of_fields c.no_binary_name.ensures
     ∙ ap without_name (ap app_of_fields c.version.ensures ∙ ap with_version (ap app_of_fields c.in_ok-named.ensures.0 ∙ c.new.ensures.app))
