@@ -4,12 +4,14 @@ use Rattle.std.specs.Prelude.{codes}
 use Rattle.std.proofs.lemmas.List.{length-map, length-replicate}
 use Rattle.grove_access.specs.declared.access.Access.{Access}
 use Rattle.grove_core.specs.declared.job.Job.{Job}
-use Rattle.grove_core.specs.Kept.{CoreState, past_of}
+use Rattle.grove_core.specs.declared.event.Event.{Event}
+use Rattle.grove_core.specs.Kept.{past_of}
 use Rattle.grove_core.specs.Orders.{placement_order}
-use Rattle.grove_core.specs.Runs.{IsRun, IsFinished, run_records}
+use Rattle.grove_core.specs.Runs.{run_records}
 use Rattle.grove_core.specs.declared.run_fault.RunFault.{RunFault}
 use Rattle.grove_core.specs.declared.run_fault.RunFault.TheVariants.{BadPlan, Memory, Foreign, Unfinished}
-use Rattle.grove_run.specs.Runs.{IsCoreOf, IsLegalRunFault, places_of}
+use Rattle.grove_run.specs.Runs.{FinishedState, IsLegalRunFault, places_of}
+use Rattle.grove_run.specs.FinishedRuns.{IsFinishedRun}
 use Rattle.grove_wire.specs.Names.{run_name}
 use Rattle.grove_wire.specs.Replies.{error_text}
 use Rattle.grove_store.specs.StoreStates.{StoreState}
@@ -17,23 +19,24 @@ use Rattle.grove_store.specs.Rounds.{AreSettledJobs, replies_of, waits_after, ro
 use Rattle.grove_store.specs.Parts.{texts_of, LeavesRound, AnswersRound}
 use Rattle.grove_store.proofs.Telling.{texts_by_counts, texts_long}
 
--- what the core of a finished run tells is what the jobs leave
-pub leaves_round : (before : StoreState) (jobs : List Job) (counts order : List ℕ) (core : CoreState) (replies : List (List ℕ)) (records : List ℤ) (waits : List ℕ) → IsCoreOf before.rows jobs before.records core
-    → IsRun jobs (past_of core) → IsFinished jobs (past_of core) → order ≡ placement_order before.rows jobs (past_of core)
-    → replies ≡ texts_of (before.rounds + 1) counts (places_of order (length core.jobs)) (replies_of core.jobs core.opening (past_of core))
-    → records ≡ run_records core.jobs core.opening (past_of core) → waits ≡ waits_after core.jobs (past_of core) before.waits
+-- what a finished run tells is what the jobs leave
+pub leaves_round : (before : StoreState) (jobs : List Job) (counts : List ℕ) (finished : FinishedState) (replies : List (List ℕ)) (records : List ℤ) (waits old : List ℕ) → IsFinishedRun before.rows jobs before.records finished
+    → replies ≡ texts_of (before.rounds + 1) counts (places_of finished.order (length finished.core.jobs)) (replies_of finished.core.jobs finished.core.opening (past_of finished.core))
+    → records ≡ run_records finished.core.jobs finished.core.opening (past_of finished.core) → waits ≡ waits_after finished.core.jobs (past_of finished.core) old → old ≡ before.waits
     → LeavesRound before jobs counts replies records waits
-leaves_round before jobs counts order core replies records waits of run finished placed told recorded waited = record {
-  past = past_of core;
-  run = run;
-  finished = finished;
-  told = told
-      ∙ ap (λ (os : List ℕ). texts_of (before.rounds + 1) counts (places_of os (length core.jobs)) (replies_of core.jobs core.opening (past_of core))) placed
-      ∙ ap (λ (js : List Job). texts_of (before.rounds + 1) counts (places_of (placement_order before.rows jobs (past_of core)) (length js)) (replies_of js core.opening (past_of core))) of.jobs_are
-      ∙ ap (λ (os : List ℤ). texts_of (before.rounds + 1) counts (places_of (placement_order before.rows jobs (past_of core)) (length jobs)) (replies_of jobs os (past_of core))) of.opened;
-  recorded = recorded ∙ ap (λ (js : List Job). run_records js core.opening (past_of core)) of.jobs_are ∙ ap (λ (os : List ℤ). run_records jobs os (past_of core)) of.opened;
-  waited = waited ∙ ap (λ (js : List Job). waits_after js (past_of core) before.waits) of.jobs_are;
-}
+leaves_round before jobs counts finished replies records waits old run told recorded waited same =
+    let past : List Event = past_of finished.core in
+    let of = run.batch in record {
+      past = past;
+      run = run.run;
+      finished = run.ended;
+      told = told
+          ∙ ap (λ (os : List ℕ). texts_of (before.rounds + 1) counts (places_of os (length finished.core.jobs)) (replies_of finished.core.jobs finished.core.opening past)) run.order
+          ∙ ap (λ (js : List Job). texts_of (before.rounds + 1) counts (places_of (placement_order before.rows jobs past) (length js)) (replies_of js finished.core.opening past)) of.jobs_are
+          ∙ ap (λ (os : List ℤ). texts_of (before.rounds + 1) counts (places_of (placement_order before.rows jobs past) (length jobs)) (replies_of jobs os past)) of.opened;
+      recorded = recorded ∙ ap (λ (js : List Job). run_records js finished.core.opening past) of.jobs_are ∙ ap (λ (os : List ℤ). run_records jobs os past) of.opened;
+      waited = waited ∙ ap (λ (ws : List ℕ). waits_after finished.core.jobs past ws) same ∙ ap (λ (js : List Job). waits_after js past before.waits) of.jobs_are;
+    }
 
 -- once that is put in place, the round was run
 pub runs_round : (before after : StoreState) (lists : List (List Access)) (jobs : List Job) (counts : List ℕ) (replies : List (List ℕ)) (records : List ℤ) (waits : List ℕ)

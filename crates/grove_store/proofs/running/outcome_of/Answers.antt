@@ -12,6 +12,6 @@ round_texts-requires-clause-places c =
 pub round_texts-requires-clause-replies : goal.round_texts-requires-clause-replies
 round_texts-requires-clause-replies c =
     let long : length c.deref-2.result.now ≡ length c.args.finished.core.jobs =
-    ap length c.deref-2.ensures.value ∙ sym (length-map c.in_ok-replies-2.replies.items (λ list. list.now)) ∙ ap length c.in_ok-replies-2.ensures ∙ mapped_long _ _
+    ap length c.deref-2.ensures.value ∙ sym (length-map c.in_ok-replies.replies.items (λ list. list.now)) ∙ ap length c.in_ok-replies.ensures ∙ mapped_long _ _
     ∙ ap (λ (core : CoreState). length core.jobs) c.core.ensures.core in
     omega (arith, c.requires.jobs)

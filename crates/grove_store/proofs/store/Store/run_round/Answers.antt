@@ -1,4 +1,4 @@
-use Rattle.std.proofs.Common.{◌≡◌, ℕ, List, ◌-◌, ◌^◌, ◌<◌, length, map, replicate, sym, ◌∙◌, ap, subst, arith}
+use Rattle.std.proofs.Common.{◌≡◌, ℕ, List, ◌+◌, ◌-◌, ◌^◌, ◌<◌, length, map, replicate, refl, sym, ◌∙◌, ap, subst, arith}
 use Rattle.std.specs.Prelude.{codes}
 use Rattle.std.proofs.lemmas.Result.{IfOk-weaker}
 use Rattle.grove_tree.specs.Trees.{Rows}
@@ -10,42 +10,43 @@ use Rattle.grove_store.specs.StoreStates.{StoreState}
 use Rattle.grove_store.specs.Rounds.{AreSettledJobs}
 use Rattle.grove_store.specs.Parts.{AnswersRound}
 use Rattle.grove_store.proofs.Jobs.{settled_legal}
-use Rattle.grove_store.proofs.Keeping.{left_fits}
-use Rattle.grove_store.proofs.Leaving.{runs_round, fails_run, fails_full}
+use Rattle.grove_store.proofs.Keeping.{left_keeps}
+use Rattle.grove_store.proofs.Leaving.{leaves_round, runs_round, fails_run, fails_full}
 use Rattle.grove_store.proofs.store.Store.run_round.Goals as goal
 
 -- the jobs, as they are lent to the run
 settled : (rows : Rows) (lists : List (List Access)) (jobs lent : List Job) → lent ≡ jobs → AreSettledJobs rows lists jobs → AreSettledJobs rows lists lent
 settled rows lists jobs lent is are = subst (λ (js : List Job). AreSettledJobs rows lists js) (sym is) are
 
-pub run-requires-clause-legal : goal.run-requires-clause-legal
-run-requires-clause-legal g c κs within =
+pub run_legal-run-requires-clause-legal : goal.run_legal-run-requires-clause-legal
+run_legal-run-requires-clause-legal g c κs within =
     settled_legal c.self.inside.tree c.args.round.lists.items c.deref.result.now (settled _ _ _ _ c.deref.ensures.value c.in_ok-jobs.ensures.jobs)
 
-pub put-requires-clause-records : goal.put-requires-clause-records
-put-requires-clause-records g c = (left_fits _ _ _ _ _ _ c.self.invariant.0 c.in-Ok.ensures.leaves).0
-
-pub put-requires-clause-waits : goal.put-requires-clause-waits
-put-requires-clause-waits g c = (left_fits _ _ _ _ _ _ c.self.invariant.0 c.in-Ok.ensures.leaves).1
-
-pub put-requires-clause-few : goal.put-requires-clause-few
-put-requires-clause-few g c = (left_fits _ _ _ _ _ _ c.self.invariant.0 c.in-Ok.ensures.leaves).2
-
-pub returns-in-Ok-clause-round : goal.returns-in-Ok-clause-round
-returns-in-Ok-clause-round g c =
+pub invariant_of-self-2 : goal.invariant_of-self-2
+invariant_of-self-2 g c =
     let inside = c.self.inside in
     let before : StoreState = record { rows = inside.tree; records = inside.records; waits = inside.waits.items; workers = inside.workers; rounds = inside.rounds } in
-    let lists = c.args.round.lists.items in
     let room : before.rounds < 2 ^ 64 - 1 = omega (arith, c.self.invariant.0.counted) in
-    let runs : AnswersRound before lists c.deref-2.result.now (map (λ reply. reply.items) c.in-Ok.outcome.replies.items) c.put.new.self =
-    runs_round before c.put.new.self lists c.deref.result.now c.deref-2.result.now _ c.in-Ok.outcome.records c.in-Ok.outcome.waits.items
-    (settled _ _ _ _ c.deref.ensures.value c.in_ok-jobs.ensures.jobs) room c.in-Ok.ensures.leaves c.put.ensures.store in
-    subst (λ (store : StoreState). AnswersRound store lists c.args.round.counts.items (map (λ reply. reply.items) c.put.result.items) c.put.new.self) c.self.view_is
-    (subst (λ (texts : List (List ℕ)). AnswersRound before lists c.args.round.counts.items texts c.put.new.self) (sym (ap (λ texts. map (λ reply. reply.items) texts.items) c.put.ensures.replies))
-    (subst (λ (counts : List ℕ). AnswersRound before lists counts (map (λ reply. reply.items) c.in-Ok.outcome.replies.items) c.put.new.self) c.deref-2.ensures.value runs))
+    let left = leaves_round before c.deref.result.now c.deref-2.result.now c.in-Ok.finished _ _ _ _ c.in-Ok.ensures.run
+    c.in_ok-outcome.ensures.replies c.in_ok-outcome.ensures.records c.in_ok-outcome.ensures.waits c.deref-3.ensures.value in
+    (left_keeps before _ _ _ _ _ c.self.invariant.0 room left, c.kept_jobs.ensures.kept)
 
 pub returns-clause-round : goal.returns-clause-round
 returns-clause-round g c =
+    let inside = c.self.inside in
+    let before : StoreState = record { rows = inside.tree; records = inside.records; waits = inside.waits.items; workers = inside.workers; rounds = inside.rounds } in
+    let after : StoreState = record before { records = c.in_ok-outcome.outcome.records; waits = c.in_ok-outcome.outcome.waits.items; rounds = before.rounds + 1 } in
+    let lists = c.args.round.lists.items in
+    let texts = map (λ reply. reply.items) c.in_ok-outcome.outcome.replies.items in
+    let left = leaves_round before c.deref.result.now c.deref-2.result.now c.in-Ok.finished _ _ _ _ c.in-Ok.ensures.run
+    c.in_ok-outcome.ensures.replies c.in_ok-outcome.ensures.records c.in_ok-outcome.ensures.waits c.deref-3.ensures.value in
+    let runs : AnswersRound before lists c.deref-2.result.now texts after = runs_round before after lists c.deref.result.now c.deref-2.result.now _ _ _
+    (settled _ _ _ _ c.deref.ensures.value c.in_ok-jobs.ensures.jobs) (omega (arith, c.self.invariant.0.counted)) left refl in
+    subst (λ (store : StoreState). AnswersRound store lists c.args.round.counts.items texts after) c.self.view_is
+    (subst (λ (counts : List ℕ). AnswersRound before lists counts texts after) c.deref-2.ensures.value runs)
+
+pub returns-in-Err-clause-round : goal.returns-in-Err-clause-round
+returns-in-Err-clause-round g c =
     let inside = c.self.inside in
     let before : StoreState = record { rows = inside.tree; records = inside.records; waits = inside.waits.items; workers = inside.workers; rounds = inside.rounds } in
     let room : before.rounds < 2 ^ 64 - 1 = omega (arith, c.self.invariant.0.counted) in
