@@ -52,36 +52,27 @@ noted_more line_of reply_of first lines replies rounds receipts after i place nu
       subst (λ (es : List ReceiptState). IsNoted first (map line_of lines) (take (i + 1) (map reply_of replies)) rounds es) (sym pushed) more,
     )
 
--- once no reply is left, each has its receipt
-pub noted_all : {L R : Type 0} (line_of : L → List ℕ) (reply_of : R → List ℕ) (first : Option ℕ) (lines : List L) (replies rest : List R) (rounds : ℕ) (receipts : List ReceiptState)
-    → rest ≡ [] → rest ≡ drop (length receipts) replies → length receipts ≤ length replies
-    → IsNoted first (map line_of lines) (take (length receipts) (map reply_of replies)) rounds receipts → IsNoted first (map line_of lines) (map reply_of replies) rounds receipts
-noted_all line_of reply_of first lines replies rest rounds receipts none left within noted =
+-- once no reply of a lawful round is left, the receipts of its lines are a round
+pub noted_round : {L R : Type 0} (line_of : L → List ℕ) (reply_of : R → List ℕ) (first : Option ℕ) (lines : List L) (given replies rest : List R) (texts : List (List ℕ)) (receipts : List ReceiptState) (before after : StoreState)
+    → length rest ≡ 0 → rest ≡ drop (length receipts) replies → length receipts ≤ length replies → replies ≡ given
+    → texts ≡ map line_of lines → IsLawfulRound before (take (length given) texts) (map reply_of given) after
+    → IsNoted first (map line_of lines) (take (length receipts) (map reply_of replies)) after.rounds receipts
+    → (map (λ receipt. receipt.line) receipts ≡ take (length receipts) (map line_of lines)) × IsRound before receipts after
+noted_round {R = R} line_of reply_of first lines given replies rest texts receipts before after none left within same are lawful noted =
     let many : length rest ≡ length replies - length receipts = ap length left ∙ length-drop (length receipts) replies in
-    let no : length rest ≡ 0 = ap length none in
-    let mapped : length (map reply_of replies) ≡ length replies = length-map replies reply_of in
-    let all : length receipts ≡ length (map reply_of replies) = omega arith in
-    subst (λ (texts : List (List ℕ)). IsNoted first (map line_of lines) texts rounds receipts)
-    (ap (λ (n : ℕ). take n (map reply_of replies)) all ∙ take-length (map reply_of replies)) noted
-
--- the receipts of a lawful round's lines are a round
-pub noted_round : {L R : Type 0} (line_of : L → List ℕ) (reply_of : R → List ℕ) (first : Option ℕ) (lines : List L) (replies : List R) (texts : List (List ℕ)) (receipts : List ReceiptState) (before after : StoreState)
-    → texts ≡ map line_of lines → IsLawfulRound before (take (length replies) texts) (map reply_of replies) after
-    → IsNoted first (map line_of lines) (map reply_of replies) after.rounds receipts
-    → (map (λ receipt. receipt.line) receipts ≡ take (length receipts) (map line_of lines)) × IsRound before receipts after × AreNumbered first receipts
-noted_round line_of reply_of first lines replies texts receipts before after are lawful noted =
-    let mapped : length (map reply_of replies) ≡ length replies = length-map replies reply_of in
-    let replied : length (map (λ (receipt : ReceiptState). receipt.reply) receipts) ≡ length receipts = length-map receipts (λ receipt. receipt.reply) in
-    let same : length (map (λ (receipt : ReceiptState). receipt.reply) receipts) ≡ length (map reply_of replies) = ap length noted.replied in
-    let many : length (map reply_of replies) ≡ length receipts = omega arith in
-    let all : length (map reply_of replies) ≡ length replies = omega arith in
-    let asked : map (λ (receipt : ReceiptState). receipt.line) receipts ≡ take (length replies) texts =
-    noted.asked ∙ ap (λ (n : ℕ). take n (map line_of lines)) all ∙ ap (λ (ts : List (List ℕ)). take (length replies) ts) (sym are) in (
-      noted.asked ∙ ap (λ (n : ℕ). take n (map line_of lines)) many,
+    let all : length receipts ≡ length given = let e : length replies ≡ length given = ap length same in omega arith in
+    let mapped : length (map reply_of given) ≡ length given = length-map given reply_of in
+    let told : take (length receipts) (map reply_of replies) ≡ map reply_of given =
+    ap (λ (rs : List R). take (length receipts) (map reply_of rs)) same
+    ∙ ap (λ (n : ℕ). take n (map reply_of given)) (all ∙ sym mapped) ∙ take-length (map reply_of given) in
+    let asked : map (λ (receipt : ReceiptState). receipt.line) receipts ≡ take (length receipts) (map line_of lines) =
+    noted.asked ∙ ap (λ (n : ℕ). take n (map line_of lines)) (ap length told ∙ mapped ∙ sym all) in
+    let put : take (length receipts) (map line_of lines) ≡ take (length given) texts =
+    ap (λ (n : ℕ). take n (map line_of lines)) all ∙ ap (λ (ts : List (List ℕ)). take (length given) ts) (sym are) in (
+      asked,
       record {
-        round = subst (λ (ts : List (List ℕ)). IsLawfulRound before ts (map (λ (receipt : ReceiptState). receipt.reply) receipts) after) (sym asked)
-            (subst (λ (rs : List (List ℕ)). IsLawfulRound before (take (length replies) texts) rs after) (sym noted.replied) lawful);
+        round = subst (λ (ts : List (List ℕ)). IsLawfulRound before ts (map (λ (receipt : ReceiptState). receipt.reply) receipts) after) (sym (asked ∙ put))
+            (subst (λ (rs : List (List ℕ)). IsLawfulRound before (take (length given) texts) rs after) (sym (noted.replied ∙ told)) lawful);
         counted = noted.counted;
       },
-      noted.numbered,
     )

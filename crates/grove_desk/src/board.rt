@@ -5,7 +5,7 @@ ghost use Rattle.std.specs.Vec.{vec_capacity};
 ghost use Rattle.grove_store.specs.StoreStates.{StoreState};
 ghost use Rattle.grove_desk.specs.Receipts.{IsAnswered};
 ghost use Rattle.grove_desk.specs.Histories.{Led};
-ghost use Rattle.grove_desk.specs.Boards.{KeepsState};
+ghost use Rattle.grove_desk.specs.Boards.{KeepsState, Holds};
 
 use crate::ledger::Ledger;
 use crate::line::Line;
@@ -146,13 +146,20 @@ impl<B: Opening> Board<B> {
         ensures taken { taken.new.items ≡ [] }
         ensures room { vec_capacity taken.new ≡ vec_capacity taken.old }
     {
-        self.ledger = Some(ledger);
         while let Some(asked) = taken.pop() {
             let state = state_after(&mut answered, taken.len(), asked.line);
-            if let Some(place) = place_of(&self.slots, asked.ticket) {
-                self.slots[place].state = state;
-            }
+            restore(&mut self.slots, asked.ticket, state);
         }
+        self.ledger = Some(ledger);
+    }
+}
+
+/// Where the line of this ticket has got to now.
+fn restore(slots: &mut Vec<Slot>, ticket: u64, state: State)
+    ensures held { (opening : StoreState) → (kept : Bool) → KeepsState opening kept state → All (Holds opening kept) slots.old.items → All (Holds opening kept) slots.new.items }
+{
+    if let Some(place) = place_of(slots, ticket) {
+        slots[place].state = state;
     }
 }
 

@@ -1,10 +1,97 @@
-use Rattle.std.proofs.Common.{map, ap, ◌∙◌}
+use Rattle.std.proofs.Common.{◌≡◌, ℕ, ◌+◌, ◌<◌, [], ◌∷◌, ◌++◌, length, map, take, drop, get_or, refl, sym, ap, subst, ◌∙◌, arith, rules}
+use Rattle.std.proofs.lemmas.List.{length-set, drop-set-lt}
+use Rattle.std.proofs.Math.Seq.{map-set_same}
 use Rattle.grove_desk.specs.declared.slot.Asked.{Asked}
+use Rattle.grove_desk.specs.Ledgers.{IsNoted}
 use Rattle.grove_desk.proofs.Keeping.{few_replies}
+use Rattle.grove_desk.proofs.Moving.{drop_step, same_next, drop_on}
+use Rattle.grove_desk.proofs.Noting.{noted_more, noted_round}
 use Rattle.grove_desk.proofs.answering.answer_taken.Goals as goal
 
-pub receipts_into-requires-clause-few : goal.receipts_into-requires-clause-few
-receipts_into-requires-clause-few g c = few_replies (λ (asked : Asked). asked.line.bytes.items) (λ reply. reply.items) c.args.store.now c.answer_round.new.self
+pub loop-reply-init : goal.loop-reply-init
+loop-reply-init g c =
+    let given = c.into_iter-reply-iterator.ensures.into_iter_gives.0 in
+    let few = few_replies (λ (asked : Asked). asked.line.bytes.items) (λ reply. reply.items) c.args.store.now c.answer_round.new.self
     (map (λ line. line.now) c.deref-2.result.now) c.args.taken.now.items c.in_ok-replies.replies.items
     (ap (map (λ line. line.now)) c.deref-2.ensures.value ∙ c.in_ok-lines.ensures.lines ∙ ap (map (λ (asked : Asked). asked.line.bytes.items)) c.deref.ensures.value)
-    c.in_ok-replies.ensures.round
+    c.in_ok-replies.ensures.round in
+    rw c.in_ok-receipts.ensures.items record {
+      next = tt;
+      ends = tt;
+      few = rw given few;
+      rest = refl;
+      within = omega arith;
+      noted = record { asked = refl; replied = refl; counted = search rules; numbered = search rules };
+      room = refl;
+      long = refl;
+      left = refl;
+      tickets = refl;
+      stays = refl;
+    }
+
+pub index_mut-requires : goal.index_mut-requires
+index_mut-requires g c =
+    let place : c.len-place.result ≡ length c.loop-reply.receipts.items = omega (arith, c.loop-reply.receipts.ok.0) in
+    let step = drop_step c.into_iter-reply-iterator.result.rest.items (length c.loop-reply.receipts.items) c.in-Some.reply c.next.new.self.rest.items (sym c.in-Some.ensures.steps.0 ∙ c.loop-reply.invariant.rest) in
+    let within : length c.loop-reply.receipts.items < length c.into_iter-reply-iterator.result.rest.items = step.0 in
+    let few = c.loop-reply.invariant.few in
+    let long = c.loop-reply.invariant.long in
+    omega (arith, c.loop-reply.taken.ok.0)
+
+pub push_reserved-requires : goal.push_reserved-requires
+push_reserved-requires g c =
+    let step = drop_step c.into_iter-reply-iterator.result.rest.items (length c.loop-reply.receipts.items) c.in-Some.reply c.next.new.self.rest.items (sym c.in-Some.ensures.steps.0 ∙ c.loop-reply.invariant.rest) in
+    let within : length c.loop-reply.receipts.items < length c.into_iter-reply-iterator.result.rest.items = step.0 in
+    let few = c.loop-reply.invariant.few in
+    let room = c.loop-reply.invariant.room in
+    omega (arith, c.loop-reply.receipts.ok.0, c.args.taken.now.ok.0, c.in_ok-receipts.ensures.capacity)
+
+pub loop-reply-preserved : goal.loop-reply-preserved
+loop-reply-preserved g c =
+    let replies = c.into_iter-reply-iterator.result.rest.items in
+    let i = length c.loop-reply.receipts.items in
+    let place : c.len-place.result ≡ i = omega (arith, c.loop-reply.receipts.ok.0) in
+    let step = drop_step replies i c.in-Some.reply c.next.new.self.rest.items (sym c.in-Some.ensures.steps.0 ∙ c.loop-reply.invariant.rest) in
+    let long : length c.loop-reply.taken.items ≡ length c.args.taken.now.items = c.loop-reply.invariant.long in
+    let few = c.loop-reply.invariant.few in
+    let within : i < length replies = step.0 in
+    let asked : c.index_mut.result.now ≡ get_or c.args.taken.now.items c.len-place.result c.index_mut.result.now =
+    c.index_mut.ensures.value ∙ same_next c.loop-reply.taken.items c.args.taken.now.items i c.len-place.result c.index_mut.result.now place c.loop-reply.invariant.left in
+    let next = noted_more (λ (a : Asked). a.line.bytes.items) (λ reply. reply.items) c.args.first c.args.taken.now.items replies c.answer_round.new.self.rounds c.loop-reply.receipts.items c.push_reserved.new.self.items i c.len-place.result
+    c.number_of.result c.take.result.items c.in-Some.reply.items c.index_mut.result.now c.in-Some.reply within few refl place c.loop-reply.invariant.noted
+    (c.take.ensures ∙ ap (λ (a : Asked). a.line.bytes.items) asked) refl step.1 c.number_of.ensures
+    (c.push_reserved.ensures.items
+    ∙ ap (λ (n : ℕ). c.loop-reply.receipts.items ++ record { number = c.number_of.result; line = c.take.result.items; reply = c.in-Some.reply.items; rounds = n } ∷ []) c.rounds.ensures) in
+    let more : length c.push_reserved.new.self.items ≡ i + 1 = next.0 in
+    record {
+      next = tt;
+      ends = tt;
+      few = few;
+      rest = step.2 ∙ sym (ap (λ (n : ℕ). drop n replies) more);
+      within = omega arith;
+      noted = subst (λ (n : ℕ). IsNoted c.args.first (map (λ (a : Asked). a.line.bytes.items) c.args.taken.now.items) (take n (map (λ reply. reply.items) replies)) c.answer_round.new.self.rounds c.push_reserved.new.self.items) (sym more) next.1;
+      room = c.push_reserved.ensures.capacity ∙ c.loop-reply.invariant.room;
+      long = length-set c.loop-reply.taken.items c.len-place.result _ ∙ long;
+      left = drop-set-lt (length c.push_reserved.new.self.items) c.loop-reply.taken.items c.len-place.result _ (omega arith)
+          ∙ ap (λ (n : ℕ). drop n c.loop-reply.taken.items) more
+          ∙ drop_on c.loop-reply.taken.items c.args.taken.now.items i c.index_mut.result.now (omega arith) (omega arith) c.loop-reply.invariant.left
+          ∙ sym (ap (λ (n : ℕ). drop n c.args.taken.now.items) more);
+      tickets = map-set_same (λ (a : Asked). a.ticket) c.loop-reply.taken.items c.len-place.result _ c.index_mut.result.now (ap (λ (a : Asked). a.ticket) c.index_mut.ensures.value) ∙ c.loop-reply.invariant.tickets;
+      stays = c.loop-reply.invariant.stays;
+    }
+
+pub returns-clause-lines : goal.returns-clause-lines
+returns-clause-lines g c =
+    (noted_round (λ (asked : Asked). asked.line.bytes.items) (λ reply. reply.items) c.args.first c.args.taken.now.items c.in_ok-replies.replies.items c.into_iter-reply-iterator.result.rest.items c.loop-reply.reply-iterator.rest.items
+    (map (λ line. line.now) c.deref-2.result.now) c.loop-reply.receipts.items c.args.store.now c.answer_round.new.self
+    (omega (arith, c.in-None.ensures.steps.0, c.loop-reply.reply-iterator.rest.ok.0)) c.loop-reply.invariant.rest c.loop-reply.invariant.within c.into_iter-reply-iterator.ensures.into_iter_gives.0
+    (ap (map (λ line. line.now)) c.deref-2.ensures.value ∙ c.in_ok-lines.ensures.lines ∙ ap (map (λ (asked : Asked). asked.line.bytes.items)) c.deref.ensures.value)
+    c.in_ok-replies.ensures.round c.loop-reply.invariant.noted).0
+
+pub returns-clause-round : goal.returns-clause-round
+returns-clause-round g c =
+    (noted_round (λ (asked : Asked). asked.line.bytes.items) (λ reply. reply.items) c.args.first c.args.taken.now.items c.in_ok-replies.replies.items c.into_iter-reply-iterator.result.rest.items c.loop-reply.reply-iterator.rest.items
+    (map (λ line. line.now) c.deref-2.result.now) c.loop-reply.receipts.items c.args.store.now c.answer_round.new.self
+    (omega (arith, c.in-None.ensures.steps.0, c.loop-reply.reply-iterator.rest.ok.0)) c.loop-reply.invariant.rest c.loop-reply.invariant.within c.into_iter-reply-iterator.ensures.into_iter_gives.0
+    (ap (map (λ line. line.now)) c.deref-2.ensures.value ∙ c.in_ok-lines.ensures.lines ∙ ap (map (λ (asked : Asked). asked.line.bytes.items)) c.deref.ensures.value)
+    c.in_ok-replies.ensures.round c.loop-reply.invariant.noted).1

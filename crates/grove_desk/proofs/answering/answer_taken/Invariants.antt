@@ -7,6 +7,7 @@ abbrev pub invariant-loop-reply : goal.invariant-loop-reply
 invariant-loop-reply g l = record {
   next : (goal.iterator-loop-reply g).can_next l.reply-iterator;
   ends : (goal.iterator-loop-reply g).is_finite l.reply-iterator;
+  few : length l.initial.reply-iterator.rest.items ≤ length l.initial.taken.items;
   rest : l.reply-iterator.rest.items ≡ drop (length l.receipts.items) l.initial.reply-iterator.rest.items;
   within : length l.receipts.items ≤ length l.initial.reply-iterator.rest.items;
   noted : IsNoted l.first (map (λ asked. asked.line.bytes.items) l.initial.taken.items) (take (length l.receipts.items) (map (λ reply. reply.items) l.initial.reply-iterator.rest.items)) l.store.rounds l.receipts.items;

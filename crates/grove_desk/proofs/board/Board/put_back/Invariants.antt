@@ -8,7 +8,7 @@ use Rattle.grove_desk.proofs.board.Board.put_back.Given as goal
 abbrev pub invariant-loop-asked : goal.invariant-loop-asked
 invariant-loop-asked g l = record {
   answered : IfOk l.answered (λ receipts. All (IsAnswered g.B.Opening.store g.B.Opening.kept) receipts.items);
-  held : All (Holds g.B.Opening.store g.B.Opening.kept) l.self.slots.items;
+  held : All (Holds g.B.Opening.store g.B.Opening.kept) l.self-inside.slots.items;
   room : vec_capacity l.taken ≡ vec_capacity l.initial.taken;
 }
 

@@ -6,7 +6,8 @@ use Rattle.grove_desk.proofs.board.Board.take.Given as goal
 
 abbrev pub invariant-loop-place : goal.invariant-loop-place
 invariant-loop-place g l = record {
-  length : length l.self.slots.items ≡ length l.initial.self.slots.items;
-  held : All (Holds g.B.Opening.store g.B.Opening.kept) l.self.slots.items;
+  ledger : l.self-inside.ledger ≡ l.initial.self-inside.ledger;
+  length : length l.self-inside.slots.items ≡ length l.initial.self-inside.slots.items;
+  held : All (Holds g.B.Opening.store g.B.Opening.kept) l.self-inside.slots.items;
   room : vec_capacity l.taken ≡ vec_capacity l.initial.taken;
 }
