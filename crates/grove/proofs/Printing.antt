@@ -22,7 +22,7 @@ use Rattle.grove_words.specs.CommandLines.{AskToServe, NameDevice}
 use Rattle.grove_words.proofs.Orders.{serves_placed}
 use Rattle.grove_answer.specs.Outcomes.{Outcome, ThenSays}
 use Rattle.grove.specs.Answers.{most_bytes, status_of, printed, AnswersBy, HasText, IsListen, Listens}
-use Rattle.grove.specs.Endings.{stop_line, Blames, IsHintLine, IsReasonLine, MayHint, SaysListening, SaysSomething, SaysStop, SaysWhy}
+use Rattle.grove.specs.Endings.{stop_line, Blames, IsHintLine, MayHint, SaysListening, SaysSomething, SaysStop, SaysWhy}
 use Rattle.grove.specs.Outcomes.{document_for, MaySay, IsOutcome, Prints, PrintsPart, outcome_text}
 
 over_limit : (most : ℕ) (bytes : List ℕ) → most < length bytes → document_within most bytes ≡ Err (Limit (whole_of Whole))
@@ -181,6 +181,15 @@ not_usage (Ok a) status old new Also few done two =
     let is : status ≡ status_of a = (done (omega arith)).0 in
     omega arith
 not_usage (Err why) status old new Also few done two = done (omega arith)
+
+-- an answer of status 1 ends so, or can't be printed, and one that listens has no other end
+pub served_ends : (answer : Result Answer Stop) (status : ℕ) (old new : Option (List ℕ)) (Also : Answer → Type 0) → status ≤ 3 → IfOk answer (λ a. (status_of a ≡ 1) ⊎ IsListen a)
+    → (status ≤ 2 → IsOkAnd answer (λ a. (status ≡ status_of a) × Appends old new (printed a) × Also a)) → (IsOkAnd answer IsListen → status ≡ 3) → (status ≡ 1) ⊎ (status ≡ 3)
+served_ends (Ok a) status old new Also few (inl one) done listens =
+    elim (cases_lt 2 status) [ inl over ↦ inr (omega arith) | inr within ↦ inl ((done within).0 ∙ one) ]
+served_ends (Ok a) status old new Also few (inr listen) done listens = inr (listens listen)
+served_ends (Err why) status old new Also few either done listens =
+    elim (cases_lt 2 status) [ inl over ↦ inr (omega arith) | inr within ↦ absurd (done within) ]
 
 -- an answer that listens prints the place that it names
 prints_named : (IsAsked : Place → Type 0) (answer : Answer) (old new : Option (List ℕ)) → Listens IsAsked answer → IsListen answer → Appends old new (printed answer)

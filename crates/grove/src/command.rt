@@ -244,14 +244,7 @@ fn read_for(alloc: Global, command: Command, bytes: &[u8]) -> Result<Value, Wire
 {
     match command {
         Command::Audit => read_history(alloc, bytes),
-        Command::Judge
-        | Command::Check
-        | Command::Plan
-        | Command::Draw
-        | Command::Run
-        | Command::Serve
-        | Command::Page
-        | Command::Ask => read_document(alloc, bytes),
+        _ => read_document(alloc, bytes),
     }
 }
 

@@ -1,6 +1,6 @@
 use Rattle.std.proofs.Common.{map, string_bytes}
 use Rattle.grove.specs.Outcomes.{IsOutcomeFor}
-use Rattle.grove.proofs.Printing.{blames_device, part_of_input, part_of_read, prints_input, prints_place, prints_read, not_usage, shown_text}
+use Rattle.grove.proofs.Printing.{blames_device, part_of_input, part_of_read, prints_input, prints_place, prints_read, not_usage, served_ends, shown_text}
 use Rattle.grove.proofs.command.run_command.Goals as goal
 
 pub returns-clause-answered : goal.returns-clause-answered
@@ -29,3 +29,7 @@ returns-clause-cut_read g c order asks = part_of_read (IsOutcomeFor (map string_
 
 pub returns-clause-shown : goal.returns-clause-shown
 returns-clause-shown g c asks = shown_text c.response.result.answer _ _ _ _ c.end.ensures.status (c.response.ensures.shown asks) c.end.ensures.answered
+
+pub returns-clause-served : goal.returns-clause-served
+returns-clause-served g c order asks serves =
+    served_ends c.response.result.answer _ _ _ _ c.end.ensures.status (c.response.ensures.served order asks serves) c.end.ensures.answered c.end.ensures.served
