@@ -7,7 +7,7 @@ use Rattle.grove_store.specs.StoreStates.{StoreState, opened}
 use Rattle.grove_wire.specs.Reading.{tree_in}
 use Rattle.grove_words.specs.declared.order.Command.{Command}
 use Rattle.grove_words.specs.declared.order.Place.{Place}
-use Rattle.grove_words.specs.declared.order.Command.TheVariants.{Judge, Check, Plan, Draw, Run, Audit, Serve, Page, Ask}
+use Rattle.grove_words.specs.declared.order.Command.TheVariants.{Audit}
 use Rattle.grove_answer.specs.Outcomes.{Outcome}
 use Rattle.grove.specs.declared.answer.Answer.{Answer}
 use Rattle.grove.specs.declared.answer.Answer.TheVariants.{Done, Refused, Usage, Listen}
@@ -31,17 +31,13 @@ printed (Usage text) = []
 printed (Listen line service) = string_bytes line
 
 abbrev pub complained : Answer → List ℕ
-complained (Done text) = []
-complained (Refused text) = []
 complained (Usage text) = string_bytes text
-complained (Listen line service) = []
+complained _ = []
 
 -- an answer that refuses does so by the line of a refusal
 abbrev pub IsRefusalLine : Answer → Type 0
-IsRefusalLine (Done text) = Unit {0}
 IsRefusalLine (Refused text) = (fault : List ℕ) × (string_bytes text ≡ refusal_line fault)
-IsRefusalLine (Usage text) = Unit {0}
-IsRefusalLine (Listen line service) = Unit {0}
+IsRefusalLine _ = Unit {0}
 
 -- an answer is no refusal and has a text
 abbrev pub HasText : Answer → Type 0
@@ -52,24 +48,18 @@ HasText (Listen line service) = string_bytes line ≢ []
 
 -- an answer says that a port is listened on
 abbrev pub IsListen : Answer → Type 0
-IsListen (Done text) = ⊥
-IsListen (Refused text) = ⊥
-IsListen (Usage text) = ⊥
 IsListen (Listen line service) = Unit {0}
+IsListen _ = ⊥
 
 -- an answer that says so names such a place
 abbrev pub Listens : (Place → Type 0) → Answer → Type 0
-Listens IsAsked (Done text) = Unit {0}
-Listens IsAsked (Refused text) = Unit {0}
-Listens IsAsked (Usage text) = Unit {0}
 Listens IsAsked (Listen line service) = (place : Place) × IsAsked place × NamesPlace place (string_bytes line)
+Listens IsAsked _ = Unit {0}
 
 -- an answer that says so serves such a store
 abbrev pub ServesStore : (StoreState → Type 0) → Answer → Type 0
-ServesStore IsStore (Done text) = Unit {0}
-ServesStore IsStore (Refused text) = Unit {0}
-ServesStore IsStore (Usage text) = Unit {0}
 ServesStore IsStore (Listen line service) = IsStore service.store
+ServesStore IsStore _ = Unit {0}
 
 -- the store of a document's tree and records, with so many workers, which has answered nothing yet
 abbrev pub IsOpenedFrom : Data → ℕ → StoreState → Type 0
@@ -94,12 +84,5 @@ AnswersBy MaySay answer = (outcome : Outcome) × MaySay outcome × IsAnswerTo an
 
 -- how many bytes a command's document has at most
 abbrev pub most_bytes : Command → ℕ
-most_bytes Judge = 4194304
-most_bytes Check = 4194304
-most_bytes Plan = 4194304
-most_bytes Draw = 4194304
-most_bytes Run = 4194304
 most_bytes Audit = 67108864
-most_bytes Serve = 4194304
-most_bytes Page = 4194304
-most_bytes Ask = 4194304
+most_bytes _ = 4194304

@@ -24,7 +24,7 @@ pub enum Answer {
 }
 
 /// Why a command has no answer, or can't print it: a line for standard error, status 3.
-#[derive(Clone, Copy, Debug, PartialEq, Eq)]
+#[derive(Clone, Copy)]
 pub enum Stop {
     /// Something couldn't be read or written.
     Device,

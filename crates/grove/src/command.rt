@@ -1,4 +1,4 @@
-ghost use Rattle.std.specs.Prelude.{◌≡◌, ◌≢◌, ◌≤◌, ◌⊎◌, ℕ, List, length, map, true, false, [], None, Some, IfOk, IfErr, IfSome, OnOk, string_bytes, ⊤};
+ghost use Rattle.std.specs.Prelude.{◌≡◌, ◌≢◌, ◌≤◌, ◌⊎◌, ℕ, List, length, map, true, false, None, Some, IfOk, IfErr, IfSome, OnOk, string_bytes, ⊤};
 ghost use Rattle.serde_json.specs.Data.{depth};
 ghost use Rattle.serde_json.specs.View.{view};
 ghost use Rattle.grove_wire.specs.Forms.{AreArraysShort, HasShortArrays};
@@ -223,14 +223,7 @@ fn most_bytes(command: Command) -> usize
 {
     match command {
         Command::Audit => MOST_HISTORY_BYTES,
-        Command::Judge
-        | Command::Check
-        | Command::Plan
-        | Command::Draw
-        | Command::Run
-        | Command::Serve
-        | Command::Page
-        | Command::Ask => MOST_BYTES,
+        _ => MOST_BYTES,
     }
 }
 

@@ -3,7 +3,7 @@ use std::fmt;
 use std::io::{self, ErrorKind};
 
 /// Why nothing more is talked over a connection.
-#[derive(Clone, Copy, Debug, PartialEq, Eq)]
+#[derive(Clone, Copy)]
 pub enum Ending {
     /// Nothing is left to read.
     InputEnded,

@@ -11,7 +11,7 @@ use std::net::SocketAddr;
 const MOST_SHOWN: usize = 200;
 
 /// What couldn't be done, and the system's error.
-#[derive(Clone, Copy, Debug)]
+#[derive(Clone, Copy)]
 pub enum Failure {
     Open(io::Error),
     Read(io::Error),

@@ -6,7 +6,7 @@ use std::io;
 use std::io::{ErrorKind, Read};
 
 /// A source over a reader of std, which keeps the error of the read that failed. An interrupted read is tried again.
-#[derive(Debug, Drop)]
+#[derive(Drop)]
 pub struct FileSource<R> {
     reader: R,
     error: Option<io::Error>,

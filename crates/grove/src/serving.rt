@@ -1,4 +1,4 @@
-ghost use Rattle.std.specs.Prelude.{◌≡◌, ◌≤◌, ◌⊎◌, Some, IfOk, IfErr, IfSome, IsOkAnd, string_bytes, ⊤};
+ghost use Rattle.std.specs.Prelude.{◌≡◌, ◌≤◌, ◌⊎◌, Some, IfOk, IfErr, IfSome, IsOkAnd, string_bytes};
 ghost use Rattle.serde_json.specs.View.{view};
 ghost use Rattle.grove_store.specs.StoreStates.{opened};
 ghost use Rattle.grove_wire.specs.Forms.{HasShortArrays};
@@ -6,7 +6,7 @@ ghost use Rattle.grove_wire.specs.Reading.{tree_in};
 ghost use Rattle.grove_answer.specs.Outcomes.{ThenSays};
 ghost use Rattle.grove_answer.specs.Says.{refusal_outcome};
 ghost use Rattle.grove.specs.Answers.{status_of, AnswersBy, IsListen, IsOpenedFrom, IsRefusalLine, Listens, ServesStore};
-ghost use Rattle.grove.specs.Endings.{address_text, listening_line, Blames, IsPortFor};
+ghost use Rattle.grove.specs.Endings.{address_text, listening_line, IsPortFor};
 ghost use Rattle.grove.specs.Outcomes.{IsServed};
 
 use crate::answer::{Answer, Stop};
@@ -30,7 +30,7 @@ pub struct Service {
 }
 
 /// Where a store is served, and how.
-#[derive(Clone, Copy, Debug, PartialEq, Eq)]
+#[derive(Clone, Copy)]
 pub struct Manner {
     pub place: Option<Place>,
     pub talk: Talk,
@@ -40,7 +40,7 @@ pub struct Manner {
 }
 
 /// What is talked over a connection.
-#[derive(Clone, Copy, Debug, PartialEq, Eq)]
+#[derive(Clone, Copy)]
 pub enum Talk {
     /// Lines of a session, and their replies.
     Lines,

@@ -1,5 +1,6 @@
 -- Lists of accesses, seen by their nodes and their lengths.
-use Rattle.std.specs.Prelude.{◌≡◌, ℕ, suc, ◌<◌, ◌≤◌, Bool, nat_lt, nat_le, ◌&&◌, List, [], ◌∷◌, length, slice_get, Option, Some, None, if◌then◌else◌}
+use Rattle.std.specs.Prelude.{◌≡◌, ℕ, suc, ◌<◌, ◌≤◌, Bool, nat_lt, nat_le, ◌&&◌, List, [], ◌∷◌, length, slice_get, Option, Some, None, if◌then◌else◌, option_map, map}
+use Rattle.std.specs.Option.{option_or}
 use Rattle.grove_tree.specs.Trees.{Rows}
 use Rattle.grove_access.specs.declared.access.Access.{Access}
 use Rattle.grove_access.specs.declared.fault.ListFault.{ListFault}
@@ -7,13 +8,11 @@ use Rattle.grove_access.specs.declared.fault.ListFault.TheVariants.{TooLong, NoN
 
 -- the nodes that the accesses name, in order
 abbrev pub nodes_of : List Access → List ℕ
-nodes_of [] = []
-nodes_of (access ∷ accesses) = access.node ∷ nodes_of accesses
+nodes_of accesses = map (λ access. access.node) accesses
 
 -- how many slots each of them takes
 abbrev pub lengths_of : List Access → List ℕ
-lengths_of [] = []
-lengths_of (access ∷ accesses) = access.length ∷ lengths_of accesses
+lengths_of accesses = map (λ access. access.length) accesses
 
 -- each node of the list is below a number
 abbrev pub AreBelow : ℕ → List ℕ → Type 0
@@ -47,15 +46,11 @@ abbrev pub first_bad_length : ℕ → List ℕ → Option ℕ
 first_bad_length place [] = None
 first_bad_length place (slots ∷ lengths) = if is_length slots then first_bad_length (suc place) lengths else Some place
 
--- the fault of the first access beyond the nodes, else of the first bad length
-abbrev pub bad_access : Option ℕ → Option ℕ → Option ListFault
-bad_access (Some place) other = Some (NoNode place)
-bad_access None (Some place) = Some (BadLength place)
-bad_access None None = None
-
--- why accesses are no list over a tree, want of memory aside
+-- why accesses are no list over a tree, want of memory aside: a node beyond the tree comes before a bad length
 abbrev pub list_fault_of : Rows → List Access → Option ListFault
-list_fault_of rows accesses = if nat_lt most_accesses (length accesses) then Some TooLong else bad_access (first_beyond (length rows) 0 (nodes_of accesses)) (first_bad_length 0 (lengths_of accesses))
+list_fault_of rows accesses =
+    if nat_lt most_accesses (length accesses) then Some TooLong
+    else option_or (option_map NoNode (first_beyond (length rows) 0 (nodes_of accesses))) (option_map BadLength (first_bad_length 0 (lengths_of accesses)))
 
 -- accesses that make a list over a tree
 abbrev pub AreListed : Rows → List Access → Type 0

@@ -1,4 +1,4 @@
-ghost use Rattle.std.specs.Prelude.{◌≡◌, ◌<◌, ◌≤◌, [], ◌∷◌, ◌++◌, length, None, IfNone, MatchOption, vec_len, vec_capacity};
+ghost use Rattle.std.specs.Prelude.{◌≡◌, ◌<◌, [], ◌∷◌, ◌++◌, None, IfNone, MatchOption, vec_len, vec_capacity};
 ghost use Rattle.grove_access.specs.Effects.{answer};
 ghost use Rattle.grove_access.specs.Carries.{known_at, value_after, without, settled, AreApart};
 ghost use Rattle.grove_access.specs.KnownPlaces.{StandsAt};

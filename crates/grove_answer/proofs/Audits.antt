@@ -31,7 +31,7 @@ pub finished_history : (rows : Rows) (records : List ℤ) (jobs : List Job) (eve
     → IsFinishedHistory record { tree = rows; records = records; jobs = jobs; events = events; standing = standing }
 finished_history rows records jobs events standing tree legal run finished =
     let serial = runs_are_serial rows tree jobs legal records (reverse events) run finished in
-    record { legal = legal; run = run; finished = finished; once = serial.0; serial = serial.1 }
+    (legal, record { run = run; finished = finished; once = serial.0; serial = serial.1 })
 
 -- a refusal tells what is amiss with what is said to stand
 pub says_misstated : (history : History) (why : Refusal) → IsFinishedHistory history

@@ -1,5 +1,6 @@
 -- The node that a plan's fault names is a node of the tree.
 use Rattle.std.proofs.Common.{◌≡◌, ◌≢◌, ℕ, zero, suc, Bool, true, false, cond, List, length, slice_get, Option, Some, None, refl, subst, IfSome}
+use Rattle.std.specs.Option.{option_or}
 use Rattle.grove_base.specs.Numbers.{least_below}
 use Rattle.grove_tree.specs.Trees.{Rows}
 use Rattle.grove_base.proofs.Counting.{least_is}
@@ -9,7 +10,7 @@ use Rattle.grove_plan.specs.declared.fault.PlanFault.{PlanFault}
 use Rattle.grove_plan.specs.declared.fault.PlanFault.TheVariants.{Strange, Relock, ParentNotHeld, NotHeld, WrongAccess, AccessNotHeld, AccessMissing, StillHeld, Memory}
 use Rattle.grove_plan.specs.Plans.{held}
 use Rattle.grove_plan.specs.Slots.{accesses_before}
-use Rattle.grove_plan.specs.Faults.{step_fault, steps_fault, fault_or, end_fault, plan_fault_of}
+use Rattle.grove_plan.specs.Faults.{step_fault, steps_fault, end_fault, plan_fault_of}
 use Rattle.grove_wire.specs.Texts.{FaultFits}
 
 -- a fault, if there is one, fits the tree
@@ -26,7 +27,7 @@ cond_fits : (rows : Rows) (b : Bool) (x y : Option PlanFault) → (b ≡ true �
 cond_fits rows true x y here there = here refl
 cond_fits rows false x y here there = there
 
-or_fits : (rows : Rows) (x y : Option PlanFault) → Fits rows x → Fits rows y → Fits rows (fault_or x y)
+or_fits : (rows : Rows) (x y : Option PlanFault) → Fits rows x → Fits rows y → Fits rows (option_or x y)
 or_fits rows (Some fault) y here there = here
 or_fits rows None y here there = there
 

@@ -266,13 +266,14 @@ judged : (trial : Task × List Step) → IsFaultless trial.0.tree → RefusesInO
 judged (task, steps) faultless text says = unless_legal task.tree faultless _ _ text says
 
 checked : (claim : Task × List Step × List FlowRow) → IsFaultless claim.0.tree → RefusesInOneLine (IsChecked claim)
-checked (task, steps, flow) faultless text (fault, other, is, told) = subst IsOneLine (sym told) (proof_is task.tree faultless fault)
+checked (task, steps, flow) faultless text (Ok sum, is, told) = let never : ◌≡◌ {A = Outcome} (Err text) (Ok _) = told in cc
+checked (task, steps, flow) faultless text (Err fault, is, told) = subst IsOneLine (sym (same_text text (proof_text task.tree fault) told)) (proof_is task.tree faultless fault)
 
 planned : (task : Task) → IsFaultless task.tree → RefusesInOneLine (IsPlanned task)
-planned task faultless text (steps, flow, settled, certified, told) = let never : ◌≡◌ {A = Outcome} (Err text) (Ok _) = told in cc
+planned task faultless text (plan, is, told) = let never : ◌≡◌ {A = Outcome} (Err text) (Ok _) = told in cc
 
 planned_document : (document : Data) (task : Task) → IsFaultless task.tree → RefusesInOneLine (IsPlannedDocument document task)
-planned_document document task faultless text (steps, flow, settled, certified, claimed, (line, is_text, told)) = let never : ◌≡◌ {A = Outcome} (Err text) (Ok _) = told in cc
+planned_document document task faultless text (plan, is, claimed, (line, is_text, told)) = let never : ◌≡◌ {A = Outcome} (Err text) (Ok _) = told in cc
 
 drawn : (sketch : Task × Option (List Step)) → IsFaultless sketch.0.tree → RefusesInOneLine (IsDrawn sketch)
 drawn (task, own) faultless text (lines, says) = unless_legal task.tree faultless (own_fault task own) lines text says

@@ -1,5 +1,5 @@
 -- What is said of a plan with a flow that is refused.
-use Rattle.std.proofs.Common.{◌≡◌, ◌≢◌, List, Err, String}
+use Rattle.std.proofs.Common.{◌≡◌, ◌≢◌, List, Err, String, ap}
 use Rattle.grove_access.specs.Lists.{nodes_of, lengths_of}
 use Rattle.grove_plan.specs.declared.step.Step.{Step}
 use Rattle.grove_proof.specs.declared.flow.FlowRow.{FlowRow}
@@ -19,7 +19,7 @@ pub says_proof : (Z : Type 0) (task : Task) (plan : List Step) (flow : List Flow
     → (fault ≢ proof.Memory → IsFault task.tree (nodes_of task.list) (lengths_of task.list) plan flow fault)
     → Says {Z = Z} (IsChecked (task, plan, flow)) (Err refusal)
 says_proof Z task plan flow fault (Fault text) told memory first =
-    let other : fault ≢ proof.Memory = λ is. not_both text (memory is) in (fault, other, first other, told)
+    let other : fault ≢ proof.Memory = λ is. not_both text (memory is) in (Err fault, (other, first other), ap Err told)
   where
     not_both : (text : String _) → Fault text ≡ Memory → ⊥
     not_both text is = cc

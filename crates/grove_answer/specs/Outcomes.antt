@@ -11,14 +11,13 @@ use Rattle.grove_access.specs.Lists.{nodes_of, lengths_of}
 use Rattle.grove_access.specs.Effects.{records_after, replies_to}
 use Rattle.grove_plan.specs.declared.step.Step.{Step}
 use Rattle.grove_plan.specs.declared.fault.PlanFault.{PlanFault}
-use Rattle.grove_plan.specs.Plans.{IsLeast, IsLegal, cost}
+use Rattle.grove_plan.specs.Plans.{IsLegal, cost}
 use Rattle.grove_plan.specs.Faults.{plan_fault_of}
 use Rattle.grove_proof.specs.declared.flow.FlowRow.{FlowRow}
 use Rattle.grove_proof.specs.declared.fault.ProofFault.{ProofFault}
-use Rattle.grove_proof.specs.declared.fault.ProofFault.TheVariants as proof
-use Rattle.grove_proof.specs.Flows.{IsCertificate}
-use Rattle.grove_proof.specs.Faults.{IsFault}
+use Rattle.grove_build.specs.declared.planning.Planned.{Planned}
 use Rattle.grove_build.specs.Settled.{IsSettled}
+use Rattle.grove_build.specs.Batches.{IsPlanned as IsPlannedList}
 use Rattle.grove_draw.specs.declared.picture.Picture.{Picture}
 use Rattle.grove_draw.specs.declared.drawing.Drawing.{Drawing}
 use Rattle.grove_draw.specs.Pictures.{IsPictureOf}
@@ -37,6 +36,7 @@ use Rattle.grove_wire.specs.Writing.{replies_data, numbers_data, plan_data, flow
 use Rattle.grove_wire.specs.Replies.{counts_data, lists_data}
 use Rattle.grove_wire.specs.Histories.{Standing, jobs_in, events_in, standing_in}
 use Rattle.grove_wire.specs.Texts.{wire_text, plan_text, proof_text, replay_text}
+use Rattle.grove_store.specs.Alone.{ChecksAs}
 use Rattle.grove_store.specs.Rounds.{AreSettledJobs, replies_of}
 use Rattle.grove_answer.specs.declared.reading.Task.{Task}
 
@@ -122,37 +122,32 @@ IsJudged (task, plan) outcome =
 
 -- ---- check: the cost of a plan with a flow that proves it least, and of any other the first fault
 
+abbrev pub checked_outcome : Rows → Result ℕ ProofFault → Outcome
+checked_outcome tree (Ok sum) = Ok (codes "cost " ++ decimal sum ++ codes "\n")
+checked_outcome tree (Err fault) = Err (proof_text tree fault)
+
 abbrev pub IsChecked : Task × List Step × List FlowRow → Outcome → Type 0
-IsChecked (task, plan, flow) (Ok lines) =
-    IsLeast task.tree (nodes_of task.list) (lengths_of task.list) plan
-    × IsCertificate task.tree (nodes_of task.list) (lengths_of task.list) flow (cost task.tree (lengths_of task.list) plan)
-    × (lines ≡ codes "cost " ++ decimal (cost task.tree (lengths_of task.list) plan) ++ codes "\n")
-IsChecked (task, plan, flow) (Err text) = (fault : ProofFault)
-    × (fault ≢ proof.Memory) × IsFault task.tree (nodes_of task.list) (lengths_of task.list) plan flow fault × (text ≡ proof_text task.tree fault)
+IsChecked (task, plan, flow) outcome = (checked : Result ℕ ProofFault) × ChecksAs task.tree task.list plan flow checked × (outcome ≡ checked_outcome task.tree checked)
 
 -- ---- plan: the settled plan, with its cost and a flow that proves it least
 
-abbrev pub plan_lines : Rows → List Access → List Step → List FlowRow → List ℕ
-plan_lines tree list plan flow =
-    codes "cost " ++ decimal (cost tree (lengths_of list) plan)
-    ++ codes "\nplan " ++ compact_text (plan_data tree plan)
-    ++ codes "\nflow " ++ compact_text (flow_data tree flow)
+abbrev pub plan_lines : Rows → Planned → List ℕ
+plan_lines tree planned =
+    codes "cost " ++ decimal planned.cost
+    ++ codes "\nplan " ++ compact_text (plan_data tree planned.plan)
+    ++ codes "\nflow " ++ compact_text (flow_data tree planned.flow)
     ++ codes "\n"
 
 abbrev pub IsPlanned : Task → Outcome → Type 0
-IsPlanned task outcome = (plan : List Step) × (flow : List FlowRow)
-    × IsSettled task.tree (nodes_of task.list) (lengths_of task.list) plan
-    × IsCertificate task.tree (nodes_of task.list) (lengths_of task.list) flow (cost task.tree (lengths_of task.list) plan)
-    × (outcome ≡ Ok (plan_lines task.tree task.list plan flow))
+IsPlanned task outcome = (planned : Planned) × IsPlannedList task.tree task.list planned × (outcome ≡ Ok (plan_lines task.tree planned))
 
 -- ---- draw: the pictures of the settled plan and of the document's own, if it has one, unless that has a fault
 
 -- a picture of the own plan, which is legal; none where there is no such plan
 abbrev pub PicturesOwn : Task → Option (List Step) → Option Picture → Type 0
 PicturesOwn task None None = Unit {0}
-PicturesOwn task None (Some picture) = ⊥
-PicturesOwn task (Some plan) None = ⊥
 PicturesOwn task (Some plan) (Some picture) = IsLegal task.tree (nodes_of task.list) plan × IsPictureOf task.tree task.list plan picture
+PicturesOwn task _ _ = ⊥
 
 pub record IsDrawingOf (task : Task) (own : Option (List Step)) (drawing : Drawing) : Type 0 where
   pub own_picture : PicturesOwn task own drawing.own
@@ -183,11 +178,16 @@ run_lines tree jobs records past =
     batch_lines (placement_order tree jobs past) (replies_of jobs records past)
     (run_records jobs records past) (map (waits_of jobs past) (numbers_below (length tree)))
 
+-- a finished run of jobs; their lists done whole, one after the other in the order of the run, give the same
+pub record IsSerialRun (tree : Rows) (jobs : List Job) (records : List ℤ) (past : List Event) : Type 0 where
+  pub run : IsRun jobs past
+  pub finished : IsFinished jobs past
+  pub once : IsEachOnce (placement_order tree jobs past) (length jobs)
+  pub serial : IsSerialBy (placement_order tree jobs past) jobs records past
+
 abbrev pub IsRunBatch : Rows × List ℤ × List (List Access) → Outcome → Type 0
 IsRunBatch (tree, records, lists) (Ok lines) = (jobs : List Job) × (past : List Event)
-    × AreSettledJobs tree lists jobs × IsRun jobs past × IsFinished jobs past
-    × IsEachOnce (placement_order tree jobs past) (length jobs) × IsSerialBy (placement_order tree jobs past) jobs records past
-    × (lines ≡ run_lines tree jobs records past)
+    × AreSettledJobs tree lists jobs × IsSerialRun tree jobs records past × (lines ≡ run_lines tree jobs records past)
 IsRunBatch (tree, records, lists) (Err text) = (text ≡ codes "foreign") ⊎ (text ≡ codes "unfinished")
 
 -- ---- audit: events that are a finished run of jobs, by any legal plans, and what they leave
@@ -196,13 +196,9 @@ IsRunBatch (tree, records, lists) (Err text) = (text ≡ codes "foreign") ⊎ (t
 abbrev pub past_in : History → List Event
 past_in history = reverse history.events
 
--- the events are a finished run, and so the same as the lists done whole, one after the other
-pub record IsFinishedHistory (history : History) : Type 0 where
-  pub legal : AllLegal history.tree history.jobs
-  pub run : IsRun history.jobs (past_in history)
-  pub finished : IsFinished history.jobs (past_in history)
-  pub once : IsEachOnce (placement_order history.tree history.jobs (past_in history)) (length history.jobs)
-  pub serial : IsSerialBy (placement_order history.tree history.jobs (past_in history)) history.jobs history.records (past_in history)
+-- the events are a finished run by legal plans
+abbrev pub IsFinishedHistory : History → Type 0
+IsFinishedHistory history = AllLegal history.tree history.jobs × IsSerialRun history.tree history.jobs history.records (past_in history)
 
 -- the first place at which two lists differ
 abbrev pub DifferFirstAt : {A : Type 0} → List A → List A → ℕ → Type 0

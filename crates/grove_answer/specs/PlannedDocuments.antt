@@ -5,12 +5,10 @@ use Rattle.json.specs.Print.{print}
 use Rattle.serde_json.specs.Data.{Data, object, put}
 use Rattle.serde_json.specs.Written.{compact_text, has_float}
 use Rattle.grove_tree.specs.Trees.{Rows}
-use Rattle.grove_access.specs.Lists.{nodes_of, lengths_of}
 use Rattle.grove_plan.specs.declared.step.Step.{Step}
-use Rattle.grove_plan.specs.Plans.{cost}
 use Rattle.grove_proof.specs.declared.flow.FlowRow.{FlowRow}
-use Rattle.grove_proof.specs.Flows.{IsCertificate}
-use Rattle.grove_build.specs.Settled.{IsSettled}
+use Rattle.grove_build.specs.declared.planning.Planned.{Planned}
+use Rattle.grove_build.specs.Batches.{IsPlanned as IsPlannedList}
 use Rattle.grove_wire.specs.Reading.{value_of}
 use Rattle.grove_wire.specs.Writing.{plan_data, flow_data}
 use Rattle.grove_answer.specs.declared.reading.Task.{Task}
@@ -32,8 +30,6 @@ pub record IsTextOf (d : Data) (text : List ℕ) : Type 0 where
 
 -- a line, which reads as the same task with its settled plan and a flow that proves it least
 abbrev pub IsPlannedDocument : Data → Task → Outcome → Type 0
-IsPlannedDocument document task outcome = (plan : List Step) × (flow : List FlowRow)
-    × IsSettled task.tree (nodes_of task.list) (lengths_of task.list) plan
-    × IsCertificate task.tree (nodes_of task.list) (lengths_of task.list) flow (cost task.tree (lengths_of task.list) plan)
-    × (claim_in (planned_document task.tree plan flow document) ≡ Ok (task, plan, flow))
-    × ((text : List ℕ) × IsTextOf (planned_document task.tree plan flow document) text × (outcome ≡ Ok (text ++ codes "\n")))
+IsPlannedDocument document task outcome = (planned : Planned) × IsPlannedList task.tree task.list planned
+    × (claim_in (planned_document task.tree planned.plan planned.flow document) ≡ Ok (task, planned.plan, planned.flow))
+    × ((text : List ℕ) × IsTextOf (planned_document task.tree planned.plan planned.flow document) text × (outcome ≡ Ok (text ++ codes "\n")))

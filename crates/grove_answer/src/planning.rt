@@ -39,7 +39,7 @@ fn plan_lines(
     planned: &Planned,
 ) -> Result<String, NoMemory>
     requires { IsPlannedList tree.now list.now planned.now }
-    ensures { IfOk result (λ lines. string_bytes lines ≡ plan_lines tree.now list.now planned.now.plan planned.now.flow) }
+    ensures { IfOk result (λ lines. string_bytes lines ≡ plan_lines tree.now planned.now) }
 {
     let steps = plan_text(alloc, tree, &planned.plan)?;
     let flow = flow_text(alloc, tree, &planned.flow)?;

@@ -1,4 +1,4 @@
-ghost use Rattle.std.specs.Prelude.{◌≡◌, ◌≤◌, ◌<◌, ◌^◌, length, map, Decides, MatchOption};
+ghost use Rattle.std.specs.Prelude.{◌≡◌, ◌<◌, ◌^◌, length, map, Decides, MatchOption};
 ghost use Rattle.grove_answer.specs.Outcomes.{DifferFirstAt};
 
 use grove_access::Reply;

@@ -5,7 +5,7 @@ use Rattle.std.proofs.lemmas.List.{append-nil}
 use Rattle.std.proofs.Math.Seq.{take-length}
 use Rattle.std.proofs.lemmas.Option.{none-some, same_Some, slice_get_within, get_or_from_slice_get}
 use Rattle.std.proofs.lemmas.Bool.{cases_eq, both_ways, eq-eqb, ne_eqb, cond-true, cond-false}
-use Rattle.grove_access.specs.declared.access.Access.{Access as Visit}
+use Rattle.grove_access.specs.declared.access.Access.{Access}
 use Rattle.grove_access.specs.declared.reply.Reply.{Reply}
 use Rattle.grove_access.specs.declared.known.Known.{Known}
 use Rattle.grove_access.specs.declared.entry.Entry.{Entry}
@@ -14,7 +14,8 @@ use Rattle.grove_access.specs.Carries.{Carried, known_at, value_after, present_f
 use Rattle.grove_base.proofs.Lists.{take_next, get_set_same, get_set_other, read_at, item_there}
 use Rattle.grove_access.proofs.CarriedNodes.{known_first, known_later, settled_at, value_after-append, out_value}
 use Rattle.grove_plan.specs.declared.step.Step.{Step}
-use Rattle.grove_plan.specs.declared.step.Step.TheVariants.{Lock, Access}
+use Rattle.grove_plan.specs.declared.step.Step.TheVariants.{Lock}
+use Rattle.grove_plan.specs.declared.step.Step.TheVariants as plan_step
 use Rattle.grove_plan.specs.Plans.{locks, unlocks}
 use Rattle.grove_plan.proofs.Held.{held_not}
 use Rattle.grove_core.specs.declared.job.Job.{Job}
@@ -130,7 +131,7 @@ replies_in-append (x ∷ entries) e = ap (λ rs. x.reply ∷ rs) (replies_in-app
 
 -- what the access of an entry finds, once the entries before it are done
 pub record IsReady (core : CoreState) (carry : Carried) (n : ℕ) (e : Entry) (past : List Event) : Type 0 where
-  pub next : next_step core.jobs past carry.txn ≡ Some (Access e.number)
+  pub next : next_step core.jobs past carry.txn ≡ Some (plan_step.Access e.number)
   pub listed : slice_get (list_of core.jobs carry.txn) e.number ≡ Some e.access
   pub value : ℤ
   pub known : known_at carry.known e.access.node ≡ Some value
@@ -311,10 +312,10 @@ pub list_read : (jobs seen : List Job) (t : ℕ) (job : Job) → seen ≡ jobs �
 list_read jobs seen t job same lt read = sym (list_of_at jobs t job (read_at jobs t job lt (read ∙ ap (λ (js : List Job). get_or js t job) same)))
 
 -- entries that follow what is read follow the plan
-pub follows_read : (list listed : List Visit) (plan planned : List Step) (start begin : ℕ) (entries : List Entry) → list ≡ listed → plan ≡ planned → start ≡ begin
+pub follows_read : (list listed : List Access) (plan planned : List Step) (start begin : ℕ) (entries : List Entry) → list ≡ listed → plan ≡ planned → start ≡ begin
     → Follows list plan start entries → Follows listed planned begin entries
 follows_read list listed plan planned start begin entries e f g follows =
-    subst (λ (l : List Visit). Follows l planned begin entries) e (subst (λ (p : List Step). Follows list p begin entries) f (subst (λ (k : ℕ). Follows list plan k entries) g follows))
+    subst (λ (l : List Access). Follows l planned begin entries) e (subst (λ (p : List Step). Follows list p begin entries) f (subst (λ (k : ℕ). Follows list plan k entries) g follows))
 
 -- The tests as they are made, of what is read of the carry
 pub is_of_tests : (core : CoreState) (carry : Carried) (t : ℕ) (known : List Known) (entries : List Entry) → t ≡ carry.txn → known ≡ carry.known → entries ≡ carry.entries → t < length core.jobs
@@ -339,7 +340,7 @@ follows_test core carry t entries e f of =
 
 -- what an entry that is read finds
 pub record FindsItself (now : CoreState) (t : ℕ) (e : Entry) : Type 0 where
-  pub next : next_step now.jobs (past_of now) t ≡ Some (Access e.number)
+  pub next : next_step now.jobs (past_of now) t ≡ Some (plan_step.Access e.number)
   pub replied : e.reply ≡ reply_to e.access (records_of now)
 
 -- the entry that is read finds the record that it was done on

@@ -2,9 +2,10 @@
 use Rattle.std.proofs.Common.{◌≡◌, ◌≢◌, ℕ, suc, ◌<◌, ◌≤◌, List, [], ◌∷◌, ◌++◌, length, Option, Some, None, refl, sym, ◌∙◌, subst, arith}
 use Rattle.std.specs.List.{slice_get}
 use Rattle.grove_tree.specs.Trees.{Rows}
-use Rattle.grove_access.specs.declared.access.Access.{Access as Visit}
+use Rattle.grove_access.specs.declared.access.Access.{Access}
 use Rattle.grove_plan.specs.declared.step.Step.{Step}
-use Rattle.grove_plan.specs.declared.step.Step.TheVariants.{Lock, Unlock, Access}
+use Rattle.grove_plan.specs.declared.step.Step.TheVariants.{Lock, Unlock}
+use Rattle.grove_plan.specs.declared.step.Step.TheVariants as plan_step
 use Rattle.grove_plan.proofs.Held.{HeldAt, held_at, access_no_unlock}
 use Rattle.grove_core.specs.declared.job.Job.{Job}
 use Rattle.grove_core.specs.declared.event.Event.{Event}
@@ -21,7 +22,7 @@ pub record Known (jobs : List Job) (past : List Event) (d : Deed) : Type 0 where
   pub at : ℕ
   pub number : ℕ
   pub done : at < steps_done past d.job
-  pub is_access : slice_get (plan_of jobs d.job) at ≡ Some (Access number)
+  pub is_access : slice_get (plan_of jobs d.job) at ≡ Some (plan_step.Access number)
   pub listed : slice_get (list_of jobs d.job) number ≡ Some d.access
 
 known_old : (jobs : List Job) (e : Event) (past : List Event) (d : Deed) → Known jobs past d → Known jobs (e ∷ past) d
@@ -31,16 +32,16 @@ known_old jobs e past d h =
     record { at = h.at; number = h.number; done = omega arith; is_access = h.is_access; listed = h.listed }
 
 -- what holds of the access that a step does
-deed_at_all : (P : Deed → Type 0) (t : ℕ) (o : Option Visit) → ((visit : Visit) → o ≡ Some visit → P (record { job = t; access = visit })) → AllDeeds P (deed_at t o)
+deed_at_all : (P : Deed → Type 0) (t : ℕ) (o : Option Access) → ((visit : Access) → o ≡ Some visit → P (record { job = t; access = visit })) → AllDeeds P (deed_at t o)
 deed_at_all P t None h = tt
 deed_at_all P t (Some visit) h = (h visit refl, tt)
 
-deed_of_all : (P : Deed → Type 0) (t : ℕ) (list : List Visit) (o : Option Step)
-    → ((n : ℕ) (visit : Visit) → o ≡ Some (Access n) → slice_get list n ≡ Some visit → P (record { job = t; access = visit })) → AllDeeds P (deed_of t list o)
+deed_of_all : (P : Deed → Type 0) (t : ℕ) (list : List Access) (o : Option Step)
+    → ((n : ℕ) (visit : Access) → o ≡ Some (plan_step.Access n) → slice_get list n ≡ Some visit → P (record { job = t; access = visit })) → AllDeeds P (deed_of t list o)
 deed_of_all P t list None h = tt
 deed_of_all P t list (Some (Lock v)) h = tt
 deed_of_all P t list (Some (Unlock v)) h = tt
-deed_of_all P t list (Some (Access n)) h = deed_at_all P t (slice_get list n) (λ visit e. h n visit refl e)
+deed_of_all P t list (Some (plan_step.Access n)) h = deed_at_all P t (slice_get list n) (λ visit e. h n visit refl e)
 
 -- each deed of a run is a done access
 pub known_all : (jobs : List Job) (past : List Event) → AllDeeds (Known jobs past) (deeds jobs past)
@@ -55,10 +56,10 @@ known_all jobs (Take u ∷ past) =
     record { at = steps_done past u; number = n; done = omega arith; is_access = e; listed = f }))
 
 -- the node of an access of a legal plan is held
-pub access_held : (rows : Rows) (jobs : List Job) → AllLegal rows jobs → (t i n : ℕ) (visit : Visit) → slice_get (plan_of jobs t) i ≡ Some (Access n)
+pub access_held : (rows : Rows) (jobs : List Job) → AllLegal rows jobs → (t i n : ℕ) (visit : Access) → slice_get (plan_of jobs t) i ≡ Some (plan_step.Access n)
     → slice_get (list_of jobs t) n ≡ Some visit → HeldAt (plan_of jobs t) visit.node i
 access_held rows jobs legal t i n visit h k =
-    held_at (plan_of jobs t) visit.node i ((legal t (within_jobs jobs t i (Access n) h)).performs.while_held i n visit.node h (node_at (list_of jobs t) n visit k))
+    held_at (plan_of jobs t) visit.node i ((legal t (within_jobs jobs t i (plan_step.Access n) h)).performs.while_held i n visit.node h (node_at (list_of jobs t) n visit k))
 
 -- conflicts
 
@@ -77,15 +78,15 @@ conflicts_append R (d ∷ ds) new c cross cn =
     (all_append (λ k. d.access.node ≡ k.access.node → d.job ≢ k.job → R d.job k.job) ds new c.0 cross.0, conflicts_append R ds new c.1 cross.1 cn)
 
 -- one deed alone has no conflict
-conflicts_at : (R : ℕ → ℕ → Type 0) (t : ℕ) (o : Option Visit) → Conflicts R (deed_at t o)
+conflicts_at : (R : ℕ → ℕ → Type 0) (t : ℕ) (o : Option Access) → Conflicts R (deed_at t o)
 conflicts_at R t None = tt
 conflicts_at R t (Some visit) = (tt, tt)
 
-conflicts_of : (R : ℕ → ℕ → Type 0) (t : ℕ) (list : List Visit) (o : Option Step) → Conflicts R (deed_of t list o)
+conflicts_of : (R : ℕ → ℕ → Type 0) (t : ℕ) (list : List Access) (o : Option Step) → Conflicts R (deed_of t list o)
 conflicts_of R t list None = tt
 conflicts_of R t list (Some (Lock v)) = tt
 conflicts_of R t list (Some (Unlock v)) = tt
-conflicts_of R t list (Some (Access n)) = conflicts_at R t (slice_get list n)
+conflicts_of R t list (Some (plan_step.Access n)) = conflicts_at R t (slice_get list n)
 
 -- who precedes whom is as it was after one event more
 locked_old : (jobs : List Job) (e : Event) (past : List Event) (run : IsRun jobs past) (more : IsRun jobs (e ∷ past)) (t node : ℕ)
@@ -119,7 +120,7 @@ precedes_old jobs e past run more t u h =
 
 -- a deed and a later one of another job at its node
 precedes_new : (rows : Rows) (jobs : List Job) → AllLegal rows jobs → (past : List Event) (u : ℕ) (run : IsRun jobs (Take u ∷ past)) (d : Deed) → Known jobs past d
-    → (n : ℕ) (visit : Visit) → next_step jobs past u ≡ Some (Access n) → slice_get (list_of jobs u) n ≡ Some visit → d.access.node ≡ visit.node → d.job ≢ u
+    → (n : ℕ) (visit : Access) → next_step jobs past u ≡ Some (plan_step.Access n) → slice_get (list_of jobs u) n ≡ Some visit → d.access.node ≡ visit.node → d.job ≢ u
     → Precedes jobs (run_timing jobs (Take u ∷ past) run) d.job u
 unfolding run_timing
 precedes_new rows jobs legal past u run d known n visit e f nodes ne =

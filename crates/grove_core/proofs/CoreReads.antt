@@ -5,9 +5,10 @@ use Rattle.std.proofs.lemmas.List.{reverse-append}
 use Rattle.std.proofs.lemmas.Option.{slice_get_within}
 use Rattle.std.proofs.lemmas.Bool.{ltb-true, eqb-true}
 use Rattle.grove_tree.specs.Trees.{Rows}
-use Rattle.grove_access.specs.declared.access.Access.{Access as Visit}
+use Rattle.grove_access.specs.declared.access.Access.{Access}
 use Rattle.grove_plan.specs.declared.step.Step.{Step}
-use Rattle.grove_plan.specs.declared.step.Step.TheVariants.{Lock, Unlock, Access}
+use Rattle.grove_plan.specs.declared.step.Step.TheVariants.{Lock, Unlock}
+use Rattle.grove_plan.specs.declared.step.Step.TheVariants as plan_step
 use Rattle.grove_plan.specs.Plans.{is_lock}
 use Rattle.grove_plan.proofs.Held.{unlock_no_lock, access_no_lock, HeldAt, held_at}
 use Rattle.grove_core.specs.declared.job.Job.{Job}
@@ -65,9 +66,9 @@ module _ (rows : Rows) (jobs : List Job) (opening : List ℤ) (past : List Event
       (core.legal t lt).obeys.locks_nodes at.at node at.is_lock
 
   -- an accessed node too
-  pub accessed_within : (t number : ℕ) (visit : Visit) → next_step jobs past t ≡ Some (Access number) → slice_get (list_of jobs t) number ≡ Some visit → visit.node < length records
+  pub accessed_within : (t number : ℕ) (visit : Access) → next_step jobs past t ≡ Some (plan_step.Access number) → slice_get (list_of jobs t) number ≡ Some visit → visit.node < length records
   accessed_within t number visit next listed =
-      let lt : t < length jobs = job_there t (Access number) next in
+      let lt : t < length jobs = job_there t (plan_step.Access number) next in
       let at : HeldAt (plan_of jobs t) visit.node (steps_done past t) = access_held rows jobs core.legal t (steps_done past t) number visit next listed in
       let within : visit.node < length rows = (core.legal t lt).obeys.locks_nodes at.at visit.node at.is_lock in
       let e : length records ≡ length opening = ap length core.recorded ∙ deeds_length (deeds jobs past) opening in
@@ -79,7 +80,7 @@ module _ (rows : Rows) (jobs : List Job) (opening : List ℤ) (past : List Event
   event_room event may room le = let h : length (event ∷ past) ≤ most_events jobs = history_bound jobs (event ∷ past) (may, core.run) in omega arith
 
   -- and for the reply
-  pub reply_room : (t number : ℕ) → next_step jobs past t ≡ Some (Access number) → (p : Progress) → slice_get progress t ≡ Some p → length p.replies.items < p.replies.capacity
+  pub reply_room : (t number : ℕ) → next_step jobs past t ≡ Some (plan_step.Access number) → (p : Progress) → slice_get progress t ≡ Some p → length p.replies.items < p.replies.capacity
   reply_room t number next p at =
       let h : HasProgress rows jobs opening past t p = core.come t p at in
       let a : Accessing jobs opening past t number = accessing rows jobs core.legal opening past core.run t number next in
@@ -89,7 +90,7 @@ module _ (rows : Rows) (jobs : List Job) (opening : List ℤ) (past : List Event
       omega arith
 
   -- an access that comes next is one of the list
-  pub access_listed : (t number : ℕ) → next_step jobs past t ≡ Some (Access number) → number < length (list_of jobs t)
+  pub access_listed : (t number : ℕ) → next_step jobs past t ≡ Some (plan_step.Access number) → number < length (list_of jobs t)
   access_listed t number next = (accessing rows jobs core.legal opening past core.run t number next).listed
 
   -- and for the wait
@@ -221,8 +222,8 @@ module _ (rows : Rows) (jobs : List Job) (opening : List ℤ) (past : List Event
   may_unlock t node next = (Unlock node, next, λ n e. absurd (unlock_no_lock node n (ap (λ (s : Step). Some s) e)))
 
   -- an access may always be done
-  pub may_access : (t number : ℕ) → next_step jobs past t ≡ Some (Access number) → MayHappen jobs past (Take t)
-  may_access t number next = (Access number, next, λ n e. absurd (access_no_lock number n (ap (λ (s : Step). Some s) e)))
+  pub may_access : (t number : ℕ) → next_step jobs past t ≡ Some (plan_step.Access number) → MayHappen jobs past (Take t)
+  may_access t number next = (plan_step.Access number, next, λ n e. absurd (access_no_lock number n (ap (λ (s : Step). Some s) e)))
 
 -- what a core keeps, as the model has it, with one event more
 pub closed : (rows : Rows) (jobs : List Job) (opening : List ℤ) (items more : List Event) (event : Event) (room spare : ℕ) (records : List ℤ) (progress : List Progress) (owners : List Owner) (waits : List ℕ) (firsts : List Bool)

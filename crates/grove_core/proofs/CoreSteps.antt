@@ -8,11 +8,12 @@ use Rattle.std.proofs.lemmas.Option.{same_Some, slice_get_within}
 use Rattle.std.proofs.lemmas.Bool.{cases_eq, both_ways, eq-eqb, ne_eqb, cond-true, cond-false, le-ltb}
 use Rattle.grove_base.specs.Numbers.{count_below}
 use Rattle.grove_tree.specs.Trees.{Rows}
-use Rattle.grove_access.specs.declared.access.Access.{Access as Visit}
+use Rattle.grove_access.specs.declared.access.Access.{Access}
 use Rattle.grove_access.specs.declared.reply.Reply.{Reply}
 use Rattle.grove_access.specs.Effects.{changed_by, reply_to}
 use Rattle.grove_plan.specs.declared.step.Step.{Step}
-use Rattle.grove_plan.specs.declared.step.Step.TheVariants.{Lock, Unlock, Access}
+use Rattle.grove_plan.specs.declared.step.Step.TheVariants.{Lock, Unlock}
+use Rattle.grove_plan.specs.declared.step.Step.TheVariants as plan_step
 use Rattle.grove_plan.specs.Plans.{locks, is_lock, unlocks, held, ObeysTreeProtocol}
 use Rattle.grove_plan.proofs.Held.{locks_from, held_not, held_step_lock, held_step_unlock, held_step_other, lock_same, unlock_no_lock, access_no_lock}
 use Rattle.grove_core.specs.declared.job.Job.{Job}
@@ -312,12 +313,12 @@ module _ (rows : Rows) (jobs : List Job) (opening : List ℤ) (past : List Event
       (λ n ne u. lock_time_kept jobs past t u n (ap (locks n) next)))
 
   -- and one that takes an access
-  pub core_accessed : (t number : ℕ) (visit : Visit) → next_step jobs past t ≡ Some (Access number) → slice_get (list_of jobs t) number ≡ Some visit → (p q : Progress) → slice_get progress t ≡ Some p
+  pub core_accessed : (t number : ℕ) (visit : Access) → next_step jobs past t ≡ Some (plan_step.Access number) → slice_get (list_of jobs t) number ≡ Some visit → (p q : Progress) → slice_get progress t ≡ Some p
       → q.steps_done ≡ p.steps_done + 1 → q.marked ≡ false → q.replies.items ≡ p.replies.items ++ reply_to visit records ∷ [] → q.replies.capacity ≡ p.replies.capacity → q.locked ≡ p.locked → q.held_nodes ≡ p.held_nodes
       → IsCore rows jobs opening (Take t ∷ past) (changed_by visit records) (set progress t q) owners waits
   core_accessed t number visit next listed p q at moved marked replies room locked kept =
       let h : HasProgress rows jobs opening past t p = core.come t p at in
-      core_taken t (Access number, next, λ n e. absurd (access_no_lock number n (ap (λ (s : Step). Some s) e))) (changed_by visit records)
+      core_taken t (plan_step.Access number, next, λ n e. absurd (access_no_lock number n (ap (λ (s : Step). Some s) e))) (changed_by visit records)
       (ap (changed_by visit) core.recorded ∙ sym (accessed_records jobs opening past t number visit next listed)) q
       (progress_taken rows jobs opening past t p q h moved marked
       (replies ∙ ap (λ (rs : List Reply). rs ++ reply_to visit records ∷ []) h.answers

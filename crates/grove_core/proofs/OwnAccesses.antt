@@ -6,10 +6,11 @@ use Rattle.std.proofs.lemmas.Bool.{cases_eq, eq-eqb, ne_eqb}
 use Rattle.std.proofs.Math.Seq.{take-length}
 use Rattle.grove_base.specs.Numbers.{numbers_below}
 use Rattle.grove_tree.specs.Trees.{Rows}
-use Rattle.grove_access.specs.declared.access.Access.{Access as Visit}
+use Rattle.grove_access.specs.declared.access.Access.{Access}
 use Rattle.grove_access.specs.Lists.{nodes_of}
 use Rattle.grove_plan.specs.declared.step.Step.{Step}
-use Rattle.grove_plan.specs.declared.step.Step.TheVariants.{Lock, Unlock, Access}
+use Rattle.grove_plan.specs.declared.step.Step.TheVariants.{Lock, Unlock}
+use Rattle.grove_plan.specs.declared.step.Step.TheVariants as plan_step
 use Rattle.grove_plan.specs.Plans.{accesses_of, IsLegal}
 use Rattle.grove_core.specs.declared.job.Job.{Job}
 use Rattle.grove_core.specs.declared.event.Event.{Event}
@@ -25,12 +26,12 @@ use Rattle.grove_access.proofs.Lists.{nodes_length}
 -- A job's own deeds
 
 -- the deeds of steps
-abbrev pub did : ℕ → List Visit → List Step → List Deed
+abbrev pub did : ℕ → List Access → List Step → List Deed
 did t list [] = []
 did t list (s ∷ steps) = deed_of t list (Some s) ++ did t list steps
 
 -- one step more has its own deed more
-pub did_last : (t : ℕ) (list : List Visit) (steps : List Step) (s : Step) → did t list (steps ++ s ∷ []) ≡ did t list steps ++ deed_of t list (Some s)
+pub did_last : (t : ℕ) (list : List Access) (steps : List Step) (s : Step) → did t list (steps ++ s ∷ []) ≡ did t list steps ++ deed_of t list (Some s)
 did_last t list [] s = append-nil (deed_of t list (Some s))
 did_last t list (x ∷ steps) s = ap (λ (ds : List Deed). deed_of t list (Some x) ++ ds) (did_last t list steps s)
     ∙ sym (append_assoc (deed_of t list (Some x)) (did t list steps) (deed_of t list (Some s)))
@@ -43,25 +44,25 @@ own_append : (t : ℕ) (a b : List Deed) → own t (a ++ b) ≡ own t a ++ own t
 own_append t [] b = refl
 own_append t (d ∷ a) b = own_append_by (eqb d.job t) d (own t (a ++ b)) (own t a) (own t b) (own_append t a b)
 
-own_at : (t : ℕ) (o : Option Visit) → own t (deed_at t o) ≡ deed_at t o
+own_at : (t : ℕ) (o : Option Access) → own t (deed_at t o) ≡ deed_at t o
 own_at t None = refl
 own_at t (Some visit) = rw (eq-eqb t t refl) refl
 
-own_of : (t : ℕ) (list : List Visit) (o : Option Step) → own t (deed_of t list o) ≡ deed_of t list o
+own_of : (t : ℕ) (list : List Access) (o : Option Step) → own t (deed_of t list o) ≡ deed_of t list o
 own_of t list None = refl
 own_of t list (Some (Lock v)) = refl
 own_of t list (Some (Unlock v)) = refl
-own_of t list (Some (Access n)) = own_at t (slice_get list n)
+own_of t list (Some (plan_step.Access n)) = own_at t (slice_get list n)
 
-none_at : (t u : ℕ) → u ≢ t → (o : Option Visit) → own t (deed_at u o) ≡ []
+none_at : (t u : ℕ) → u ≢ t → (o : Option Access) → own t (deed_at u o) ≡ []
 none_at t u ne None = refl
 none_at t u ne (Some visit) = rw (ne_eqb u t ne) refl
 
-none_of : (t u : ℕ) → u ≢ t → (list : List Visit) (o : Option Step) → own t (deed_of u list o) ≡ []
+none_of : (t u : ℕ) → u ≢ t → (list : List Access) (o : Option Step) → own t (deed_of u list o) ≡ []
 none_of t u ne list None = refl
 none_of t u ne list (Some (Lock v)) = refl
 none_of t u ne list (Some (Unlock v)) = refl
-none_of t u ne list (Some (Access n)) = none_at t u ne (slice_get list n)
+none_of t u ne list (Some (plan_step.Access n)) = none_at t u ne (slice_get list n)
 
 -- a job's own deeds are those of the steps that it has done
 pub kept_run : (jobs : List Job) (past : List Event) → IsRun jobs past → (t : ℕ) → own t (deeds jobs past) ≡ did t (list_of jobs t) (take (steps_done past t) (plan_of jobs t))
@@ -87,37 +88,37 @@ kept_run jobs (Take u ∷ past) run t =
     ]
 
 -- the deeds of accesses by number
-abbrev pub picked : ℕ → List Visit → List ℕ → List Deed
+abbrev pub picked : ℕ → List Access → List ℕ → List Deed
 picked t list [] = []
 picked t list (n ∷ ns) = deed_at t (slice_get list n) ++ picked t list ns
 
-did_picked : (t : ℕ) (list : List Visit) (steps : List Step) → did t list steps ≡ picked t list (accesses_of steps)
+did_picked : (t : ℕ) (list : List Access) (steps : List Step) → did t list steps ≡ picked t list (accesses_of steps)
 did_picked t list [] = refl
 did_picked t list (Lock v ∷ steps) = did_picked t list steps
 did_picked t list (Unlock v ∷ steps) = did_picked t list steps
-did_picked t list (Access n ∷ steps) = ap (λ (ds : List Deed). deed_at t (slice_get list n) ++ ds) (did_picked t list steps)
+did_picked t list (plan_step.Access n ∷ steps) = ap (λ (ds : List Deed). deed_at t (slice_get list n) ++ ds) (did_picked t list steps)
 
-picked_last : (t : ℕ) (list : List Visit) (ns : List ℕ) (n : ℕ) → picked t list (ns ++ n ∷ []) ≡ picked t list ns ++ deed_at t (slice_get list n)
+picked_last : (t : ℕ) (list : List Access) (ns : List ℕ) (n : ℕ) → picked t list (ns ++ n ∷ []) ≡ picked t list ns ++ deed_at t (slice_get list n)
 picked_last t list [] n = append-nil (deed_at t (slice_get list n))
 picked_last t list (m ∷ ns) n = ap (λ (ds : List Deed). deed_at t (slice_get list m) ++ ds) (picked_last t list ns n)
     ∙ sym (append_assoc (deed_at t (slice_get list m)) (picked t list ns) (deed_at t (slice_get list n)))
 
-stamped_last : (t : ℕ) (list : List Visit) (visit : Visit) → stamped t (list ++ visit ∷ []) ≡ stamped t list ++ record { job = t; access = visit } ∷ []
+stamped_last : (t : ℕ) (list : List Access) (visit : Access) → stamped t (list ++ visit ∷ []) ≡ stamped t list ++ record { job = t; access = visit } ∷ []
 stamped_last t [] visit = refl
 stamped_last t (x ∷ list) visit = ap (λ (ds : List Deed). record { job = t; access = x } ∷ ds) (stamped_last t list visit)
 
-picked_numbers : (t : ℕ) (list : List Visit) (n : ℕ) → n ≤ length list → picked t list (numbers_below n) ≡ stamped t (take n list)
+picked_numbers : (t : ℕ) (list : List Access) (n : ℕ) → n ≤ length list → picked t list (numbers_below n) ≡ stamped t (take n list)
 picked_numbers t list zero le = refl
 picked_numbers t list (suc n) le =
-    let at : (x : Visit) × (slice_get list n ≡ Some x) = item_there list n (omega arith) in
+    let at : (x : Access) × (slice_get list n ≡ Some x) = item_there list n (omega arith) in
     picked_last t list (numbers_below n) n
     ∙ ap (λ (ds : List Deed). ds ++ deed_at t (slice_get list n)) (picked_numbers t list n (omega arith))
-    ∙ ap (λ (o : Option Visit). stamped t (take n list) ++ deed_at t o) at.1
+    ∙ ap (λ (o : Option Access). stamped t (take n list) ++ deed_at t o) at.1
     ∙ sym (stamped_last t (take n list) at.0)
     ∙ ap (stamped t) (sym (take_next list n at.0 at.1))
 
 -- a whole plan does the whole list
-pub whole_plan : (rows : Rows) (list : List Visit) (plan : List Step) → IsLegal rows (nodes_of list) plan → (t : ℕ) → did t list plan ≡ stamped t list
+pub whole_plan : (rows : Rows) (list : List Access) (plan : List Step) → IsLegal rows (nodes_of list) plan → (t : ℕ) → did t list plan ≡ stamped t list
 whole_plan rows list plan legal t =
     did_picked t list plan
     ∙ ap (picked t list) (legal.performs.in_order ∙ ap numbers_below (nodes_length list))

@@ -5,12 +5,13 @@ use Rattle.std.proofs.lemmas.Bool.{cases_eq, cases_Bool, both_ways, eq-eqb, ne_e
 use Rattle.grove_base.specs.Numbers.{count_below, sum_below}
 use Rattle.grove_tree.specs.Trees.{Rows}
 use Rattle.grove_base.proofs.Counting.{count_mono, count_hit, count_miss, sum_le, sum_same, sum_zero, numbers_got}
-use Rattle.grove_access.specs.declared.access.Access.{Access as Visit}
+use Rattle.grove_access.specs.declared.access.Access.{Access}
 use Rattle.grove_access.specs.declared.reply.Reply.{Reply}
 use Rattle.grove_access.specs.Effects.{changed_by, reply_to}
 use Rattle.grove_access.specs.Lists.{nodes_of}
 use Rattle.grove_plan.specs.declared.step.Step.{Step}
-use Rattle.grove_plan.specs.declared.step.Step.TheVariants.{Lock, Unlock, Access}
+use Rattle.grove_plan.specs.declared.step.Step.TheVariants.{Lock, Unlock}
+use Rattle.grove_plan.specs.declared.step.Step.TheVariants as plan_step
 use Rattle.grove_plan.specs.Plans.{locks, is_lock, is_access, accesses_of}
 use Rattle.grove_plan.specs.Slots.{accesses_before}
 use Rattle.grove_plan.proofs.Held.{locks_true, access_at}
@@ -243,16 +244,16 @@ history_bound jobs past run =
 
 -- The replies of a job
 
-at_count : (t : ℕ) (o : Option Visit) → length (deed_at t o) ≤ 1
+at_count : (t : ℕ) (o : Option Access) → length (deed_at t o) ≤ 1
 at_count t None = omega arith
 at_count t (Some visit) = omega arith
 
-of_count : (t : ℕ) (list : List Visit) (s : Step) → length (deed_of t list (Some s)) ≤ one_if (is_access (Some s))
+of_count : (t : ℕ) (list : List Access) (s : Step) → length (deed_of t list (Some s)) ≤ one_if (is_access (Some s))
 of_count t list (Lock v) = omega arith
 of_count t list (Unlock v) = omega arith
-of_count t list (Access n) = at_count t (slice_get list n)
+of_count t list (plan_step.Access n) = at_count t (slice_get list n)
 
-did_count : (t : ℕ) (list : List Visit) (plan : List Step) (n : ℕ) → n ≤ length plan → length (did t list (take n plan)) ≤ accesses_before plan n
+did_count : (t : ℕ) (list : List Access) (plan : List Step) (n : ℕ) → n ≤ length plan → length (did t list (take n plan)) ≤ accesses_before plan n
 did_count t list plan zero le = omega arith
 did_count t list plan (suc n) le =
     let at : (s : Step) × (slice_get plan n ≡ Some s) = item_there plan n (omega arith) in
@@ -288,9 +289,9 @@ pub record Accessing (jobs : List Job) (opening : List ℤ) (past : List Event) 
 
 -- every access that comes next is such
 pub accessing : (rows : Rows) (jobs : List Job) → AllLegal rows jobs → (opening : List ℤ) (past : List Event) → IsRun jobs past → (t number : ℕ)
-    → next_step jobs past t ≡ Some (Access number) → Accessing jobs opening past t number
+    → next_step jobs past t ≡ Some (plan_step.Access number) → Accessing jobs opening past t number
 accessing rows jobs legal opening past run t number next =
-    let lt : t < length jobs = within_jobs jobs t (steps_done past t) (Access number) next in
+    let lt : t < length jobs = within_jobs jobs t (steps_done past t) (plan_step.Access number) next in
     let le : steps_done past t ≤ length (plan_of jobs t) = steps_within jobs past run t in
     let at : slice_get (accesses_of (plan_of jobs t)) (accesses_before (plan_of jobs t) (steps_done past t)) ≡ Some number = access_at (plan_of jobs t) (steps_done past t) number next in
     let got : (number ≡ accesses_before (plan_of jobs t) (steps_done past t)) × (accesses_before (plan_of jobs t) (steps_done past t) < length (nodes_of (list_of jobs t))) =

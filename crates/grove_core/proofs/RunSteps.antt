@@ -4,11 +4,12 @@ use Rattle.std.specs.List.{slice_get}
 use Rattle.std.proofs.lemmas.List.{append-nil, length-set}
 use Rattle.std.proofs.lemmas.Option.{none-some, same_Some}
 use Rattle.std.proofs.lemmas.Bool.{eq-eqb, ne_eqb, cond-true, cond-false, and_from, and_left, and_right}
-use Rattle.grove_access.specs.declared.access.Access.{Access as Visit}
+use Rattle.grove_access.specs.declared.access.Access.{Access}
 use Rattle.grove_access.specs.declared.reply.Reply.{Reply}
 use Rattle.grove_access.specs.Effects.{changed_by, reply_to}
 use Rattle.grove_plan.specs.declared.step.Step.{Step}
-use Rattle.grove_plan.specs.declared.step.Step.TheVariants.{Lock, Unlock, Access}
+use Rattle.grove_plan.specs.declared.step.Step.TheVariants.{Lock, Unlock}
+use Rattle.grove_plan.specs.declared.step.Step.TheVariants as plan_step
 use Rattle.grove_plan.specs.Plans.{locks}
 use Rattle.grove_plan.proofs.Held.{locks_from}
 use Rattle.grove_core.specs.declared.job.Job.{Job}
@@ -70,28 +71,28 @@ pub idle_replies : (jobs : List Job) (opening : List ℤ) (past : List Event) (u
     → run_replies jobs opening (Take u ∷ past) t ≡ run_replies jobs opening past t
 idle_replies jobs opening past u t e = ap (λ (ds : List Deed). deeds_replies (deeds jobs past ++ ds) opening t) e ∙ ap (λ (ds : List Deed). deeds_replies ds opening t) (append-nil (deeds jobs past))
 
-abbrev deed_by : ℕ → Visit → Deed
+abbrev deed_by : ℕ → Access → Deed
 deed_by t visit = record { job = t; access = visit }
 
-accessed : (jobs : List Job) (past : List Event) (t n : ℕ) (visit : Visit) → next_step jobs past t ≡ Some (Access n) → slice_get (list_of jobs t) n ≡ Some visit
+accessed : (jobs : List Job) (past : List Event) (t n : ℕ) (visit : Access) → next_step jobs past t ≡ Some (plan_step.Access n) → slice_get (list_of jobs t) n ≡ Some visit
     → deed_of t (list_of jobs t) (next_step jobs past t) ≡ deed_by t visit ∷ []
 accessed jobs past t n visit e f = ap (deed_of t (list_of jobs t)) e ∙ ap (deed_at t) f
 
 -- an access changes the records
-pub accessed_records : (jobs : List Job) (opening : List ℤ) (past : List Event) (t n : ℕ) (visit : Visit) → next_step jobs past t ≡ Some (Access n) → slice_get (list_of jobs t) n ≡ Some visit
+pub accessed_records : (jobs : List Job) (opening : List ℤ) (past : List Event) (t n : ℕ) (visit : Access) → next_step jobs past t ≡ Some (plan_step.Access n) → slice_get (list_of jobs t) n ≡ Some visit
     → run_records jobs opening (Take t ∷ past) ≡ changed_by visit (run_records jobs opening past)
 accessed_records jobs opening past t n visit e f =
     ap (λ (ds : List Deed). deeds_records (deeds jobs past ++ ds) opening) (accessed jobs past t n visit e f)
     ∙ deeds_records-append (deeds jobs past) (deed_by t visit ∷ []) opening
 
-reply_shown : (t u : ℕ) (visit : Visit) (records : List ℤ) → t ≡ u → deeds_replies (deed_by t visit ∷ []) records u ≡ reply_to visit records ∷ []
+reply_shown : (t u : ℕ) (visit : Access) (records : List ℤ) → t ≡ u → deeds_replies (deed_by t visit ∷ []) records u ≡ reply_to visit records ∷ []
 reply_shown t u visit records e = cond-true (eqb t u) (reply_to visit records ∷ []) [] (eq-eqb t u e)
 
-reply_hidden : (t u : ℕ) (visit : Visit) (records : List ℤ) → t ≢ u → deeds_replies (deed_by t visit ∷ []) records u ≡ []
+reply_hidden : (t u : ℕ) (visit : Access) (records : List ℤ) → t ≢ u → deeds_replies (deed_by t visit ∷ []) records u ≡ []
 reply_hidden t u visit records ne = cond-false (eqb t u) (reply_to visit records ∷ []) [] (ne_eqb t u ne)
 
 -- and has a reply on them
-pub accessed_replies : (jobs : List Job) (opening : List ℤ) (past : List Event) (t n : ℕ) (visit : Visit) → next_step jobs past t ≡ Some (Access n) → slice_get (list_of jobs t) n ≡ Some visit
+pub accessed_replies : (jobs : List Job) (opening : List ℤ) (past : List Event) (t n : ℕ) (visit : Access) → next_step jobs past t ≡ Some (plan_step.Access n) → slice_get (list_of jobs t) n ≡ Some visit
     → run_replies jobs opening (Take t ∷ past) t ≡ run_replies jobs opening past t ++ reply_to visit (run_records jobs opening past) ∷ []
 accessed_replies jobs opening past t n visit e f =
     ap (λ (ds : List Deed). deeds_replies (deeds jobs past ++ ds) opening t) (accessed jobs past t n visit e f)
@@ -99,15 +100,15 @@ accessed_replies jobs opening past t n visit e f =
     ∙ ap (λ (rs : List Reply). run_replies jobs opening past t ++ rs) (reply_shown t t visit (run_records jobs opening past) refl)
 
 -- another job's step adds no reply
-hidden_at : (t u : ℕ) (o : Option Visit) (records : List ℤ) → t ≢ u → deeds_replies (deed_at t o) records u ≡ []
+hidden_at : (t u : ℕ) (o : Option Access) (records : List ℤ) → t ≢ u → deeds_replies (deed_at t o) records u ≡ []
 hidden_at t u None records ne = refl
 hidden_at t u (Some visit) records ne = reply_hidden t u visit records ne
 
-hidden_of : (t u : ℕ) (list : List Visit) (o : Option Step) (records : List ℤ) → t ≢ u → deeds_replies (deed_of t list o) records u ≡ []
+hidden_of : (t u : ℕ) (list : List Access) (o : Option Step) (records : List ℤ) → t ≢ u → deeds_replies (deed_of t list o) records u ≡ []
 hidden_of t u list None records ne = refl
 hidden_of t u list (Some (Lock v)) records ne = refl
 hidden_of t u list (Some (Unlock v)) records ne = refl
-hidden_of t u list (Some (Access n)) records ne = hidden_at t u (slice_get list n) records ne
+hidden_of t u list (Some (plan_step.Access n)) records ne = hidden_at t u (slice_get list n) records ne
 
 -- another job's step leaves a job's replies
 pub other_replies : (jobs : List Job) (opening : List ℤ) (past : List Event) (t u : ℕ) → t ≢ u → run_replies jobs opening (Take t ∷ past) u ≡ run_replies jobs opening past u

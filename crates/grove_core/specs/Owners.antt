@@ -4,9 +4,8 @@ use Rattle.grove_core.specs.declared.owner.Owner.{Owner}
 use Rattle.grove_core.specs.declared.owner.Owner.TheVariants.{Nobody, Holder, Last}
 
 abbrev pub holder_of : Owner → Option ℕ
-holder_of Nobody = None
 holder_of (Holder t) = Some t
-holder_of (Last t) = None
+holder_of _ = None
 
 abbrev pub last_of : Owner → Option ℕ
 last_of Nobody = None

@@ -2,11 +2,12 @@
 use Rattle.std.specs.Prelude.{◌≡◌, ◌≢◌, ℕ, zero, suc, ◌+◌, ◌<◌, ◌≤◌, ◌==◌, ℤ, Bool, true, false, ⊤, List, [], ◌∷◌, ◌++◌, length, slice_get, Option, Some, None, if◌then◌else◌}
 use Rattle.grove_base.specs.Numbers.{count_below, sum_below}
 use Rattle.grove_tree.specs.Trees.{Rows}
-use Rattle.grove_access.specs.declared.access.Access.{Access as Visit}
+use Rattle.grove_access.specs.declared.access.Access.{Access}
 use Rattle.grove_access.specs.declared.reply.Reply.{Reply}
 use Rattle.grove_access.specs.Lists.{nodes_of}
 use Rattle.grove_plan.specs.declared.step.Step.{Step}
-use Rattle.grove_plan.specs.declared.step.Step.TheVariants.{Lock, Unlock, Access}
+use Rattle.grove_plan.specs.declared.step.Step.TheVariants.{Lock}
+use Rattle.grove_plan.specs.declared.step.Step.TheVariants as plan_step
 use Rattle.grove_plan.specs.Plans.{locks, is_lock, held, IsLegal}
 use Rattle.grove_core.specs.declared.job.Job.{Job}
 use Rattle.grove_core.specs.declared.event.Event.{Event}
@@ -15,7 +16,7 @@ use Rattle.grove_core.specs.declared.fault.StepFault.{StepFault}
 use Rattle.grove_core.specs.declared.fault.StepFault.TheVariants.{NoTxn, Ended, Blocked, NotBlocked, Marked}
 use Rattle.grove_core.specs.Serial.{Deed, deeds_records, deeds_replies}
 
-abbrev pub list_of : List Job → ℕ → List Visit
+abbrev pub list_of : List Job → ℕ → List Access
 list_of [] t = []
 list_of (job ∷ jobs) zero = job.list
 list_of (job ∷ jobs) (suc t) = list_of jobs t
@@ -92,16 +93,14 @@ IsRefused jobs past event Marked = (event ≡ Mark (job_of event))
 -- What a run did.
 
 -- a job's access, where its list has it
-abbrev pub deed_at : ℕ → Option Visit → List Deed
+abbrev pub deed_at : ℕ → Option Access → List Deed
 deed_at t None = []
-deed_at t (Some visit) = record { job = t; access = visit } ∷ []
+deed_at t (Some access) = record { job = t; access = access } ∷ []
 
 -- the access that a step does
-abbrev pub deed_of : ℕ → List Visit → Option Step → List Deed
-deed_of t list None = []
-deed_of t list (Some (Lock v)) = []
-deed_of t list (Some (Unlock v)) = []
-deed_of t list (Some (Access i)) = deed_at t (slice_get list i)
+abbrev pub deed_of : ℕ → List Access → Option Step → List Deed
+deed_of t list (Some (plan_step.Access i)) = deed_at t (slice_get list i)
+deed_of t list _ = []
 
 -- the accesses done, the earliest first
 abbrev pub deeds : List Job → List Event → List Deed

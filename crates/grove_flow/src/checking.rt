@@ -1,7 +1,7 @@
-ghost use Rattle.std.specs.Prelude.{◌≡◌, ℕ, ◌<◌, ◌≤◌, ◌↔◌, ◌-◌, ◌+ℤ◌, pos, length, replicate, slice_index, true, false, IfOk, IsTrue};
+ghost use Rattle.std.specs.Prelude.{◌≡◌, ◌<◌, ◌↔◌, ◌-◌, ◌+ℤ◌, pos, length, replicate, true, false, IfOk, IsTrue};
 ghost use Rattle.grove_base.specs.Numbers.{sum_below};
-ghost use Rattle.grove_flow.specs.Networks.{AreArcsOf, AreLawful, IsArcOf, IsLawful, arc_at, place};
-ghost use Rattle.grove_flow.specs.Flows.{IsSolution, amount_in, amount_out, takes};
+ghost use Rattle.grove_flow.specs.Networks.{AreArcsOf, AreLawful, IsArcOf, IsLawful, place};
+ghost use Rattle.grove_flow.specs.Flows.{IsSolution, takes};
 ghost use Rattle.grove_flow.specs.Checks.{AreBounded, AreMet, AreTotals, IsBalanced};
 
 use crate::{Arc, Network};

@@ -22,7 +22,7 @@ pub(crate) const JOB: [&str; 2] = ["list", "plan"];
 pub(crate) const STANDING: [&str; 2] = ["records", "replies"];
 
 /// What a member has to be.
-#[derive(Clone, Copy, Debug, PartialEq, Eq)]
+#[derive(Clone, Copy)]
 pub(crate) enum Kind {
     /// `null` or the number of a row.
     Parent,

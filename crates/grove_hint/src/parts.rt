@@ -14,7 +14,7 @@ use std::alloc::Global;
 pub(crate) const CHECK_ARRAYS: [&str; 3] = ["list", "plan", "flow"];
 
 /// What the items of an array of a request are.
-#[derive(Clone, Copy, Debug, PartialEq, Eq)]
+#[derive(Clone, Copy)]
 pub(crate) enum Items {
     Accesses { tell_lengths: bool },
     Steps,

@@ -2,7 +2,7 @@ use grove_base::NoMemory;
 use std::alloc::{AllocFailed, Global};
 
 /// What may come next in a JSON text, where no text and no word is begun.
-#[derive(Clone, Copy, Debug, PartialEq, Eq)]
+#[derive(Clone, Copy)]
 pub(crate) enum Next {
     Value,
     /// A value, or the end of an array.
@@ -22,7 +22,7 @@ pub(crate) enum Next {
 }
 
 /// What isn't JSON.
-#[derive(Clone, Copy, Debug, PartialEq, Eq)]
+#[derive(Clone, Copy)]
 pub(crate) enum Wrong {
     /// Something else may come than what is there.
     Unawaited(Next),
@@ -39,7 +39,7 @@ pub(crate) enum Wrong {
     End(Next),
 }
 
-#[derive(Clone, Copy, Debug, PartialEq, Eq)]
+#[derive(Clone, Copy)]
 enum Within {
     Nothing,
     Text,
@@ -49,7 +49,7 @@ enum Within {
     Word,
 }
 
-#[derive(Clone, Copy, Debug, PartialEq, Eq)]
+#[derive(Clone, Copy)]
 enum Bracket {
     Array,
     Object,
@@ -59,7 +59,7 @@ enum Bracket {
 const TOO_DEEP: usize = 128;
 
 /// Where and why reading stops.
-#[derive(Clone, Copy, Debug, PartialEq, Eq)]
+#[derive(Clone, Copy)]
 pub(crate) struct Stopped {
     pub at: usize,
     pub wrong: Wrong,
@@ -238,7 +238,7 @@ impl Scanner {
 
     fn wrong_at_end(&self) -> Option<Wrong> {
         match self.within {
-            Within::Nothing if self.next == Next::Nothing => None,
+            Within::Nothing if matches!(self.next, Next::Nothing) => None,
             Within::Nothing => Some(Wrong::End(self.next)),
             Within::Word if !is_value(&self.word) => Some(Wrong::Word),
             Within::Word if self.open.is_empty() => None,

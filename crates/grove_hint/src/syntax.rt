@@ -8,7 +8,7 @@ use std::alloc::Global;
 use std::str;
 
 /// What bytes are that have to be JSON.
-#[derive(Clone, Copy, Debug, PartialEq, Eq)]
+#[derive(Clone, Copy)]
 pub(crate) enum Whole {
     Document,
     /// A line of a session.
@@ -64,7 +64,7 @@ fn is_blank(bytes: &[u8]) -> bool {
 }
 
 /// A line and a column of a text, both from 1; a column is a character.
-#[derive(Clone, Copy, Debug, PartialEq, Eq)]
+#[derive(Clone, Copy)]
 struct Spot {
     line: usize,
     column: usize,

@@ -1,4 +1,4 @@
-ghost use Rattle.std.specs.Prelude.{◌≡◌, ℕ, ◌<◌, ◌≤◌, ◌==◌, not, length};
+ghost use Rattle.std.specs.Prelude.{◌≡◌, ◌<◌, ◌≤◌, ◌==◌, not, length};
 ghost use Rattle.grove_base.specs.Numbers.{count_below};
 ghost use Rattle.grove_tree.specs.Trees.{weight_of};
 ghost use Rattle.grove_meter.specs.Waits.{new_weight_of, reweighed};

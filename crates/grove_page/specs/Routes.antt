@@ -13,9 +13,7 @@ values_of fields name = map (λ value. value.bytes) (get_all fields name)
 abbrev pub is_of_host : List (List ℕ) → List (List ℕ) → Bool
 is_of_host [] hosts = true
 is_of_host (origin ∷ []) (host ∷ []) = bytes_eq origin (codes "http://" ++ host)
-is_of_host (origin ∷ []) [] = false
-is_of_host (origin ∷ []) (host ∷ other ∷ hosts) = false
-is_of_host (origin ∷ other ∷ origins) hosts = false
+is_of_host _ _ = false
 
 -- no page sends the request, or one of the server that it is sent to
 abbrev pub is_from_here : Entries FieldValue → Bool

@@ -1,4 +1,4 @@
-ghost use Rattle.std.specs.Prelude.{◌≡◌, ◌∷◌, [], ◌++◌, OnOk, codes, IsTrue};
+ghost use Rattle.std.specs.Prelude.{OnOk, codes, IsTrue};
 ghost use Rattle.http_header.specs.FieldValue.{is_visible_text};
 ghost use Rattle.http_server.specs.Response.{IsBlank, IsResponse};
 ghost use Rattle.grove_page.specs.Pages.{html, json, json_for, error_line};

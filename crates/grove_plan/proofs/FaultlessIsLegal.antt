@@ -3,6 +3,7 @@ use Rattle.std.proofs.Common.{◌≡◌, ℕ, ◌<◌, ◌≤◌, Bool, true, fa
 use Rattle.std.specs.List.{slice_get}
 use Rattle.std.proofs.lemmas.Option.{none-some, same_Some, slice_get_within, slice_get-get_or, slice_get_past}
 use Rattle.std.proofs.lemmas.Bool.{cases_lt, cases_eq, cases_Bool, both_ways, and_cases, and_left, and_right, lt-ltb, le-ltb, ltb-false, cond-true, cond-false, not-false, false_from_ne_true}
+use Rattle.std.specs.Option.{option_or}
 use Rattle.grove_base.specs.Numbers.{any_below, least_below, numbers_below}
 use Rattle.grove_tree.specs.Trees.{Rows, parent_of, weight_of}
 use Rattle.grove_tree.specs.Rules.{IsWithinLimits}
@@ -12,11 +13,11 @@ use Rattle.grove_plan.specs.declared.step.Step.{Step}
 use Rattle.grove_plan.specs.declared.step.Step.TheVariants.{Lock, Unlock, Access}
 use Rattle.grove_plan.specs.declared.fault.PlanFault.{PlanFault}
 use Rattle.grove_plan.specs.declared.fault.PlanFault.TheVariants.{AccessMissing, StillHeld, Memory}
-use Rattle.grove_plan.specs.declared.watch.Watch.{Watch}
+use Rattle.grove_plan.specs.declared.tally.Tally.{Tally}
 use Rattle.grove_plan.specs.Plans.{locks, is_lock, held, accesses_of, IsLater, ObeysTreeProtocol, Performs, IsLegal}
 use Rattle.grove_plan.specs.Slots.{accesses_before}
-use Rattle.grove_plan.specs.Faults.{is_held, is_later, step_fault, steps_fault, end_fault, plan_fault_of, fault_or}
-use Rattle.grove_plan.specs.Watching.{IsWatched, first_holding, holds_node, held_weight}
+use Rattle.grove_plan.specs.Faults.{is_held, is_later, step_fault, steps_fault, end_fault, plan_fault_of}
+use Rattle.grove_plan.specs.Tallies.{IsTally, first_holding, holds_node, held_weight}
 use Rattle.grove_plan.proofs.Held.{HeldAt, held_at, held_not, locks_true, locks_from, is_lock_true, access_at, find_access, accesses_length}
 use Rattle.grove_plan.proofs.StepFaults.{step_is, lock_kept, lock_fine, unlock_kept, unlock_fine, access_kept, access_fine, each_kept, none_found, both_none}
 use Rattle.grove_plan.proofs.StepEffects.{node_tells}
@@ -184,7 +185,7 @@ legal_faultless rows nodes plan legal =
     none_found rows nodes plan (length plan) (λ i lt. legal_step rows nodes plan i (slice_get plan i) legal refl) in
     let count : length (accesses_of plan) ≡ accesses_before plan (length plan) = accesses_length plan in
     let size : length (accesses_of plan) ≡ length nodes = ap length legal.performs.in_order ∙ numbers_length (length nodes) in
-    ap (λ (first : Option PlanFault). fault_or first (end_fault rows nodes plan)) steps
+    ap (λ (first : Option PlanFault). option_or first (end_fault rows nodes plan)) steps
     ∙ end_none (ltb (accesses_before plan (length plan)) (length nodes)) (any_below (length rows) (λ node. held plan node (length plan)))
     (AccessMissing (accesses_before plan (length plan))) (StillHeld (least_below (length rows) (λ node. held plan node (length plan))))
     (le-ltb (accesses_before plan (length plan)) (length nodes) (omega arith))
@@ -203,19 +204,19 @@ pub illegal_of : (rows : Rows) (nodes : List ℕ) (plan : List Step) (answer : R
 illegal_of rows nodes plan (Ok sum) is = is
 illegal_of rows nodes plan (Err fault) is = λ other legal. none-some fault (sym (legal_faultless rows nodes plan legal) ∙ is)
 
--- What is amiss at the end, as a watch tells it
+-- What is amiss at the end, as a tally tells it
 
 -- the table tells the lowest node that is held
-first_same : {lengths : List ℕ} (rows : Rows) (plan : List Step) (position : ℕ) (watch : Watch) → IsWatched rows lengths plan position watch
-    → first_holding watch.holds.items ≡ cond (any_below (length rows) (λ node. held plan node position)) (Some (least_below (length rows) (λ node. held plan node position))) None
-first_same rows plan position watch watched =
-    let nodes : length watch.holds.items ≡ length rows = watched.nodes in
-    let same : (v : ℕ) → v < length rows → holds_node watch.holds.items (Some v) ≡ held plan v position =
-    λ v lt. node_tells (length rows) plan position watch.holds.items (Some v) (λ w is. subst (λ (k : ℕ). k < length rows) (same_Some v w is) lt) watched.each in
-    let some : any_below (length rows) (λ v. holds_node watch.holds.items (Some v)) ≡ any_below (length rows) (λ v. held plan v position) =
-    any_same (length rows) (λ v. holds_node watch.holds.items (Some v)) (λ v. held plan v position) same in
-    let least : least_below (length rows) (λ v. holds_node watch.holds.items (Some v)) ≡ least_below (length rows) (λ v. held plan v position) =
-    least_agrees (length rows) (λ v. holds_node watch.holds.items (Some v)) (λ v. held plan v position) same in
+first_same : {lengths : List ℕ} (rows : Rows) (plan : List Step) (position : ℕ) (tally : Tally) → IsTally rows lengths plan position tally
+    → first_holding tally.holds.items ≡ cond (any_below (length rows) (λ node. held plan node position)) (Some (least_below (length rows) (λ node. held plan node position))) None
+first_same rows plan position tally tallied =
+    let nodes : length tally.holds.items ≡ length rows = tallied.nodes in
+    let same : (v : ℕ) → v < length rows → holds_node tally.holds.items (Some v) ≡ held plan v position =
+    λ v lt. node_tells (length rows) plan position tally.holds.items (Some v) (λ w is. subst (λ (k : ℕ). k < length rows) (same_Some v w is) lt) tallied.each in
+    let some : any_below (length rows) (λ v. holds_node tally.holds.items (Some v)) ≡ any_below (length rows) (λ v. held plan v position) =
+    any_same (length rows) (λ v. holds_node tally.holds.items (Some v)) (λ v. held plan v position) same in
+    let least : least_below (length rows) (λ v. holds_node tally.holds.items (Some v)) ≡ least_below (length rows) (λ v. held plan v position) =
+    least_agrees (length rows) (λ v. holds_node tally.holds.items (Some v)) (λ v. held plan v position) same in
     rw (nodes, some, least) refl
 
 still_by : (b : Bool) (n k : ℕ) → cond b (Some n) None ≡ Some k → cond b (Some (StillHeld n)) None ≡ Some (StillHeld k)
@@ -228,13 +229,13 @@ free_by false n h = refl
 
 -- after steps without a fault the plan's fault is the end's
 pub end_is : (rows : Rows) (nodes : List ℕ) (plan : List Step) → steps_fault rows nodes plan (length plan) ≡ None → plan_fault_of rows nodes plan ≡ end_fault rows nodes plan
-end_is rows nodes plan none = ap (λ (first : Option PlanFault). fault_or first (end_fault rows nodes plan)) none
+end_is rows nodes plan none = ap (λ (first : Option PlanFault). option_or first (end_fault rows nodes plan)) none
 
 -- an access that is missing is the plan's fault
-pub missing_is : {lengths : List ℕ} (rows : Rows) (nodes : List ℕ) (plan : List Step) (watch : Watch) → steps_fault rows nodes plan (length plan) ≡ None → IsWatched rows lengths plan (length plan) watch
-    → watch.accesses < length nodes → plan_fault_of rows nodes plan ≡ Some (AccessMissing watch.accesses)
-missing_is rows nodes plan watch none watched lt =
-    let count : watch.accesses ≡ accesses_before plan (length plan) = watched.accesses in
+pub missing_is : {lengths : List ℕ} (rows : Rows) (nodes : List ℕ) (plan : List Step) (tally : Tally) → steps_fault rows nodes plan (length plan) ≡ None → IsTally rows lengths plan (length plan) tally
+    → tally.accesses < length nodes → plan_fault_of rows nodes plan ≡ Some (AccessMissing tally.accesses)
+missing_is rows nodes plan tally none tallied lt =
+    let count : tally.accesses ≡ accesses_before plan (length plan) = tallied.accesses in
     end_is rows nodes plan none
     ∙ cond-true (ltb (accesses_before plan (length plan)) (length nodes)) (Some (AccessMissing (accesses_before plan (length plan))))
     (cond (any_below (length rows) (λ node. held plan node (length plan))) (Some (StillHeld (least_below (length rows) (λ node. held plan node (length plan))))) None)
@@ -242,31 +243,31 @@ missing_is rows nodes plan watch none watched lt =
     ∙ ap (λ (n : ℕ). Some (AccessMissing n)) (sym count)
 
 -- what is left of the end's fault where no access is missing
-held_left : {lengths : List ℕ} (rows : Rows) (nodes : List ℕ) (plan : List Step) (watch : Watch) → steps_fault rows nodes plan (length plan) ≡ None → IsWatched rows lengths plan (length plan) watch
-    → length nodes ≤ watch.accesses
+held_left : {lengths : List ℕ} (rows : Rows) (nodes : List ℕ) (plan : List Step) (tally : Tally) → steps_fault rows nodes plan (length plan) ≡ None → IsTally rows lengths plan (length plan) tally
+    → length nodes ≤ tally.accesses
     → plan_fault_of rows nodes plan ≡ cond (any_below (length rows) (λ node. held plan node (length plan))) (Some (StillHeld (least_below (length rows) (λ node. held plan node (length plan))))) None
-held_left rows nodes plan watch none watched enough =
-    let count : watch.accesses ≡ accesses_before plan (length plan) = watched.accesses in
+held_left rows nodes plan tally none tallied enough =
+    let count : tally.accesses ≡ accesses_before plan (length plan) = tallied.accesses in
     end_is rows nodes plan none
     ∙ cond-false (ltb (accesses_before plan (length plan)) (length nodes)) (Some (AccessMissing (accesses_before plan (length plan))))
     (cond (any_below (length rows) (λ node. held plan node (length plan))) (Some (StillHeld (least_below (length rows) (λ node. held plan node (length plan))))) None)
     (le-ltb (accesses_before plan (length plan)) (length nodes) (omega arith))
 
 -- a node that is still held is the plan's fault where no access is missing
-pub still_is : {lengths : List ℕ} (rows : Rows) (nodes : List ℕ) (plan : List Step) (watch : Watch) (node : ℕ) → steps_fault rows nodes plan (length plan) ≡ None → IsWatched rows lengths plan (length plan) watch
-    → length nodes ≤ watch.accesses → first_holding watch.holds.items ≡ Some node → plan_fault_of rows nodes plan ≡ Some (StillHeld node)
-still_is rows nodes plan watch node none watched enough first =
-    held_left rows nodes plan watch none watched enough
+pub still_is : {lengths : List ℕ} (rows : Rows) (nodes : List ℕ) (plan : List Step) (tally : Tally) (node : ℕ) → steps_fault rows nodes plan (length plan) ≡ None → IsTally rows lengths plan (length plan) tally
+    → length nodes ≤ tally.accesses → first_holding tally.holds.items ≡ Some node → plan_fault_of rows nodes plan ≡ Some (StillHeld node)
+still_is rows nodes plan tally node none tallied enough first =
+    held_left rows nodes plan tally none tallied enough
     ∙ still_by (any_below (length rows) (λ node. held plan node (length plan))) (least_below (length rows) (λ node. held plan node (length plan))) node
-    (sym (first_same rows plan (length plan) watch watched) ∙ first)
+    (sym (first_same rows plan (length plan) tally tallied) ∙ first)
 
 -- and else there is none
-pub none_is : {lengths : List ℕ} (rows : Rows) (nodes : List ℕ) (plan : List Step) (watch : Watch) → steps_fault rows nodes plan (length plan) ≡ None → IsWatched rows lengths plan (length plan) watch
-    → length nodes ≤ watch.accesses → first_holding watch.holds.items ≡ None → plan_fault_of rows nodes plan ≡ None
-none_is rows nodes plan watch none watched enough first =
-    held_left rows nodes plan watch none watched enough
+pub none_is : {lengths : List ℕ} (rows : Rows) (nodes : List ℕ) (plan : List Step) (tally : Tally) → steps_fault rows nodes plan (length plan) ≡ None → IsTally rows lengths plan (length plan) tally
+    → length nodes ≤ tally.accesses → first_holding tally.holds.items ≡ None → plan_fault_of rows nodes plan ≡ None
+none_is rows nodes plan tally none tallied enough first =
+    held_left rows nodes plan tally none tallied enough
     ∙ free_by (any_below (length rows) (λ node. held plan node (length plan))) (least_below (length rows) (λ node. held plan node (length plan)))
-    (sym (first_same rows plan (length plan) watch watched) ∙ first)
+    (sym (first_same rows plan (length plan) tally tallied) ∙ first)
 
 -- where nothing weighs, nothing is held, since each node weighs something
 weightless : (rows : Rows) → IsWithinLimits rows → (plan : List Step) (position : ℕ) → held_weight rows plan position ≡ 0 → (node : ℕ) → node < length rows → held plan node position ≡ false
@@ -277,9 +278,9 @@ weightless rows limits plan position none node lt = false_from_ne_true (held pla
     absurd (omega arith))
 
 -- so there is no fault there either
-pub weightless_is : {lengths : List ℕ} (rows : Rows) (nodes : List ℕ) (plan : List Step) (watch : Watch) → IsWithinLimits rows → steps_fault rows nodes plan (length plan) ≡ None
-    → IsWatched rows lengths plan (length plan) watch → length nodes ≤ watch.accesses → watch.weight ≡ 0 → plan_fault_of rows nodes plan ≡ None
-weightless_is rows nodes plan watch limits none watched enough nothing =
-    held_left rows nodes plan watch none watched enough
+pub weightless_is : {lengths : List ℕ} (rows : Rows) (nodes : List ℕ) (plan : List Step) (tally : Tally) → IsWithinLimits rows → steps_fault rows nodes plan (length plan) ≡ None
+    → IsTally rows lengths plan (length plan) tally → length nodes ≤ tally.accesses → tally.weight ≡ 0 → plan_fault_of rows nodes plan ≡ None
+weightless_is rows nodes plan tally limits none tallied enough nothing =
+    held_left rows nodes plan tally none tallied enough
     ∙ cond-false (any_below (length rows) (λ node. held plan node (length plan))) (Some (StillHeld (least_below (length rows) (λ node. held plan node (length plan))))) None
-    (any_none (length rows) (λ node. held plan node (length plan)) (weightless rows limits plan (length plan) (sym watched.weight ∙ nothing)))
+    (any_none (length rows) (λ node. held plan node (length plan)) (weightless rows limits plan (length plan) (sym tallied.weight ∙ nothing)))

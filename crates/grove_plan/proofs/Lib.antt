@@ -4,4 +4,4 @@ pub mod Held
 pub mod StepFaults
 pub mod AccessCounts
 pub mod FaultlessIsLegal
-pub mod WatchState
+pub mod TallyState

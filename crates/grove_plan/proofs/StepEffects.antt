@@ -9,11 +9,11 @@ use Rattle.grove_tree.specs.Rules.{IsWithinLimits}
 use Rattle.grove_base.proofs.Counting.{any_from, sum_same, sum_add, sum_term, any_miss}
 use Rattle.grove_plan.specs.declared.step.Step.{Step}
 use Rattle.grove_plan.specs.declared.step.Step.TheVariants.{Lock, Unlock, Access}
-use Rattle.grove_plan.specs.declared.watch.Hold.{Hold}
-use Rattle.grove_plan.specs.declared.watch.Hold.TheVariants.{Free, Held, Done}
+use Rattle.grove_plan.specs.declared.tally.Hold.{Hold}
+use Rattle.grove_plan.specs.declared.tally.Hold.TheVariants.{Free, Held, Done}
 use Rattle.grove_plan.specs.Plans.{locks, unlocks, held, slots_of}
 use Rattle.grove_plan.specs.Faults.{is_held}
-use Rattle.grove_plan.specs.Watching.{hold_of, is_free, is_holding, holds_node, held_weight, cost_before}
+use Rattle.grove_plan.specs.Tallies.{hold_of, is_free, is_holding, holds_node, held_weight, cost_before}
 use Rattle.grove_plan.proofs.Held.{HeldAt, held_at, locks_from, held_step_lock, held_step_unlock, held_step_other}
 
 -- What the table says of a node

@@ -2,6 +2,7 @@
 use Rattle.std.proofs.Common.{◌≡◌, ℕ, zero, suc, ◌<◌, ◌≤◌, Bool, true, false, not, ◌&&◌, ltb, eqb, cond, List, length, Option, Some, None, refl, ◌∙◌, ap, inl, inr, arith}
 use Rattle.std.specs.List.{slice_get}
 use Rattle.std.proofs.lemmas.Bool.{cases_lt, lt-ltb, le-ltb, ltb-true, eqb-true, ne_eqb, eq-eqb, not-false}
+use Rattle.std.specs.Option.{option_or}
 use Rattle.grove_base.specs.Numbers.{any_below}
 use Rattle.grove_tree.specs.Trees.{Rows, parent_of}
 use Rattle.grove_plan.specs.declared.step.Step.{Step}
@@ -9,7 +10,7 @@ use Rattle.grove_plan.specs.declared.fault.PlanFault.{PlanFault}
 use Rattle.grove_plan.specs.declared.fault.PlanFault.TheVariants.{Strange, Relock, ParentNotHeld, NotHeld, WrongAccess, AccessNotHeld}
 use Rattle.grove_plan.specs.Plans.{locks, held}
 use Rattle.grove_plan.specs.Slots.{accesses_before}
-use Rattle.grove_plan.specs.Faults.{is_held, is_later, lock_fault, unlock_fault, access_fault, step_fault, steps_fault, fault_or}
+use Rattle.grove_plan.specs.Faults.{is_held, is_later, lock_fault, unlock_fault, access_fault, step_fault, steps_fault}
 
 -- The step at a position is judged by what it is
 
@@ -143,13 +144,13 @@ access_kept nodes plan position access none =
 -- Many steps
 
 -- the first fault stays the first
-or_fault : (first next : Option PlanFault) (fault : PlanFault) → first ≡ Some fault → fault_or first next ≡ Some fault
+or_fault : (first next : Option PlanFault) (fault : PlanFault) → first ≡ Some fault → option_or first next ≡ Some fault
 or_fault first next fault h = rw h refl
 
 -- after steps without a fault the next step's fault is the first
 pub fault_next : (rows : Rows) (nodes : List ℕ) (plan : List Step) (n : ℕ) → steps_fault rows nodes plan n ≡ None
     → steps_fault rows nodes plan (suc n) ≡ step_fault rows nodes plan n (slice_get plan n)
-fault_next rows nodes plan n none = ap (λ (first : Option PlanFault). fault_or first (step_fault rows nodes plan n (slice_get plan n))) none
+fault_next rows nodes plan n none = ap (λ (first : Option PlanFault). option_or first (step_fault rows nodes plan n (slice_get plan n))) none
 
 -- the first fault of some steps is that of more
 pub fault_stays : (rows : Rows) (nodes : List ℕ) (plan : List Step) (m n : ℕ) (fault : PlanFault) → m ≤ n
@@ -161,7 +162,7 @@ fault_stays rows nodes plan m (suc n) fault le h = elim (cases_lt m (suc n)) [
 ]
 
 -- where no fault is found, each step keeps the rules
-pub both_none : (first next : Option PlanFault) → fault_or first next ≡ None → (first ≡ None) × (next ≡ None)
+pub both_none : (first next : Option PlanFault) → option_or first next ≡ None → (first ≡ None) × (next ≡ None)
 both_none None next h = (refl, h)
 both_none (Some fault) next h = absurd (cc)
 

@@ -1,5 +1,6 @@
 -- The first fault of a plan.
 use Rattle.std.specs.Prelude.{ℕ, zero, suc, ◌==◌, nat_lt, Bool, false, not, ◌&&◌, List, length, slice_get, Option, Some, None, if◌then◌else◌}
+use Rattle.std.specs.Option.{option_or}
 use Rattle.grove_base.specs.Numbers.{any_below, least_below}
 use Rattle.grove_tree.specs.Trees.{Rows, parent_of}
 use Rattle.grove_plan.specs.declared.step.Step.{Step}
@@ -46,15 +47,10 @@ step_fault rows nodes plan position (Some (Unlock node)) = unlock_fault rows pla
 step_fault rows nodes plan position (Some (Access access)) = access_fault nodes plan position access
 step_fault rows nodes plan position None = None
 
--- the first fault, else the next one
-abbrev pub fault_or : Option PlanFault → Option PlanFault → Option PlanFault
-fault_or (Some fault) next = Some fault
-fault_or None next = next
-
 -- the fault of the first of the first n steps that has one
 abbrev pub steps_fault : Rows → List ℕ → List Step → ℕ → Option PlanFault
 steps_fault rows nodes plan zero = None
-steps_fault rows nodes plan (suc n) = fault_or (steps_fault rows nodes plan n) (step_fault rows nodes plan n (slice_get plan n))
+steps_fault rows nodes plan (suc n) = option_or (steps_fault rows nodes plan n) (step_fault rows nodes plan n (slice_get plan n))
 
 -- what is amiss at the end: the first access that no step does, else the lowest node that is still held
 abbrev pub end_fault : Rows → List ℕ → List Step → Option PlanFault
@@ -65,4 +61,4 @@ end_fault rows nodes plan =
 
 -- the first fault of a plan, want of memory aside
 abbrev pub plan_fault_of : Rows → List ℕ → List Step → Option PlanFault
-plan_fault_of rows nodes plan = fault_or (steps_fault rows nodes plan (length plan)) (end_fault rows nodes plan)
+plan_fault_of rows nodes plan = option_or (steps_fault rows nodes plan (length plan)) (end_fault rows nodes plan)

@@ -1,5 +1,5 @@
 pub mod Plans
 pub mod Slots
 pub mod Faults
-pub mod Watching
+pub mod Tallies
 pub mod Laws

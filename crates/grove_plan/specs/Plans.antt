@@ -1,5 +1,5 @@
 -- Lock plans, judged as whole lists of steps by their positions.
-use Rattle.std.specs.Prelude.{◌≡◌, ℕ, ◌*◌, ◌<◌, ◌≤◌, ◌==◌, nat_lt, Bool, true, false, not, ◌&&◌, IsTrue, List, [], ◌∷◌, length, slice_get, slice_index, Option, Some, None, if◌then◌else◌}
+use Rattle.std.specs.Prelude.{◌≡◌, ℕ, ◌*◌, ◌<◌, ◌≤◌, ◌==◌, nat_lt, Bool, true, false, not, ◌&&◌, IsTrue, List, [], ◌∷◌, length, slice_get, slice_index, Option, Some, if◌then◌else◌}
 use Rattle.grove_base.specs.Numbers.{any_below, sum_below, numbers_below}
 use Rattle.grove_tree.specs.Trees.{Rows, parent_of, weight_of}
 use Rattle.grove_plan.specs.declared.step.Step.{Step}
@@ -8,27 +8,19 @@ use Rattle.grove_plan.specs.declared.step.Step.TheVariants.{Lock, Unlock, Access
 -- tests of the step that a plan has at a position, if it has one there
 abbrev pub locks : ℕ → Option Step → Bool
 locks node (Some (Lock v)) = v == node
-locks node (Some (Unlock v)) = false
-locks node (Some (Access i)) = false
-locks node None = false
+locks node _ = false
 
 abbrev pub unlocks : ℕ → Option Step → Bool
-unlocks node (Some (Lock v)) = false
 unlocks node (Some (Unlock v)) = v == node
-unlocks node (Some (Access i)) = false
-unlocks node None = false
+unlocks node _ = false
 
 abbrev pub is_lock : Option Step → Bool
 is_lock (Some (Lock v)) = true
-is_lock (Some (Unlock v)) = false
-is_lock (Some (Access i)) = false
-is_lock None = false
+is_lock _ = false
 
 abbrev pub is_access : Option Step → Bool
-is_access (Some (Lock v)) = false
-is_access (Some (Unlock v)) = false
 is_access (Some (Access i)) = true
-is_access None = false
+is_access _ = false
 
 -- A node is held at a position where some lock of it stands before the position and no unlock of it stands between the two.
 abbrev pub held : List Step → ℕ → ℕ → Bool
@@ -38,9 +30,8 @@ held plan node position =
 -- the accesses that a plan does, in order
 abbrev pub accesses_of : List Step → List ℕ
 accesses_of [] = []
-accesses_of (Lock v ∷ steps) = accesses_of steps
-accesses_of (Unlock v ∷ steps) = accesses_of steps
 accesses_of (Access i ∷ steps) = i ∷ accesses_of steps
+accesses_of (_ ∷ steps) = accesses_of steps
 
 -- some lock stands before the position
 abbrev pub IsLater : List Step → ℕ → Type 0
@@ -66,10 +57,8 @@ pub record IsLegal (rows : Rows) (nodes : List ℕ) (plan : List Step) : Type 0 
 
 -- how many slots a step takes: an access as many as it is long, another step none
 abbrev pub slots_of : List ℕ → Option Step → ℕ
-slots_of lengths (Some (Lock v)) = 0
-slots_of lengths (Some (Unlock v)) = 0
 slots_of lengths (Some (Access i)) = slice_index lengths i
-slots_of lengths None = 0
+slots_of lengths _ = 0
 
 -- for how many slots a plan holds a node: the lengths of the accesses that it does meanwhile, added up
 abbrev pub holding : List ℕ → List Step → ℕ → ℕ

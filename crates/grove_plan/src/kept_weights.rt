@@ -1,6 +1,6 @@
 ghost use Rattle.std.specs.Prelude.{◌≡◌, ◌<◌, length};
 ghost use Rattle.grove_tree.specs.Trees.{weight_of};
-ghost use Rattle.grove_plan.specs.Watching.{AreWeights};
+ghost use Rattle.grove_plan.specs.Tallies.{AreWeights};
 
 use grove_tree::{Node, Tree};
 

@@ -13,4 +13,4 @@ mod kept_weights;
 mod laws;
 mod plan;
 mod step;
-mod watch;
+mod tally;

@@ -10,7 +10,7 @@ pub mod Slackness
 pub mod LowestCommon
 pub mod ForcedMarks
 pub mod TablesByNode
-pub mod LedgerRows
+pub mod SummedRows
 pub mod Verdicts
 pub mod OneFault
 pub mod OneChange

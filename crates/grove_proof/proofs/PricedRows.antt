@@ -1,5 +1,5 @@
 -- The balances of rows, each times a value of its node, added up.
-use Rattle.std.proofs.Common.{◌≡◌, ℕ, ◌+◌, ◌*◌, Bool, true, false, cond, List, refl, sym, ◌∙◌, ap, arith, add-mul, mul-zero, zero-mul}
+use Rattle.std.proofs.Common.{◌≡◌, ℕ, ◌+◌, ◌*◌, Bool, true, false, cond, List, refl, sym, ◌∙◌, ap, add-mul, mul-zero, zero-mul}
 use Rattle.std.specs.List.{sum_by}
 use Rattle.std.proofs.lemmas.Bool.{eqb-true}
 use Rattle.grove_tree.specs.Trees.{Rows, weight_of}

@@ -5,4 +5,4 @@ pub mod Faults
 pub mod Changes
 pub mod Laws
 pub mod Tables
-pub mod Ledgers
+pub mod RowSums

@@ -12,8 +12,8 @@ use Rattle.grove_proof.specs.declared.fault.ProofFault.TheVariants as fault
 use Rattle.grove_proof.specs.declared.tables.Visits.{Visits}
 use Rattle.grove_proof.specs.declared.tables.Amount.{Amount}
 use Rattle.grove_proof.specs.declared.tables.Amount.TheVariants.{Above, Held}
-use Rattle.grove_proof.specs.declared.ledger.Test.{Test}
-use Rattle.grove_proof.specs.declared.ledger.Test.TheVariants.{Sign, Size, Lock, Release}
+use Rattle.grove_proof.specs.declared.row_sums.Test.{Test}
+use Rattle.grove_proof.specs.declared.row_sums.Test.TheVariants.{Sign, Size, Lock, Release}
 use Rattle.grove_proof.specs.Flows.{node_of, is_sign_ok, is_small, is_lock_balanced, is_release_balanced, AllRows, IsCertificate}
 use Rattle.grove_proof.specs.Faults.{IsFirstBad, IsFault, bound}
 
@@ -83,7 +83,7 @@ abbrev pub AreInTree : Rows → List FlowRow → Type 0
 AreInTree rows flow = (i : ℕ) (row : FlowRow) → slice_get flow i ≡ Some row → row.node < length rows
 
 -- rows whose nodes are the forced ones, with what their tests read
-pub record IsLedger (rows : Rows) (nodes : List ℕ) (flow : List FlowRow) (visits : List Visits) (above held : List ℕ) : Type 0 where
+pub record AreSums (rows : Rows) (nodes : List ℕ) (flow : List FlowRow) (visits : List Visits) (above held : List ℕ) : Type 0 where
   pub tree : IsTree rows
   pub fits : AreNodes rows nodes
   pub short : length nodes ≤ 64

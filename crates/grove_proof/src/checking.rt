@@ -6,7 +6,7 @@ ghost use Rattle.grove_tree.specs.Trees.{IsTree};
 ghost use Rattle.grove_proof.specs.Faults.{IsFault};
 ghost use Rattle.grove_proof.specs.Tables.{IsVerdict};
 
-use crate::ledger::Ledger;
+use crate::row_sums::RowSums;
 use crate::span::{first_stranger, forced_nodes};
 use crate::{Flow, ProofFault};
 use grove_access::AccessList;
@@ -53,6 +53,6 @@ fn examine(
     if let Some(place) = first_stranger(&span, flow.rows()) {
         return Err(ProofFault::Rows(place));
     }
-    let ledger = Ledger::new(alloc, tree, list, flow.rows())?;
-    ledger.weigh(cost)
+    let row_sums = RowSums::new(alloc, tree, list, flow.rows())?;
+    row_sums.weigh(cost)
 }

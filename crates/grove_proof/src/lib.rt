@@ -9,7 +9,7 @@ pub use theory::laws;
 mod checking;
 mod fault;
 mod flow;
-mod ledger;
+mod row_sums;
 mod span;
 mod tables;
 mod theory;

@@ -1,4 +1,4 @@
-ghost use Rattle.std.specs.Prelude.{◌≡◌, ℕ, ◌<◌, ◌≤◌, ◌^◌, length, map, IfOk, MatchOption};
+ghost use Rattle.std.specs.Prelude.{◌≡◌, ℕ, ◌<◌, ◌^◌, length, map, IfOk, MatchOption};
 ghost use Rattle.grove_tree.specs.Trees.{IsTree, IsAbove};
 ghost use Rattle.grove_access.specs.Lists.{nodes_of, AreNodes};
 ghost use Rattle.grove_access.specs.Forced.{IsForcedByTree, forced_nodes};

@@ -1,5 +1,5 @@
 -- A core and its claims, under which records travel with locks.
-use Rattle.std.specs.Prelude.{◌≡◌, ℕ, ◌+◌, [], ◌∷◌, ◌++◌, length, slice_get, Option, Some, None, if◌then◌else◌}
+use Rattle.std.specs.Prelude.{◌≡◌, ℕ, ◌+◌, [], ◌∷◌, ◌++◌, length, slice_get, Option, Some, if◌then◌else◌}
 use Rattle.grove_access.specs.Effects.{record_at}
 use Rattle.grove_access.specs.Carries.{Carried, without}
 use Rattle.grove_plan.specs.declared.step.Step.{Step}
@@ -38,10 +38,9 @@ step_after core carry = slice_get (plan_of core.jobs carry.txn) (steps_done (pas
 
 -- the step can't be done with the carry: it is an access, or a lock for which there is no room
 abbrev pub HasNoStep : Carried → Option Step → Type 0
-HasNoStep carry None = ⊥
 HasNoStep carry (Some (Lock v)) = length carry.known ≡ carry.most_nodes
-HasNoStep carry (Some (Unlock v)) = ⊥
 HasNoStep carry (Some (Access i)) = Unit {0}
+HasNoStep carry _ = ⊥
 
 -- the carry isn't of the core, or its step can't be done with it
 abbrev pub IsForeign : CoreState → Carried → Type 0

@@ -14,9 +14,7 @@ use Rattle.grove_core.specs.declared.run_fault.RunFault.TheVariants.{BadPlan, Me
 -- what can come once no plan is bad
 abbrev pub IsLegalRunFault : RunFault → Type 0
 IsLegalRunFault (BadPlan t fault) = ⊥
-IsLegalRunFault Memory = ⊤
-IsLegalRunFault Foreign = ⊤
-IsLegalRunFault Unfinished = ⊤
+IsLegalRunFault _ = ⊤
 
 -- a bad plan is the first fault of the jobs, and only where none is bad the workers can fail
 abbrev pub IsRunFault : Rows → List Job → RunFault → Type 0

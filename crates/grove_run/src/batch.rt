@@ -1,8 +1,5 @@
 ghost use Rattle.std.specs.Prelude.{◌≡◌, ◌≤◌, [], length, vec_capacity, IfOk, IfErr};
-ghost use Rattle.grove_core.specs.Runs.{AllLegal, IsRun, IsFinished};
-ghost use Rattle.grove_core.specs.Orders.{placement_order};
-ghost use Rattle.grove_core.specs.Laws.{IsEachOnce, IsSerialBy};
-ghost use Rattle.grove_core.specs.Kept.{past_of};
+ghost use Rattle.grove_core.specs.Runs.{AllLegal};
 ghost use Rattle.grove_core.specs.Openings.{AllFit};
 ghost use Rattle.grove_run.specs.Runs.{IsRunFault, IsLegalRunFault, IsCoreOf};
 ghost use Rattle.grove_run.specs.FinishedRuns.{IsFinishedRun};

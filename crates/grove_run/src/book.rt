@@ -1,4 +1,4 @@
-ghost use Rattle.std.specs.Prelude.{◌≡◌, ◌<◌, ◌≤◌, ◌+◌, [], length, true, false, Some, None, IfSome, IfNone, IsTrue, ◌↔◌};
+ghost use Rattle.std.specs.Prelude.{◌≡◌, ◌<◌, ◌≤◌, ◌+◌, [], length, true, false, Some, None, IfSome, IfNone};
 ghost use Rattle.grove_access.specs.Carries.{carry_settled};
 ghost use Rattle.grove_plan.specs.declared.step.Step.{Step as PlanStep};
 ghost use Rattle.grove_core.specs.Runs.{next_step, AllLegal, MayHappen};

@@ -1,7 +1,7 @@
 -- For the proofs alone: what a session has between two reads, and how bytes that are read take it on.
 use Rattle.std.specs.Prelude.{◌≡◌, ℕ, ◌+◌, ◌<◌, List, [], ◌∷◌, ◌++◌, Option, None, Some, Result, Ok, Err, length, take, slice_get, nat_lt, if◌then◌else◌}
 use Rattle.std.specs.Io.KnownBytes.{IsAtEnd}
-use Rattle.grove_session.specs.declared.line.Line.{Line}
+use Rattle.grove_session.specs.declared.open_line.OpenLine.{OpenLine}
 use Rattle.grove_session.specs.declared.intake.Intake.{Intake}
 use Rattle.grove_session.specs.declared.session_fault.SessionFault.{SessionFault}
 use Rattle.grove_session.specs.declared.session_fault.SessionFault.TheVariants.{Read, Write, Memory, Turns, Foreign}
@@ -17,7 +17,7 @@ with_bytes None bytes = None
 with_bytes (Some line) bytes = clip (line ++ bytes)
 
 -- the bytes of a line, unless it is too long
-abbrev pub held_line : Line → Option (List ℕ)
+abbrev pub held_line : OpenLine → Option (List ℕ)
 held_line line = if line.is_long then None else Some line.bytes.items
 
 -- the reply to a line that is held

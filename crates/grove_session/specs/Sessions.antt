@@ -98,19 +98,11 @@ SessionEnds lawful old (Err Foreign) left input out new = (lines : List (List �
 -- the source is blamed, and the sink
 abbrev pub is_read : {T : Type 0} → Result T SessionFault → Bool
 is_read (Err Read) = true
-is_read (Err (Write n)) = false
-is_read (Err Memory) = false
-is_read (Err Turns) = false
-is_read (Err Foreign) = false
-is_read (Ok _) = false
+is_read _ = false
 
 abbrev pub is_write : {T : Type 0} → Result T SessionFault → Bool
 is_write (Err (Write n)) = true
-is_write (Err Read) = false
-is_write (Err Memory) = false
-is_write (Err Turns) = false
-is_write (Err Foreign) = false
-is_write (Ok _) = false
+is_write _ = false
 
 -- a line without an answer ends the session so
 abbrev pub fault_of : AnswerFault → SessionFault

@@ -3,7 +3,7 @@ ghost use Rattle.std.specs.Io.KnownBytes.{Appends};
 ghost use Rattle.grove_session.specs.declared.session_fault.SessionFault.TheVariants.{Foreign};
 ghost use Rattle.grove_session.specs.Sessions.{is_write};
 
-use crate::line::Line;
+use crate::open_line::OpenLine;
 use crate::whole::{Cut, write_until_cut};
 use crate::{Answers, SessionFault, Sink};
 use memchr::memchr;
@@ -15,7 +15,7 @@ const LONG_LINE: &[u8] = b"{\"error\":\"long-line\"}\n";
 /// What a session has between two reads: the line that is being read, how many lines are answered, and how many bytes of answers went out.
 #[derive(Debug, Drop)]
 pub(crate) struct Intake {
-    line: Line,
+    line: OpenLine,
     answered: u64,
     written: u128,
     ghost in_limit: { written ≤ answered * 2 ^ 64 },
@@ -30,7 +30,7 @@ impl Intake {
         ensures written { result.written ≡ 0 }
     {
         Intake {
-            line: Line::new(alloc),
+            line: OpenLine::new(alloc),
             answered: 0,
             written: 0,
         }

@@ -1,6 +1,5 @@
 -- Noting the first and the last access of each node.
 use Rattle.std.proofs.Common.{◌≡◌, ℕ, suc, ◌-◌, Bool, true, false, cond, List, slice_get, Option, Some, None, refl, sym, ◌∙◌, ap, subst, inl, inr, unwrap_or, arith}
-use Rattle.std.proofs.lemmas.Option.{none-some}
 use Rattle.std.proofs.lemmas.Bool.{cases_Bool, eqb-true, eq-eqb}
 use Rattle.grove_base.specs.Numbers.{any_below, least_below}
 use Rattle.grove_tree.specs.Trees.{is_at}

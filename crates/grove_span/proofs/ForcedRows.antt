@@ -1,5 +1,5 @@
 -- The rows of the forced nodes, listed in order.
-use Rattle.std.proofs.Common.{◌≡◌, ◌≢◌, ℕ, zero, suc, ◌<◌, ◌≤◌, Bool, true, false, cond, List, [], ◌∷◌, ◌++◌, length, slice_get, Option, Some, None, refl, sym, ◌∙◌, ap, subst, inl, inr, length-append, append-nil, option_map, unwrap_or, arith, get_or}
+use Rattle.std.proofs.Common.{◌≡◌, ◌≢◌, ℕ, zero, suc, ◌<◌, ◌≤◌, Bool, true, false, cond, List, [], ◌∷◌, ◌++◌, length, slice_get, Option, Some, None, refl, sym, ◌∙◌, ap, subst, inl, inr, append-nil, option_map, arith, get_or}
 use Rattle.std.specs.Prelude.{map}
 use Rattle.std.specs.Option.{option_and_then}
 use Rattle.std.proofs.lemmas.List.{map-append}
@@ -13,7 +13,7 @@ use Rattle.grove_base.proofs.Counting.{passing_rises}
 use Rattle.grove_tree.proofs.Above.{parent_lt}
 use Rattle.grove_access.specs.Forced.{is_forced, forced_nodes}
 use Rattle.grove_span.specs.declared.row.SpanRow.{SpanRow}
-use Rattle.grove_span.specs.SpanRows.{node_of_row, find_place, parent_place, HaveParents, HaveWeights, HaveAccesses, IsAccessedSo}
+use Rattle.grove_span.specs.SpanRows.{node_of_row, find_place, parent_place, IsAccessedSo}
 use Rattle.grove_span.specs.Ways.{IsListedTo, IsRising}
 
 -- another number at the end changes nothing

@@ -1,18 +1,18 @@
 -- The forced nodes are those on the ways down from the top to the accessed nodes.
-use Rattle.std.proofs.Common.{◌≡◌, ℕ, zero, suc, ◌<◌, ◌≤◌, ◌↔◌, Bool, true, false, List, [], ◌∷◌, ◌++◌, length, slice_get, Option, Some, None, map, refl, sym, ◌∙◌, ap, subst, inl, inr, arith, get_or, All, length-append}
+use Rattle.std.proofs.Common.{◌≡◌, ℕ, zero, suc, ◌<◌, ◌≤◌, Bool, true, false, List, [], ◌∷◌, ◌++◌, length, slice_get, Option, Some, map, refl, sym, ◌∙◌, ap, subst, inl, inr, arith, All, length-append}
 use Rattle.std.specs.Option.{option_and_then}
 use Rattle.std.proofs.lemmas.Option.{none-some, same_Some, slice_get_within, get_or_from_slice_get}
 use Rattle.std.proofs.lemmas.Bool.{cases_eq, cases_lt, cases_Bool}
 use Rattle.grove_base.specs.Numbers.{passing_below}
 use Rattle.grove_base.proofs.Lists.{get_map, map_length}
 use Rattle.grove_base.proofs.Counting.{passing_got, passing_rises}
-use Rattle.grove_tree.specs.Trees.{Rows, IsTree, IsAbove, parent_of, weight_of, is_above}
+use Rattle.grove_tree.specs.Trees.{Rows, IsTree, IsAbove, parent_of, is_above}
 use Rattle.grove_tree.specs.Ways.{way_of, node_on_way, IsRowOf}
 use Rattle.grove_tree.specs.declared.way.WayNode.{WayNode}
-use Rattle.grove_tree.proofs.Above.{above_self, above_le, above_same, above_trans, above_either, above_parent}
+use Rattle.grove_tree.proofs.Above.{above_self, above_le, above_trans, above_either, above_parent}
 use Rattle.grove_tree.proofs.Tests.{is_above_true, is_above_from}
 use Rattle.grove_access.specs.Lists.{AreNodes}
-use Rattle.grove_access.specs.Forced.{IsForcedByTree, is_forced, forced_nodes}
+use Rattle.grove_access.specs.Forced.{IsForcedByTree, is_forced}
 use Rattle.grove_access.proofs.ForcedByTree.{forced_got, forced_get, passing_get}
 use Rattle.grove_span.specs.declared.row.SpanRow.{SpanRow}
 use Rattle.grove_span.specs.SpanRows.{find_place, IsAccessedSo}

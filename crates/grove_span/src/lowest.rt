@@ -1,4 +1,4 @@
-ghost use Rattle.std.specs.Prelude.{◌≡◌, ℕ, ◌<◌, length};
+ghost use Rattle.std.specs.Prelude.{ℕ, ◌<◌, length};
 ghost use Rattle.grove_tree.specs.Trees.{IsAbove, IsTree};
 ghost use Rattle.grove_access.specs.Lists.{nodes_of, AreNodes};
 ghost use Rattle.grove_span.specs.Ways.{IsLowest};

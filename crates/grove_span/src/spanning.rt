@@ -1,4 +1,4 @@
-ghost use Rattle.std.specs.Prelude.{◌≡◌, ℕ, length, IsOk, IfOk, map, slice_get, Some};
+ghost use Rattle.std.specs.Prelude.{◌≡◌, length, IsOk, IfOk, map};
 ghost use Rattle.grove_access.specs.Lists.{nodes_of, lengths_of, AreNodes};
 ghost use Rattle.grove_access.specs.Forced.{forced_nodes};
 ghost use Rattle.grove_span.specs.SpanRows.{node_of_row, HaveParents, HaveWeights, HaveAccesses};

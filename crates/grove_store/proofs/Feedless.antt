@@ -139,13 +139,11 @@ mutual
 
 -- ---- of replies
 
-round_feedless : (round : ℕ) (batches : List (List (List Access))) (places : List ℕ) (replies : List (List Reply)) → All Feedless (round_texts round batches places replies)
+round_feedless : (round : ℕ) (counts places : List ℕ) (replies : List (List Reply)) → All Feedless (round_texts round counts places replies)
 round_feedless round [] places replies = All-nil Feedless
-round_feedless round (lists ∷ batches) places replies =
-    All-cons Feedless (compact_text (round_data round (take (length lists) places) (take (length lists) replies)))
-    (round_texts round batches (drop (length lists) places) (drop (length lists) replies))
-    (text_feedless (round_data round (take (length lists) places) (take (length lists) replies)))
-    (round_feedless round batches (drop (length lists) places) (drop (length lists) replies))
+round_feedless round (count ∷ counts) places replies =
+    All-cons Feedless (compact_text (round_data round (take count places) (take count replies))) (round_texts round counts (drop count places) (drop count replies))
+    (text_feedless (round_data round (take count places) (take count replies))) (round_feedless round counts (drop count places) (drop count replies))
 
 pub replies_are_feedless : RepliesAreFeedless
 replies_are_feedless before after lines replies lawful = by_lines (batches_in before.rows lines) lawful.answered
@@ -157,7 +155,7 @@ replies_are_feedless before after lines replies lawful = by_lines (batches_in be
     by_lines : (asked : Option (List (List (List Access)))) → AnswersLines before lines asked replies after → All Feedless replies
     by_lines None (line, reply, one, told, (value, says, written)) =
         subst (All Feedless) (sym told) (All-cons Feedless reply [] (subst Feedless (sym written) (text_feedless value)) (All-nil Feedless))
-    by_lines (Some batches) (some, few, inl runs) = subst (All Feedless) (sym runs.told) (round_feedless _ batches _ _)
+    by_lines (Some batches) (some, few, inl runs) = subst (All Feedless) (sym runs.told) (round_feedless _ _ _ _)
     by_lines (Some batches) (some, few, inr (inl (room, inl foreign))) = refused (codes "foreign") batches foreign
     by_lines (Some batches) (some, few, inr (inl (room, inr unfinished))) = refused (codes "unfinished") batches unfinished
     by_lines (Some batches) (some, few, inr (inr (full, rounds))) = refused (codes "rounds") batches rounds

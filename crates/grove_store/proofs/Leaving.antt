@@ -16,12 +16,12 @@ use Rattle.grove_wire.specs.Names.{run_name}
 use Rattle.grove_wire.specs.Replies.{error_text}
 use Rattle.grove_store.specs.StoreStates.{StoreState}
 use Rattle.grove_store.specs.Rounds.{AreSettledJobs, replies_of, waits_after, round_texts, RunsRound, RefusesRound, FailsRound}
-use Rattle.grove_store.specs.Parts.{texts_of, LeavesRound, AnswersRound}
-use Rattle.grove_store.proofs.Telling.{texts_by_counts, texts_long}
+use Rattle.grove_store.specs.Parts.{LeavesRound, AnswersRound}
+use Rattle.grove_store.proofs.Telling.{texts_long}
 
 -- what a finished run tells is what the jobs leave
 pub leaves_round : (before : StoreState) (jobs : List Job) (counts : List ℕ) (finished : FinishedState) (replies : List (List ℕ)) (records : List ℤ) (waits old : List ℕ) → IsFinishedRun before.rows jobs before.records finished
-    → replies ≡ texts_of (before.rounds + 1) counts (places_of finished.order (length finished.core.jobs)) (replies_of finished.core.jobs finished.core.opening (past_of finished.core))
+    → replies ≡ round_texts (before.rounds + 1) counts (places_of finished.order (length finished.core.jobs)) (replies_of finished.core.jobs finished.core.opening (past_of finished.core))
     → records ≡ run_records finished.core.jobs finished.core.opening (past_of finished.core) → waits ≡ waits_after finished.core.jobs (past_of finished.core) old → old ≡ before.waits
     → LeavesRound before jobs counts replies records waits
 leaves_round before jobs counts finished replies records waits old run told recorded waited same =
@@ -31,9 +31,9 @@ leaves_round before jobs counts finished replies records waits old run told reco
       run = run.run;
       finished = run.ended;
       told = told
-          ∙ ap (λ (os : List ℕ). texts_of (before.rounds + 1) counts (places_of os (length finished.core.jobs)) (replies_of finished.core.jobs finished.core.opening past)) run.order
-          ∙ ap (λ (js : List Job). texts_of (before.rounds + 1) counts (places_of (placement_order before.rows jobs past) (length js)) (replies_of js finished.core.opening past)) of.jobs_are
-          ∙ ap (λ (os : List ℤ). texts_of (before.rounds + 1) counts (places_of (placement_order before.rows jobs past) (length jobs)) (replies_of jobs os past)) of.opened;
+          ∙ ap (λ (os : List ℕ). round_texts (before.rounds + 1) counts (places_of os (length finished.core.jobs)) (replies_of finished.core.jobs finished.core.opening past)) run.order
+          ∙ ap (λ (js : List Job). round_texts (before.rounds + 1) counts (places_of (placement_order before.rows jobs past) (length js)) (replies_of js finished.core.opening past)) of.jobs_are
+          ∙ ap (λ (os : List ℤ). round_texts (before.rounds + 1) counts (places_of (placement_order before.rows jobs past) (length jobs)) (replies_of jobs os past)) of.opened;
       recorded = recorded ∙ ap (λ (js : List Job). run_records js finished.core.opening past) of.jobs_are ∙ ap (λ (os : List ℤ). run_records jobs os past) of.opened;
       waited = waited ∙ ap (λ (ws : List ℕ). waits_after finished.core.jobs past ws) same ∙ ap (λ (js : List Job). waits_after js past before.waits) of.jobs_are;
     }
@@ -50,9 +50,8 @@ runs_round before after lists jobs counts replies records waits settled room lea
   finished = leaves.finished;
   room = room;
   told = leaves.told
-      ∙ ap (λ (ns : List ℕ). texts_of (before.rounds + 1) ns (places_of (placement_order before.rows jobs leaves.past) (length jobs)) (replies_of jobs before.records leaves.past)) (sym counted)
-      ∙ texts_by_counts (before.rounds + 1) batches (places_of (placement_order before.rows jobs leaves.past) (length jobs)) (replies_of jobs before.records leaves.past)
-      ∙ ap (λ (n : ℕ). round_texts n batches (places_of (placement_order before.rows jobs leaves.past) (length jobs)) (replies_of jobs before.records leaves.past)) (sym (ap (λ (s : StoreState). s.rounds) is));
+      ∙ ap (λ (ns : List ℕ). round_texts (before.rounds + 1) ns (places_of (placement_order before.rows jobs leaves.past) (length jobs)) (replies_of jobs before.records leaves.past)) (sym counted)
+      ∙ ap (λ (n : ℕ). round_texts n (map length batches) (places_of (placement_order before.rows jobs leaves.past) (length jobs)) (replies_of jobs before.records leaves.past)) (sym (ap (λ (s : StoreState). s.rounds) is));
   left = is
       ∙ ap (λ (rs : List ℤ). record before { records = rs; waits = waits; rounds = before.rounds + 1 }) leaves.recorded
       ∙ ap (λ (ws : List ℕ). record before { records = run_records jobs before.records leaves.past; waits = ws; rounds = before.rounds + 1 }) leaves.waited;
@@ -83,7 +82,9 @@ fails_full before lists counts replies full is batches joins counted = inr (inr 
 -- each line of a round has a reply
 pub answered_long : (before : StoreState) (batches : List (List (List Access))) (replies : List (List ℕ)) (after : StoreState) → RunsRound before batches replies after ⊎ FailsRound before batches replies after → length replies ≡ length batches
 answered_long before batches replies after (inl runs) =
-    ap length runs.told ∙ texts_long after.rounds batches (places_of (placement_order before.rows runs.jobs runs.past) (length runs.jobs)) (replies_of runs.jobs before.records runs.past)
+    ap length runs.told
+    ∙ texts_long after.rounds (map length batches) (places_of (placement_order before.rows runs.jobs runs.past) (length runs.jobs)) (replies_of runs.jobs before.records runs.past)
+    ∙ length-map batches length
 answered_long before batches replies after (inr (inl (room, inl refused))) = ap length refused.0 ∙ length-replicate (length batches) _
 answered_long before batches replies after (inr (inl (room, inr refused))) = ap length refused.0 ∙ length-replicate (length batches) _
 answered_long before batches replies after (inr (inr (full, refused))) = ap length refused.0 ∙ length-replicate (length batches) _

@@ -8,11 +8,9 @@ use Rattle.serde_json.specs.Data.{Data}
 use Rattle.serde_json.specs.Written.{compact_text, has_float}
 use Rattle.grove_base.specs.Numbers.{numbers_below}
 use Rattle.grove_base.proofs.Counting.{numbers_length}
-use Rattle.grove_access.specs.declared.access.Access.{Access}
 use Rattle.grove_access.specs.declared.reply.Reply.{Reply}
 use Rattle.grove_wire.specs.Replies.{round_data}
 use Rattle.grove_store.specs.Rounds.{round_texts}
-use Rattle.grove_store.specs.Parts.{texts_of}
 
 -- what is written of a value without a float is its text
 pub text_is : (text : List ℕ) (view known : Data) → (has_float view ≡ false → text ≡ compact_text view) → view ≡ known → has_float known ≡ false → text ≡ compact_text known
@@ -27,16 +25,16 @@ text_made items (Err e) replies tells one = absurd one
 -- one more text, of the next places and replies
 pub texts_more : (round : ℕ) (counts places : List ℕ) (replies : List (List Reply)) (texts all : List (List ℕ)) (i at count : ℕ) (text : List ℕ) → i < length counts → count ≡ get_or counts i 0
     → text ≡ compact_text (round_data round (take count (drop at places)) (take count (drop at replies)))
-    → texts ++ texts_of round (drop i counts) (drop at places) (drop at replies) ≡ all
-    → (texts ++ text ∷ []) ++ texts_of round (drop (i + 1) counts) (drop (at + count) places) (drop (at + count) replies) ≡ all
+    → texts ++ round_texts round (drop i counts) (drop at places) (drop at replies) ≡ all
+    → (texts ++ text ∷ []) ++ round_texts round (drop (i + 1) counts) (drop (at + count) places) (drop (at + count) replies) ≡ all
 texts_more round counts places replies texts all i at count text lt read is so_far =
     append_assoc texts (text ∷ []) _
     ∙ ap (λ rest. texts ++ rest) (
-    ap (λ (t : List ℕ). t ∷ texts_of round (drop (i + 1) counts) (drop (at + count) places) (drop (at + count) replies)) is
-    ∙ ap (λ (ps : List ℕ). compact_text (round_data round (take count (drop at places)) (take count (drop at replies))) ∷ texts_of round (drop (i + 1) counts) ps (drop (at + count) replies)) (sym (drop-drop count at places))
-    ∙ ap (λ (rs : List (List Reply)). compact_text (round_data round (take count (drop at places)) (take count (drop at replies))) ∷ texts_of round (drop (i + 1) counts) (drop count (drop at places)) rs) (sym (drop-drop count at replies))
-    ∙ ap (λ (n : ℕ). texts_of round (n ∷ drop (i + 1) counts) (drop at places) (drop at replies)) read
-    ∙ sym (at_drop_more (λ (ns : List ℕ). texts_of round ns (drop at places) (drop at replies)) counts i 0 lt)
+    ap (λ (t : List ℕ). t ∷ round_texts round (drop (i + 1) counts) (drop (at + count) places) (drop (at + count) replies)) is
+    ∙ ap (λ (ps : List ℕ). compact_text (round_data round (take count (drop at places)) (take count (drop at replies))) ∷ round_texts round (drop (i + 1) counts) ps (drop (at + count) replies)) (sym (drop-drop count at places))
+    ∙ ap (λ (rs : List (List Reply)). compact_text (round_data round (take count (drop at places)) (take count (drop at replies))) ∷ round_texts round (drop (i + 1) counts) (drop count (drop at places)) rs) (sym (drop-drop count at replies))
+    ∙ ap (λ (n : ℕ). round_texts round (n ∷ drop (i + 1) counts) (drop at places) (drop at replies)) read
+    ∙ sym (at_drop_more (λ (ns : List ℕ). round_texts round ns (drop at places) (drop at replies)) counts i 0 lt)
     )
     ∙ so_far
 
@@ -47,19 +45,11 @@ sum_more counts i at count all lt read so_far =
     let parts : sum (get_or counts i 0 ∷ drop (i + 1) counts) ≡ get_or counts i 0 + sum (drop (i + 1) counts) = sum_by-cons (λ x. x) (get_or counts i 0) (drop (i + 1) counts) in
     omega arith
 
--- a round's texts, by the counts of its lines' lists
-pub texts_by_counts : (round : ℕ) (batches : List (List (List Access))) (places : List ℕ) (replies : List (List Reply)) → texts_of round (map length batches) places replies ≡ round_texts round batches places replies
-texts_by_counts round [] places replies = refl
-texts_by_counts round (lists ∷ batches) places replies =
-    ap (λ (texts : List (List ℕ)). compact_text (round_data round (take (length lists) places) (take (length lists) replies)) ∷ texts)
-    (texts_by_counts round batches (drop (length lists) places) (drop (length lists) replies))
-
 -- each line has one
-pub texts_long : (round : ℕ) (batches : List (List (List Access))) (places : List ℕ) (replies : List (List Reply)) → length (round_texts round batches places replies) ≡ length batches
+pub texts_long : (round : ℕ) (counts places : List ℕ) (replies : List (List Reply)) → length (round_texts round counts places replies) ≡ length counts
 texts_long round [] places replies = refl
-texts_long round (lists ∷ batches) places replies =
-    let rest : length (round_texts round batches (drop (length lists) places) (drop (length lists) replies)) ≡ length batches =
-    texts_long round batches (drop (length lists) places) (drop (length lists) replies) in omega arith
+texts_long round (count ∷ counts) places replies =
+    let rest : length (round_texts round counts (drop count places) (drop count replies)) ≡ length counts = texts_long round counts (drop count places) (drop count replies) in omega arith
 
 -- what is made for each number below n is n long
 pub mapped_long : {A : Type 0} (f : ℕ → A) (n : ℕ) → length (map f (numbers_below n)) ≡ n

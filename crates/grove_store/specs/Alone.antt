@@ -1,18 +1,19 @@
 -- Lines that are answered alone: what each request but a batch is answered, and what it leaves.
-use Rattle.std.specs.Prelude.{◌≡◌, ◌≢◌, ◌⊎◌, ℕ, List, Result, Ok, Err}
+use Rattle.std.specs.Prelude.{◌≡◌, ◌≢◌, ℕ, List, Result, Ok, Err}
 use Rattle.serde_json.specs.Data.{Data}
 use Rattle.serde_json.specs.Written.{compact_text}
 use Rattle.grove_tree.specs.Trees.{Rows}
 use Rattle.grove_access.specs.declared.access.Access.{Access}
 use Rattle.grove_access.specs.Lists.{nodes_of, lengths_of}
 use Rattle.grove_plan.specs.declared.step.Step.{Step}
-use Rattle.grove_plan.specs.Plans.{IsLegal, cost}
+use Rattle.grove_plan.specs.Plans.{IsLeast, cost}
 use Rattle.grove_proof.specs.declared.flow.FlowRow.{FlowRow}
 use Rattle.grove_proof.specs.declared.fault.ProofFault.{ProofFault}
 use Rattle.grove_proof.specs.declared.fault.ProofFault.TheVariants as proof
 use Rattle.grove_proof.specs.Flows.{IsCertificate}
 use Rattle.grove_proof.specs.Faults.{IsFault}
-use Rattle.grove_build.specs.Settled.{IsSettled}
+use Rattle.grove_build.specs.declared.planning.Planned.{Planned}
+use Rattle.grove_build.specs.Batches.{IsPlanned}
 use Rattle.grove_meter.specs.Waits.{reweighed}
 use Rattle.grove_wire.specs.declared.fault.WireFault.{WireFault}
 use Rattle.grove_wire.specs.Requests.{Asked, Plan, Check, Batch, Weights, Reweigh, request_of}
@@ -21,32 +22,28 @@ use Rattle.grove_wire.specs.Names.{wire_name, proof_name}
 use Rattle.grove_store.specs.StoreStates.{StoreState, changes, reweighed_store}
 
 -- the settled plan of the list, its cost, and any flow that certifies it
-pub record TellsPlan (rows : Rows) (list : List Access) (reply : Data) : Type 0 where
-  pub plan : List Step
-  pub flow : List FlowRow
-  pub settled : IsSettled rows (nodes_of list) (lengths_of list) plan
-  pub certified : IsCertificate rows (nodes_of list) (lengths_of list) flow (cost rows (lengths_of list) plan)
-  pub told : reply ≡ planned_data rows (cost rows (lengths_of list) plan) plan flow
+abbrev pub TellsPlan : Rows → List Access → Data → Type 0
+TellsPlan rows list reply = (planned : Planned) × IsPlanned rows list planned × (reply ≡ planned_data rows planned.cost planned.plan planned.flow)
 
--- the cost of a legal plan that the flow certifies
-pub record TellsCost (rows : Rows) (list : List Access) (plan : List Step) (flow : List FlowRow) (reply : Data) : Type 0 where
-  pub legal : IsLegal rows (nodes_of list) plan
-  pub certified : IsCertificate rows (nodes_of list) (lengths_of list) flow (cost rows (lengths_of list) plan)
-  pub told : reply ≡ cost_data (cost rows (lengths_of list) plan)
+-- what a check comes to: the cost of a plan that the flow proves least, or the first fault of the plan with the flow
+abbrev pub ChecksAs : Rows → List Access → List Step → List FlowRow → Result ℕ ProofFault → Type 0
+ChecksAs rows list plan flow (Ok sum) = IsLeast rows (nodes_of list) (lengths_of list) plan
+    × IsCertificate rows (nodes_of list) (lengths_of list) flow sum × (sum ≡ cost rows (lengths_of list) plan)
+ChecksAs rows list plan flow (Err fault) = (fault ≢ proof.Memory) × IsFault rows (nodes_of list) (lengths_of list) plan flow fault
 
--- the name of the first fault of a plan with a flow
-pub record TellsFault (rows : Rows) (list : List Access) (plan : List Step) (flow : List FlowRow) (reply : Data) : Type 0 where
-  pub fault : ProofFault
-  pub found : fault ≢ proof.Memory
-  pub first : IsFault rows (nodes_of list) (lengths_of list) plan flow fault
-  pub told : reply ≡ error_data (proof_name fault)
+abbrev pub checked_data : Result ℕ ProofFault → Data
+checked_data (Ok sum) = cost_data sum
+checked_data (Err fault) = error_data (proof_name fault)
+
+-- that cost, or the name of that fault
+abbrev pub TellsCheck : Rows → List Access → List Step → List FlowRow → Data → Type 0
+TellsCheck rows list plan flow reply = (checked : Result ℕ ProofFault) × ChecksAs rows list plan flow checked × (reply ≡ checked_data checked)
 
 -- what a line is answered by what it asks, and the store that it leaves; a batch isn't answered alone
 abbrev pub RepliesAlone : StoreState → Result Asked WireFault → Data → StoreState → Type 0
 RepliesAlone before (Err fault) reply after = (reply ≡ error_data (wire_name fault)) × (after ≡ before)
 RepliesAlone before (Ok (Plan list)) reply after = TellsPlan before.rows list reply × (after ≡ before)
-RepliesAlone before (Ok (Check list plan flow)) reply after =
-    (TellsCost before.rows list plan flow reply ⊎ TellsFault before.rows list plan flow reply) × (after ≡ before)
+RepliesAlone before (Ok (Check list plan flow)) reply after = TellsCheck before.rows list plan flow reply × (after ≡ before)
 RepliesAlone before (Ok (Batch lists)) reply after = ⊥
 RepliesAlone before (Ok Weights) reply after = (reply ≡ weights_data before.waits (weights_of before.rows)) × (after ≡ before)
 RepliesAlone before (Ok Reweigh) reply after =

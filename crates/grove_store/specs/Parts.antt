@@ -1,30 +1,23 @@
 -- For the proofs alone, as no public contract reaches it: the parts that an answer is made of.
-use Rattle.std.specs.Prelude.{◌≡◌, ◌⊎◌, ℕ, ◌+◌, ◌-◌, ◌≤◌, min, ℤ, List, [], ◌∷◌, ◌++◌, length, map, take, drop, get_or, All, Option, Some}
+use Rattle.std.specs.Prelude.{◌≡◌, ◌⊎◌, ℕ, ◌+◌, ◌-◌, ◌≤◌, min, ℤ, List, [], ◌∷◌, ◌++◌, length, map, take, get_or, All, Option, Some}
 use Rattle.serde_json.specs.Data.{Data}
 use Rattle.serde_json.specs.Written.{compact_text}
 use Rattle.grove_tree.specs.Trees.{Rows}
 use Rattle.grove_access.specs.declared.access.Access.{Access}
-use Rattle.grove_access.specs.declared.reply.Reply.{Reply}
 use Rattle.grove_access.specs.Lists.{nodes_of, AreNodes}
 use Rattle.grove_core.specs.declared.job.Job.{Job}
 use Rattle.grove_core.specs.declared.event.Event.{Event}
 use Rattle.grove_core.specs.Runs.{IsRun, IsFinished, run_records, waits_of}
 use Rattle.grove_core.specs.Orders.{placement_order}
 use Rattle.grove_run.specs.Runs.{places_of}
-use Rattle.grove_wire.specs.Replies.{round_data, changed_data}
+use Rattle.grove_wire.specs.Replies.{changed_data}
 use Rattle.grove_meter.specs.Waits.{reweighed}
 use Rattle.grove_store.specs.StoreStates.{StoreState, changes, reweighed_store}
-use Rattle.grove_store.specs.Rounds.{batches_in, joined, first_fits, fitting, replies_of, waits_after, RunsRound, FailsRound}
+use Rattle.grove_store.specs.Rounds.{batches_in, joined, first_fits, fitting, replies_of, waits_after, RunsRound, FailsRound, round_texts}
 
 -- the text of a reply of which something holds
 abbrev pub IsTextOf : (Data → Type 0) → List ℕ → Type 0
 IsTextOf Tells text = (reply : Data) × Tells reply × (text ≡ compact_text reply)
-
--- what a round's lines are answered, by how many places and replies are each line's
-abbrev pub texts_of : ℕ → List ℕ → List ℕ → List (List Reply) → List (List ℕ)
-texts_of round [] places replies = []
-texts_of round (count ∷ counts) places replies =
-    compact_text (round_data round (take count places) (take count replies)) ∷ texts_of round counts (drop count places) (drop count replies)
 
 -- what is asked are these lists, and they have room
 abbrev pub FitsRoom : Option (List (List Access)) → ℕ → List (List Access) → Type 0
@@ -53,7 +46,7 @@ pub record LeavesRound (before : StoreState) (jobs : List Job) (counts : List �
   pub past : List Event
   pub run : IsRun jobs past
   pub finished : IsFinished jobs past
-  pub told : replies ≡ texts_of (before.rounds + 1) counts (places_of (placement_order before.rows jobs past) (length jobs)) (replies_of jobs before.records past)
+  pub told : replies ≡ round_texts (before.rounds + 1) counts (places_of (placement_order before.rows jobs past) (length jobs)) (replies_of jobs before.records past)
   pub recorded : records ≡ run_records jobs before.records past
   pub waited : waits ≡ waits_after jobs past before.waits
 

@@ -1,5 +1,5 @@
 -- Rounds: batches that wait together are answered as one.
-use Rattle.std.specs.Prelude.{◌≡◌, ℕ, ◌+◌, ◌-◌, ◌^◌, ◌<◌, ◌≤◌, ◌⊎◌, min, max, nat_le, codes, ℤ, List, [], ◌∷◌, length, map, take, drop, flat_map, get_or, replicate, slice_get, Option, Some, None, option_map, option_and_then, Result, Ok, Err, if◌then◌else◌}
+use Rattle.std.specs.Prelude.{◌≡◌, ℕ, ◌+◌, ◌-◌, ◌^◌, ◌<◌, ◌≤◌, ◌⊎◌, min, max, nat_le, codes, ℤ, List, [], ◌∷◌, length, map, take, drop, flat_map, get_or, replicate, slice_get, Option, Some, None, option_map, option_and_then, Result, Ok, if◌then◌else◌}
 use Rattle.serde_json.specs.Written.{compact_text}
 use Rattle.grove_base.specs.Numbers.{numbers_below}
 use Rattle.grove_tree.specs.Trees.{Rows}
@@ -13,7 +13,7 @@ use Rattle.grove_core.specs.Runs.{IsRun, IsFinished, run_records, run_replies, w
 use Rattle.grove_core.specs.Orders.{placement_order}
 use Rattle.grove_run.specs.Runs.{places_of}
 use Rattle.grove_wire.specs.declared.fault.WireFault.{WireFault}
-use Rattle.grove_wire.specs.Requests.{Asked, Plan, Check, Batch, Weights, Reweigh, request_of}
+use Rattle.grove_wire.specs.Requests.{Asked, Batch, request_of}
 use Rattle.grove_wire.specs.Replies.{error_text, round_data}
 use Rattle.grove_store.specs.StoreStates.{StoreState, IsStore}
 use Rattle.grove_store.specs.Alone.{AnswersAlone}
@@ -23,11 +23,7 @@ use Rattle.grove_store.specs.Alone.{AnswersAlone}
 -- the lists of a batch, where that is what is asked
 abbrev pub lists_asked : Result Asked WireFault → Option (List (List Access))
 lists_asked (Ok (Batch lists)) = Some lists
-lists_asked (Ok (Plan list)) = None
-lists_asked (Ok (Check list plan flow)) = None
-lists_asked (Ok Weights) = None
-lists_asked (Ok Reweigh) = None
-lists_asked (Err fault) = None
+lists_asked _ = None
 
 -- the lists of a line that is a batch without fault
 abbrev pub lists_in : Rows → List ℕ → Option (List (List Access))
@@ -69,11 +65,10 @@ abbrev pub replies_of : List Job → List ℤ → List Event → List (List Repl
 replies_of jobs opening past = map (run_replies jobs opening past) (numbers_below (length jobs))
 
 -- the reply of each line: it has the next places and replies, as many as the line has lists
-abbrev pub round_texts : ℕ → List (List (List Access)) → List ℕ → List (List Reply) → List (List ℕ)
+abbrev pub round_texts : ℕ → List ℕ → List ℕ → List (List Reply) → List (List ℕ)
 round_texts round [] places replies = []
-round_texts round (lists ∷ batches) places replies =
-    compact_text (round_data round (take (length lists) places) (take (length lists) replies))
-    ∷ round_texts round batches (drop (length lists) places) (drop (length lists) replies)
+round_texts round (lists ∷ others) places replies =
+    compact_text (round_data round (take lists places) (take lists replies)) ∷ round_texts round others (drop lists places) (drop lists replies)
 
 -- the waits with those of the run, at most 1,000 at each node
 abbrev pub waits_after : List Job → List Event → List ℕ → List ℕ
@@ -97,7 +92,7 @@ pub record RunsRound (before : StoreState) (batches : List (List (List Access)))
   pub run : IsRun jobs past
   pub finished : IsFinished jobs past
   pub room : before.rounds < 2 ^ 64 - 1
-  pub told : replies ≡ round_texts after.rounds batches (places_of (placement_order before.rows jobs past) (length jobs)) (replies_of jobs before.records past)
+  pub told : replies ≡ round_texts after.rounds (map length batches) (places_of (placement_order before.rows jobs past) (length jobs)) (replies_of jobs before.records past)
   pub left : after ≡ store_after before jobs past
 
 -- each line has the same refusal, and the store is as it was

@@ -9,7 +9,7 @@ use grove_wire::{MOST_LISTS, Request, WireFault, read_request};
 use std::alloc::Global;
 
 /// Batches that are run as one: their lists, in order, and how many are each line's.
-#[derive(Debug, Drop)]
+#[derive(Drop)]
 pub struct Round {
     pub counts: Vec<usize>,
     pub lists: Vec<AccessList>,

@@ -5,8 +5,7 @@ ghost use Rattle.grove_build.specs.KeptPlans.{AreSettledFor};
 ghost use Rattle.grove_core.specs.Kept.{past_of};
 ghost use Rattle.grove_core.specs.Runs.{run_records};
 ghost use Rattle.grove_run.specs.Runs.{places_of};
-ghost use Rattle.grove_store.specs.Rounds.{AreSettledJobs, replies_of, waits_after};
-ghost use Rattle.grove_store.specs.Parts.{texts_of};
+ghost use Rattle.grove_store.specs.Rounds.{AreSettledJobs, replies_of, round_texts, waits_after};
 
 use crate::texts::round_texts;
 use crate::waiting::waits_after;
@@ -64,8 +63,8 @@ fn jobs_of(alloc: Global, lists: Vec<AccessList>, plans: Vec<Plan>) -> Result<Ve
 }
 
 /// What a finished round leaves: the reply of each line, and what the store then has.
-#[derive(Debug, Drop)]
-pub struct Outcome {
+#[derive(Drop)]
+pub struct RoundOutcome {
     pub replies: Vec<Vec<u8>>,
     pub records: Records,
     pub waits: Vec<u32>,
@@ -78,11 +77,11 @@ pub fn outcome_of(
     round: u64,
     counts: &[usize],
     waits: &[u32],
-) -> Result<Outcome, NoMemory>
+) -> Result<RoundOutcome, NoMemory>
     requires jobs { sum counts.now ≡ length finished.core.jobs }
     requires waits { length waits.now ≡ length finished.core.tree }
     requires few { All (λ waits. waits ≤ 1000) waits.now }
-    ensures replies { IfOk result (λ outcome. map (λ reply. reply.items) outcome.replies.items ≡ texts_of round counts.now
+    ensures replies { IfOk result (λ outcome. map (λ reply. reply.items) outcome.replies.items ≡ round_texts round counts.now
         (places_of finished.entry.order (length finished.entry.core.jobs)) (replies_of finished.entry.core.jobs finished.entry.core.opening (past_of finished.entry.core))) }
     ensures records { IfOk result (λ outcome. outcome.records ≡ run_records finished.entry.core.jobs finished.entry.core.opening (past_of finished.entry.core)) }
     ensures waits { IfOk result (λ outcome. outcome.waits.items ≡ waits_after finished.entry.core.jobs (past_of finished.entry.core) waits.now) }
@@ -93,7 +92,7 @@ pub fn outcome_of(
         round_texts(alloc, round, counts, &places, &replies)?
     };
     let waits = waits_after(alloc, finished.core(), waits)?;
-    Ok(Outcome {
+    Ok(RoundOutcome {
         replies,
         records: finished.into_records(),
         waits,

@@ -1,12 +1,13 @@
 //! The texts of replies.
-ghost use Rattle.std.specs.Prelude.{◌≡◌, ◌≢◌, ◌⊎◌, ◌≤◌, [], ◌∷◌, length, map, replicate, sum, IfOk, MatchResult};
+ghost use Rattle.std.specs.Prelude.{◌≡◌, ◌≢◌, ◌≤◌, [], ◌∷◌, length, map, replicate, sum, IfOk, MatchResult};
 ghost use Rattle.serde_json.specs.Written.{compact_text};
 ghost use Rattle.grove_access.specs.Lists.{nodes_of, AreNodes};
 ghost use Rattle.grove_build.specs.KeptPlans.{AreSettledFor};
 ghost use Rattle.grove_wire.specs.Names.{wire_name, proof_name, run_name};
 ghost use Rattle.grove_wire.specs.Replies.{error_text, round_data, weights_of, weights_data, changed_data};
-ghost use Rattle.grove_store.specs.Alone.{TellsPlan, TellsCost, TellsFault};
-ghost use Rattle.grove_store.specs.Parts.{IsTextOf, texts_of};
+ghost use Rattle.grove_store.specs.Alone.{TellsPlan, TellsCheck};
+ghost use Rattle.grove_store.specs.Parts.{IsTextOf};
+ghost use Rattle.grove_store.specs.Rounds.{round_texts};
 
 use grove_access::{AccessList, Reply};
 use grove_build::KeptPlans;
@@ -74,7 +75,7 @@ pub fn check_text(
     flow: &Flow,
 ) -> Result<Vec<u8>, NoMemory>
     requires { AreNodes tree.now (nodes_of list.now) }
-    ensures { IfOk result (λ text. IsTextOf (λ reply. TellsCost tree.now list.now plan.now flow.now reply ⊎ TellsFault tree.now list.now plan.now flow.now reply) text.items) }
+    ensures { IfOk result (λ text. IsTextOf (TellsCheck tree.now list.now plan.now flow.now) text.items) }
 {
     match check(alloc, tree, list, plan, flow) {
         Ok(cost) => Ok(cost_value(alloc, cost)?.to_vec(alloc)?),
@@ -147,7 +148,7 @@ pub fn round_texts(
 ) -> Result<Vec<Vec<u8>>, NoMemory>
     requires places { sum counts.now ≤ length places.now }
     requires replies { sum counts.now ≤ length replies.now }
-    ensures { IfOk result (λ texts. map (λ text. text.items) texts.items ≡ texts_of round counts.now places.now (map (λ list. list.now) replies.now)) }
+    ensures { IfOk result (λ texts. map (λ text. text.items) texts.items ≡ round_texts round counts.now places.now (map (λ list. list.now) replies.now)) }
 {
     let mut texts = Vec::new(alloc);
     let mut at = 0;

@@ -22,6 +22,8 @@ mod flows;
 #[cfg(test)]
 mod full_boards;
 #[cfg(test)]
+mod fuse;
+#[cfg(test)]
 mod hold;
 #[cfg(test)]
 mod leftovers;
@@ -31,6 +33,8 @@ mod lists;
 mod loopback;
 #[cfg(test)]
 mod meeting;
+#[cfg(test)]
+mod pieces;
 #[cfg(test)]
 mod roll;
 #[cfg(test)]

@@ -1,6 +1,8 @@
 ghost use Rattle.std.specs.Prelude.{◌≡◌, false, ⊤};
 
-use grove_session::{AnswerFault, Answers, Fuse, Pieces, SessionFault, session};
+use crate::fuse::Fuse;
+use crate::pieces::Pieces;
+use grove_session::{AnswerFault, Answers, SessionFault, session};
 use std::alloc::AllocGlobal;
 
 /// Replies with what it is asked.

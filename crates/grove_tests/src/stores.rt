@@ -1,6 +1,8 @@
 use crate::desks::small_store;
+use crate::fuse::Fuse;
 use crate::meeting::Meeting;
-use grove_session::{Fuse, Pieces, SessionFault, session};
+use crate::pieces::Pieces;
+use grove_session::{SessionFault, session};
 use grove_tree::OpenGate;
 
 const ADD: &[u8] = b"{\"batch\":[[[\"add\",\"/a\",1]]]}";

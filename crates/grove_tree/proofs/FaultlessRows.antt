@@ -1,6 +1,6 @@
 -- Rows have no fault exactly where they are the rows of a tree within the limits.
 use Rattle.std.proofs.Common.{◌≡◌, ◌≢◌, ℕ, zero, suc, ◌<◌, ◌≤◌, ◌==◌, Bool, true, false, not, if◌then◌else◌, [], length, Option, Some, None, refl, sym, ◌∙◌, ap, inl, inr, true≢false, arith, bytes_eq}
-use Rattle.std.specs.Option.{is_none, is_some, option_and_then, option_map, unwrap_or}
+use Rattle.std.specs.Option.{is_none, is_some, option_and_then, option_map, unwrap_or, option_or}
 use Rattle.std.specs.Prelude.{nat_lt, nat_le}
 use Rattle.std.proofs.lemmas.Option.{none-some, slice_get_past}
 use Rattle.std.proofs.lemmas.Bool.{cases_lt, cases_order, leb-true, ltb-false, le-ltb, le-leb, ne_eqb, and_parts, false_from_ne_true}
@@ -9,7 +9,7 @@ use Rattle.grove_base.specs.Numbers.{any_below}
 use Rattle.grove_tree.specs.Trees.{Rows, NodeRow, parent_of, name_of, weight_of, depth_of, IsTree}
 use Rattle.grove_tree.specs.declared.fault.TreeFault.{TreeFault}
 use Rattle.grove_tree.specs.declared.fault.TreeFault.TheVariants.{Empty, TooMany, BadParent, TooDeep, BadName, TwiceNamed, BadWeight, Memory}
-use Rattle.grove_tree.specs.Rules.{is_well_placed, is_on_the_way, is_well_named, share_parent, is_twin, is_weight, row_fault, first_fault, rows_fault, tree_fault_of, IsWithinLimits, AreTreeRows}
+use Rattle.grove_tree.specs.Rules.{is_well_placed, is_on_the_way, is_well_named, share_parent, is_twin, is_weight, row_fault, rows_fault, tree_fault_of, IsWithinLimits, AreTreeRows}
 use Rattle.grove_base.proofs.Counting.{any_false, any_none}
 use Rattle.grove_tree.proofs.Depths.{depth_root}
 use Rattle.grove_tree.proofs.Above.{parent_within}
@@ -44,7 +44,7 @@ row_ruled rows row h =
     chain_none (is_well_placed rows row) (nat_lt 32 (depth_of rows row)) (is_well_named rows row) (any_below row (is_twin rows row)) (is_weight (weight_of rows row)) _ _ _ _ _ h in
     record { placed = placed; shallow = shallow; named = named; alone = alone; weighed = weighed }
 
-first_none : (rows : Rows) (row : ℕ) (o : Option TreeFault) → first_fault rows row o ≡ None → (o ≡ None) × (row_fault rows row ≡ None)
+first_none : (rows : Rows) (row : ℕ) (o : Option TreeFault) → option_or o (row_fault rows row) ≡ None → (o ≡ None) × (row_fault rows row ≡ None)
 first_none rows row None h = (refl, h)
 first_none rows row (Some fault) h = absurd (no_fault fault h)
 
@@ -70,19 +70,19 @@ pub fault_stays : (rows : Rows) (n m : ℕ) (fault : TreeFault) → n ≤ m → 
 fault_stays rows n zero fault le h = let e : n ≡ zero = omega arith in rw e at h
 fault_stays rows n (suc m) fault le h = elim (cases_lt m n) [
   | inl last ↦ let e : n ≡ suc m = omega arith in rw e at h
-  | inr before ↦ ap (λ (o : Option TreeFault). first_fault rows m o) (fault_stays rows n m fault before h)
+  | inr before ↦ ap (λ (o : Option TreeFault). option_or o (row_fault rows m)) (fault_stays rows n m fault before h)
 ]
 
 -- the first fault, found at a row
 pub fault_found : (rows : Rows) (n m : ℕ) (o : Option TreeFault) → n < m → rows_fault rows n ≡ None → o ≡ row_fault rows n → is_some o ≡ true → o ≡ rows_fault rows m
 fault_found rows n m None lt none is some = absurd (cc)
 fault_found rows n m (Some fault) lt none is some =
-    let here : rows_fault rows (suc n) ≡ Some fault = ap (λ (o : Option TreeFault). first_fault rows n o) none ∙ sym is in
+    let here : rows_fault rows (suc n) ≡ Some fault = ap (λ (o : Option TreeFault). option_or o (row_fault rows n)) none ∙ sym is in
     sym (fault_stays rows (suc n) m fault (omega arith) here)
 
 -- none is found at a row
 pub fault_not_found : (rows : Rows) (n : ℕ) (o : Option TreeFault) → rows_fault rows n ≡ None → o ≡ row_fault rows n → is_some o ≡ false → rows_fault rows (suc n) ≡ None
-fault_not_found rows n None none is some = ap (λ (o : Option TreeFault). first_fault rows n o) none ∙ sym is
+fault_not_found rows n None none is some = ap (λ (o : Option TreeFault). option_or o (row_fault rows n)) none ∙ sym is
 fault_not_found rows n (Some fault) none is some = absurd (cc)
 
 tree_none : (a b : Bool) (o : Option TreeFault) → (if a then Some Empty else if b then Some TooMany else o) ≡ None → (a ≡ false) × (b ≡ false) × (o ≡ None)
@@ -208,7 +208,7 @@ row_fits rows row (tree, limits) within =
 
 rows_fit : (rows : Rows) (n : ℕ) → AreTreeRows rows → n ≤ length rows → rows_fault rows n ≡ None
 rows_fit rows zero fit le = refl
-rows_fit rows (suc n) fit le = ap (first_fault rows n) (rows_fit rows n fit (omega arith)) ∙ row_fits rows n fit (omega arith)
+rows_fit rows (suc n) fit le = ap (λ (o : Option TreeFault). option_or o (row_fault rows n)) (rows_fit rows n fit (omega arith)) ∙ row_fits rows n fit (omega arith)
 
 no_tree_fault : (a b : Bool) (o : Option TreeFault) → a ≡ false → b ≡ false → (if a then Some Empty else if b then Some TooMany else o) ≡ o
 no_tree_fault a b o some few = rw (some, few) refl
@@ -235,7 +235,7 @@ no_rule_is_memory true false false d e row h = absurd (cc)
 no_rule_is_memory true true c d e row h = absurd (cc)
 no_rule_is_memory false b c d e row h = absurd (cc)
 
-no_first_is_memory : (rows : Rows) (row : ℕ) (o : Option TreeFault) → o ≢ Some Memory → first_fault rows row o ≡ Some Memory → ⊥
+no_first_is_memory : (rows : Rows) (row : ℕ) (o : Option TreeFault) → o ≢ Some Memory → option_or o (row_fault rows row) ≡ Some Memory → ⊥
 no_first_is_memory rows row None before h =
     no_rule_is_memory (is_well_placed rows row) (nat_lt 32 (depth_of rows row)) (is_well_named rows row) (any_below row (is_twin rows row)) (is_weight (weight_of rows row)) row h
 no_first_is_memory rows row (Some fault) before h = before h

@@ -1,6 +1,7 @@
 -- What is asked of the rows that a tree is built from, and the first rule that they break.
 use Rattle.std.specs.Prelude.{◌≡◌, ℕ, zero, suc, ◌≤◌, ◌<◌, ◌==◌, nat_lt, nat_le, Bool, false, not, ◌&&◌, ◌||◌, List, [], length, map, Option, Some, None, is_none, string_bytes, bytes_eq, IsTrue, if◌then◌else◌}
 use Rattle.std.specs.List.{list_all}
+use Rattle.std.specs.Option.{option_or}
 use Rattle.grove_base.specs.Numbers.{any_below}
 use Rattle.grove_tree.specs.Trees.{Rows, NodeRow, IsTree, parent_of, name_of, weight_of, depth_of, is_at, is_above}
 use Rattle.grove_tree.specs.declared.row.Row.{Row}
@@ -71,15 +72,10 @@ row_fault rows row =
     else if not (is_weight (weight_of rows row)) then Some (BadWeight row)
     else None
 
--- the fault of the rows before, else that of this row
-abbrev pub first_fault : Rows → ℕ → Option TreeFault → Option TreeFault
-first_fault rows row (Some fault) = Some fault
-first_fault rows row None = row_fault rows row
-
 -- the first fault among the first n rows
 abbrev pub rows_fault : Rows → ℕ → Option TreeFault
 rows_fault rows zero = None
-rows_fault rows (suc n) = first_fault rows n (rows_fault rows n)
+rows_fault rows (suc n) = option_or (rows_fault rows n) (row_fault rows n)
 
 -- the first fault of rows, want of memory aside
 abbrev pub tree_fault_of : Rows → Option TreeFault

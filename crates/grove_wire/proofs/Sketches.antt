@@ -382,7 +382,7 @@ flow_form_same row =
   where
     rows_of : Option (List ℕ) → Option ℕ → Option ℕ → Option ℕ → Option ℕ → Option ℕ → Option forms.FlowForm
     rows_of p a h f l o =
-        option_and_then (λ path. option_and_then (λ above. option_and_then (λ held. option_and_then (λ first. option_and_then (λ last. option_map (λ own. forms.flow_with path above held first last own) o) l) f) h) a) p
+        option_and_then (λ path. option_and_then (λ above. option_and_then (λ held. option_and_then (λ first. option_and_then (λ last. option_and_then (λ own. Some (forms.flow_with path above held first last own)) o) l) f) h) a) p
 
 flow_row_in_same : (tree : Rows) (at : ℕ) (row : Row) → reading.flow_row_in tree at (drawn form.Row row.text) ≡ reading.flow_row_in tree at row.whole
 unfolding reading.flow_row_at

@@ -12,6 +12,11 @@ use Rattle.grove_wire.specs.declared.versions.Version.{Version}
 use Rattle.grove_wire.specs.declared.versions.Version.TheVariants.{First, Second}
 use Rattle.grove_access.specs.declared.access.Op.TheVariants.{Get, Set, Add, Take}
 
+-- one reading after another, where each finds something
+infixl 10 ◌>>=◌
+abbrev pub ◌>>=◌ : {A B : Type 0} → Option A → (A → Option B) → Option B
+x >>= next = option_and_then next x
+
 abbrev pub list_items : Items → List Data
 list_items no_items = []
 list_items (item d ds) = d ∷ list_items ds
@@ -22,7 +27,7 @@ as_list d = option_map list_items (as_array d)
 
 -- the items of a member that is an array
 unfoldable pub items_of : List ℕ → Data → Option (List Data)
-items_of name d = option_and_then as_list (get name d)
+items_of name d = get name d >>= as_list
 
 -- each member that is an array has at most n items
 pub record HasArraysWithin (n : ℕ) (d : Data) : Type 0 where
@@ -52,7 +57,7 @@ AreArraysShort d = AllArraysWithin 67108864 d
 
 -- a signed number of 64 bits
 abbrev pub as_signed : Data → Option ℤ
-as_signed d = option_and_then as_i64 (as_number d)
+as_signed d = as_number d >>= as_i64
 
 -- a number that has 32 bits
 abbrev pub if_short : ℕ → Option ℕ
@@ -60,7 +65,7 @@ if_short n = if nat_lt n (2 ^ 32) then Some n else None
 
 -- an unsigned number of 32 bits
 unfoldable pub as_short : Data → Option ℕ
-as_short d = option_and_then if_short (option_and_then as_u64 (as_number d))
+as_short d = as_number d >>= as_u64 >>= if_short
 
 -- a text is just this word
 abbrev pub is_word : List ℕ → Data → Bool
@@ -82,15 +87,12 @@ abbrev pub row_with : Option ℕ → List ℕ → ℕ → ℤ → NodeRow × ℤ
 row_with parent name weight value = (record { parent = parent; name = name; weight = weight }, value)
 
 unfoldable pub row_form : Data → Option (NodeRow × ℤ)
-row_form d =
-    option_and_then (λ parent.
-    option_and_then (λ name.
-    option_and_then (λ weight.
-    option_map (λ value. row_with parent name weight value)
-    (as_record (get (codes "value") d)))
-    (option_and_then as_short (get (codes "weight") d)))
-    (option_and_then as_str (get (codes "name") d)))
-    (option_and_then as_parent (get (codes "parent") d))
+row_form d = do
+  parent ← get (codes "parent") d >>= as_parent
+  name ← get (codes "name") d >>= as_str
+  weight ← get (codes "weight") d >>= as_short
+  value ← as_record (get (codes "value") d)
+  Some (row_with parent name weight value)
 
 -- ---- versions
 
@@ -101,7 +103,7 @@ version_numbered n = if n == 1 then Some First else if n == 2 then Some Second e
 -- 1 where nothing is told; the first has no lengths, the second may have
 abbrev pub version_of : Option Data → Option Version
 version_of None = Some First
-version_of (Some d) = option_and_then version_numbered (option_and_then as_u64 (as_number d))
+version_of (Some d) = as_number d >>= as_u64 >>= version_numbered
 
 -- ---- accesses: a path, an operation and, where one is told, a length
 
@@ -125,14 +127,14 @@ op_of word value =
     else None
 
 abbrev pub numbered_op : Data → Data → Option Op
-numbered_op word value = option_and_then (op_of word) (as_signed value)
+numbered_op word value = as_signed value >>= op_of word
 
 -- a path with an operation, which tells no length or tells one
 abbrev pub form_with : Data → Option Op → Option ℕ → Option AccessForm
-form_with path op length = option_and_then (λ text. option_map (λ found. access_with text found length) op) (as_str path)
+form_with path op length = as_str path >>= λ text. option_map (λ found. access_with text found length) op
 
 abbrev pub with_length : Data → Option Op → Data → Option AccessForm
-with_length path op length = option_and_then (λ slots. form_with path op (Some slots)) (option_and_then as_u64 (as_number length))
+with_length path op length = as_number length >>= as_u64 >>= λ slots. form_with path op (Some slots)
 
 abbrev pub form_of : List Data → Option AccessForm
 form_of (word ∷ path ∷ []) = form_with path (get_of word) None
@@ -146,7 +148,7 @@ allowed First form = if is_none form.length then Some form else None
 allowed Second form = Some form
 
 unfoldable pub access_form : Version → Data → Option AccessForm
-access_form version d = option_and_then (allowed version) (option_and_then form_of (as_list d))
+access_form version d = as_list d >>= form_of >>= allowed version
 
 -- ---- flow rows: a path and the amounts
 
@@ -163,22 +165,17 @@ flow_with path above held first last own = record { path = path; above = above; 
 
 -- the amount of a name
 unfoldable pub amount_of : List ℕ → Data → Option ℕ
-amount_of name d = option_and_then as_u64 (option_and_then as_number (get name d))
+amount_of name d = get name d >>= as_number >>= as_u64
 
 unfoldable pub flow_form : Data → Option FlowForm
-flow_form d =
-    option_and_then (λ path.
-    option_and_then (λ above.
-    option_and_then (λ held.
-    option_and_then (λ first.
-    option_and_then (λ last.
-    option_map (λ own. flow_with path above held first last own)
-    (amount_of (codes "own") d))
-    (amount_of (codes "last") d))
-    (amount_of (codes "first") d))
-    (amount_of (codes "held") d))
-    (amount_of (codes "above") d))
-    (option_and_then as_str (get (codes "node") d))
+flow_form d = do
+  path ← get (codes "node") d >>= as_str
+  above ← amount_of (codes "above") d
+  held ← amount_of (codes "held") d
+  first ← amount_of (codes "first") d
+  last ← amount_of (codes "last") d
+  own ← amount_of (codes "own") d
+  Some (flow_with path above held first last own)
 
 -- ---- events: a word and the number of a job
 
@@ -189,11 +186,11 @@ event_named word job =
     else None
 
 abbrev pub event_of : List Data → Option Event
-event_of (word ∷ job ∷ []) = option_and_then (event_named word) (as_short job)
+event_of (word ∷ job ∷ []) = as_short job >>= event_named word
 event_of _ = None
 
 unfoldable pub event_form : Data → Option Event
-event_form d = option_and_then event_of (as_list d)
+event_form d = as_list d >>= event_of
 
 -- ---- replies: a number, or a word
 

@@ -2,7 +2,7 @@
 use Rattle.std.specs.Prelude.{◌≡◌, ℕ, suc, List, [], ◌∷◌, Option, Some, None, Result, Ok, Err}
 use Rattle.serde_json.specs.Data.{Data}
 use Rattle.grove_wire.specs.declared.fault.WireFault.{WireFault}
-use Rattle.grove_wire.specs.declared.fault.WireFault.TheVariants.{BadJson, Shape, NoPath, BadLength, Limit, Tree, Memory}
+use Rattle.grove_wire.specs.declared.fault.WireFault.TheVariants.{Memory}
 
 -- one reading after another, up to the first fault
 infixl 10 ◌>>=◌
@@ -25,13 +25,8 @@ each_from read at (d ∷ ds) = do
 
 -- a call fails as a definition says, or for want of memory
 abbrev pub Fails : {A : Type 0} → WireFault → Result A WireFault → Type 0
-Fails BadJson read = read ≡ Err BadJson
-Fails (Shape place) read = read ≡ Err (Shape place)
-Fails (NoPath place) read = read ≡ Err (NoPath place)
-Fails (BadLength place) read = read ≡ Err (BadLength place)
-Fails (Limit place) read = read ≡ Err (Limit place)
-Fails (Tree fault) read = read ≡ Err (Tree fault)
 Fails Memory read = Unit {0}
+Fails fault read = read ≡ Err fault
 
 -- what a call answers, seen by a function, is what a definition gives
 abbrev pub Gives : {T A : Type 0} → (T → A) → Result T WireFault → Result A WireFault → Type 0

@@ -40,14 +40,12 @@ abbrev pub AskedFits : Rows → Asked → Type 0
 AskedFits rows (Plan list) = AreListed rows list
 AskedFits rows (Check list plan flow) = AreListed rows list × PlanFits rows plan × FlowFits rows flow
 AskedFits rows (Batch lists) = (length lists ≤ 256) × All (AreListed rows) lists
-AskedFits rows Weights = Unit {0}
-AskedFits rows Reweigh = Unit {0}
+AskedFits rows _ = Unit {0}
 
 -- the one member of an object that has just one, with its name
 abbrev pub only_of : Members → Option (List ℕ × Data)
-only_of no_members = None
 only_of (member name d no_members) = Some (name, d)
-only_of (member name d (member other e others)) = None
+only_of _ = None
 
 abbrev pub only_member : Data → Option (List ℕ × Data)
 only_member d = option_and_then only_of (as_object d)

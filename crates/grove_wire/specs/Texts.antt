@@ -52,14 +52,7 @@ wire_text Memory = codes "memory"
 -- the node in a fault is a node of the tree
 abbrev pub FaultFits : Rows → PlanFault → Type 0
 FaultFits rows (plan.StillHeld node) = node < length rows
-FaultFits rows (plan.Strange step) = Unit {0}
-FaultFits rows (plan.Relock step) = Unit {0}
-FaultFits rows (plan.ParentNotHeld step) = Unit {0}
-FaultFits rows (plan.NotHeld step) = Unit {0}
-FaultFits rows (plan.WrongAccess step) = Unit {0}
-FaultFits rows (plan.AccessNotHeld step) = Unit {0}
-FaultFits rows (plan.AccessMissing access) = Unit {0}
-FaultFits rows plan.Memory = Unit {0}
+FaultFits rows _ = Unit {0}
 
 abbrev pub plan_text : Rows → PlanFault → List ℕ
 plan_text rows (plan.Strange step) = codes "step " ++ decimal step ++ codes " strange"
@@ -76,13 +69,7 @@ plan_text rows plan.Memory = codes "memory"
 
 abbrev pub ProofFaultFits : Rows → ProofFault → Type 0
 ProofFaultFits rows (proof.Plan fault) = FaultFits rows fault
-ProofFaultFits rows (proof.Rows row) = Unit {0}
-ProofFaultFits rows (proof.Sign row) = Unit {0}
-ProofFaultFits rows (proof.TooBig row) = Unit {0}
-ProofFaultFits rows (proof.LockBalance row) = Unit {0}
-ProofFaultFits rows (proof.ReleaseBalance row) = Unit {0}
-ProofFaultFits rows (proof.Value cost bound) = Unit {0}
-ProofFaultFits rows proof.Memory = Unit {0}
+ProofFaultFits rows _ = Unit {0}
 
 -- the bound may be negative
 abbrev pub value_text : ℕ → ℤ → List ℕ
@@ -102,9 +89,7 @@ proof_text rows proof.Memory = codes "memory"
 
 abbrev pub RunFaultFits : Rows → RunFault → Type 0
 RunFaultFits rows (run.BadPlan job fault) = FaultFits rows fault
-RunFaultFits rows run.Memory = Unit {0}
-RunFaultFits rows run.Foreign = Unit {0}
-RunFaultFits rows run.Unfinished = Unit {0}
+RunFaultFits rows _ = Unit {0}
 
 -- a bad plan has the text of its fault
 abbrev pub run_text : Rows → RunFault → List ℕ
@@ -124,9 +109,7 @@ event_text event.Marked = codes "marked"
 
 abbrev pub ReplayFaultFits : Rows → ReplayFault → Type 0
 ReplayFaultFits rows (replay.BadPlan job fault) = FaultFits rows fault
-ReplayFaultFits rows (replay.BadEvent at fault) = Unit {0}
-ReplayFaultFits rows (replay.Unfinished job) = Unit {0}
-ReplayFaultFits rows replay.Memory = Unit {0}
+ReplayFaultFits rows _ = Unit {0}
 
 abbrev pub replay_text : Rows → ReplayFault → List ℕ
 replay_text rows (replay.BadPlan job fault) = codes "job " ++ decimal job ++ codes " " ++ plan_text rows fault

@@ -1,8 +1,8 @@
 ghost use Rattle.std.specs.Prelude.{◌≡◌, ◌≤◌, map, IfOk, length};
 ghost use Rattle.serde_json.specs.View.{view};
-ghost use Rattle.grove_wire.specs.Forms.{event_named, event_of, event_form};
+ghost use Rattle.grove_wire.specs.Forms.{event_named, event_form};
 ghost use Rattle.grove_wire.specs.Outcomes.{Gives, each_from};
-ghost use Rattle.grove_wire.specs.Histories.{event_at, events_of, events_in};
+ghost use Rattle.grove_wire.specs.Histories.{event_at, events_in};
 
 use crate::document::items_in;
 use crate::forms::{is_word, list_items, short_number};

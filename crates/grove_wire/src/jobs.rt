@@ -1,4 +1,4 @@
-ghost use Rattle.std.specs.Prelude.{◌≡◌, ◌≤◌, map, IfOk, length};
+ghost use Rattle.std.specs.Prelude.{◌≤◌, map, IfOk, length};
 ghost use Rattle.std.specs.List.{All};
 ghost use Rattle.serde_json.specs.View.{view};
 ghost use Rattle.grove_core.specs.Openings.{AllFit};

@@ -1,4 +1,4 @@
-ghost use Rattle.std.specs.Prelude.{◌≡◌, ◌<◌, ◌^◌, map, option_map, IfOk, length, vec_len};
+ghost use Rattle.std.specs.Prelude.{◌≡◌, ◌<◌, ◌^◌, map, option_map, IfOk, length};
 ghost use Rattle.serde_json.specs.View.{view};
 ghost use Rattle.grove_tree.specs.Rules.{row_of, rows_of, tree_fault_of};
 ghost use Rattle.grove_wire.specs.Forms.{HasShortArrays, as_parent, as_record, row_with, row_form};

@@ -1,6 +1,6 @@
 ghost use Rattle.std.specs.Prelude.{◌≡◌, IfOk, map};
 ghost use Rattle.serde_json.specs.View.{view};
-ghost use Rattle.grove_wire.specs.Writing.{PlanFits, FlowFits, count_data};
+ghost use Rattle.grove_wire.specs.Writing.{PlanFits, FlowFits};
 ghost use Rattle.grove_wire.specs.Replies.{counts_data, error_data, planned_data, cost_data, lists_data, round_data, weights_of, weights_data, changed_data};
 
 use crate::plan_values::{flow_value, plan_value};

@@ -1,8 +1,7 @@
 ghost use Rattle.std.specs.Prelude.{◌≡◌, ◌≤◌, IfOk, IfSome, Some, length, option_map};
-ghost use Rattle.serde_json.specs.Data.{Data};
 ghost use Rattle.serde_json.specs.Find.{get};
 ghost use Rattle.serde_json.specs.View.{view};
-ghost use Rattle.grove_wire.specs.Forms.{HasArraysWithin, HasShortArrays};
+ghost use Rattle.grove_wire.specs.Forms.{HasShortArrays};
 ghost use Rattle.grove_wire.specs.Outcomes.{Gives};
 ghost use Rattle.grove_wire.specs.Requests.{asked_of, AskedFits, RequestsFit, ReadingNeedsNoRoom, only_member, plan_of, check_of, batch_of, named_of, request_of};
 

@@ -1,4 +1,4 @@
-ghost use Rattle.std.specs.Prelude.{◌<◌, ◌≤◌, length, All};
+ghost use Rattle.std.specs.Prelude.{◌<◌};
 
 use crate::again::telling::{say_memory, tell_reply};
 use crate::again::values::{LINES, store_below};

@@ -1,5 +1,5 @@
 //! What the calls are made on. A growth that is refused here ends the program.
-ghost use Rattle.std.specs.Prelude.{◌≡◌, ◌<◌, ◌^◌, length, IfOk};
+ghost use Rattle.std.specs.Prelude.{◌<◌, length, IfOk};
 ghost use Rattle.grove_access.specs.Lists.{nodes_of, AreNodes};
 
 use anyhow::{Result, bail, ensure};

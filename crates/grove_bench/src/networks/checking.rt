@@ -1,4 +1,4 @@
-ghost use Rattle.std.specs.Prelude.{◌≡◌, ℕ, ◌+◌, ◌*◌, ◌<◌, ◌≤◌, length, pos, negsuc, true};
+ghost use Rattle.std.specs.Prelude.{◌≡◌, ℕ, ◌+◌, ◌*◌, ◌<◌, length, pos, negsuc, true};
 ghost use Rattle.grove_flow.specs.Networks.{AreArcsOf, HasOwnArcs, IsArcOf, IsMet, IsModest, IsNetwork, IsStart, arc_at, place};
 
 use grove_flow::Arc;

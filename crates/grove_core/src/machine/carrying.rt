@@ -1,6 +1,6 @@
-ghost use Rattle.std.specs.Prelude.{◌≡◌, ◌+◌, ◌<◌, ◌≤◌, ◌^◌, ℕ, ℤ, [], ◌∷◌, ◌++◌, length, true, false, Some, slice_get, is_some};
+ghost use Rattle.std.specs.Prelude.{◌≡◌, ◌+◌, ◌<◌, ◌≤◌, ◌^◌, ℕ, ℤ, [], ◌∷◌, ◌++◌, length, true, false, Some, slice_get};
 ghost use Rattle.grove_access.specs.Effects.{record_at, reply_to};
-ghost use Rattle.grove_access.specs.Carries.{IsSound, present_at, carry_settled};
+ghost use Rattle.grove_access.specs.Carries.{present_at, carry_settled};
 ghost use Rattle.grove_base.specs.Numbers.{count_below};
 ghost use Rattle.grove_core.specs.Runs.{list_of, plan_of, steps_done, next_step, holds, run_replies};
 ghost use Rattle.grove_core.specs.Kept.{past_of, Owns};

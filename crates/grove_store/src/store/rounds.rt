@@ -4,7 +4,7 @@ ghost use Rattle.grove_store.specs.Parts.{AnswersRound};
 
 use crate::Store;
 use crate::round::Round;
-use crate::running::{Outcome, kept_jobs, outcome_of};
+use crate::running::{RoundOutcome, kept_jobs, outcome_of};
 use crate::texts::{refusals, run_refusals};
 use grove_run::run_legal;
 use grove_tree::{Gate, NoMemory};
@@ -47,7 +47,7 @@ impl Store {
             Err(fault) => return run_refusals(alloc, fault, counts.len()),
         };
         let outcome = outcome_of(alloc, finished, self.rounds + 1, &counts, &self.waits)?;
-        let Outcome {
+        let RoundOutcome {
             replies,
             records,
             waits,

@@ -30,4 +30,4 @@ returns c =
     let whole = planned_document task.tree planned.plan planned.flow d in
     let said : (text : List ℕ) × IsTextOf whole text × (string_bytes c.in_ok-line_of.field-0 ≡ text ++ codes "\n") = rw c.in_ok-whole.ensures.value at c.in_ok-line_of.ensures in
     let claimed = claims task planned.plan planned.flow c.in_ok-whole.ensures.plan c.in_ok-whole.ensures.flow d c.requires.read in
-    (planned.plan, planned.flow, c.requires.planned.settled, c.requires.planned.certificate, claimed, (said.0, said.1, ap Ok said.2))
+    (planned, c.requires.planned, claimed, (said.0, said.1, ap Ok said.2))

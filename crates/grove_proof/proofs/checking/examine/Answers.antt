@@ -21,5 +21,5 @@ returns-clause-verdict c =
     let same : map node_of c.args.flow.now ≡ c.in_ok-span.span.items = ap (map node_of) (sym c.rows.ensures.rows) ∙ (c.in_default.ensures ∙ c.deref.ensures.value) in
     verdict c.args.tree.now (nodes_of c.args.list.now) (lengths_of c.args.list.now) c.args.plan.now c.args.flow.now c.in_ok-span.span.items c.in_ok-cost.cost c.weigh.result c.len-size.ensures.tree c.requires.fits
     c.in_ok-cost.ensures.legal c.in_ok-span.ensures same c.in_ok-cost.ensures.cost
-    (say_same c.in_ok-ledger.ledger.tree.now c.args.tree.now c.in_ok-ledger.ledger.list.now c.args.list.now c.in_ok-ledger.ledger.rows.now c.args.flow.now c.in_ok-cost.cost c.weigh.result
-    c.weigh.ensures c.in_ok-ledger.ensures.tree c.in_ok-ledger.ensures.list (c.in_ok-ledger.ensures.rows ∙ c.rows-2.ensures.rows))
+    (say_same c.in_ok-row_sums.row_sums.tree.now c.args.tree.now c.in_ok-row_sums.row_sums.list.now c.args.list.now c.in_ok-row_sums.row_sums.rows.now c.args.flow.now c.in_ok-cost.cost c.weigh.result
+    c.weigh.ensures c.in_ok-row_sums.ensures.tree c.in_ok-row_sums.ensures.list (c.in_ok-row_sums.ensures.rows ∙ c.rows-2.ensures.rows))

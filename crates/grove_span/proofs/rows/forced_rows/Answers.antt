@@ -1,4 +1,4 @@
-use Rattle.std.proofs.Common.{◌≡◌, ℕ, suc, ◌<◌, ◌≤◌, length, get_or, Some, slice_get, sym, ◌∙◌, ap, add-one, arith, subst}
+use Rattle.std.proofs.Common.{◌≡◌, ℕ, suc, get_or, Some, slice_get, sym, ◌∙◌, ap, add-one, subst}
 use Rattle.std.proofs.lemmas.Option.{slice_get-get_or}
 use Rattle.grove_access.specs.Lists.{nodes_of, lengths_of}
 use Rattle.grove_span.proofs.ForcedWays.{IsSpannedTo, span_begins, first_from, forced_to, span_next, span_skips, span_ends}

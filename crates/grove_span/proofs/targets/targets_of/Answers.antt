@@ -1,4 +1,4 @@
-use Rattle.std.proofs.Common.{take, ◌≡◌, ◌≤◌, ◌<◌, ◌++◌, ◌∷◌, [], ℕ, List, add-one, arith, length, sym, ap, ◌∙◌}
+use Rattle.std.proofs.Common.{take, ◌≡◌, ◌≤◌, ◌++◌, ◌∷◌, [], ℕ, List, add-one, arith, length, sym, ap, ◌∙◌}
 use Rattle.std.proofs.lemmas.List.{take_all}
 use Rattle.grove_base.proofs.Lists.{take_next}
 use Rattle.grove_access.specs.Lists.{nodes_of}

@@ -1,4 +1,4 @@
-use Rattle.std.proofs.Common.{◌≡◌, ◌≤◌, add-one, arith, length, refl, subst, sym}
+use Rattle.std.proofs.Common.{◌≡◌, ◌≤◌, add-one, arith, length, subst, sym}
 use Rattle.grove_access.specs.Lists.{nodes_of}
 use Rattle.grove_access.proofs.Lists.{node_at, nodes_length}
 use Rattle.std.proofs.lemmas.Bool.{eqb-true, eq-eqb, both_ways}

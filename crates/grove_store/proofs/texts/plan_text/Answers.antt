@@ -1,7 +1,5 @@
-use Rattle.std.proofs.Common.{◌≡◌, ℕ, ◌∙◌, ap, refl}
-use Rattle.serde_json.specs.View.{view}
+use Rattle.std.proofs.Common.{refl}
 use Rattle.grove_access.specs.Lists.{nodes_of, lengths_of}
-use Rattle.grove_plan.specs.Plans.{cost}
 use Rattle.grove_wire.specs.Replies.{planned_data}
 use Rattle.grove_store.proofs.Fitting.{plan_fits, flow_fits}
 use Rattle.grove_wire.proofs.Floatless.{planned_has_no_float}
@@ -20,11 +18,8 @@ planned_value-requires-clause-flow c =
 pub returns-clause-text : goal.returns-clause-text
 returns-clause-text c =
     let rows = c.args.tree.now in
-    let planned = c.in_ok-planned.planned in
-    let price = cost rows (lengths_of c.args.list.now) planned.plan in
-    let is : view c.in_ok-value.value ≡ planned_data rows price planned.plan planned.flow =
-    c.in_ok-value.ensures ∙ ap (λ (n : ℕ). planned_data rows n planned.plan planned.flow) c.in_ok-planned.ensures.planned.priced in (
-      planned_data rows price planned.plan planned.flow,
-      record { plan = planned.plan; flow = planned.flow; settled = c.in_ok-planned.ensures.planned.settled; certified = c.in_ok-planned.ensures.planned.certificate; told = refl },
-      text_is _ _ _ c.in_ok-to_vec.ensures.text is (planned_has_no_float rows price planned.plan planned.flow),
+    let planned = c.in_ok-planned.planned in (
+      planned_data rows planned.cost planned.plan planned.flow,
+      (planned, c.in_ok-planned.ensures.planned, refl),
+      text_is _ _ _ c.in_ok-to_vec.ensures.text c.in_ok-value.ensures (planned_has_no_float rows planned.cost planned.plan planned.flow),
     )

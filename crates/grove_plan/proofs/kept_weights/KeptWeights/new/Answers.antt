@@ -1,4 +1,4 @@
-use Rattle.std.proofs.Common.{◌≡◌, ap, subst, sym, ◌∙◌}
+use Rattle.std.proofs.Common.{◌≡◌, subst}
 use Rattle.grove_tree.specs.Trees.{weight_of}
 use Rattle.grove_base.proofs.Lists.{replicate_got}
 use Rattle.grove_plan.specs.declared.kept_weights.KeptWeight.{KeptWeight}

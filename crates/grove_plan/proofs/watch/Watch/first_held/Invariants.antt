@@ -1,7 +1,0 @@
-use Rattle.std.proofs.Common.{◌≡◌, false, Some}
-use Rattle.grove_base.specs.Numbers.{any_below}
-use Rattle.grove_plan.specs.Watching.{holds_node}
-use Rattle.grove_plan.proofs.watch.Watch.first_held.Given as goal
-
-abbrev pub invariant-loop-node : goal.invariant-loop-node
-invariant-loop-node l = any_below l.node (λ node. holds_node l.self.holds.items (Some node)) ≡ false
