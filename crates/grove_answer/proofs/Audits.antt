@@ -9,7 +9,7 @@ use Rattle.grove_core.specs.declared.fault.ReplayFault.TheVariants.{BadPlan, Bad
 use Rattle.grove_core.specs.Runs.{list_of, plan_of, AllLegal, IsRun, IsFinished, run_records}
 use Rattle.grove_core.specs.Replays.{IsReplayFault}
 use Rattle.grove_core.proofs.SerialRuns.{runs_are_serial}
-use Rattle.grove_store.specs.Rounds.{replies_of}
+use Rattle.grove_core.specs.Runs.{replies_of}
 use Rattle.grove_wire.specs.Histories.{Standing}
 use Rattle.grove_wire.specs.Texts.{ReplayFaultFits, replay_text}
 use Rattle.grove_answer.specs.declared.refusal.Refusal.{Refusal}

@@ -8,7 +8,7 @@ use Rattle.grove_core.specs.declared.job.Job.{Job}
 use Rattle.grove_core.specs.declared.run_fault.RunFault.{RunFault}
 use Rattle.grove_core.specs.declared.run_fault.RunFault.TheVariants.{BadPlan, Memory, Foreign, Unfinished}
 use Rattle.grove_run.specs.Runs.{IsLegalRunFault}
-use Rattle.grove_store.specs.Rounds.{AreSettledJobs}
+use Rattle.grove_build.specs.SettledJobs.{AreSettledJobs}
 use Rattle.grove_wire.specs.Texts.{RunFaultFits, run_text}
 use Rattle.grove_answer.specs.declared.refusal.Refusal.{Refusal}
 use Rattle.grove_answer.specs.declared.refusal.Refusal.TheVariants as refusal

@@ -35,7 +35,7 @@ use Rattle.grove_wire.specs.Outcomes.{◌>>=◌}
 use Rattle.grove_wire.specs.Reading.{items_in, columns_of, unless_fault, tree_of, tree_in, list_in, lists_in, plan_in, flow_in}
 use Rattle.grove_wire.specs.Histories.{Standing, jobs_in, events_in, standing_in}
 use Rattle.grove_wire.specs.Texts.{number_text, place_text, tree_text, wire_text, plan_text, proof_text, event_text, replay_text}
-use Rattle.grove_store.proofs.Feedless.{none_is, none_found, decimal_feedless, signed_feedless}
+use Rattle.grove_wire.proofs.Feedless.{none_is, none_found, decimal_feedless, signed_feedless}
 use Rattle.grove_answer.specs.declared.reading.Task.{Task}
 use Rattle.grove_answer.specs.Outcomes.{Outcome, ThenSays, task_in, trial_in, claim_in, own_plan, sketch_in, batch_in, History, history_in, unless_faulty, own_fault, IsJudged, IsChecked, IsPlanned, IsDrawn, IsRunBatch, IsMisstated, IsAudited}
 use Rattle.grove_answer.specs.PlannedDocuments.{IsPlannedDocument}

@@ -25,7 +25,7 @@ use Rattle.grove_core.specs.declared.job.Job.{Job}
 use Rattle.grove_core.specs.declared.event.Event.{Event}
 use Rattle.grove_core.specs.declared.fault.ReplayFault.{ReplayFault}
 use Rattle.grove_core.specs.declared.fault.ReplayFault.TheVariants as replay
-use Rattle.grove_core.specs.Runs.{AllLegal, IsRun, IsFinished, run_records, waits_of}
+use Rattle.grove_core.specs.Runs.{AllLegal, IsRun, IsFinished, replies_of, run_records, waits_of}
 use Rattle.grove_core.specs.Orders.{placement_order}
 use Rattle.grove_core.specs.Laws.{IsEachOnce, IsSerialBy}
 use Rattle.grove_core.specs.Replays.{IsReplayFault}
@@ -36,8 +36,8 @@ use Rattle.grove_wire.specs.Writing.{replies_data, numbers_data, plan_data, flow
 use Rattle.grove_wire.specs.Replies.{counts_data, lists_data}
 use Rattle.grove_wire.specs.Histories.{Standing, jobs_in, events_in, standing_in}
 use Rattle.grove_wire.specs.Texts.{wire_text, plan_text, proof_text, replay_text}
-use Rattle.grove_store.specs.Alone.{ChecksAs}
-use Rattle.grove_store.specs.Rounds.{AreSettledJobs, replies_of}
+use Rattle.grove_proof.specs.Checks.{ChecksAs}
+use Rattle.grove_build.specs.SettledJobs.{AreSettledJobs}
 use Rattle.grove_answer.specs.declared.reading.Task.{Task}
 
 -- lines, or the text of why there are none

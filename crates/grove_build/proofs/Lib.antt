@@ -35,3 +35,5 @@ pub mod CutTrees
 pub mod CutFlows
 pub mod CutLeast
 pub mod CutSettled
+pub mod SettledJobs
+pub mod NothingKept

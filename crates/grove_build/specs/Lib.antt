@@ -7,3 +7,4 @@ pub mod Reaches
 pub mod KeptPlans
 pub mod Keeping
 pub mod CutTrees
+pub mod SettledJobs

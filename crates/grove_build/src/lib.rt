@@ -2,6 +2,7 @@
 #![tactic(auto)]
 
 pub use batch::plan_batch;
+pub use jobs::{kept_jobs, settled_jobs};
 pub use kept_plans::KeptPlans;
 pub use laws::{cut_laws, settled_laws};
 pub use planning::{Planned, plan, plan_watched};
@@ -10,6 +11,7 @@ pub use watch::{Layer, Watch};
 mod batch;
 mod costs;
 mod flow_rows;
+mod jobs;
 mod kept_plans;
 mod laws;
 mod network;

@@ -1,6 +1,6 @@
 -- Runs of jobs over their plans, as histories of events.
-use Rattle.std.specs.Prelude.{◌≡◌, ◌≢◌, ℕ, zero, suc, ◌+◌, ◌<◌, ◌≤◌, ◌==◌, ℤ, Bool, true, false, ⊤, List, [], ◌∷◌, ◌++◌, length, slice_get, Option, Some, None, if◌then◌else◌}
-use Rattle.grove_base.specs.Numbers.{count_below, sum_below}
+use Rattle.std.specs.Prelude.{◌≡◌, ◌≢◌, ℕ, zero, suc, ◌+◌, ◌<◌, ◌≤◌, ◌==◌, ℤ, Bool, true, false, ⊤, List, [], ◌∷◌, ◌++◌, length, map, slice_get, Option, Some, None, if◌then◌else◌}
+use Rattle.grove_base.specs.Numbers.{count_below, numbers_below, sum_below}
 use Rattle.grove_tree.specs.Trees.{Rows}
 use Rattle.grove_access.specs.declared.access.Access.{Access}
 use Rattle.grove_access.specs.declared.reply.Reply.{Reply}
@@ -113,6 +113,10 @@ run_records jobs opening past = deeds_records (deeds jobs past) opening
 
 abbrev pub run_replies : List Job → List ℤ → List Event → ℕ → List Reply
 run_replies jobs opening past t = deeds_replies (deeds jobs past) opening t
+
+-- the replies of each job
+abbrev pub replies_of : List Job → List ℤ → List Event → List (List Reply)
+replies_of jobs opening past = map (run_replies jobs opening past) (numbers_below (length jobs))
 
 -- the marks made while the next step was a lock of the node
 abbrev pub waits_of : List Job → List Event → ℕ → ℕ

@@ -7,7 +7,7 @@ use thiserror::Error;
 #[derive(Clone, Copy, Debug, PartialEq, Eq, Error)]
 pub enum OpenFault {
     /// The plan of this job has this fault, and no plan of a lower job has one.
-    #[error("txn {0} {1}")]
+    #[error("job {0} {1}")]
     BadPlan(u32, PlanFault),
     /// A growth was refused.
     #[error("memory")]
@@ -51,13 +51,13 @@ impl From<NoMemory> for OpenFault {
 #[derive(Clone, Copy, Debug, PartialEq, Eq, Error)]
 pub enum StepFault {
     /// There is no job of this number.
-    #[error("no-txn")]
+    #[error("no-job")]
     NoTxn,
     /// The job's plan is at its end.
     #[error("ended")]
     Ended,
     /// The step is a lock of a node that this other job holds.
-    #[error("blocked by {0}")]
+    #[error("blocked {0}")]
     Blocked(u32),
     /// A mark, while the job's next step isn't a lock of a node that another job holds.
     #[error("not-blocked")]

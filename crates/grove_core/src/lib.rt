@@ -9,6 +9,7 @@ pub use laws::run_laws;
 pub use machine::Core;
 pub use opening::judge_all;
 pub use ordering::{serial_order, serial_order_into};
+pub use replies::replies_of;
 pub use run_fault::RunFault;
 
 mod event;
@@ -23,4 +24,5 @@ mod opening;
 mod ordering;
 mod owner;
 mod progress;
+mod replies;
 mod run_fault;

@@ -8,7 +8,7 @@ use thiserror::Error;
 #[derive(Clone, Copy, Debug, PartialEq, Eq, Error)]
 pub enum RunFault {
     /// The plan of this job has this fault, and no plan of a lower job has one.
-    #[error("txn {0} {1}")]
+    #[error("job {0} {1}")]
     BadPlan(u32, PlanFault),
     /// A growth was refused.
     #[error("memory")]

@@ -6,3 +6,4 @@ pub mod Changes
 pub mod Laws
 pub mod Tables
 pub mod RowSums
+pub mod Checks

@@ -15,7 +15,9 @@ use Rattle.grove_run.specs.FinishedRuns.{IsFinishedRun}
 use Rattle.grove_wire.specs.Names.{run_name}
 use Rattle.grove_wire.specs.Replies.{error_text}
 use Rattle.grove_store.specs.StoreStates.{StoreState}
-use Rattle.grove_store.specs.Rounds.{AreSettledJobs, replies_of, waits_after, round_texts, RunsRound, RefusesRound, FailsRound}
+use Rattle.grove_store.specs.Rounds.{waits_after, round_texts, RunsRound, RefusesRound, FailsRound}
+use Rattle.grove_build.specs.SettledJobs.{AreSettledJobs}
+use Rattle.grove_core.specs.Runs.{replies_of}
 use Rattle.grove_store.specs.Parts.{LeavesRound, AnswersRound}
 use Rattle.grove_store.proofs.Telling.{texts_long}
 

@@ -1,8 +1,6 @@
 pub mod Reweighing
-pub mod Fitting
 pub mod Equal
 pub mod Telling
-pub mod Jobs
 pub mod AddedWaits
 pub mod Together
 pub mod Leaving
@@ -10,5 +8,4 @@ pub mod Keeping
 pub mod Lawful
 pub mod RoundsKeep
 pub mod Longest
-pub mod NothingKept
 pub mod Feedless

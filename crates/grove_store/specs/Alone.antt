@@ -1,17 +1,13 @@
 -- Lines that are answered alone: what each request but a batch is answered, and what it leaves.
-use Rattle.std.specs.Prelude.{◌≡◌, ◌≢◌, ℕ, List, Result, Ok, Err}
+use Rattle.std.specs.Prelude.{◌≡◌, ℕ, List, Result, Ok, Err}
 use Rattle.serde_json.specs.Data.{Data}
 use Rattle.serde_json.specs.Written.{compact_text}
 use Rattle.grove_tree.specs.Trees.{Rows}
 use Rattle.grove_access.specs.declared.access.Access.{Access}
-use Rattle.grove_access.specs.Lists.{nodes_of, lengths_of}
 use Rattle.grove_plan.specs.declared.step.Step.{Step}
-use Rattle.grove_plan.specs.Plans.{IsLeast, cost}
 use Rattle.grove_proof.specs.declared.flow.FlowRow.{FlowRow}
 use Rattle.grove_proof.specs.declared.fault.ProofFault.{ProofFault}
-use Rattle.grove_proof.specs.declared.fault.ProofFault.TheVariants as proof
-use Rattle.grove_proof.specs.Flows.{IsCertificate}
-use Rattle.grove_proof.specs.Faults.{IsFault}
+use Rattle.grove_proof.specs.Checks.{ChecksAs}
 use Rattle.grove_build.specs.declared.planning.Planned.{Planned}
 use Rattle.grove_build.specs.Batches.{IsPlanned}
 use Rattle.grove_meter.specs.Waits.{reweighed}
@@ -24,12 +20,6 @@ use Rattle.grove_store.specs.StoreStates.{StoreState, changes, reweighed_store}
 -- the settled plan of the list, its cost, and any flow that certifies it
 abbrev pub TellsPlan : Rows → List Access → Data → Type 0
 TellsPlan rows list reply = (planned : Planned) × IsPlanned rows list planned × (reply ≡ planned_data rows planned.cost planned.plan planned.flow)
-
--- what a check comes to: the cost of a plan that the flow proves least, or the first fault of the plan with the flow
-abbrev pub ChecksAs : Rows → List Access → List Step → List FlowRow → Result ℕ ProofFault → Type 0
-ChecksAs rows list plan flow (Ok sum) = IsLeast rows (nodes_of list) (lengths_of list) plan
-    × IsCertificate rows (nodes_of list) (lengths_of list) flow sum × (sum ≡ cost rows (lengths_of list) plan)
-ChecksAs rows list plan flow (Err fault) = (fault ≢ proof.Memory) × IsFault rows (nodes_of list) (lengths_of list) plan flow fault
 
 abbrev pub checked_data : Result ℕ ProofFault → Data
 checked_data (Ok sum) = cost_data sum

@@ -7,13 +7,13 @@ use Rattle.grove_access.specs.declared.access.Access.{Access}
 use Rattle.grove_access.specs.Lists.{nodes_of, AreNodes}
 use Rattle.grove_core.specs.declared.job.Job.{Job}
 use Rattle.grove_core.specs.declared.event.Event.{Event}
-use Rattle.grove_core.specs.Runs.{IsRun, IsFinished, run_records, waits_of}
+use Rattle.grove_core.specs.Runs.{IsRun, IsFinished, replies_of, run_records, waits_of}
 use Rattle.grove_core.specs.Orders.{placement_order}
 use Rattle.grove_run.specs.Runs.{places_of}
 use Rattle.grove_wire.specs.Replies.{changed_data}
 use Rattle.grove_meter.specs.Waits.{reweighed}
 use Rattle.grove_store.specs.StoreStates.{StoreState, changes, reweighed_store}
-use Rattle.grove_store.specs.Rounds.{batches_in, joined, first_fits, fitting, replies_of, waits_after, RunsRound, FailsRound, round_texts}
+use Rattle.grove_store.specs.Rounds.{batches_in, joined, first_fits, fitting, waits_after, RunsRound, FailsRound, round_texts}
 
 -- the text of a reply of which something holds
 abbrev pub IsTextOf : (Data → Type 0) → List ℕ → Type 0

@@ -1,15 +1,14 @@
 -- Rounds: batches that wait together are answered as one.
-use Rattle.std.specs.Prelude.{◌≡◌, ℕ, ◌+◌, ◌-◌, ◌^◌, ◌<◌, ◌≤◌, ◌⊎◌, min, max, nat_le, codes, ℤ, List, [], ◌∷◌, length, map, take, drop, flat_map, get_or, replicate, slice_get, Option, Some, None, option_map, option_and_then, Result, Ok, if◌then◌else◌}
+use Rattle.std.specs.Prelude.{◌≡◌, ℕ, ◌+◌, ◌-◌, ◌^◌, ◌<◌, ◌≤◌, ◌⊎◌, min, max, nat_le, codes, ℤ, List, [], ◌∷◌, length, map, take, drop, flat_map, get_or, replicate, Option, Some, None, option_map, option_and_then, Result, Ok, if◌then◌else◌}
 use Rattle.serde_json.specs.Written.{compact_text}
 use Rattle.grove_base.specs.Numbers.{numbers_below}
 use Rattle.grove_tree.specs.Trees.{Rows}
 use Rattle.grove_access.specs.declared.access.Access.{Access}
 use Rattle.grove_access.specs.declared.reply.Reply.{Reply}
-use Rattle.grove_access.specs.Lists.{nodes_of, lengths_of}
-use Rattle.grove_build.specs.Settled.{IsSettled}
+use Rattle.grove_build.specs.SettledJobs.{AreSettledJobs}
 use Rattle.grove_core.specs.declared.job.Job.{Job}
 use Rattle.grove_core.specs.declared.event.Event.{Event}
-use Rattle.grove_core.specs.Runs.{IsRun, IsFinished, run_records, run_replies, waits_of}
+use Rattle.grove_core.specs.Runs.{IsRun, IsFinished, replies_of, run_records, waits_of}
 use Rattle.grove_core.specs.Orders.{placement_order}
 use Rattle.grove_run.specs.Runs.{places_of}
 use Rattle.grove_wire.specs.declared.fault.WireFault.{WireFault}
@@ -54,15 +53,6 @@ abbrev pub round_length : Rows → List (List ℕ) → ℕ
 round_length rows lines = max 1 (fitting rows 256 lines)
 
 -- ---- what a round is answered
-
--- the lists with their settled plans
-pub record AreSettledJobs (rows : Rows) (lists : List (List Access)) (jobs : List Job) : Type 0 where
-  pub over : map (λ job. job.list) jobs ≡ lists
-  pub settled : (t : ℕ) (job : Job) → slice_get jobs t ≡ Some job → IsSettled rows (nodes_of job.list) (lengths_of job.list) job.plan
-
--- the replies of each job
-abbrev pub replies_of : List Job → List ℤ → List Event → List (List Reply)
-replies_of jobs opening past = map (run_replies jobs opening past) (numbers_below (length jobs))
 
 -- the reply of each line: it has the next places and replies, as many as the line has lists
 abbrev pub round_texts : ℕ → List ℕ → List ℕ → List (List Reply) → List (List ℕ)

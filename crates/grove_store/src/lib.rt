@@ -3,7 +3,6 @@
 
 pub use laws::round_laws;
 pub use refused::NoStore;
-pub use running::{replies_of, settled_jobs};
 pub use store::Store;
 
 mod laws;

@@ -16,3 +16,5 @@ pub mod Stored
 pub mod DocumentTexts
 pub mod Sketching
 pub mod Sketches
+pub mod LeastFits
+pub mod Feedless

@@ -4,8 +4,9 @@ ghost use Rattle.grove_store.specs.Parts.{AnswersRound};
 
 use crate::Store;
 use crate::round::Round;
-use crate::running::{RoundOutcome, kept_jobs, outcome_of};
+use crate::running::{RoundOutcome, outcome_of};
 use crate::texts::{refusals, run_refusals};
+use grove_build::kept_jobs;
 use grove_run::run_legal;
 use grove_tree::{Gate, NoMemory};
 use std::alloc::Global;

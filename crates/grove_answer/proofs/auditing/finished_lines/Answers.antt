@@ -6,7 +6,7 @@ use Rattle.grove_access.specs.declared.reply.Reply.{Reply}
 use Rattle.grove_core.specs.Kept.{past_of}
 use Rattle.grove_core.specs.Runs.{deeds, run_records, run_replies}
 use Rattle.grove_core.proofs.RunSteps.{deeds_length}
-use Rattle.grove_store.specs.Rounds.{replies_of}
+use Rattle.grove_core.specs.Runs.{replies_of}
 use Rattle.grove_wire.specs.Histories.{standing_of}
 use Rattle.grove_answer.specs.Says.{TellsSome}
 use Rattle.grove_answer.specs.Outcomes.{IsMisstated}

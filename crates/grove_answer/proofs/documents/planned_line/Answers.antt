@@ -3,7 +3,7 @@ use Rattle.std.specs.Prelude.{codes, Ok, string_bytes}
 use Rattle.serde_json.specs.View.{view}
 use Rattle.grove_access.specs.Lists.{nodes_of, lengths_of}
 use Rattle.grove_plan.specs.Plans.{cost}
-use Rattle.grove_store.proofs.Fitting.{plan_fits, flow_fits}
+use Rattle.grove_wire.proofs.LeastFits.{plan_fits, flow_fits}
 use Rattle.grove_answer.specs.PlannedDocuments.{planned_document, IsTextOf}
 use Rattle.grove_answer.proofs.PlannedDocuments.{claims, planned_level}
 use Rattle.grove_answer.proofs.documents.planned_line.Goals as goal

@@ -1,6 +1,6 @@
 use Rattle.grove_access.specs.Lists.{nodes_of, lengths_of}
 use Rattle.grove_plan.specs.Plans.{cost}
-use Rattle.grove_store.proofs.Fitting.{plan_fits, flow_fits}
+use Rattle.grove_wire.proofs.LeastFits.{plan_fits, flow_fits}
 use Rattle.grove_answer.proofs.planning.plan_lines.Goals as goal
 
 pub plan_text-requires : goal.plan_text-requires

@@ -1,6 +1,6 @@
 use Rattle.std.proofs.Common.{map}
 use Rattle.grove_core.specs.declared.job.Job.{Job}
-use Rattle.grove_store.proofs.Jobs.{settled_legal}
+use Rattle.grove_build.proofs.SettledJobs.{settled_legal}
 use Rattle.grove_answer.proofs.Batches.{run_fault_fits, says_run_fault}
 use Rattle.grove_answer.proofs.running.run_jobs.Goals as goal
 

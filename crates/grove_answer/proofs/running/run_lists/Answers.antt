@@ -1,6 +1,6 @@
 use Rattle.std.proofs.Common.{arith, ◌≡◌, ◌≤◌, ◌∙◌, ap, length, map, refl, sym, subst}
 use Rattle.grove_core.specs.declared.job.Job.{Job}
-use Rattle.grove_store.specs.Rounds.{AreSettledJobs}
+use Rattle.grove_build.specs.SettledJobs.{AreSettledJobs}
 use Rattle.grove_answer.proofs.Batches.{jobs_long}
 use Rattle.grove_answer.specs.Outcomes.{IsRunBatch}
 use Rattle.grove_answer.specs.Says.{Says}

@@ -1,7 +1,7 @@
 use Rattle.std.proofs.Common.{refl}
 use Rattle.grove_access.specs.Lists.{nodes_of, lengths_of}
 use Rattle.grove_wire.specs.Replies.{planned_data}
-use Rattle.grove_store.proofs.Fitting.{plan_fits, flow_fits}
+use Rattle.grove_wire.proofs.LeastFits.{plan_fits, flow_fits}
 use Rattle.grove_wire.proofs.Floatless.{planned_has_no_float}
 use Rattle.grove_store.proofs.Telling.{text_is}
 use Rattle.grove_store.proofs.texts.plan_text.Goals as goal

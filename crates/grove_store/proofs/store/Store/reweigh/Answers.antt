@@ -4,7 +4,7 @@ use Rattle.grove_meter.specs.Waits.{reweighed}
 use Rattle.grove_build.specs.KeptPlans.{AreSettledFor}
 use Rattle.grove_store.specs.StoreStates.{StoreState}
 use Rattle.grove_store.specs.Parts.{AnswersReweigh}
-use Rattle.grove_store.proofs.NothingKept.{nothing_kept}
+use Rattle.grove_build.proofs.NothingKept.{nothing_kept}
 use Rattle.grove_store.proofs.Telling.{text_made}
 use Rattle.grove_store.proofs.Reweighing.{reweighed_is, reweigh_answers}
 use Rattle.grove_store.proofs.store.Store.reweigh.Goals as goal

@@ -7,9 +7,9 @@ use Rattle.grove_core.specs.declared.job.Job.{Job}
 use Rattle.grove_wire.specs.Names.{run_name}
 use Rattle.grove_wire.specs.Replies.{error_text}
 use Rattle.grove_store.specs.StoreStates.{StoreState}
-use Rattle.grove_store.specs.Rounds.{AreSettledJobs}
+use Rattle.grove_build.specs.SettledJobs.{AreSettledJobs}
 use Rattle.grove_store.specs.Parts.{AnswersRound}
-use Rattle.grove_store.proofs.Jobs.{settled_legal}
+use Rattle.grove_build.proofs.SettledJobs.{settled_legal}
 use Rattle.grove_store.proofs.Keeping.{left_keeps}
 use Rattle.grove_store.proofs.Leaving.{leaves_round, runs_round, fails_run, fails_full}
 use Rattle.grove_store.proofs.store.Store.run_round.Goals as goal

@@ -1,4 +1,4 @@
--- The jobs of a round: its lists with their settled plans.
+-- Jobs of lists with their settled plans.
 use Rattle.std.proofs.Common.{◌≡◌, ℕ, zero, suc, List, [], ◌∷◌, map, Some, refl, sym, ap, subst, arith}
 use Rattle.std.specs.Prelude.{zip, slice_get}
 use Rattle.std.specs.List.{AllZip}
@@ -10,7 +10,7 @@ use Rattle.grove_plan.specs.declared.step.Step.{Step}
 use Rattle.grove_build.specs.Settled.{IsSettled}
 use Rattle.grove_core.specs.declared.job.Job.{Job}
 use Rattle.grove_core.specs.Runs.{AllLegal}
-use Rattle.grove_store.specs.Rounds.{AreSettledJobs}
+use Rattle.grove_build.specs.SettledJobs.{AreSettledJobs}
 
 -- the settled plan of a list
 abbrev pub IsSettledFor : Rows → List Access → List Step → Type 0

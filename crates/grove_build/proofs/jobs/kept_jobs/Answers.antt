@@ -2,8 +2,8 @@ use Rattle.std.proofs.Common.{List, subst}
 use Rattle.std.specs.List.{AllZip}
 use Rattle.std.proofs.lemmas.Result.{IfOk-weaker}
 use Rattle.grove_access.specs.declared.access.Access.{Access}
-use Rattle.grove_store.proofs.Jobs.{IsSettledFor, settled_are}
-use Rattle.grove_store.proofs.running.kept_jobs.Goals as goal
+use Rattle.grove_build.proofs.SettledJobs.{IsSettledFor, settled_are}
+use Rattle.grove_build.proofs.jobs.kept_jobs.Goals as goal
 
 pub returns-clause-jobs : goal.returns-clause-jobs
 returns-clause-jobs g c =
