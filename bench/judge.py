@@ -73,7 +73,7 @@ def texts(document):
 
 def main():
     runs = int(sys.argv[1]) if len(sys.argv) > 1 else 5
-    subprocess.run([TOP / "grove", "--help"], check=True, stdout=subprocess.DEVNULL)
+    subprocess.run([TOP / "grove", "--proved", "--help"], check=True, stdout=subprocess.DEVNULL)
     rows = tree_rows()
     accesses, plan, cost = walk(rows)
     assert (len(rows), len(accesses), len(plan)) == (NODES, ACCESSES, 2 * NODES + ACCESSES)

@@ -77,7 +77,7 @@ def timed(command, text, runs):
 
 def main():
     runs = int(sys.argv[1]) if len(sys.argv) > 1 else 3
-    subprocess.run([TOP / "grove", "--help"], check=True, stdout=subprocess.DEVNULL)
+    subprocess.run([TOP / "grove", "--proved", "--help"], check=True, stdout=subprocess.DEVNULL)
     shapes = {"balanced, 4,095 nodes": balanced(11), "chain, depth 32": branches(1, 32),
               "64 branches, depth 2": branches(64, 2), "64 branches, depth 8": branches(64, 8),
               "64 branches, depth 32": branches(64, 32)}

@@ -258,7 +258,7 @@ def words_given():
 
 def main():
     given = words_given()
-    subprocess.run([TOP / "grove", "--help"], check=True, stdout=subprocess.DEVNULL)
+    subprocess.run([TOP / "grove", "--proved", "--help"], check=True, stdout=subprocess.DEVNULL)
     has_redis = shutil.which("redis-server") is not None
     if not has_redis:
         print("redis-server isn't on the path: no figures beside the program's")

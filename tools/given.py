@@ -1,0 +1,124 @@
+"""The words of a call, as far as an unproved run has to understand them.
+
+grove_words decides what words mean. Here stands only which word names a document, where a server is to listen, and whether
+standard input is read, and that only of words that are right: what is wrong the program refuses itself, before it reads.
+"""
+
+from __future__ import annotations
+
+import ipaddress
+import os
+from dataclasses import dataclass, field
+
+from listening import Place
+
+READING = ("judge", "check", "plan", "draw", "run", "audit")
+SERVING = ("serve", "page")
+VALUED = ("--tree", "--port", "--bind", "--address", "--workers", "--idle")
+FLAGS = ("--explain", "--document", "--text", "--busy", "--verbose")
+# What the program takes of a document: no more than a byte above the longest history.
+MOST_BYTES = 67_108_864
+# The name that a document has for the program.
+DOCUMENT = "document"
+
+
+@dataclass
+class Given:
+    """The words, with what was found in them: values by their option and plain words, each with its place."""
+
+    words: list[str]
+    command: str = "judge"
+    values: dict[str, tuple[int, str]] = field(default_factory=dict)
+    plain: list[tuple[int, str]] = field(default_factory=list)
+    is_known: bool = True
+
+    def __post_init__(self) -> None:
+        if self.words:
+            self.command = self.words[0]
+        at, takes_options = 1, True
+        while at < len(self.words):
+            word = self.words[at]
+            option, is_joined, value = word.partition("=")
+            if not takes_options or not word.startswith("-") or word == "-":
+                self.plain.append((at, word))
+            elif word == "--":
+                takes_options = False
+            elif option in VALUED and is_joined:
+                self.values[option] = at, value
+            elif option in VALUED and at + 1 < len(self.words):
+                at += 1
+                self.values[option] = at, self.words[at]
+            elif word not in FLAGS:
+                self.is_known = False
+            at += 1
+
+    def serves(self) -> bool:
+        return self.command in SERVING
+
+    def reads_input(self) -> bool:
+        return self.command in (*READING, "ask") and self.is_known and not self.plain
+
+    def document(self) -> tuple[int, str] | None:
+        """The document's name, and the place of the word that has it."""
+        if self.serves():
+            return self.values.get("--tree")
+        return self.plain[0] if self.command in READING and self.plain else None
+
+    def place(self) -> Place | None:
+        """Where a server is to listen, with port 0 for any."""
+        _, address = self.values.get("--bind", (0, "127.0.0.1"))
+        _, port = self.values.get("--port", (0, ""))
+        try:
+            return Place(ipaddress.ip_address(address), int(port)) if self.serves() else None
+        except ValueError:
+            return None
+
+
+@dataclass
+class HandedIn:
+    """The words with which the program is called, the flags that hand it the document, and the names to put back."""
+
+    words: list[str]
+    flags: list[str]
+    renamed: tuple[str, str] | None = None
+
+    def put_back(self, said: bytes) -> bytes:
+        """What the program says of a file, with the name that the caller gave it."""
+        if self.renamed:
+            for verb in ("open", "read"):
+                passed, typed = (os.fsencode(f"cannot {verb} {name}: ") for name in self.renamed)
+                said = said.replace(passed, typed, 1)
+        return said
+
+
+def hand_in(given: Given, room: str) -> HandedIn:
+    """Copies the document into the room. One that can't be opened is named by its whole path: the program can't either."""
+    named = given.document()
+    if not named or not named[1]:
+        return HandedIn(given.words, [])
+    at, name = named
+    copy, whole = os.path.join(room, DOCUMENT), os.path.join(os.getcwd(), name)
+    try:
+        with open(name, "rb", buffering=0) as source:
+            copy_part(source.fileno(), copy)
+    except OSError:
+        return HandedIn(renamed_at(given.words, at, name, whole), [], (whole, name))
+    return HandedIn(renamed_at(given.words, at, name, DOCUMENT), ["--data", f"{DOCUMENT}={copy}"])
+
+
+def renamed_at(words: list[str], at: int, name: str, wanted: str) -> list[str]:
+    """The words with another name in one of them, at its end."""
+    return [*words[:at], words[at][: len(words[at]) - len(name)] + wanted, *words[at + 1 :]]
+
+
+def copy_part(source: int, copy: str) -> int:
+    """Copies what can be read, as far as the program would read it, and tells how many bytes that were."""
+    count = 0
+    with open(copy, "wb") as target:
+        while count <= MOST_BYTES:
+            piece = os.read(source, min(1 << 20, MOST_BYTES + 1 - count))
+            if not piece:
+                break
+            target.write(piece)
+            count += len(piece)
+    return count
