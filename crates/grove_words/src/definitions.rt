@@ -8,7 +8,7 @@ use clap::{Arg, ArgAction, value_parser};
 use std::alloc::{AllocError, Global};
 
 /// The program's version.
-const VERSION: &str = "0.1.0";
+const VERSION: &str = "0.2.0";
 
 /// The one definition of the command line.
 pub fn command_line<'a>(alloc: Global) -> Result<clap::Command<'a>, AllocError>
