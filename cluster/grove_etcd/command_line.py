@@ -9,7 +9,9 @@ from .keys import Keys
 from .members import Lost, Members
 from .refusals import Refused
 
-GROVE = Path(__file__).resolve().parents[2] / "crates/grove/out/grove"
+TOP = Path(__file__).resolve().parents[2]
+# The program of the checkout; or, where tools/package has put these into lib/grove/cluster, that of the same prefix.
+GROVE = TOP / "crates/grove/out/grove" if (TOP / "crates").is_dir() else TOP.parents[1] / "bin/grove"
 
 
 def words(description):
