@@ -1,0 +1,94 @@
+"""The archive in a root that has the C library and nothing else: each command there, and the servers."""
+
+from __future__ import annotations
+
+import http.client
+import json
+import re
+import subprocess
+import sys
+from pathlib import Path
+
+from looking import COMMANDS, note_equal
+from packages import PROGRAM, TOP, Packages, Root, called
+from server import HOST, Server, free_port
+from sweeps.program import Tally
+
+# What README shows to be called, with what comes of it. `serve` and `page` go on for good, and are tried as servers.
+SHOWN = re.compile(r"^\$ \./grove (?!serve|page)(.*)\n((?:(?!\$ |```).*\n)*)", re.M)
+READERS = ["judge", "plan", "plan --document", "draw", "draw --text", "check", "run --workers 1", "audit"]
+SERVING = ["--explain", "--verbose", "--idle", "600"]
+
+
+def commands_of_readme(packages: Packages, room: Path, tally: Tally) -> None:
+    """Each command that README shows prints what README shows."""
+    root = Root(packages, room / "root")
+    shown = SHOWN.findall((TOP / "README.md").read_text(encoding="utf-8"))
+    for words, wanted in shown:
+        # Beside a refusal README may leave the hint out.
+        came = said_in(root, words.split())
+        note_equal(tally, words, came if "hint: " in wanted else came.partition("hint: ")[0], wanted)
+    unshown = set(COMMANDS) - {words.split()[0] for words, _ in shown}
+    note_equal(tally, "commands that README doesn't show so", unshown, {"serve", "page", "ask"})
+    note_equal(tally, "--version", said_in(root, ["--version"]), f"grove {packages.version}\n")
+    document = (TOP / "examples/two-leaves.json").read_text()
+    judged = "cost 3\nreplies [10,20]\nrecords [0,10,20]\n"
+    note_equal(tally, "judge < DOC", said_in(root, ["judge"], document), judged)
+    planned = said_in(root, ["plan", "--document", "examples/settings.json"])
+    note_equal(tally, "plan --document", said_in(root, ["check"], planned), "cost 16\n")
+
+
+def commands_on_examples(packages: Packages, room: Path, tally: Tally) -> None:
+    """Each command that reads a document prints there of each example what the program prints in the checkout."""
+    root = Root(packages, room / "root")
+    for file in sorted((TOP / "examples").glob("*.json")):
+        for words in READERS:
+            outside = called(packages.copy / PROGRAM, *words.split(), file)
+            inside = said_in(root, [*words.split(), f"examples/{file.name}"])
+            note_equal(tally, f"{words} {file.name}", inside, outside.stdout + outside.stderr)
+
+
+def said_in(root: Root, words: list[str], text: str | None = None) -> str:
+    """What a command prints there. Its documents are those that are installed."""
+    there = [re.sub(r"^examples/", f"{root.pages}/examples/", word) for word in words]
+    given = {"stdin": subprocess.DEVNULL} if text is None else {"stdin": None, "input": text}
+    ran = called(*root.words(*there), **given)
+    return ran.stdout + ran.stderr
+
+
+def served(packages: Packages, room: Path, tally: Tally) -> None:
+    """A server there is asked by `ask` there, and by the client of the examples."""
+    root = Root(packages, room / "root")
+    lines, replies = ((TOP / f"examples/orders.{kind}").read_text() for kind in ("lines", "replies"))
+    client = packages.prefix / "share/doc/grove/examples/client.py"
+    for asks in (lambda port: root.words("ask", "--port", port), lambda port: [sys.executable, str(client), port]):
+        with server_in(root, "serve", "orders.json") as server:
+            came = called(*asks(str(server.port)), stdin=None, input=lines)
+            note_equal(tally, "replies", (came.stdout, came.returncode), (replies, 1))
+
+
+def paged(packages: Packages, room: Path, tally: Tally) -> None:
+    """The page, the records as a document, and a line in the body of a request."""
+    root = Root(packages, room / "root")
+    page = (TOP / "crates/grove_page/page/page.html").read_text()
+    with server_in(root, "page", "two-leaves.json") as server:
+        note_equal(tally, "GET /", asked(server.port, "GET", "/") == page, True)
+        weights = asked(server.port, "POST", "/", '{"weights":null}')
+        note_equal(tally, "POST /", weights, '{"waits":[0,0,0],"weights":[5,1,1]}\n')
+        document = json.loads(asked(server.port, "GET", "/document"))
+        note_equal(tally, "GET /document", [node.get("value", 0) for node in document["nodes"]], [0, 10, 20])
+
+
+def server_in(root: Root, command: str, example: str) -> Server:
+    tree = f"{root.pages}/examples/{example}"
+    program, *words = root.words(command, "--tree", tree, "--port", str(free_port()), *SERVING)
+    return Server(program, words)
+
+
+def asked(port: int, method: str, path: str, body: str | None = None) -> str:
+    connection = http.client.HTTPConnection(HOST, port, timeout=30)
+    try:
+        connection.request(method, path, body)
+        return connection.getresponse().read().decode()
+    finally:
+        connection.close()
