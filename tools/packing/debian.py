@@ -6,6 +6,7 @@ import hashlib
 import os
 import re
 import shutil
+import struct
 import subprocess
 import tempfile
 import time
@@ -20,6 +21,8 @@ ARCHITECTURE = "amd64"
 # Which making of this version it is.
 REVISION = "1"
 PREFIX = "/usr"
+# The kind of a section of an ELF file.
+SYMBOLS = 2
 
 CONTROL = """\
 Package: grove
@@ -62,6 +65,12 @@ names their authors.
 License: the sources state none.
 """
 
+# lintian wants programs without symbols. This one isn't changed after it was proved and tried.
+OVERRIDES = """\
+# The program is, byte for byte, the one that was proved and tried.
+grove: unstripped-binary-or-object [usr/bin/grove]
+"""
+
 # Before it is removed: its services end, and what Python keeps beside its modules goes.
 BEFORE_REMOVAL = """\
 #!/bin/sh
@@ -79,6 +88,8 @@ def debian_package(source: Source, placed: list[Placed], out: Path) -> Path:
     with tempfile.TemporaryDirectory(prefix="grove-package-") as room:
         tree = Path(room, "tree")
         files = [below_usr(each) for each in placed] + documents(source)
+        if has_symbols(program_of(placed)):
+            files.append(Placed("usr/share/lintian/overrides/grove", OVERRIDES.encode()))
         install(files, tree)
         write_control(source, placed, files, tree / "DEBIAN")
         settle(tree, source.date())
@@ -114,14 +125,13 @@ def documents(source: Source) -> list[Placed]:
 
 
 def write_control(source: Source, placed: list[Placed], files: list[Placed], folder: Path) -> None:
-    (program,) = (each.content for each in placed if each.path == "bin/grove")
     kibibytes = sum((len(each.content) + 1023) // 1024 for each in files) + len(folders(files))
     control = CONTROL.format(
         version=version(source),
         architecture=ARCHITECTURE,
         author=source.author(),
         kibibytes=kibibytes,
-        libc=libc_of(program),
+        libc=libc_of(program_of(placed)),
     )
     sums = [f"{hashlib.md5(each.content).hexdigest()}  {each.path}\n" for each in files if each.target is None]
     services = " ".join(Path(each.path).name for each in placed if each.path.endswith(".service"))
@@ -138,6 +148,19 @@ def write_control(source: Source, placed: list[Placed], files: list[Placed], fol
 
 def version(source: Source) -> str:
     return f"{source.version()}-{REVISION}"
+
+
+def program_of(placed: list[Placed]) -> bytes:
+    (program,) = (each.content for each in placed if each.path == "bin/grove")
+    return program
+
+
+def has_symbols(program: bytes) -> bool:
+    """Does this ELF file have a section of symbols that nothing needs when it runs?"""
+    (offset,) = struct.unpack_from("<Q", program, 0x28)
+    size, count = struct.unpack_from("<HH", program, 0x3A)
+    kinds = [struct.unpack_from("<I", program, offset + size * at + 4)[0] for at in range(count)]
+    return SYMBOLS in kinds
 
 
 def libc_of(program: bytes) -> str:
