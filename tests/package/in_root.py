@@ -10,19 +10,23 @@ import sys
 from pathlib import Path
 
 from looking import COMMANDS, note_equal
-from packages import PROGRAM, TOP, Packages, Root, called
+from packages import PROGRAM, TOP, Packages, Root, called, libraries
 from server import HOST, Server, free_port
 from sweeps.program import Tally
 
-# What README shows to be called, with what comes of it. `serve` and `page` go on for good, and are tried as servers.
-SHOWN = re.compile(r"^\$ \./grove (?!serve|page)(.*)\n((?:(?!\$ |```).*\n)*)", re.M)
+# What README shows to be called, with what comes of it; but for servers and who asks them, which are tried as such.
+SHOWN = re.compile(r"^\$ \./grove (?!serve|page|ask)(.*)\n((?:(?!\$ |```).*\n)*)", re.M)
 READERS = ["judge", "plan", "plan --document", "draw", "draw --text", "check", "run --workers 1", "audit"]
+# The files of the C library that it may be linked with.
+C_LIBRARY = {"libc.so.6", "libm.so.6", "ld-linux-x86-64.so.2"}
 SERVING = ["--explain", "--verbose", "--idle", "600"]
 
 
 def commands_of_readme(packages: Packages, room: Path, tally: Tally) -> None:
     """Each command that README shows prints what README shows."""
     root = Root(packages, room / "root")
+    linked = {library.name for library in libraries(packages.prefix / "bin/grove")}
+    note_equal(tally, "what it is linked with beside the C library", linked - C_LIBRARY, set())
     shown = SHOWN.findall((TOP / "README.md").read_text(encoding="utf-8"))
     for words, wanted in shown:
         # Beside a refusal README may leave the hint out.
