@@ -12,6 +12,8 @@ class Tree:
             above = "" if row["parent"] in (None, 0) else self.paths[row["parent"]]
             self.paths.append(f"{above}/{row['name']}")
         self.node_of = {path: node for node, path in enumerate(self.paths)}
+        # The forced nodes of the lists that were asked for, by the paths of these.
+        self.known = {}
 
     def way_up(self, node):
         """The node and those above it, itself first."""
@@ -22,8 +24,12 @@ class Tree:
 
     def forced(self, accesses):
         """The nodes above an accessed node and at or below the lowest one that is above them all, ascending."""
-        if not accesses:
-            return []
+        paths = tuple(access[1] for access in accesses)
+        if paths not in self.known:
+            self.known[paths] = self.forced_by(accesses) if accesses else []
+        return self.known[paths]
+
+    def forced_by(self, accesses):
         ways = [self.way_up(node) for node in set(self.accessed(accesses))]
         above_all = set.intersection(*map(set, ways))
         return sorted(set.union(*map(set, ways)) - above_all | {max(above_all)})

@@ -1,4 +1,5 @@
-"""Servers with `--busy`: a connection beyond the sixteen is told so and closed, and the sixteen go on."""
+"""Servers of lines and of pages with `--busy`: a connection beyond the sixteen is told so and closed, and the sixteen
+go on."""
 
 from __future__ import annotations
 
@@ -9,8 +10,10 @@ from functools import partial
 
 from server import Serving, connected
 from store import Store
+from web import BadResponse
 
 from sweeps.connections import ADD, TREE
+from sweeps.idle import COMMANDS, reply_in, sent
 from sweeps.program import Tally, Try
 from sweeps.talks import note_replies
 
@@ -24,9 +27,11 @@ LONGEST = 8.0
 
 
 def tries(program: str, room: str) -> list[Try]:
+    others = {"more clients than there are seats": (), "the same with a time to idle": ("--idle", "60")}
     return [
-        Try("more clients than there are seats", partial(full, program, ())),
-        Try("the same with a time to idle", partial(full, program, ("--idle", "60"))),
+        Try(f"{command}, {name}", partial(full, program, command, further))
+        for command in COMMANDS
+        for name, further in others.items()
     ]
 
 
@@ -43,38 +48,44 @@ def told(port: int, text: bytes) -> bytes:
     return came
 
 
-def full(program: str, further: tuple[str, ...], tally: Tally) -> None:
+def full(program: str, command: str, further: tuple[str, ...], tally: Tally) -> None:
     store = Store(json.loads(TREE))
-    with Serving(program, TREE, further=("--busy", *further)) as server, ExitStack() as stack:
+    with Serving(program, TREE, further=("--busy", *further), command=command) as server, ExitStack() as stack:
         clients = [stack.enter_context(connected(server.port)) for _ in range(SEATS)]
-        replies = [stack.enter_context(client.makefile("rb")) for client in clients]
-        everybody(store, clients, replies, "at first", tally)
+        streams = [stack.enter_context(client.makefile("rb")) for client in clients]
+        everybody = partial(note_everybody, store, command, clients, streams)
+        everybody("at first", tally)
         for number in range(LATE):
-            came = told(server.port, b"" if number % 2 else ADD)
-            tally.note(f"late {number}", None if came == BUSY else f"it was told {came!r}")
-        everybody(store, clients, replies, "beside the late ones", tally)
-        replies.pop().close()
+            came = told(server.port, b"" if number % 2 else sent(command, ADD))
+            tally.note(f"late {number}", None if is_told(command, came) else f"it was told {came!r}")
+        everybody("beside the late ones", tally)
+        streams.pop().close()
         clients.pop().close()
-        note_replies(store, ADD, admitted(server.port), "the one in the seat that was left", tally)
-        everybody(store, clients, replies, "at the end", tally)
+        note_replies(store, ADD, admitted(command, server.port), "the one in the seat that was left", tally)
+        everybody("at the end", tally)
 
 
-def everybody(store: Store, clients: list, replies: list, where: str, tally: Tally) -> None:
+def is_told(command: str, came: bytes) -> bool:
+    """Is a client told that it is too late? (Over HTTP that is the end of what it is told.)"""
+    return came == BUSY if command == "serve" else came.endswith(BUSY)
+
+
+def note_everybody(store: Store, command: str, clients: list, streams: list, where: str, tally: Tally) -> None:
     """Each client's line is answered."""
-    for number, client in enumerate(clients):
-        client.sendall(ADD)
-        note_replies(store, ADD, replies[number].readline(), f"client {number} {where}", tally)
+    for number, (client, stream) in enumerate(zip(clients, streams)):
+        client.sendall(sent(command, ADD))
+        note_replies(store, ADD, reply_in(command, stream), f"client {number} {where}", tally)
 
 
-def admitted(port: int) -> bytes:
+def admitted(command: str, port: int) -> bytes:
     """The reply to a line, once a seat is free."""
     ends = time.monotonic() + LONGEST
     while time.monotonic() < ends:
-        with connected(port) as client, client.makefile("rb") as replies:
+        with connected(port) as client, client.makefile("rb") as stream:
             try:
-                client.sendall(ADD)
-                came = replies.readline()
-            except ConnectionError:
+                client.sendall(sent(command, ADD))
+                came = reply_in(command, stream)
+            except (ConnectionError, BadResponse):
                 continue
             if came != BUSY:
                 return came

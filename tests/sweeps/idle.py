@@ -1,39 +1,94 @@
-"""Servers with `--idle 1`: clients that say nothing, drip bytes or never read lose their seats, and nobody else does."""
+"""Servers of lines and of pages with `--idle`: clients that say nothing or take no replies lose their seats, and of
+lines those that drip bytes; nobody else does, and a line that comes in pieces, however long, is answered."""
 
 from __future__ import annotations
 
 import json
 import socket
 import time
+from concurrent.futures import ThreadPoolExecutor
+from contextlib import ExitStack
 from functools import partial
+from typing import BinaryIO
 
-from server import Serving, connected
-from store import Store
+from server import HOST, PIECE, Serving, connected
+from store import MOST_LINE, Store
+from web import post, request, response_of
 
 from sweeps.connections import ADD, TREE, WEIGHTS
 from sweeps.program import Tally, Try
 from sweeps.talks import note_replies
 
 TRIED = "connections, and lines beside them"
+COMMANDS = ("serve", "page")
 IDLE = ("--idle", "1")
+# A time to idle that no client reaches who means to go on.
+LONG_IDLE = ("--idle", "10")
 # A seat is lost after a second. A machine may stand still for a while; but more than this is too long.
 LONGEST = 8.0
 # So much sooner a connection may seem to be closed by the clock here, and no sooner.
 SOONEST = 0.9
 SEATS = 16
+# How often a byte is sent, and the time to idle.
+DRIPS = ((0.1, 1), (1.0, 3))
+# How many bytes a line has, its line feed not counted, and in how many pieces it is sent at most. The last is too long.
+SIZES = (50, 4_000, 4_096, 5_000, 10_000, 100_000, 1_000_000, MOST_LINE, MOST_LINE + 1)
+PIECES = (1, 1_000, 4_096, 16_384, MOST_LINE + 2)
+MOST_PIECES = 5_000
+# So many pieces are sent apart, so that each is read by itself.
+FEW_PIECES, APART = 12, 0.002
+# What a client asks who takes no replies, which are more bytes than the system keeps for it. (The weights are those of a
+# tree of so many nodes.)
+UNTAKEN = {"serve": 2_400 * WEIGHTS, "page": 360 * request("GET", "/")}
+NODES, LEAST_UNTAKEN = 500, 8_000_000
+# How much room the client's end of such a connection has.
+ROOM = 4096
 
 
 def tries(program: str, room: str) -> list[Try]:
-    return [
-        Try("clients that say nothing", partial(silent, program)),
-        Try("clients that drip bytes", partial(dripping, program)),
-        Try("a client that takes no replies", partial(never_reading, program)),
-        Try("clients that go on", partial(honest, program)),
-        Try("without --idle", partial(unlimited, program)),
-    ]
+    both = {
+        "clients that say nothing": silent,
+        "clients that take no replies": taking_nothing,
+        "clients that go on": honest,
+        "long lines in pieces": in_pieces,
+        "without --idle": unlimited,
+    }
+    pairs = [(command, name) for command in COMMANDS for name in both]
+    parts = [Try(f"{command}, {name}", partial(both[name], program, command)) for command, name in pairs]
+    return parts + [Try(f"serve, a byte each {pace:g} s", partial(dripping, program, pace, idle)) for pace, idle in DRIPS]
 
 
-def closes_within(connection, seconds: float) -> bool:
+# ---- lines, by each of the commands
+
+
+def serving(program: str, command: str, idle: tuple[str, ...] = IDLE, document: bytes = TREE) -> Serving:
+    return Serving(program, document, further=idle, command=command)
+
+
+def sent(command: str, line: bytes) -> bytes:
+    """What a client sends for a line."""
+    return line if command == "serve" else post(line)
+
+
+def reply_in(command: str, stream: BinaryIO) -> bytes:
+    """The reply that comes back; nothing where the connection ends."""
+    if command == "serve":
+        return stream.readline()
+    response = response_of(stream, "POST")
+    return response.body if response else b""
+
+
+def note_asked(store: Store, command: str, port: int, where: str, tally: Tally) -> None:
+    """A new client's line is answered, and that in time."""
+    started = time.monotonic()
+    with connected(port) as client, client.makefile("rb") as stream:
+        client.sendall(sent(command, ADD))
+        note_replies(store, ADD, reply_in(command, stream), where, tally)
+    after = time.monotonic() - started
+    tally.blame(f"{where}'s wait", None if after < LONGEST else f"it waited for {after:.1f} s")
+
+
+def closes_within(connection: socket.socket, seconds: float) -> bool:
     """Does the other side close, with nothing said, before so long?"""
     connection.settimeout(seconds)
     try:
@@ -44,88 +99,167 @@ def closes_within(connection, seconds: float) -> bool:
         return True
 
 
-def note_ended(connection, started: float, where: str, tally: Tally) -> None:
-    has_closed = closes_within(connection, max(0.1, started + LONGEST - time.monotonic()))
-    after = time.monotonic() - started
+def note_after(has_closed: bool, after: float, soonest: float, where: str, tally: Tally) -> None:
     fault = None if has_closed else f"it has its seat after {after:.1f} s"
-    if has_closed and after < SOONEST:
+    if has_closed and after < soonest:
         fault = f"it lost its seat after {after:.2f} s"
     tally.note(where, fault)
 
 
-def silent(program: str, tally: Tally) -> None:
+# ---- who loses a seat
+
+
+def silent(program: str, command: str, tally: Tally) -> None:
     """Sixteen take all seats and say nothing, or a piece of a line; the 17th is served once they have lost them."""
     store = Store(json.loads(TREE))
-    with Serving(program, TREE, further=IDLE) as server:
+    with serving(program, command) as server, ExitStack() as room:
         started = time.monotonic()
-        clients = [connected(server.port) for _ in range(SEATS)]
+        clients = [room.enter_context(connected(server.port)) for _ in range(SEATS)]
         for client in clients[::2]:
-            client.sendall(ADD[:7])
-        note_replies(store, WEIGHTS, server.talk(WEIGHTS), "the 17th", tally)
-        tally.note("the 17th's wait", None if time.monotonic() - started < LONGEST else "it waited for too long")
+            client.sendall(sent(command, ADD)[:7])
+        note_asked(store, command, server.port, "the 17th", tally)
         for number, client in enumerate(clients):
-            note_ended(client, started, f"client {number}", tally)
-            client.close()
+            has_closed = closes_within(client, max(0.1, started + LONGEST - time.monotonic()))
+            note_after(has_closed, time.monotonic() - started, SOONEST, f"client {number}", tally)
 
 
-def dripping(program: str, tally: Tally) -> None:
-    """A client sends a byte each tenth of a second, and never a line feed."""
-    with Serving(program, TREE, further=IDLE) as server, connected(server.port) as client:
-        started = time.monotonic()
-        client.settimeout(0.1)
-        after = LONGEST
-        while time.monotonic() - started < LONGEST:
-            try:
-                client.sendall(b" ")
-                if client.recv(1) == b"":
-                    after = time.monotonic() - started
-                    break
-            except socket.timeout:
-                continue
-            except ConnectionError:
-                after = time.monotonic() - started
-                break
-        tally.note("bytes", None if SOONEST <= after < LONGEST else f"it lost its seat after {after:.2f} s")
-
-
-def never_reading(program: str, tally: Tally) -> None:
-    """A client asks until nobody takes any more, and reads nothing; it is reset, and others are served all the time."""
+def dripping(program: str, pace: float, idle: int, tally: Tally) -> None:
+    """Sixteen take all seats and send a byte so often, and never a line feed; the 17th is served."""
     store = Store(json.loads(TREE))
-    with Serving(program, TREE, further=IDLE) as server, connected(server.port) as client:
-        client.settimeout(LONGEST)
-        is_reset = False
-        ends = time.monotonic() + 2 * LONGEST
-        while not is_reset and time.monotonic() < ends:
-            try:
-                client.sendall(1000 * WEIGHTS)
-            except socket.timeout:
-                break
-            except ConnectionError:
-                is_reset = True
-        tally.note("the flood", None if is_reset else "it has its seat")
-        note_replies(store, WEIGHTS, server.talk(WEIGHTS), "the next", tally)
+    with ThreadPoolExecutor(SEATS) as pool, ExitStack() as room:
+        server = room.enter_context(serving(program, "serve", ("--idle", str(idle))))
+        clients = [room.enter_context(connected(server.port)) for _ in range(SEATS)]
+        drips = [pool.submit(drip, client, pace) for client in clients]
+        note_asked(store, "serve", server.port, "the 17th", tally)
+        for number, dripped in enumerate(drips):
+            has_closed, after = dripped.result()
+            note_after(has_closed, after, idle - 0.1, f"client {number}", tally)
 
 
-def honest(program: str, tally: Tally) -> None:
-    """Clients that send a line each half second stay for as long as they like, beside fifteen that say nothing."""
+def drip(client: socket.socket, pace: float) -> tuple[bool, float]:
+    """Sends a byte so often. Has the other side closed before long, and after how long?"""
+    started = time.monotonic()
+    for _ in range(round(LONGEST / pace)):
+        try:
+            client.sendall(b" ")
+            has_closed = closes_within(client, pace)
+        except ConnectionError:
+            has_closed = True
+        if has_closed:
+            return True, time.monotonic() - started
+    return False, time.monotonic() - started
+
+
+def taking_nothing(program: str, command: str, tally: Tally) -> None:
+    """Sixteen take all seats, ask for megabytes and read nothing; the 17th is served. When they read at last, they have
+    a part of what they asked, and then the end."""
+    tree = large_tree()
+    store = Store(json.loads(tree))
+    with serving(program, command, document=tree) as server, ExitStack() as room:
+        clients = [room.enter_context(narrow(server.port)) for _ in range(SEATS)]
+        for client in clients:
+            client.sendall(UNTAKEN[command])
+        ends = time.monotonic() + LONGEST
+        note_asked(store, command, server.port, "the 17th", tally)
+        time.sleep(max(0.0, ends - time.monotonic()))
+        for number, client in enumerate(clients):
+            came = taken_before(client, ends + LONGEST)
+            fault = "it has its seat" if came is None else f"it has {came} bytes that it took too late"
+            tally.note(f"client {number}", None if came is not None and came < LEAST_UNTAKEN else fault)
+
+
+def large_tree() -> bytes:
+    """A tree whose weights are some thousand bytes."""
+    rows = [{"parent": None, "name": "", "weight": 5}, {"parent": 0, "name": "a", "weight": 1}]
+    rows += [{"parent": 0, "name": f"n{number}", "weight": 1000} for number in range(2, NODES)]
+    return json.dumps({"nodes": rows}).encode()
+
+
+def narrow(port: int) -> socket.socket:
+    """A connection whose ends keep little for each other."""
+    client = socket.socket()
+    client.setsockopt(socket.SOL_SOCKET, socket.SO_RCVBUF, ROOM)
+    client.setsockopt(socket.IPPROTO_TCP, socket.TCP_MAXSEG, 1000)
+    client.settimeout(LONGEST)
+    client.connect((HOST, port))
+    return client
+
+
+def taken_before(client: socket.socket, ends: float) -> int | None:
+    """How many bytes come up to the end; nothing where there is none in time."""
+    count = 0
+    while time.monotonic() < ends:
+        client.settimeout(max(0.01, ends - time.monotonic()))
+        try:
+            piece = client.recv(PIECE)
+        except socket.timeout:
+            return None
+        except ConnectionError:
+            return count
+        if not piece:
+            return count
+        count += len(piece)
+    return None
+
+
+# ---- who keeps one
+
+
+def honest(program: str, command: str, tally: Tally) -> None:
+    """Clients that send a line each half second, in two pieces, stay for as long as they like, beside fifteen that say
+    nothing."""
     store = Store(json.loads(TREE))
-    with Serving(program, TREE, further=IDLE) as server, connected(server.port) as client:
-        others = [connected(server.port) for _ in range(SEATS - 1)]
-        with client.makefile("rb") as replies:
-            for number in range(6):
-                time.sleep(0.5)
-                client.sendall(ADD)
-                note_replies(store, ADD, replies.readline(), f"line {number}", tally)
-        for other in others:
-            other.close()
+    with serving(program, command) as server, ExitStack() as room:
+        client = room.enter_context(connected(server.port))
+        stream = room.enter_context(client.makefile("rb"))
+        for _ in range(SEATS - 1):
+            room.enter_context(connected(server.port))
+        for number in range(6):
+            for half in halves(sent(command, ADD)):
+                time.sleep(0.25)
+                client.sendall(half)
+            note_replies(store, ADD, reply_in(command, stream), f"line {number}", tally)
 
 
-def unlimited(program: str, tally: Tally) -> None:
+def halves(text: bytes) -> tuple[bytes, bytes]:
+    return text[: len(text) // 2], text[len(text) // 2 :]
+
+
+def in_pieces(program: str, command: str, tally: Tally) -> None:
+    """Lines of every size in pieces of every size, each answered before the next one, and all once more at once."""
+    store = Store(json.loads(TREE))
+    # (of blanks before and behind what is asked)
+    lines = [(ADD[:-1].rjust(size) if at % 2 else ADD[:-1].ljust(size)) + b"\n" for at, size in enumerate(SIZES)]
+    with serving(program, command, LONG_IDLE) as server, ExitStack() as room:
+        client = room.enter_context(connected(server.port))
+        stream = room.enter_context(client.makefile("rb"))
+        for line in lines:
+            for piece in PIECES:
+                text = sent(command, line)
+                if len(text) <= MOST_PIECES * piece:
+                    send_apart(client, text, piece)
+                    where = f"{len(line)} bytes in pieces of {piece}"
+                    note_replies(store, line, reply_in(command, stream), where, tally)
+        with ThreadPoolExecutor(1) as pool:
+            sender = pool.submit(client.sendall, b"".join(sent(command, line) for line in lines))
+            for line in lines:
+                note_replies(store, line, reply_in(command, stream), f"{len(line)} bytes of all at once", tally)
+            sender.result()
+
+
+def send_apart(client: socket.socket, text: bytes, piece: int) -> None:
+    """Sends the text in pieces; few of them come one by one."""
+    for at in range(0, len(text), piece):
+        client.sendall(text[at : at + piece])
+        if 0 < len(text) <= FEW_PIECES * piece:
+            time.sleep(APART)
+
+
+def unlimited(program: str, command: str, tally: Tally) -> None:
     """Where nothing is said of idling, nobody loses a seat."""
     store = Store(json.loads(TREE))
-    with Serving(program, TREE) as server, connected(server.port) as client:
+    with serving(program, command, ()) as server, connected(server.port) as client, client.makefile("rb") as stream:
         tally.note("two seconds", "it was closed" if closes_within(client, 2.0) else None)
         client.settimeout(LONGEST)
-        client.sendall(ADD)
-        with client.makefile("rb") as replies:
-            note_replies(store, ADD, replies.readline(), "then", tally)
+        client.sendall(sent(command, ADD))
+        note_replies(store, ADD, reply_in(command, stream), "then", tally)

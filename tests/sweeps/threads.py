@@ -1,0 +1,243 @@
+"""Batches of 2,048 steps and more, which threads do, and whose lists contend for nodes: by `run`, by lines of one
+session, and by rounds that sixteen clients share. Each answer is compared with the lists done one after the other in the
+order that it tells. The threads that the program starts are counted: for these batches, for shorter ones, and for new
+weights.
+
+A run that doesn't answer within a minute, or a server within half of one, hangs, and ends its part.
+"""
+
+from __future__ import annotations
+
+import contextlib
+import json
+import os
+import subprocess
+from concurrent.futures import ThreadPoolExecutor
+from dataclasses import dataclass
+from functools import partial
+from pathlib import Path
+from random import Random
+from typing import Callable, Iterator
+
+from batches import MOST_WAITS, SHAPES, WORTH_A_THREAD, deep, fault_of_run, fault_of_waits
+from batches import most_waits, of_steps, steps_of
+from history import fault_of_history
+from server import Serving, talk
+from store import compact
+from tree import Tree
+
+from sweeps.program import Enough, Tally, Try, run, short
+
+TRIED = "batches and new weights by some number of workers, with their threads counted"
+WORKERS = (2, 3, 4, 16, 1)
+# How many batches of a shape each number of workers runs, and how many times a client sends the same one: alone, and
+# among others.
+BATCHES, LINES, SHARED = 2, 8, 3
+CLIENTS, SHARES = 16, 8
+WEIGHTS, REWEIGH = b'{"weights":null}\n', b'{"reweigh":null}\n'
+ROOT = {"parent": None, "name": "", "weight": 1}
+STAR = {"nodes": [ROOT] + [{"parent": 0, "name": f"n{number}", "weight": 1} for number in range(16)]}
+
+
+def tries(program: str, room: str) -> list[Try]:
+    library = library_in(room)
+    ways = {"run": run_batches, "lines": answer_lines, "rounds": share_rounds}
+    pairs = [(shape, way) for way in ways for shape in SHAPES]
+    parts = [Try(f"{shape}, by {way}", partial(ways[way], program, library, shape)) for shape, way in pairs]
+    parts.append(Try("too few steps for a thread", partial(run_alone, program, library)))
+    return parts + [Try(f"reweigh by {workers}", partial(reweigh, program, library, workers)) for workers in WORKERS]
+
+
+def library_in(room: str) -> str:
+    """Compiles what counts threads, to be preloaded."""
+    library = f"{room}/count_threads.so"
+    source = Path(__file__).with_name("count_threads.c")
+    words = ["cc", "-O1", "-shared", "-fPIC", "-o", library, source, "-ldl"]
+    subprocess.run(words, check=True, stdin=subprocess.DEVNULL)
+    return library
+
+
+def batch_of(shape: str, seed: object) -> dict:
+    document = SHAPES[shape](Random(f"threads {shape} {seed}"))
+    assert is_worth_a_thread(Tree(document["nodes"]), document["lists"])
+    return document
+
+
+def is_worth_a_thread(tree: Tree, lists: list) -> bool:
+    return steps_of(tree, lists) >= WORTH_A_THREAD
+
+
+# ---- by `run`
+
+
+def run_batches(program: str, library: str, shape: str, tally: Tally) -> None:
+    for workers in WORKERS:
+        for number in range(BATCHES):
+            document = batch_of(shape, f"{workers} {number}")
+            run_one(program, library, workers, document, batch_threads(workers), f"batch {number}", tally)
+
+
+def run_one(program: str, library: str, workers: int, document: dict, started: range, where: str, tally: Tally) -> None:
+    with counting(library) as (how, told):
+        ran = run(program, "run", "--workers", str(workers), text=json.dumps(document).encode(), **how)
+        where = f"{where} by {workers}"
+        is_alone = workers == 1 or not is_worth_a_thread(Tree(document["nodes"]), document["lists"])
+        fault = None if ran.status == 0 else f"came {ran}"
+        fault = fault or fault_of_threads(told(), 0, workers - 1, started)
+        tally.note(where, fault or fault_of_run(document, ran.out, is_alone))
+    if ran.status is None:
+        raise Enough
+
+
+def run_alone(program: str, library: str, tally: Tally) -> None:
+    """What is too little for a thread is done by the caller of the run; threads plan, at most one for each further list."""
+    batches = [(count, deep(Random(f"alone {count}"), count)) for count in (1, 2, 3)]
+    for workers in WORKERS:
+        for lists, document in batches:
+            further = min(workers, lists) - 1
+            run_one(program, library, workers, document, range(further, further + 1), f"{lists} lists", tally)
+        below, above = of_steps(WORTH_A_THREAD - 1), of_steps(WORTH_A_THREAD)
+        run_one(program, library, workers, below, range(workers - 1, workers), "a step less than a thread is worth", tally)
+        run_one(program, library, workers, above, batch_threads(workers), "as many steps as a thread is worth", tally)
+
+
+# ---- by a server
+
+
+@dataclass(frozen=True)
+class Served:
+    """The batches that clients sent, with what they were replied, the waits of each node, and what was told of threads."""
+
+    batches: list[tuple[list, dict]]
+    waits: list[int]
+    told: bytes
+
+
+def note_contention(waits: int, tally: Tally) -> None:
+    """The batches of a part are no good for what they are to show, where nobody waits in any of them."""
+    tally.blame("all batches", None if waits else "nobody waited for a node")
+
+
+def answer_lines(program: str, library: str, shape: str, tally: Tally) -> None:
+    """One session sends a batch some times. Its lists are planned once, and run each time."""
+    waits = 0
+    for workers in WORKERS:
+        document = batch_of(shape, workers)
+        waits += note_clients(program, library, workers, document, [[document["lists"]] * LINES], tally)
+    note_contention(waits, tally)
+
+
+def share_rounds(program: str, library: str, shape: str, tally: Tally) -> None:
+    """Sixteen clients send an eighth of the lists each, some times. Who waits while a round runs shares the next one."""
+    waits = 0
+    for workers in WORKERS:
+        document = batch_of(shape, workers)
+        asked = [[document["lists"][number % SHARES :: SHARES]] * SHARED for number in range(CLIENTS)]
+        waits += note_clients(program, library, workers, document, asked, tally)
+    note_contention(waits, tally)
+
+
+def note_clients(program: str, library: str, workers: int, document: dict, asked: list, tally: Tally) -> int:
+    """Compares what the clients of a server are replied, and gives how often anybody waited. Each round of many steps is
+    run by one thread at least beside its caller; what was planned once is kept."""
+    served = serve(program, library, workers, document, asked, tally)
+    tree, rounds = Tree(document["nodes"]), rounds_of(served.batches)
+    large = [lists for lists in rounds if is_worth_a_thread(tree, lists)]
+    most = most_waits(tree, large if workers > 1 else [])
+    further = workers - 1
+    started = range(further + len(large) if further else 0, 2 * further * len(rounds) + 1)
+    tally.tried += len(served.batches)
+    faults = [
+        fault_of_history(document, served.batches),
+        fault_of_waits(served.waits, [min(MOST_WAITS, waits) for waits in most]),
+        fault_of_threads(served.told, len(asked), further, started),
+        None if large else f"none of {len(rounds)} rounds has steps enough for a thread",
+        "no two lines share a round" if len(asked) > 1 and len(rounds) == len(served.batches) else None,
+    ]
+    for fault in faults:
+        tally.blame(f"by {workers}", fault)
+    return sum(served.waits)
+
+
+def serve(program: str, library: str, workers: int, document: dict, asked: list, tally: Tally) -> Served:
+    """Each client sends its batches at once, and asks for the waits behind them; those that come last are the most."""
+    text = json.dumps({"nodes": document["nodes"]}).encode()
+    with counting(library) as (how, told):
+        with Serving(program, text, workers, **how) as server, ThreadPoolExecutor(len(asked)) as pool:
+            came = list(pool.map(partial(ask, server.port), asked))
+        threads = told()
+    for fault in filter(None, map(fault_of_form, asked, came)):
+        tally.note(f"by {workers}", fault)
+        raise Enough
+    batches = [pair for lists, replies in zip(asked, came) for pair in zip(lists, replies)]
+    return Served(batches, max((replies[-1]["waits"] for replies in came), key=sum), threads)
+
+
+def ask(port: int, batches: list) -> list[dict]:
+    text = b"".join(compact({"batch": lists}) + b"\n" for lists in batches)
+    return [json.loads(reply) for reply in talk(port, text + WEIGHTS).splitlines()]
+
+
+def fault_of_form(batches: list, replies: list[dict]) -> str | None:
+    """What is wrong with the replies to a client, if they aren't those to its batches and to what it asked then."""
+    wanted = [{"places", "replies", "round"} for _ in batches] + [{"waits", "weights"}]
+    return None if [reply.keys() for reply in replies] == wanted else f"came {short(compact(replies))}"
+
+
+def rounds_of(batches: list[tuple]) -> list[list]:
+    """The lists of each round."""
+    rounds: dict[int, list] = {}
+    for lists, found in batches:
+        rounds.setdefault(found["round"], []).extend(lists)
+    return list(rounds.values())
+
+
+# ---- new weights
+
+
+def reweigh(program: str, library: str, workers: int, tally: Tally) -> None:
+    """The root has 16 children, so each further worker is a thread of its own."""
+    with counting(library) as (how, told):
+        with Serving(program, json.dumps(STAR).encode(), workers, **how) as server:
+            reply = server.talk(REWEIGH)
+        well = reply == b'{"changed":0}\n'
+        fault = fault_of_threads(told(), 1, workers - 1, range(workers - 1, workers))
+        tally.note("reweigh", fault if well else f"came {short(reply)}")
+
+
+# ---- threads
+
+
+def batch_threads(workers: int) -> range:
+    """Lists are planned by so many, the caller among them, and then run by two of them at least. Two halves are
+    planned at once, then halves of these, so that as many threads are started as there are further workers."""
+    return range(workers if workers > 1 else 0, 2 * (workers - 1) + 1)
+
+
+def fault_of_threads(told: bytes, others: int, further: int, started: range) -> str | None:
+    """Beside the first thread and so many others there are never more than the further workers; so many are started."""
+    here = [told[: at + 1].count(b"+") - told[: at + 1].count(b"-") for at in range(len(told))]
+    most, count = max(here, default=0), told.count(b"+") - others
+    if most > further + others:
+        return f"{most} threads at once beside the first"
+    return None if count in started else f"{count} threads were started"
+
+
+@contextlib.contextmanager
+def counting(library: str) -> Iterator[tuple[dict, Callable[[], bytes]]]:
+    """How to start a program whose threads are counted, and a call that gives what was told of them so far."""
+    ends, tell = os.pipe()
+    surroundings = {**os.environ, "LD_PRELOAD": library, "THREADS_TELL": str(tell)}
+    try:
+        os.set_blocking(ends, False)
+        yield {"env": surroundings, "pass_fds": (tell,)}, partial(read_all, ends)
+    finally:
+        os.close(ends)
+        os.close(tell)
+
+
+def read_all(ends: int) -> bytes:
+    try:
+        return os.read(ends, 1 << 16)
+    except BlockingIOError:
+        return b""
