@@ -8,6 +8,7 @@ mod bells;
 #[cfg(test)]
 mod carries;
 #[cfg(test)]
+#[cfg(test)]
 mod crowd;
 #[cfg(test)]
 mod cues;
@@ -45,6 +46,8 @@ mod runs;
 mod scripts;
 #[cfg(test)]
 mod sessions;
+#[cfg(test)]
+mod sleepers;
 #[cfg(test)]
 mod spans;
 #[cfg(test)]
