@@ -14,7 +14,7 @@ use Rattle.grove_wire.specs.Outcomes.{◌>>=◌, or_fault, Gives}
 use Rattle.grove_wire.specs.Places.{whole_of}
 use Rattle.grove_wire.specs.Reading.{value_of, object_of, version_in, versioned, document_within, document_of, history_of}
 use Rattle.grove_words.specs.declared.order.Command.{Command}
-use Rattle.grove_words.specs.declared.order.Command.TheVariants.{Judge, Check, Plan, Draw, Run, Audit, Serve, Page, Ask}
+use Rattle.grove_words.specs.declared.order.Command.TheVariants.{Judge, Check, Plan, Draw, Run, Audit, Serve, Page}
 use Rattle.grove.specs.Outcomes.{document_for}
 
 past_version : (x d : Data) (version : Result Version WireFault) → (version >>= λ v. Ok x) ≡ Ok d → x ≡ d
@@ -46,13 +46,12 @@ pub shallow_for : (command : Command) (bytes : List ℕ) (d : Data) → document
 unfolding document_of history_of
 shallow_for Judge bytes d is = level_within 4194304 bytes d is
 shallow_for Check bytes d is = level_within 4194304 bytes d is
-shallow_for Plan bytes d is = level_within 4194304 bytes d is
-shallow_for Draw bytes d is = level_within 4194304 bytes d is
-shallow_for Run bytes d is = level_within 4194304 bytes d is
+shallow_for (Plan in_document) bytes d is = level_within 4194304 bytes d is
+shallow_for (Draw form) bytes d is = level_within 4194304 bytes d is
+shallow_for (Run workers) bytes d is = level_within 4194304 bytes d is
 shallow_for Audit bytes d is = level_within 67108864 bytes d is
-shallow_for Serve bytes d is = level_within 4194304 bytes d is
-shallow_for Page bytes d is = level_within 4194304 bytes d is
-shallow_for Ask bytes d is = level_within 4194304 bytes d is
+shallow_for (Serve serving) bytes d is = level_within 4194304 bytes d is
+shallow_for (Page serving) bytes d is = level_within 4194304 bytes d is
 
 -- what a reader gives of them
 pub shallow_document : {T : Type 0} (seen : T → Data) (bytes : List ℕ) (result : Result T WireFault) → Gives seen result (document_of bytes)

@@ -1,5 +1,4 @@
 pub mod Orders
 pub mod Printing
 pub mod Saying
-pub mod Sharing
 pub mod Levels

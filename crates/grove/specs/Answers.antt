@@ -1,88 +1,147 @@
--- For the proofs alone: the answers that are made of what may be said.
-use Rattle.std.specs.Prelude.{◌≡◌, ◌≢◌, ℕ, List, [], string_bytes, IsOkAnd}
+-- For the proofs alone: the answers that are made of what may be said, and what is printed of them.
+use Rattle.std.specs.Prelude.{◌≡◌, ◌≢◌, ◌≤◌, ◌⊎◌, ℕ, Bool, true, false, List, take, Option, None, Some, IfSome, Result, Ok, Err, string_bytes, IsOkAnd}
+use Rattle.std.specs.Io.KnownBytes.{Appends, Keeps}
 use Rattle.serde_json.specs.Data.{Data}
 use Rattle.grove_session.specs.declared.fault.ReadFault.{ReadFault}
 use Rattle.grove_session.specs.declared.fault.ReadFault.TheVariants as read
 use Rattle.grove_store.specs.StoreStates.{StoreState, opened}
+use Rattle.grove_wire.specs.declared.fault.WireFault.{WireFault}
 use Rattle.grove_wire.specs.Reading.{tree_in}
+use Rattle.grove_words.specs.CommandLines.{has_place, serves}
+use Rattle.grove_words.specs.Orders.{name_in, verb_for}
+use Rattle.grove_words.specs.declared.no_order.NoOrder.{NoOrder}
+use Rattle.grove_words.specs.declared.no_order.NoOrder.TheVariants as no
 use Rattle.grove_words.specs.declared.order.Command.{Command}
+use Rattle.grove_words.specs.declared.order.Command.TheVariants.{Audit, Serve, Page}
+use Rattle.grove_words.specs.declared.order.Order.{Order}
+use Rattle.grove_words.specs.declared.order.Order.TheVariants.{Do, Ask}
 use Rattle.grove_words.specs.declared.order.Place.{Place}
-use Rattle.grove_words.specs.declared.order.Command.TheVariants.{Audit}
-use Rattle.grove_answer.specs.Outcomes.{Outcome}
+use Rattle.grove_words.specs.declared.order.Serving.{Serving}
+use Rattle.grove_answer.specs.Outcomes.{Outcome, ThenSays}
 use Rattle.grove.specs.declared.answer.Answer.{Answer}
-use Rattle.grove.specs.declared.answer.Answer.TheVariants.{Done, Refused, Usage, Listen}
+use Rattle.grove.specs.declared.answer.Answer.TheVariants.{Done, Refused, Listen}
 use Rattle.grove.specs.declared.answer.Stop.{Stop}
 use Rattle.grove.specs.declared.answer.Stop.TheVariants as stop
-use Rattle.grove.specs.Endings.{refusal_line, NamesPlace}
-use Rattle.grove.specs.Outcomes.{document_for, outcome_status, outcome_text}
-
--- the status that an answer has, once it is printed
-abbrev pub status_of : Answer → ℕ
-status_of (Done text) = 0
-status_of (Refused text) = 1
-status_of (Usage text) = 2
-status_of (Listen line service) = 0
-
--- what an answer puts on standard output, and on standard error
-abbrev pub printed : Answer → List ℕ
-printed (Done text) = string_bytes text
-printed (Refused text) = string_bytes text
-printed (Usage text) = []
-printed (Listen line service) = string_bytes line
-
-abbrev pub complained : Answer → List ℕ
-complained (Usage text) = string_bytes text
-complained _ = []
-
--- an answer that refuses does so by the line of a refusal
-abbrev pub IsRefusalLine : Answer → Type 0
-IsRefusalLine (Refused text) = (fault : List ℕ) × (string_bytes text ≡ refusal_line fault)
-IsRefusalLine _ = Unit {0}
-
--- an answer is no refusal and has a text
-abbrev pub HasText : Answer → Type 0
-HasText (Done text) = string_bytes text ≢ []
-HasText (Refused text) = ⊥
-HasText (Usage text) = string_bytes text ≢ []
-HasText (Listen line service) = string_bytes line ≢ []
-
--- an answer says that a port is listened on
-abbrev pub IsListen : Answer → Type 0
-IsListen (Listen line service) = Unit {0}
-IsListen _ = ⊥
-
--- an answer that says so names such a place
-abbrev pub Listens : (Place → Type 0) → Answer → Type 0
-Listens IsAsked (Listen line service) = (place : Place) × IsAsked place × NamesPlace place (string_bytes line)
-Listens IsAsked _ = Unit {0}
-
--- an answer that says so serves such a store
-abbrev pub ServesStore : (StoreState → Type 0) → Answer → Type 0
-ServesStore IsStore (Listen line service) = IsStore service.store
-ServesStore IsStore _ = Unit {0}
-
--- the store of a document's tree and records, with so many workers, which has answered nothing yet
-abbrev pub IsOpenedFrom : Data → ℕ → StoreState → Type 0
-IsOpenedFrom document workers store = IsOkAnd (tree_in document) (λ stored. store ≡ opened stored.0 stored.1 workers)
-
--- the same of the bytes that a command is for
-abbrev pub IsOpenedBy : Command → List ℕ → ℕ → StoreState → Type 0
-IsOpenedBy command bytes workers store = IsOkAnd (document_for command bytes) (λ document. IsOpenedFrom document workers store)
+use Rattle.grove.specs.Endings.{refusal_line, stop_line, Blames, MayHint, NamesPlace, SaysSomething}
+use Rattle.grove.specs.Outcomes.{document_for, outcome_status, outcome_text, IsOutcome, MaySay}
+use Rattle.grove.specs.Runs.{Streams}
 
 -- why a document isn't read is why the command stops
 abbrev pub stop_of : ReadFault → Stop
-stop_of read.Device = stop.Device
+stop_of read.Device = stop.Device None
 stop_of read.Memory = stop.Memory
-
--- an answer is that of an outcome
-abbrev pub IsAnswerTo : Answer → Outcome → Type 0
-IsAnswerTo answer outcome = (status_of answer ≡ outcome_status outcome) × (printed answer ≡ outcome_text outcome)
-
--- an answer is that of an outcome that may be said
-abbrev pub AnswersBy : (Outcome → Type 0) → Answer → Type 0
-AnswersBy MaySay answer = (outcome : Outcome) × MaySay outcome × IsAnswerTo answer outcome
 
 -- how many bytes a command's document has at most
 abbrev pub most_bytes : Command → ℕ
 most_bytes Audit = 67108864
 most_bytes _ = 4194304
+
+-- how a command serves, if it does
+abbrev pub serving_of : Command → Option Serving
+serving_of (Serve serving) = Some serving
+serving_of (Page serving) = Some serving
+serving_of _ = None
+
+-- the store of a document's tree and records, with so many workers, which has answered nothing yet
+abbrev pub IsOpenedFrom : Data → ℕ → StoreState → Type 0
+IsOpenedFrom document workers store = IsOkAnd (tree_in document) (λ stored. store ≡ opened stored.0 stored.1 workers)
+
+-- a command may give this answer to what its document is read as
+abbrev pub IsAnswerTo : Command → Result Data WireFault → Answer → Type 0
+IsAnswerTo command found (Done lines) = (serves (verb_for command) ≡ false) × ThenSays found (MaySay command) (Ok (string_bytes lines))
+IsAnswerTo command found (Refused line why) = (fault : List ℕ) × ThenSays found (MaySay command) (Err fault) × (string_bytes line ≡ refusal_line fault)
+IsAnswerTo command found (Listen line service) = (serving : Serving) × (serving_of command ≡ Some serving)
+    × ThenSays found (MaySay command) (Ok (string_bytes line)) × NamesPlace serving.place (string_bytes line)
+    × IsOkAnd found (λ document. IsOpenedFrom document serving.workers.number service.store)
+
+-- ---- what is printed of it
+
+abbrev pub printed : Answer → List ℕ
+printed (Done lines) = string_bytes lines
+printed (Refused line why) = string_bytes line
+printed (Listen line service) = string_bytes line
+
+-- the status of an answer, once it is printed; while a port is listened on, there is none
+abbrev pub HasStatus : Answer → ℕ → Type 0
+HasStatus (Done lines) status = status ≡ 0
+HasStatus (Refused line why) status = status ≡ 1
+HasStatus (Listen line service) status = ⊥
+
+abbrev pub IsListen : Answer → Type 0
+IsListen (Listen line service) = Unit {0}
+IsListen _ = ⊥
+
+-- it is printed in part, and standard output fails; or a port was listened on
+abbrev pub IsCutOff : Answer → Bool → Option (List ℕ) → Option (List ℕ) → Type 0
+IsCutOff answer fails old new = ((fails ≡ true) × (count : ℕ) × Appends old new (take count (printed answer)))
+    ⊎ (IsListen answer × Appends old new (printed answer))
+
+-- a device stops the program
+abbrev pub IsDevice : Stop → Type 0
+IsDevice (stop.Device failure) = Unit {0}
+IsDevice stop.Memory = ⊥
+
+-- ---- what a command comes to
+
+-- bytes that are as good as a document: as standard input, if it is known, or a file's
+abbrev pub IsAsGoodAs : Command → Option (List ℕ) → Option (List ℕ) → List ℕ → Type 0
+IsAsGoodAs command None known bytes = IfSome known (λ whole. document_for command whole ≡ document_for command bytes)
+IsAsGoodAs command (Some name) known bytes = Unit {0}
+
+-- a command was done with the document of a name
+pub record IsDone (command : Command) (name : Option (List ℕ)) (before after : Streams) (status : ℕ) : Type 0 where
+  pub said : (bytes : List ℕ) × IsAsGoodAs command name before.input bytes × (outcome : Outcome)
+      × IsOutcome command bytes outcome × (status ≡ outcome_status outcome) × Appends before.output after.output (outcome_text outcome)
+  pub served : serves (verb_for command) ≡ true → status ≡ 1
+  pub sound : (after.input_failed ≡ before.input_failed) × (after.output_failed ≡ before.output_failed)
+  pub hinted : MayHint before.errors_failed after.errors_failed before.errors after.errors
+
+-- it was stopped
+pub record IsStopped (command : Command) (name : Option (List ℕ)) (before after : Streams) (why : Stop) : Type 0 where
+  pub part : Keeps before.output after.output ⊎ ((bytes : List ℕ) × IsAsGoodAs command name before.input bytes × (outcome : Outcome)
+      × IsOutcome command bytes outcome × (count : ℕ) × Appends before.output after.output (take count (outcome_text outcome)))
+  pub unprinted : after.output_failed ≡ false → Keeps before.output after.output
+      ⊎ ((serving : Serving) × (serving_of command ≡ Some serving) × (line : List ℕ) × NamesPlace serving.place line × Appends before.output after.output line)
+  pub blamed : Blames ((after.input_failed ≡ true) ⊎ ((after.output_failed ≡ true) ⊎ ((name ≢ None) ⊎ (has_place (verb_for command) ≡ true))))
+      ((after.input_failed ≡ before.input_failed) × (after.output_failed ≡ before.output_failed)) why
+  pub errors : (after.errors ≡ before.errors) × (after.errors_failed ≡ before.errors_failed)
+
+-- a server was asked
+pub record IsAsked (before after : Streams) (ended : ℕ) : Type 0 where
+  pub status : ended ≤ 1
+  pub sound : (after.input_failed ≡ before.input_failed) × (after.output_failed ≡ before.output_failed)
+  pub errors : (after.errors ≡ before.errors) × (after.errors_failed ≡ before.errors_failed)
+
+-- that was stopped
+pub record IsLost (before after : Streams) (why : Stop) : Type 0 where
+  pub blamed : Blames (Unit {0}) ((after.input_failed ≡ before.input_failed) × (after.output_failed ≡ before.output_failed)) why
+  pub errors : (after.errors ≡ before.errors) × (after.errors_failed ≡ before.errors_failed)
+
+-- so for each order
+abbrev pub IsObeyed : Order → Streams → Streams → ℕ → Type 0
+IsObeyed (Do command document) = IsDone command (name_in document)
+IsObeyed (Ask place lines) = IsAsked
+
+abbrev pub HasFile : Order → Type 0
+HasFile (Do command document) = name_in document ≢ None
+HasFile (Ask place lines) = ⊥
+
+abbrev pub IsGivenUp : Order → Streams → Streams → Stop → Type 0
+IsGivenUp (Do command document) = IsStopped command (name_in document)
+IsGivenUp (Ask place lines) = IsLost
+
+-- ---- what words come to that are no order
+
+abbrev pub KeepsOutput : Streams → Streams → Type 0
+KeepsOutput before after = (after.output ≡ before.output) × (after.output_failed ≡ before.output_failed)
+
+abbrev pub IsTold : NoOrder → Streams → Streams → ℕ → Type 0
+IsTold (no.Shown lines) before after status =
+    ((status ≡ 0) × SaysSomething before.output after.output × (after.output_failed ≡ before.output_failed)
+    × (after.errors ≡ before.errors) × (after.errors_failed ≡ before.errors_failed))
+    ⊎ ((status ≡ 3) × (after.output_failed ≡ true) × (after.errors_failed ≡ false → Appends before.errors after.errors (stop_line (stop.Device None))))
+IsTold (no.Wrong lines) before after status = KeepsOutput before after
+    × (((status ≡ 2) × SaysSomething before.errors after.errors × (after.errors_failed ≡ before.errors_failed))
+    ⊎ ((status ≡ 3) × (after.errors_failed ≡ true)))
+IsTold no.Memory before after status = KeepsOutput before after
+    × (status ≡ 3) × (after.errors_failed ≡ false → Appends before.errors after.errors (stop_line stop.Memory))

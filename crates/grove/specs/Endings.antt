@@ -12,12 +12,12 @@ use Rattle.grove.specs.declared.answer.Stop.TheVariants.{Device, Memory}
 
 -- the line for a command that has no answer
 abbrev pub stop_line : Stop → List ℕ
-stop_line Device = codes "device" ++ 10 ∷ []
+stop_line (Device failure) = codes "device" ++ 10 ∷ []
 stop_line Memory = codes "memory" ++ 10 ∷ []
 
 -- a stop is for a device where one has failed, and for want of memory where none has newly failed
 abbrev pub Blames : Type 0 → Type 0 → Stop → Type 0
-Blames HasFailed IsSound Device = HasFailed
+Blames HasFailed IsSound (Device failure) = HasFailed
 Blames HasFailed IsSound Memory = IsSound
 
 -- the line of the reason that the system gives for it
@@ -64,7 +64,7 @@ NamesPlace place text = (port : ℕ) × IsPortFor place.port port × (text ≡ l
 
 -- standard output got the line for such a place
 abbrev pub SaysListening : (Place → Type 0) → Option (List ℕ) → Option (List ℕ) → Type 0
-SaysListening IsAsked old new = (place : Place) × IsAsked place × (text : List ℕ) × NamesPlace place text × Appends old new text
+SaysListening IsAsked old new = (place : Place) × IsAsked place × (line : List ℕ) × NamesPlace place line × Appends old new line
 
 -- the line of a hint
 abbrev pub IsHintLine : List ℕ → Type 0

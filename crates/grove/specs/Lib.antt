@@ -2,3 +2,4 @@ pub mod Answers
 pub mod Askings
 pub mod Endings
 pub mod Outcomes
+pub mod Runs

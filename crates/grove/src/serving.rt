@@ -1,135 +1,110 @@
-ghost use Rattle.std.specs.Prelude.{◌≡◌, ◌≤◌, ◌⊎◌, Some, IfOk, IfErr, IfSome, IsOkAnd, string_bytes};
+ghost use Rattle.std.specs.Prelude.{◌≡◌, ◌⊎◌, Some, Ok, true, ⊤, IfOk, IfErr, IfSome, IsOkAnd, string_bytes};
 ghost use Rattle.serde_json.specs.View.{view};
 ghost use Rattle.grove_store.specs.StoreStates.{opened};
 ghost use Rattle.grove_wire.specs.Forms.{HasShortArrays};
 ghost use Rattle.grove_wire.specs.Reading.{tree_in};
+ghost use Rattle.grove_words.specs.declared.order.Command.{Command};
 ghost use Rattle.grove_answer.specs.Outcomes.{ThenSays};
 ghost use Rattle.grove_answer.specs.Says.{refusal_outcome};
-ghost use Rattle.grove.specs.Answers.{status_of, AnswersBy, IsListen, IsOpenedFrom, IsRefusalLine, Listens, ServesStore};
-ghost use Rattle.grove.specs.Endings.{address_text, listening_line, IsPortFor};
+ghost use Rattle.grove.specs.Answers.{serving_of, IsAnswerTo, IsOpenedFrom};
+ghost use Rattle.grove.specs.Endings.{address_text, listening_line, IsPortFor, NamesPlace};
 ghost use Rattle.grove.specs.Outcomes.{IsServed};
 
 use crate::answer::{Answer, Stop};
+use crate::answering::refused;
 use crate::failure::Failure;
-use crate::host::Host;
-use crate::refusal::answer_of;
 use grove_answer::{Refusal, or_refuse};
+use grove_serve::{Host, Manner, Patience, Service, Talk};
 use grove_store::{NoStore, Store};
 use grove_wire::read_tree;
-use grove_words::{Patience, Place};
+use grove_words::{Place, Serving, Workers};
 use serde_json::Value;
 use std::alloc::{AllocError, Global};
 use std::net::{IpAddr, Net, TcpListener, TcpStream};
 
-/// A store, where sessions over it are asked for, and how they are served.
-#[derive(Drop)]
-pub struct Service {
-    pub store: Store,
-    pub listener: TcpListener,
-    pub manner: Manner,
-}
-
-/// Where a store is served, and how.
-#[derive(Clone, Copy)]
-pub struct Manner {
-    pub place: Option<Place>,
-    pub talk: Talk,
-    pub patience: Patience,
-    /// Whether standard error is told of connections, and of lines that are refused.
-    pub is_verbose: bool,
-}
-
-/// What is talked over a connection.
-#[derive(Clone, Copy)]
-pub enum Talk {
-    /// Lines of a session, and their replies.
-    Lines,
-    /// Requests of HTTP, and their responses.
-    Requests,
-}
-
-/// A service with the document's tree and records, which listens already, or why there is none; where the system wouldn't
-/// have the port, that is the failure.
+/// A service with the document's tree and records, which listens already, or why there is none.
 pub fn serve_document<R: Host + Net<Listener = TcpListener, Stream = TcpStream>>(
     rt: &R,
-    alloc: Global,
     document: &Value,
-    workers: u32,
-    manner: Manner,
-    failure: &mut Option<Failure>,
+    serving: Serving,
+    talk: Talk,
 ) -> Result<Answer, Stop>
-    requires short { HasShortArrays (view document.now) }
-    requires workers { (1 ≤ workers) × (workers ≤ 16) }
-    ensures said { IfOk result (AnswersBy (ThenSays (tree_in (view document.now)) IsServed)) }
-    ensures refused { IfOk result IsRefusalLine }
-    ensures served { IfOk result (λ answer. (status_of answer ≡ 1) ⊎ IsListen answer) }
-    ensures status { IfOk result (λ answer. status_of answer ≤ 1) }
-    ensures place { IfOk result (Listens (λ asked. manner.place ≡ Some asked)) }
-    ensures opened { IfOk result (ServesStore (IsOpenedFrom (view document.now) workers)) }
+    requires { HasShortArrays (view document.now) }
+    ensures { (command : Command) → serving_of command ≡ Some serving → IfOk result (IsAnswerTo command (Ok (view document.now))) }
 {
-    match open_store(alloc, document, workers) {
-        Ok(store) => listening(rt, alloc, store, manner, failure),
-        Err(refusal) => answer_of(alloc, Err(refusal)),
+    let alloc = rt.alloc();
+    match open_store(alloc, document, serving.workers) {
+        Ok(store) => {
+            let Door { listener, line } = open_door(rt, alloc, serving.place)?;
+            let manner = Manner {
+                talk,
+                patience: Patience {
+                    idle: serving.patience.idle,
+                    tells_busy: serving.patience.tells_busy,
+                },
+                is_verbose: serving.verbose,
+            };
+            let service = Service {
+                store,
+                listener,
+                manner,
+            };
+            Ok(Answer::Listen { line, service })
+        }
+        Err(refusal) => refused(alloc, refusal),
     }
 }
 
 /// A store of the document's tree and records.
-fn open_store(alloc: Global, document: &Value, workers: u32) -> Result<Store, Refusal>
-    requires short { HasShortArrays (view document.now) }
-    requires workers { (1 ≤ workers) × (workers ≤ 16) }
-    ensures opened { IfOk result (λ store. IsOkAnd (tree_in (view document.now)) (λ stored. store ≡ opened stored.0 stored.1 workers)) }
-    ensures refused { IfErr result (λ refusal. IfSome (refusal_outcome refusal) (ThenSays (tree_in (view document.now)) IsServed)) }
+fn open_store(alloc: Global, document: &Value, workers: Workers) -> Result<Store, Refusal>
+    requires { HasShortArrays (view document.now) }
+    ensures opened { IfOk result (IsOpenedFrom (view document.now) workers.number) }
+    ensures refused { (place : Place) → IfErr result (λ refusal. IfSome (refusal_outcome refusal) (ThenSays (tree_in (view document.now)) (IsServed place))) }
 {
     let (tree, records) = or_refuse(alloc, read_tree(alloc, document))?;
-    match Store::open(alloc, tree, records, workers) {
+    match Store::open(alloc, tree, records, workers.number) {
         Ok(store) => Ok(store),
         Err(NoStore { .. }) => Err(Refusal::Memory),
     }
 }
 
-/// The store, listened for at the place, and the line that says so.
-fn listening<R: Host + Net<Listener = TcpListener, Stream = TcpStream>>(
-    rt: &R,
-    alloc: Global,
-    store: Store,
-    manner: Manner,
-    failure: &mut Option<Failure>,
-) -> Result<Answer, Stop>
-    ensures said { IfOk result (Listens (λ asked. manner.place ≡ Some asked)) }
-    ensures listens { IfOk result IsListen }
-    ensures kept { IfOk result (ServesStore (λ served. served ≡ store)) }
-{
-    let Some(place) = manner.place else {
-        return Err(Stop::Device);
-    };
-    let listener = match TcpListener::bind(rt, (place.address, place.port)) {
-        Ok(listener) => listener,
-        Err(error) => {
-            *failure = Some(Failure::Listen(error));
-            return Err(Stop::from(error));
-        }
-    };
-    let line = line_for(alloc, place, port_of(&listener, place.port)?)?;
-    Ok(Answer::Listen {
-        line,
-        service: Service {
-            store,
-            listener,
-            manner,
-        },
-    })
+/// A port that is listened on, and the line that says so.
+#[derive(Drop)]
+struct Door {
+    listener: TcpListener,
+    line: String,
 }
 
-/// The port that is listened on, where this one was asked for; for 0 the system has chosen one.
-fn port_of(listener: &TcpListener, asked: u16) -> Result<u16, Stop>
-    ensures { IfOk result (IsPortFor asked) }
+/// Listens at the place.
+fn open_door<R: Host + Net<Listener = TcpListener, Stream = TcpStream>>(
+    rt: &R,
+    alloc: Global,
+    place: Place,
+) -> Result<Door, Stop>
+    ensures { IfOk result (λ door. NamesPlace place (string_bytes door.line)) }
 {
-    if asked != 0 {
-        return Ok(asked);
+    let listener = match TcpListener::bind(rt, (place.address, place.port)) {
+        Ok(listener) => listener,
+        Err(error) => return Err(Failure::Listen(place, error).stop()),
+    };
+    let port = port_of(&listener, place)?;
+    let line = line_for(alloc, place, port)?;
+    Ok(Door { listener, line })
+}
+
+/// The port that is listened on, where this place was asked for; for 0 the system has chosen one.
+fn port_of(listener: &TcpListener, place: Place) -> Result<u16, Stop>
+    ensures { IfOk result (IsPortFor place.port) }
+{
+    if place.port != 0 {
+        return Ok(place.port);
     }
-    let port = listener.local_addr()?.port();
+    let port = match listener.local_addr() {
+        Ok(address) => address.port(),
+        Err(error) => return Err(Failure::Listen(place, error).stop()),
+    };
     if port == 0 {
-        Err(Stop::Device)
+        Err(Stop::Device(None))
     } else {
         Ok(port)
     }

@@ -1,5 +1,5 @@
 -- What an audit says: of a finished run, and why there is none.
-use Rattle.std.proofs.Common.{◌≡◌, ℤ, List, reverse, Option, IfSome, inl, inr, refl}
+use Rattle.std.proofs.Common.{◌≡◌, true, false, ℤ, List, reverse, Option, IfSome, inl, inr, subst, sym}
 use Rattle.grove_tree.specs.Trees.{Rows, IsTree}
 use Rattle.grove_access.specs.Lists.{nodes_of}
 use Rattle.grove_core.specs.declared.job.Job.{Job}
@@ -11,11 +11,14 @@ use Rattle.grove_core.specs.Replays.{IsReplayFault}
 use Rattle.grove_core.proofs.SerialRuns.{runs_are_serial}
 use Rattle.grove_core.specs.Runs.{replies_of}
 use Rattle.grove_wire.specs.Histories.{Standing}
-use Rattle.grove_wire.specs.Texts.{ReplayFaultFits, replay_text}
+use Rattle.grove_wire.specs.declared.faults.Fault.TheVariants as kind
+use Rattle.grove_wire.specs.declared.faults.StandingFault.{StandingFault}
+use Rattle.grove_wire.specs.Texts.{ReplayFaultFits}
 use Rattle.grove_answer.specs.declared.refusal.Refusal.{Refusal}
 use Rattle.grove_answer.specs.declared.refusal.Refusal.TheVariants as refusal
 use Rattle.grove_answer.specs.Outcomes.{History, IsAudited, IsFinishedHistory, IsMisstated, past_in}
-use Rattle.grove_answer.specs.Says.{IsTold, TellsSome, refusal_outcome}
+use Rattle.grove_answer.specs.Faults.{standing_text}
+use Rattle.grove_answer.specs.Says.{IsTold, refusal_outcome}
 use Rattle.grove_answer.proofs.Faults.{fault_fits}
 
 -- what a history is refused for fits the tree
@@ -34,17 +37,18 @@ finished_history rows records jobs events standing tree legal run finished =
     (legal, record { run = run; finished = finished; once = serial.0; serial = serial.1 })
 
 -- a refusal tells what is amiss with what is said to stand
-pub says_misstated : (history : History) (why : Refusal) → IsFinishedHistory history
-    → TellsSome (IsMisstated history.standing (run_records history.jobs history.records (past_in history)) (replies_of history.jobs history.records (past_in history))) why
-    → IfSome (refusal_outcome why) (IsAudited history)
-says_misstated history (refusal.Fault text) finished tells = inr (finished, tells)
-says_misstated history refusal.Memory finished tells = tt
+pub says_misstated : (history : History) (fault : StandingFault) (why : Refusal) → IsFinishedHistory history
+    → IsMisstated history.standing (run_records history.jobs history.records (past_in history)) (replies_of history.jobs history.records (past_in history)) (standing_text fault)
+    → IsTold history.tree (kind.Standing fault) why → IfSome (refusal_outcome why) (IsAudited history)
+says_misstated history fault (refusal.Fault said text) finished misstated told =
+    inr (finished, subst (IsMisstated history.standing (run_records history.jobs history.records (past_in history)) (replies_of history.jobs history.records (past_in history))) (sym told.1) misstated)
+says_misstated history fault refusal.Memory finished misstated told = tt
 
 -- a refusal tells what is amiss with the events
 pub says_replay_fault : (history : History) (fault : ReplayFault) (why : Refusal) → IsReplayFault history.tree history.jobs history.events fault
-    → IsTold (replay_text history.tree fault) why → (fault ≡ Memory → why ≡ refusal.Memory) → IfSome (refusal_outcome why) (IsAudited history)
-says_replay_fault history fault refusal.Memory is told memory = tt
-says_replay_fault history (BadPlan t f) (refusal.Fault text) is told memory = inl (BadPlan t f, (λ e. absurd (cc)), is, told)
-says_replay_fault history (BadEvent at f) (refusal.Fault text) is told memory = inl (BadEvent at f, (λ e. absurd (cc)), is, told)
-says_replay_fault history (Unfinished t) (refusal.Fault text) is told memory = inl (Unfinished t, (λ e. absurd (cc)), is, told)
-says_replay_fault history Memory (refusal.Fault text) is told memory = let same : refusal.Fault text ≡ refusal.Memory = memory refl in absurd (cc)
+    → IsTold history.tree (kind.Replay fault) why → IfSome (refusal_outcome why) (IsAudited history)
+says_replay_fault history fault refusal.Memory is told = tt
+says_replay_fault history (BadPlan t f) (refusal.Fault said text) is told = inl (BadPlan t f, (λ e. absurd (cc)), is, told.1)
+says_replay_fault history (BadEvent at f) (refusal.Fault said text) is told = inl (BadEvent at f, (λ e. absurd (cc)), is, told.1)
+says_replay_fault history (Unfinished t) (refusal.Fault said text) is told = inl (Unfinished t, (λ e. absurd (cc)), is, told.1)
+says_replay_fault history Memory (refusal.Fault said text) is told = let never : true ≡ false = told.2 in absurd (cc)

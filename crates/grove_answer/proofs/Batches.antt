@@ -1,5 +1,5 @@
 -- Jobs of a batch, its lists with their settled plans: why a run of them fails, and what it says.
-use Rattle.std.proofs.Common.{◌≡◌, ◌∙◌, ℕ, ℤ, List, length, inl, inr, refl, sym, ap, IfSome}
+use Rattle.std.proofs.Common.{◌≡◌, ◌∙◌, true, false, ℕ, ℤ, List, length, inl, inr, sym, ap, IfSome}
 use Rattle.std.proofs.lemmas.List.{length-map}
 use Rattle.grove_tree.specs.Trees.{Rows}
 use Rattle.grove_access.specs.declared.access.Access.{Access}
@@ -9,7 +9,8 @@ use Rattle.grove_core.specs.declared.run_fault.RunFault.{RunFault}
 use Rattle.grove_core.specs.declared.run_fault.RunFault.TheVariants.{BadPlan, Memory, Foreign, Unfinished}
 use Rattle.grove_run.specs.Runs.{IsLegalRunFault}
 use Rattle.grove_build.specs.SettledJobs.{AreSettledJobs}
-use Rattle.grove_wire.specs.Texts.{RunFaultFits, run_text}
+use Rattle.grove_wire.specs.declared.faults.Fault.TheVariants.{Run}
+use Rattle.grove_wire.specs.Texts.{RunFaultFits}
 use Rattle.grove_answer.specs.declared.refusal.Refusal.{Refusal}
 use Rattle.grove_answer.specs.declared.refusal.Refusal.TheVariants as refusal
 use Rattle.grove_answer.specs.Outcomes.{IsRunBatch, batch_lines}
@@ -28,12 +29,12 @@ run_fault_fits tree Unfinished legal = tt
 
 -- a refusal tells such a fault
 pub says_run_fault : (tree : Rows) (records : List ℤ) (lists : List (List Access)) (fault : RunFault) (why : Refusal)
-    → IsLegalRunFault fault → IsTold (run_text tree fault) why → (fault ≡ Memory → why ≡ refusal.Memory) → IfSome (refusal_outcome why) (IsRunBatch (tree, records, lists))
-says_run_fault tree records lists fault refusal.Memory legal told memory = tt
-says_run_fault tree records lists (BadPlan t fault) (refusal.Fault text) legal told memory = absurd legal
-says_run_fault tree records lists Memory (refusal.Fault text) legal told memory = let same : refusal.Fault text ≡ refusal.Memory = memory refl in absurd (cc)
-says_run_fault tree records lists Foreign (refusal.Fault text) legal told memory = inl told
-says_run_fault tree records lists Unfinished (refusal.Fault text) legal told memory = inr told
+    → IsLegalRunFault fault → IsTold tree (Run fault) why → IfSome (refusal_outcome why) (IsRunBatch (tree, records, lists))
+says_run_fault tree records lists fault refusal.Memory legal told = tt
+says_run_fault tree records lists (BadPlan t fault) (refusal.Fault said text) legal told = absurd legal
+says_run_fault tree records lists Memory (refusal.Fault said text) legal told = let never : true ≡ false = told.2 in absurd (cc)
+says_run_fault tree records lists Foreign (refusal.Fault said text) legal told = inl told.1
+says_run_fault tree records lists Unfinished (refusal.Fault said text) legal told = inr told.1
 
 -- lines of the same parts are the same
 pub same_lines : {order order' : List ℕ} {replies replies' : List (List Reply)} {records records' : List ℤ} {waits waits' : List ℕ}

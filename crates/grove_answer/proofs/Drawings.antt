@@ -1,5 +1,5 @@
 -- What is said of a document that is drawn: some text, unless its own plan has a fault.
-use Rattle.std.proofs.Common.{◌≡◌, ◌≢◌, ℕ, List, [], Option, Some, None, Result, Ok, Err, IfSome, IsOkAnd, refl, sym, ◌∙◌, ap}
+use Rattle.std.proofs.Common.{◌≡◌, ◌≢◌, true, false, ℕ, List, [], Option, Some, None, Result, Ok, Err, IfSome, IsOkAnd, refl, subst, sym, ◌∙◌, ap}
 use Rattle.grove_access.specs.Lists.{nodes_of}
 use Rattle.grove_draw.specs.declared.drawing.Drawing.{Drawing}
 use Rattle.grove_draw.specs.declared.picture.Picture.{Picture}
@@ -9,12 +9,16 @@ use Rattle.grove_plan.specs.declared.step.Step.{Step}
 use Rattle.grove_plan.specs.Faults.{plan_fault_of}
 use Rattle.grove_plan.proofs.FaultlessIsLegal.{legal_faultless}
 use Rattle.grove_wire.specs.declared.fault.WireFault.{WireFault}
-use Rattle.grove_wire.specs.Texts.{plan_text}
+use Rattle.grove_wire.specs.declared.faults.Fault.TheVariants.{Plan}
 use Rattle.grove_answer.specs.declared.reading.Task.{Task}
 use Rattle.grove_answer.specs.declared.refusal.Refusal.{Refusal}
 use Rattle.grove_answer.specs.declared.refusal.Refusal.TheVariants as refusal
 use Rattle.grove_answer.specs.Outcomes.{ThenSays, unless_faulty, own_fault, IsDrawingOf, IsDrawn, PicturesOwn}
+use Rattle.grove_answer.specs.Faults.{wants_memory}
 use Rattle.grove_answer.specs.Says.{IsTold, refusal_outcome}
+
+no_memory : (fault : PlanFault) → wants_memory (Plan fault) ≡ false → fault ≢ plan.Memory
+no_memory fault other is = let never : true ≡ false = subst (λ f. wants_memory (Plan f) ≡ false) is other in absurd (cc)
 
 -- an own plan that has a picture has no fault
 own_faultless : (task : Task) (own : Option (List Step)) (picture : Option Picture) → PicturesOwn task own picture → own_fault task own ≡ None
@@ -30,13 +34,10 @@ says_drawn (Ok (task, own)) drawing text is =
 says_drawn (Err fault) drawing text is = absurd is
 
 -- a refusal tells the fault of the own plan
-pub says_own_fault : (task : Task) (steps : List Step) (fault : PlanFault) (why : Refusal) → IsTold (plan_text task.tree fault) why
-    → (fault ≡ plan.Memory → why ≡ refusal.Memory) → (fault ≢ plan.Memory → plan_fault_of task.tree (nodes_of task.list) steps ≡ Some fault)
+pub says_own_fault : (task : Task) (steps : List Step) (fault : PlanFault) (why : Refusal) → IsTold task.tree (Plan fault) why
+    → (fault ≢ plan.Memory → plan_fault_of task.tree (nodes_of task.list) steps ≡ Some fault)
     → IfSome (refusal_outcome why) (IsDrawn (task, Some steps))
-says_own_fault task steps fault refusal.Memory told memory first = tt
-says_own_fault task steps fault (refusal.Fault text) told memory first =
-    let is : plan_fault_of task.tree (nodes_of task.list) steps ≡ Some fault = first (λ here. not_both (memory here)) in
-    ([], ap Err told ∙ ap (λ (f : Option PlanFault). unless_faulty task.tree f []) (sym is))
-  where
-    not_both : refusal.Fault text ≡ refusal.Memory → ⊥
-    not_both same = cc
+says_own_fault task steps fault refusal.Memory told first = tt
+says_own_fault task steps fault (refusal.Fault said text) told first =
+    let is : plan_fault_of task.tree (nodes_of task.list) steps ≡ Some fault = first (no_memory fault told.2) in
+    ([], ap Err told.1 ∙ ap (λ (f : Option PlanFault). unless_faulty task.tree f []) (sym is))

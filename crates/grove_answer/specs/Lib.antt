@@ -1,4 +1,5 @@
 pub mod Outcomes
+pub mod Faults
 pub mod Says
 pub mod PlannedDocuments
 pub mod Laws

@@ -5,7 +5,8 @@ ghost use Rattle.grove_core.specs.Runs.{IsFinished};
 ghost use Rattle.grove_core.specs.Openings.{AllFit};
 ghost use Rattle.grove_wire.specs.Forms.{AreArraysShort, HasShortArrays};
 ghost use Rattle.grove_wire.specs.Histories.{standing_of};
-ghost use Rattle.grove_answer.specs.Says.{Says, TellsSome};
+ghost use Rattle.grove_answer.specs.Faults.{standing_text};
+ghost use Rattle.grove_answer.specs.Says.{Says};
 ghost use Rattle.grove_answer.specs.Outcomes.{ThenSays, history_in, IsAudited, IsMisstated, Stands};
 
 use crate::reading::{History, read_history};
@@ -15,7 +16,7 @@ use crate::standing::{other_record, other_replies};
 use crate::texts::numbers_of;
 use grove_access::Reply;
 use grove_core::{Core, replies_of, serial_order};
-use grove_wire::Standing;
+use grove_wire::{Fault, Standing, StandingFault};
 use serde_json::Value;
 use std::alloc::Global;
 
@@ -52,7 +53,7 @@ fn audit_history(alloc: Global, history: &History) -> Result<String, Refusal>
     } = history;
     match Core::replay(alloc, tree, records, jobs, events) {
         Ok(core) => finished_lines(alloc, &core, standing),
-        Err(fault) => Err(Refusal::of_replay(alloc, tree, &fault)),
+        Err(fault) => Err(Refusal::of(alloc, tree, Fault::Replay(fault))),
     }
 }
 
@@ -78,31 +79,26 @@ fn finished_lines(
     let replies = replies_of(alloc, core)?;
     if let Some(said) = standing {
         let records = numbers_of(alloc, tree, core.records())?;
-        if let Err(why) = stand(alloc, said, &records, &replies) {
-            return Err(why);
+        if let Err(fault) = stand(said, &records, &replies) {
+            return Err(Refusal::of(alloc, tree, Fault::Standing(fault)));
         }
     }
     let order = serial_order(alloc, core)?;
     Ok(run_lines(alloc, core, &order)?)
 }
 
-/// Refuses what is said to stand where it isn't what a run left.
-fn stand(
-    alloc: Global,
-    said: &Standing,
-    records: &[i64],
-    replies: &[&[Reply]],
-) -> Result<(), Refusal>
+/// Where what is said to stand isn't what a run left, if anywhere.
+fn stand(said: &Standing, records: &[i64], replies: &[&[Reply]]) -> Result<(), StandingFault>
     requires records { length records.now < 2 ^ 32 }
     requires replies { length replies.now < 2 ^ 32 }
     ensures stands { OnOk result (Stands (Some (standing_of said.now)) records.now (map (λ list. list.now) replies.now)) }
-    ensures misstated { IfErr result (TellsSome (IsMisstated (Some (standing_of said.now)) records.now (map (λ list. list.now) replies.now))) }
+    ensures misstated { IfErr result (λ fault. IsMisstated (Some (standing_of said.now)) records.now (map (λ list. list.now) replies.now) (standing_text fault)) }
 {
     if let Some(node) = other_record(&said.records, records) {
-        return Err(Refusal::Fault(format!(in alloc; "standing records {node}")?));
+        return Err(StandingFault::Record(node));
     }
     if let Some(job) = other_replies(&said.replies, replies) {
-        return Err(Refusal::Fault(format!(in alloc; "standing replies {job}")?));
+        return Err(StandingFault::Replies(job));
     }
     Ok(())
 }

@@ -7,6 +7,7 @@ use crate::reading::{Task, read_claim};
 use crate::refusal::{Refusal, or_refuse};
 use grove_plan::Plan;
 use grove_proof::{Flow, check};
+use grove_wire::Fault;
 use serde_json::Value;
 use std::alloc::Global;
 
@@ -26,6 +27,6 @@ fn check_claim(alloc: Global, task: &Task, plan: &Plan, flow: &Flow) -> Result<S
 {
     match check(alloc, &task.tree, &task.list, plan, flow) {
         Ok(cost) => Ok(format!(in alloc; "cost {cost}\n")?),
-        Err(fault) => Err(Refusal::of_proof(alloc, &task.tree, &fault)),
+        Err(fault) => Err(Refusal::of(alloc, &task.tree, Fault::Proof(fault))),
     }
 }

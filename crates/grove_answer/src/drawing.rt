@@ -14,6 +14,7 @@ use grove_base::NoMemory;
 use grove_build::plan;
 use grove_draw::{Drawing, Form, Picture, legal_picture, picture_of};
 use grove_plan::Plan;
+use grove_wire::Fault;
 use serde_json::Value;
 use std::alloc::Global;
 
@@ -56,7 +57,7 @@ fn own_picture(alloc: Global, task: &Task, own: &Option<Plan>) -> Result<Option<
     match own {
         Some(plan) => match picture_of(alloc, &task.tree, &task.list, plan) {
             Ok(picture) => Ok(Some(picture)),
-            Err(fault) => Err(Refusal::of_plan(alloc, &task.tree, &fault)),
+            Err(fault) => Err(Refusal::of(alloc, &task.tree, Fault::Plan(fault))),
         },
         None => Ok(None),
     }

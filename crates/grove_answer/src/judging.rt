@@ -11,6 +11,7 @@ use crate::texts::{numbers_of, numbers_text, replies_text};
 use grove_access::{Reply, run_alone};
 use grove_base::NoMemory;
 use grove_plan::{Plan, judge};
+use grove_wire::Fault;
 use serde_json::Value;
 use std::alloc::Global;
 
@@ -30,7 +31,7 @@ fn judge_trial(alloc: Global, task: Task, plan: &Plan) -> Result<String, Refusal
 {
     match judge(alloc, &task.tree, &task.list, plan) {
         Ok(cost) => Ok(lines_of(alloc, task, cost)?),
-        Err(fault) => Err(Refusal::of_plan(alloc, &task.tree, &fault)),
+        Err(fault) => Err(Refusal::of(alloc, &task.tree, Fault::Plan(fault))),
     }
 }
 

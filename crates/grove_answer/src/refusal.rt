@@ -1,103 +1,101 @@
-ghost use Rattle.std.specs.Prelude.{◌≡◌, ℕ, List, IfOk, IfErr, IsErrAnd, Ok, string_bytes};
-ghost use Rattle.grove_wire.specs.Texts.{FaultFits, ProofFaultFits, ReplayFaultFits, RunFaultFits, wire_text, plan_text, proof_text, replay_text, run_text};
+ghost use Rattle.std.specs.Prelude.{◌≡◌, ℕ, List, [], IfOk, IfErr, IsErrAnd, Ok, string_bytes};
+ghost use Rattle.grove_tree.specs.Trees.{Rows};
+ghost use Rattle.grove_wire.specs.declared.faults.Fault.TheVariants.{Wire};
+ghost use Rattle.grove_answer.specs.Faults.{fault_text, standing_text, wants_memory, FaultFits};
 ghost use Rattle.grove_answer.specs.Says.{IsTold};
 
 use grove_base::NoMemory;
-use grove_core::ReplayFault;
+use grove_core::{ReplayFault, RunFault};
 use grove_plan::PlanFault;
 use grove_proof::ProofFault;
-use grove_run::RunFault;
 use grove_tree::Tree;
 use grove_wire::{
-    WireFault, plan_fault_text, proof_fault_text, replay_fault_text, run_fault_text,
-    wire_fault_text,
+    Fault, StandingFault, WireFault, plan_fault_text, proof_fault_text, replay_fault_text,
+    run_fault_text, wire_fault_text,
 };
 use std::alloc::{AllocError, AllocFailed, Global};
 
 /// Why the calls of a command have no result.
 #[derive(Debug, Drop)]
 pub enum Refusal {
-    /// The text of what is wrong with the document.
-    Fault(String),
+    /// What is wrong with the document, and the text that says so.
+    Fault { fault: Fault, text: String },
     /// A growth was refused.
     Memory,
 }
 
 impl Refusal {
-    /// What a reading's fault has to say.
+    /// The refusal for a fault of a document over the tree.
+    pub fn of(alloc: Global, tree: &Tree, fault: Fault) -> Refusal
+        requires { FaultFits tree.now fault }
+        ensures { IsTold tree.now fault result }
+    {
+        let text = fault_text(alloc, tree, &fault);
+        told(fault, text)
+    }
+
+    /// The refusal for a fault of reading, which needs no tree.
     pub fn of_wire(alloc: Global, fault: &WireFault) -> Refusal
-        ensures told { IsTold (wire_text fault.now) result }
-        ensures memory { fault.now ≡ WireFault.Memory → result ≡ Refusal.Memory }
+        ensures { IsTold [] (Wire fault.now) result }
     {
-        match fault {
-            WireFault::Memory => Refusal::Memory,
-            fault => of_text(wire_fault_text(alloc, fault)),
-        }
-    }
-
-    /// What a plan's fault has to say.
-    pub fn of_plan(alloc: Global, tree: &Tree, fault: &PlanFault) -> Refusal
-        requires { FaultFits tree.now fault.now }
-        ensures told { IsTold (plan_text tree.now fault.now) result }
-        ensures memory { fault.now ≡ PlanFault.Memory → result ≡ Refusal.Memory }
-    {
-        match fault {
-            PlanFault::Memory => Refusal::Memory,
-            fault => of_text(plan_fault_text(alloc, tree, fault)),
-        }
-    }
-
-    /// What the fault of a plan with its flow has to say.
-    pub fn of_proof(alloc: Global, tree: &Tree, fault: &ProofFault) -> Refusal
-        requires { ProofFaultFits tree.now fault.now }
-        ensures told { IsTold (proof_text tree.now fault.now) result }
-        ensures memory { fault.now ≡ ProofFault.Memory → result ≡ Refusal.Memory }
-    {
-        match fault {
-            ProofFault::Memory => Refusal::Memory,
-            fault => of_text(proof_fault_text(alloc, tree, fault)),
-        }
-    }
-
-    /// What the fault of a run has to say.
-    pub fn of_run(alloc: Global, tree: &Tree, fault: &RunFault) -> Refusal
-        requires { RunFaultFits tree.now fault.now }
-        ensures told { IsTold (run_text tree.now fault.now) result }
-        ensures memory { fault.now ≡ RunFault.Memory → result ≡ Refusal.Memory }
-    {
-        match fault {
-            RunFault::Memory => Refusal::Memory,
-            fault => of_text(run_fault_text(alloc, tree, fault)),
-        }
-    }
-
-    /// What the fault of a history has to say.
-    pub fn of_replay(alloc: Global, tree: &Tree, fault: &ReplayFault) -> Refusal
-        requires { ReplayFaultFits tree.now fault.now }
-        ensures told { IsTold (replay_text tree.now fault.now) result }
-        ensures memory { fault.now ≡ ReplayFault.Memory → result ≡ Refusal.Memory }
-    {
-        match fault {
-            ReplayFault::Memory => Refusal::Memory,
-            fault => of_text(replay_fault_text(alloc, tree, fault)),
-        }
+        let text = wire_fault_text(alloc, fault);
+        told(Fault::Wire(*fault), text)
     }
 }
 
-fn of_text(text: Result<String, NoMemory>) -> Refusal
-    ensures { (said : List ℕ) → IfOk text (λ text. string_bytes text ≡ said) → IsTold said result }
+/// The refusal for the fault, where this is its text.
+fn told(fault: Fault, text: Result<String, NoMemory>) -> Refusal
+    ensures { (rows : Rows) → IfOk text (λ text. string_bytes text ≡ fault_text rows fault) → IsTold rows fault result }
 {
+    if wants_memory(&fault) {
+        return Refusal::Memory;
+    }
     match text {
-        Ok(text) => Refusal::Fault(text),
+        Ok(text) => Refusal::Fault { fault, text },
         Err(NoMemory) => Refusal::Memory,
     }
 }
 
-/// What is read, or else what its fault has to say.
+fn wants_memory(fault: &Fault) -> bool
+    ensures { result ≡ wants_memory fault.now }
+{
+    matches!(
+        *fault,
+        Fault::Wire(WireFault::Memory)
+            | Fault::Plan(PlanFault::Memory)
+            | Fault::Proof(ProofFault::Memory)
+            | Fault::Run(RunFault::Memory)
+            | Fault::Replay(ReplayFault::Memory)
+    )
+}
+
+fn fault_text(alloc: Global, tree: &Tree, fault: &Fault) -> Result<String, NoMemory>
+    requires { FaultFits tree.now fault.now }
+    ensures { IfOk result (λ text. string_bytes text ≡ fault_text tree.now fault.now) }
+{
+    match *fault {
+        Fault::Wire(fault) => wire_fault_text(alloc, &fault),
+        Fault::Plan(fault) => plan_fault_text(alloc, tree, &fault),
+        Fault::Proof(fault) => proof_fault_text(alloc, tree, &fault),
+        Fault::Run(fault) => run_fault_text(alloc, tree, &fault),
+        Fault::Replay(fault) => replay_fault_text(alloc, tree, &fault),
+        Fault::Standing(fault) => standing_text(alloc, fault),
+    }
+}
+
+fn standing_text(alloc: Global, fault: StandingFault) -> Result<String, NoMemory>
+    ensures { IfOk result (λ text. string_bytes text ≡ standing_text fault) }
+{
+    match fault {
+        StandingFault::Record(node) => Ok(format!(in alloc; "standing records {node}")?),
+        StandingFault::Replies(job) => Ok(format!(in alloc; "standing replies {job}")?),
+    }
+}
+
+/// What is read, or else the refusal for its fault.
 pub fn or_refuse<T: Drop>(alloc: Global, reading: Result<T, WireFault>) -> Result<T, Refusal>
     ensures ok { IfOk result (λ value. reading ≡ Ok value) }
-    ensures err { IfErr result (λ refusal. IsErrAnd reading (λ fault.
-        IsTold (wire_text fault) refusal × (fault ≡ WireFault.Memory → refusal ≡ Refusal.Memory))) }
+    ensures err { IfErr result (λ refusal. IsErrAnd reading (λ fault. IsTold [] (Wire fault) refusal)) }
 {
     match reading {
         Ok(value) => Ok(value),

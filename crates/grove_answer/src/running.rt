@@ -19,6 +19,7 @@ use grove_build::settled_jobs;
 use grove_core::{Core, Job, replies_of};
 use grove_run::run_legal;
 use grove_tree::{Node, OpenGate, Tree};
+use grove_wire::Fault;
 use serde_json::Value;
 use std::alloc::{AllocError, Global};
 use std::sync::Wait;
@@ -78,7 +79,7 @@ fn run_jobs<R: Threads + Wait + Sync>(
 {
     match run_legal(rt, alloc, tree, records, jobs, workers, &OpenGate) {
         Ok(finished) => Ok(run_lines(alloc, finished.core(), finished.order())?),
-        Err(fault) => Err(Refusal::of_run(alloc, tree, &fault)),
+        Err(fault) => Err(Refusal::of(alloc, tree, Fault::Run(fault))),
     }
 }
 

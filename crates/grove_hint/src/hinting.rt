@@ -1,19 +1,53 @@
-use crate::amiss::document_amiss;
 use crate::asked::Asked;
-use crate::limits::bytes_beyond;
-use crate::strays::stray_member;
-use crate::syntax::{Whole, syntax_amiss};
+use crate::forms::length_of;
+use crate::histories::{event_amiss, standing_amiss};
+use crate::likeness::stray_member;
+use crate::paths::no_path;
+use crate::places::{Subject, Whole};
+use crate::plans::{flow_amiss, plan_amiss};
+use crate::shown::{Told, listed, words};
+use crate::syntax::syntax_amiss;
+use crate::trees::tree_amiss;
 use grove_base::{Hint, NoMemory};
+use grove_core::{ReplayFault, RunFault};
+use grove_proof::ProofFault;
+use grove_wire::{
+    Fault, MOST_BYTES, MOST_EVENTS, MOST_HISTORY_BYTES, MOST_JOBS, MOST_LISTS, Part, Place,
+    WireFault,
+};
 use serde_json::Value;
 use std::alloc::Global;
 
-/// What a person is told of a refusal: `bytes` are the document that the command has refused with this text.
-pub fn hint(alloc: Global, asked: Asked, bytes: &[u8], refusal: &str) -> Result<Hint, NoMemory> {
-    let words: Vec<&str> = refusal.split(' ').collect(alloc)?;
-    let told = match words.as_slice() {
-        ["bad-json"] => syntax_amiss(alloc, Whole::Document, bytes)?,
-        ["limit", "whole"] => bytes_beyond(alloc, asked)?,
-        words => read_amiss(alloc, asked, bytes, words)?,
+/// The greatest number of accesses of a list.
+const MOST_ACCESSES: usize = 64;
+
+/// What a person is told of a refusal: the command has refused these bytes for this fault; `document` is what they were
+/// read as, if they were.
+pub fn hint(
+    alloc: Global,
+    asked: Asked,
+    bytes: &[u8],
+    document: Option<&Value>,
+    fault: Fault,
+) -> Result<Hint, NoMemory> {
+    let told = match (fault, document) {
+        (Fault::Wire(WireFault::Limit(place)), _) if place.part == Part::Whole => {
+            let (command, _, _) = asked.reads();
+            let most = if asked == Asked::Audit {
+                MOST_HISTORY_BYTES
+            } else {
+                MOST_BYTES
+            };
+            format!(in alloc;
+                "the document has more than the {most} bytes that \"{command}\" takes"
+            )?
+        }
+        (fault, Some(document)) => document_amiss(alloc, asked, document, fault)?,
+        (fault, None) => match Value::from_slice(alloc, bytes) {
+            Ok(document) => document_amiss(alloc, asked, &document, fault)?,
+            Err(error) if error.is_memory() => return Err(NoMemory),
+            Err(error) => syntax_amiss(alloc, "the document", bytes, error.is_eof())?,
+        },
     };
     Hint::new(alloc, &told)
 }
@@ -29,43 +63,88 @@ pub fn oversight(alloc: Global, asked: Asked, document: &Value) -> Result<Option
 
 /// What a person is told who starts the command at a terminal, without a document.
 pub fn awaited(alloc: Global, asked: Asked) -> Result<Hint, NoMemory> {
-    let (command, members) = (asked.word(), asked.members());
+    let (command, members, _) = asked.reads();
+    let members = listed(alloc, members, " and ")?;
     let awaited = format!(in alloc;
         "\"{command}\" awaits a JSON document with {members} on standard input, up to its end (Ctrl-D)"
     )?;
     Hint::new(alloc, &awaited)
 }
 
-/// What is amiss with bytes that are JSON.
-fn read_amiss(
-    alloc: Global,
-    asked: Asked,
-    bytes: &[u8],
-    refusal: &[&str],
-) -> Result<String, NoMemory> {
-    match Value::from_slice(alloc, bytes) {
-        Ok(document) => {
-            let told = document_amiss(alloc, asked, &document, refusal)?;
-            with_stray(alloc, asked, &document, refusal, told)
-        }
-        Err(error) if error.is_memory() => Err(NoMemory),
-        Err(_) => syntax_amiss(alloc, Whole::Document, bytes),
-    }
-}
-
-/// A member that nothing uses may be why something else is refused.
-fn with_stray(
-    alloc: Global,
-    asked: Asked,
-    document: &Value,
-    refusal: &[&str],
-    told: String,
-) -> Result<String, NoMemory> {
-    if refusal.first() == Some(&"shape") {
-        return Ok(told);
-    }
-    match stray_member(alloc, asked, document)? {
+/// What is amiss with a document. A member that nothing uses may be why something else is refused.
+fn document_amiss(alloc: Global, asked: Asked, value: &Value, fault: Fault) -> Told {
+    let whole = Whole::Document(asked);
+    let told = amiss(alloc, Subject { whole, value }, fault)?;
+    let stray = match fault {
+        Fault::Wire(WireFault::Shape(_)) => None,
+        _ => stray_member(alloc, asked, value)?,
+    };
+    match stray {
         Some(stray) => Ok(format!(in alloc; "{told}; {stray}")?),
         None => Ok(told),
     }
+}
+
+/// What is amiss with what is refused, by the fault and its place.
+pub(crate) fn amiss(alloc: Global, subject: Subject<'_>, fault: Fault) -> Told {
+    match fault {
+        Fault::Wire(fault) => unread(alloc, subject, fault),
+        Fault::Plan(fault) | Fault::Proof(ProofFault::Plan(fault)) => {
+            plan_amiss(alloc, subject, None, fault)
+        }
+        Fault::Proof(fault) => flow_amiss(alloc, fault),
+        Fault::Replay(ReplayFault::BadPlan(job, fault)) => {
+            plan_amiss(alloc, subject, Some(job), fault)
+        }
+        Fault::Replay(ReplayFault::BadEvent(event, fault)) => {
+            event_amiss(alloc, subject, event, fault)
+        }
+        Fault::Replay(ReplayFault::Unfinished(job)) => Ok(format!(in alloc;
+            "job {job} has steps left after the last event"
+        )?),
+        Fault::Standing(fault) => standing_amiss(alloc, subject, fault),
+        Fault::Run(_) | Fault::Replay(ReplayFault::Memory) => match subject.whole {
+            Whole::Document(_) => words(
+                alloc,
+                "the run failed; nothing is known to be wrong with the document",
+            ),
+            _ => words(
+                alloc,
+                "the run failed; nothing is known to be wrong with the line",
+            ),
+        },
+    }
+}
+
+/// Why what is refused isn't read.
+fn unread(alloc: Global, subject: Subject<'_>, fault: WireFault) -> Told {
+    match fault {
+        WireFault::Shape(place) => subject.misformed(alloc, place),
+        WireFault::NoPath(place) => no_path(alloc, subject, place),
+        WireFault::BadLength(place) => {
+            let access = subject.value_at(place).and_then(Value::as_array);
+            let last = access.and_then(|items| items.last());
+            let (told, place) = (last.and_then(Value::as_u64), subject.shown(alloc, place)?);
+            let told = told.unwrap_or(0);
+            Ok(format!(in alloc; "{place} is {told} slots long, but an access has 1 to 1000")?)
+        }
+        WireFault::Limit(place) => beyond(alloc, subject, place),
+        WireFault::Tree(fault) => tree_amiss(alloc, subject.items(Part::Nodes, None), fault),
+        WireFault::BadJson | WireFault::Memory => {
+            words(alloc, "docs/FORMATS.md says what the refusal means")
+        }
+    }
+}
+
+/// A part of too many items.
+fn beyond(alloc: Global, subject: Subject<'_>, place: Place) -> Told {
+    let (most, items) = match (place.part, place.at) {
+        (Part::Lists, None) => (MOST_LISTS, "lists"),
+        (Part::Jobs, None) => (MOST_JOBS, "jobs"),
+        (Part::Events, _) => (MOST_EVENTS, "events"),
+        _ => (MOST_ACCESSES, "accesses"),
+    };
+    let count = subject.value_at(place).map_or(0, length_of);
+    let shown = subject.shown(alloc, place)?;
+    Ok(format!(in alloc; "{shown} has {count} {items}, but at most {most} are taken")?)
 }

@@ -1,89 +1,63 @@
-use crate::place::{number_of, value_at};
-use grove_base::NoMemory;
-use grove_wire::{Part, Place};
+use crate::forms::length_of;
+use crate::places::Subject;
+use crate::shown::{Told, words};
+use grove_core::StepFault;
+use grove_wire::{Part, StandingFault};
 use serde_json::Value;
 use std::alloc::Global;
 
 /// Why an event may not happen.
-pub(crate) fn event_amiss(
-    alloc: Global,
-    document: &Value,
-    event: &str,
-    rule: &[&str],
-) -> Result<String, NoMemory> {
-    let job = job_of(document, event).unwrap_or(0);
-    let Some((rule, holder)) = rule.split_first() else {
-        return Ok(format!(in alloc; "events {event} may not happen then")?);
-    };
-    match *rule {
-        "no-job" => {
-            let count = length_of(document.get("jobs"));
-            Ok(format!(in alloc;
-                "events {event} is about job {job}, but there are only {count} jobs; they count from 0"
-            )?)
+pub(crate) fn event_amiss(alloc: Global, subject: Subject<'_>, at: u32, fault: StepFault) -> Told {
+    let event = subject.items(Part::Events, None).get(at as usize);
+    let job = event
+        .and_then(|event| event.get(1))
+        .and_then(Value::as_u64)
+        .unwrap_or(0);
+    let count = subject.items(Part::Jobs, None).len();
+    let (does, how) = match fault {
+        StepFault::NoTxn => (
+            "is about",
+            format!(in alloc; ", but there are only {count} jobs; they count from 0")?,
+        ),
+        StepFault::Ended => ("is about", words(alloc, ", which has done its last step")?),
+        StepFault::Blocked(holder) => {
+            (
+                "lets",
+                format!(in alloc; " lock a node that job {holder} holds")?,
+            )
         }
-        "ended" => Ok(format!(in alloc;
-            "events {event} is about job {job}, which has done its last step"
-        )?),
-        "blocked" => {
-            let holder = holder.first().copied().unwrap_or("");
-            Ok(format!(in alloc;
-                "events {event} lets job {job} lock a node that job {holder} holds"
-            )?)
-        }
-        "not-blocked" => Ok(format!(in alloc;
-            "events {event} marks job {job}, whose next step isn't a lock of a node that another job holds"
-        )?),
-        _ => Ok(format!(in alloc;
-            "events {event} marks a step of job {job} that has its mark already"
-        )?),
-    }
-}
-
-fn job_of(document: &Value, event: &str) -> Option<u64> {
-    let place = Place {
-        part: Part::Events,
-        at: Some(number_of(event)?),
-        item: None,
+        StepFault::NotBlocked => (
+            "marks",
+            words(
+                alloc,
+                ", whose next step isn't a lock of a node that another job holds",
+            )?,
+        ),
+        StepFault::Marked => (
+            "marks a step of",
+            words(alloc, " that has its mark already")?,
+        ),
     };
-    value_at(document, place)?.get(1)?.as_u64()
-}
-
-/// A job that isn't at its end.
-pub(crate) fn job_unfinished(alloc: Global, job: &str) -> Result<String, NoMemory> {
-    Ok(format!(in alloc; "job {job} has steps left after the last event")?)
+    Ok(format!(in alloc; "events {at} {does} job {job}{how}")?)
 }
 
 /// What is said to stand isn't what the events leave.
-pub(crate) fn standing_amiss(
-    alloc: Global,
-    document: &Value,
-    what: &str,
-    number: &[&str],
-) -> Result<String, NoMemory> {
-    let stands = match document.get("standing") {
-        Some(standing) => length_of(standing.get(what)),
-        None => 0,
+pub(crate) fn standing_amiss(alloc: Global, subject: Subject<'_>, fault: StandingFault) -> Told {
+    let (what, number, each, part) = match fault {
+        StandingFault::Record(node) => ("records", node, "nodes", Part::Nodes),
+        StandingFault::Replies(job) => ("replies", job, "jobs", Part::Jobs),
     };
-    let each = match what {
-        "records" => "nodes",
-        _ => "jobs",
-    };
-    let wanted = length_of(document.get(each));
+    let standing = subject.value.get("standing");
+    let stands = standing
+        .and_then(|standing| standing.get(what))
+        .map_or(0, length_of);
+    let wanted = subject.items(part, None).len();
     if stands != wanted {
         return Ok(format!(in alloc;
             "\"{what}\" of standing has length {stands}, but the number of {each} is {wanted}"
         )?);
     }
-    let number = number.first().copied().unwrap_or("");
     Ok(format!(in alloc;
         "standing: {what} {number} isn't what the events leave of {each} {number}"
     )?)
-}
-
-fn length_of(value: Option<&Value>) -> usize {
-    match value {
-        Some(Value::Array(items)) => items.len(),
-        _ => 0,
-    }
 }

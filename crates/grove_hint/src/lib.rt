@@ -3,28 +3,20 @@
 
 pub use asked::Asked;
 pub use hinting::{awaited, hint, oversight};
-pub use session::hint_of_line;
+pub use session::{hint_of_line, hint_of_request};
 
-mod accesses;
-mod amiss;
 mod asked;
-mod flows;
+mod differences;
+mod forms;
 mod hinting;
 mod histories;
-mod limits;
-mod members;
-mod nearest;
-mod parts;
+mod likeness;
+mod line_faults;
 mod paths;
-mod place;
+mod places;
 mod plans;
-mod requests;
-mod scanning;
 mod session;
-mod shapes;
 mod shown;
-mod steps;
-mod strays;
+mod stops;
 mod syntax;
 mod trees;
-mod walk;

@@ -1,5 +1,5 @@
 -- Clap takes the words that are an order, and no others.
-use Rattle.std.proofs.Common.{◌≡◌, ◌≢◌, ◌∙◌, ap, refl, sym, subst, Bool, true, false, List, [], ◌∷◌, Option, Some, None, IsSomeAnd, inl, inr, codes, length, fold}
+use Rattle.std.proofs.Common.{◌≡◌, ◌≢◌, ◌∙◌, ap, refl, sym, subst, Bool, true, false, List, [], ◌∷◌, Option, Some, None, inl, inr, codes, length, fold}
 use Rattle.std.specs.Str.{bytes_eq}
 use Rattle.clap.specs.Words.{is_simple, is_simple_and_free, subcommand_of, Row, Rule, Shape, Text, fault_of, built}
 use Rattle.std.proofs.lemmas.Slice.Eq.{bytes_eq-Decides}
@@ -9,13 +9,12 @@ use Rattle.clap.specs.Walk.{subcommand_met, Names, walk, rows_after, Walk, idle,
 use Rattle.clap.specs.Faults.{word_fault, step_fault, entered_fault, level_fault, turn_fault, walk_fault}
 use Rattle.clap.specs.Kinds.{Kinds}
 use Rattle.clap.proofs.OnLiterals.{clap_on_literals}
-use Rattle.grove_words.specs.CommandLines.{grove_command, has_place, shape_for, is_option, AreDocument, AreFor, AreTakenFor, AskFor, GivePlace, text_of}
-use Rattle.grove_words.specs.Steps.{command_named}
+use Rattle.grove_words.specs.CommandLines.{grove_command, has_place, shape_for, is_option, AreDocument, AreFor, AreTakenFor, AskFor, GivePlace}
+use Rattle.grove_words.specs.Steps.{verb_named}
 use Rattle.grove_words.proofs.Words.{IsFaulty, or_faulty, or_later, not_none, hyphens, top_rules, top_long, top_short, IsOption, option_refused, HasNoFlag, no_flag, no_bundle, differs, Kind, hyphens_kind, option_kind, plain_kind, kind_of}
 use Rattle.grove_words.proofs.Documents.{document_in}
-use Rattle.grove_words.specs.declared.order.Command.{Command}
-use Rattle.grove_words.specs.declared.order.Command.TheVariants.{Judge, Check, Plan, Draw, Run, Audit, Serve, Page, Ask}
-use Rattle.grove_words.specs.declared.order.Order.{Order}
+use Rattle.grove_words.specs.CommandLines.{Verb}
+use Rattle.grove_words.specs.CommandLines.{Judge, Check, Plan, Draw, Run, Audit, Serve, Page, Ask}
 use Rattle.grove_words.specs.declared.order.Place.{Place}
 
 -- clap's statements hold of this command line
@@ -40,40 +39,35 @@ top = (built grove_command).top
 abbrev pub at_command : Text → Walk
 at_command command = record { held = nothing_held; waiting = idle; position = 1; is_trailing = false; stopped = Some (command, []) }
 
--- what the code makes of what clap found in the words
-pub record IsFound (words : List Text) (found : Order) : Type 0 where
-  pub bare : subcommand_of grove_command words ≡ None → (found.command ≡ Judge) × (found.document ≡ None)
-  pub command : (word : Text) (below : List Row) → subcommand_of grove_command words ≡ Some (word, below) → found.command ≡ command_named word
-  pub document : (word : Text) (below : List Row) → subcommand_of grove_command words ≡ Some (word, below) → text_of found.document ≡ document_in below
-  pub place : has_place found.command ≡ true → (place : Place) × GivePlace words place
+-- what is made of what clap found in the words
+pub record IsRead (words : List Text) (found : Verb) (called : Option Text) : Type 0 where
+  pub bare : subcommand_of grove_command words ≡ None → (found ≡ Judge) × (called ≡ None)
+  pub verb : (word : Text) (below : List Row) → subcommand_of grove_command words ≡ Some (word, below) → found ≡ verb_named word
+  pub name : (word : Text) (below : List Row) → subcommand_of grove_command words ≡ Some (word, below) → called ≡ document_in below
+  pub place : has_place found ≡ true → (place : Place) × GivePlace words place
 
--- a place that is told is one
-pub place_told : (words : List Text) (place : Option Place) → IsSomeAnd place (GivePlace words) → (p : Place) × GivePlace words p
-place_told words None is = absurd is
-place_told words (Some p) is = (p, is)
-
-abbrev pub word_of : Command → Text
-word_of command = (shape_for command).name
+abbrev pub word_of : Verb → Text
+word_of verb = (shape_for verb).name
 
 -- what clap reads the words after a command by
-abbrev pub shape_of : Command → Shape
-shape_of command = built_leaf (inherited grove_command.top (shape_for command))
+abbrev pub shape_of : Verb → Shape
+shape_of verb = built_leaf (inherited grove_command.top (shape_for verb))
 
-abbrev pub rules_of : Command → List Rule
-rules_of command = (shape_of command).rules
+abbrev pub rules_of : Verb → List Rule
+rules_of verb = (shape_of verb).rules
 
-abbrev pub below_fault : Command → List Text → Kinds
-below_fault command rest = level_fault (shape_of command) [] nothing_held rest false []
+abbrev pub below_fault : Verb → List Text → Kinds
+below_fault verb rest = level_fault (shape_of verb) [] nothing_held rest false []
 
 -- what clap makes of a command's word, and then the code
-pub record IsOneOf (command : Command) : Type 0 where
-  pub met : walked top_rules names (walk_from nothing_held) (word_of command) ≡ at_command (word_of command)
-  pub turns : turn_fault top names (walk_from nothing_held) (word_of command) ≡ []
-  pub enters : (rest : List Text) → entered (built grove_command) (Some (word_of command, rest)) ≡ Some (word_of command, rows_after (rules_of command) [] rest)
-  pub fails : (rest : List Text) → entered_fault (built grove_command) (Some (word_of command, rest)) ≡ below_fault command rest
-  pub named : command_named (word_of command) ≡ command
+pub record IsOneOf (verb : Verb) : Type 0 where
+  pub met : walked top_rules names (walk_from nothing_held) (word_of verb) ≡ at_command (word_of verb)
+  pub turns : turn_fault top names (walk_from nothing_held) (word_of verb) ≡ []
+  pub enters : (rest : List Text) → entered (built grove_command) (Some (word_of verb, rest)) ≡ Some (word_of verb, rows_after (rules_of verb) [] rest)
+  pub fails : (rest : List Text) → entered_fault (built grove_command) (Some (word_of verb, rest)) ≡ below_fault verb rest
+  pub named : verb_named (word_of verb) ≡ verb
 
-pub is_one_of : (command : Command) → IsOneOf command
+pub is_one_of : (verb : Verb) → IsOneOf verb
 unfolding clap_on_literals
 is_one_of Judge = record { met = refl; turns = refl; enters = λ rest. refl; fails = λ rest. refl; named = refl }
 is_one_of Check = record { met = refl; turns = refl; enters = λ rest. refl; fails = λ rest. refl; named = refl }
@@ -85,31 +79,31 @@ is_one_of Serve = record { met = refl; turns = refl; enters = λ rest. refl; fai
 is_one_of Page = record { met = refl; turns = refl; enters = λ rest. refl; fails = λ rest. refl; named = refl }
 is_one_of Ask = record { met = refl; turns = refl; enters = λ rest. refl; fails = λ rest. refl; named = refl }
 
-module _ (command : Command) (rest : List Text) where
-  stop_is : (walk top_rules names nothing_held (word_of command ∷ rest)).stopped ≡ Some (word_of command, rest)
+module _ (verb : Verb) (rest : List Text) where
+  stop_is : (walk top_rules names nothing_held (word_of verb ∷ rest)).stopped ≡ Some (word_of verb, rest)
   stop_is =
-      ap (λ (w : Walk). (fold (walked top_rules names) w rest).stopped) (is_one_of command).met
-      ∙ ap (λ (w : Walk). w.stopped) (sym (walk_stopped top_rules names (walk_from nothing_held) (word_of command) [] rest))
+      ap (λ (w : Walk). (fold (walked top_rules names) w rest).stopped) (is_one_of verb).met
+      ∙ ap (λ (w : Walk). w.stopped) (sym (walk_stopped top_rules names (walk_from nothing_held) (word_of verb) [] rest))
 
-  pub rows_are : subcommand_of grove_command (word_of command ∷ rest) ≡ Some (word_of command, rows_after (rules_of command) [] rest)
-  rows_are = ap (entered (built grove_command)) stop_is ∙ (is_one_of command).enters rest
+  pub rows_are : subcommand_of grove_command (word_of verb ∷ rest) ≡ Some (word_of verb, rows_after (rules_of verb) [] rest)
+  rows_are = ap (entered (built grove_command)) stop_is ∙ (is_one_of verb).enters rest
 
-  fault_below : IsFaulty (below_fault command rest) → IsFaulty (fault_of grove_command (word_of command ∷ rest))
+  fault_below : IsFaulty (below_fault verb rest) → IsFaulty (fault_of grove_command (word_of verb ∷ rest))
   fault_below faulty =
-      let stop = (walk top_rules names nothing_held (word_of command ∷ rest)).stopped in
-      let below : IsFaulty (entered_fault (built grove_command) stop) = rw stop_is (rw ((is_one_of command).fails rest) faulty) in
-      or_later (walk_fault (built grove_command).top names (walk_from nothing_held) (word_of command ∷ rest)) _ (or_faulty (entered_fault (built grove_command) stop) _ below)
+      let stop = (walk top_rules names nothing_held (word_of verb ∷ rest)).stopped in
+      let below : IsFaulty (entered_fault (built grove_command) stop) = rw stop_is (rw ((is_one_of verb).fails rest) faulty) in
+      or_later (walk_fault (built grove_command).top names (walk_from nothing_held) (word_of verb ∷ rest)) _ (or_faulty (entered_fault (built grove_command) stop) _ below)
 
-  none_below : fault_of grove_command (word_of command ∷ rest) ≡ [] → below_fault command rest ≡ []
-  none_below taken = by_kinds (below_fault command rest) refl
+  none_below : fault_of grove_command (word_of verb ∷ rest) ≡ [] → below_fault verb rest ≡ []
+  none_below taken = by_kinds (below_fault verb rest) refl
     where
-      by_kinds : (kinds : Kinds) → below_fault command rest ≡ kinds → below_fault command rest ≡ []
+      by_kinds : (kinds : Kinds) → below_fault verb rest ≡ kinds → below_fault verb rest ≡ []
       by_kinds [] none = none
-      by_kinds (k ∷ ks) some = absurd (not_none (fault_of grove_command (word_of command ∷ rest)) (fault_below (subst IsFaulty (sym some) tt)) taken)
+      by_kinds (k ∷ ks) some = absurd (not_none (fault_of grove_command (word_of verb ∷ rest)) (fault_below (subst IsFaulty (sym some) tt)) taken)
 
 -- what a word is at the top: a command's, `help`, or neither
 data Which (word : Text) : Type 0 where
-  a_command : (command : Command) → word ≡ word_of command → Which word
+  a_command : (verb : Verb) → word ≡ word_of verb → Which word
   a_help : word ≡ codes "help" → Which word
   neither : subcommand_met names idle word ≡ None → Which word
 
@@ -174,27 +168,25 @@ hyphens_found = refl
 
 -- ---- the whole line
 
--- it is an order that the words ask for
+-- it is what the words ask for
 abbrev IsReadLine : List Text → Type 0
-IsReadLine words = (found : Order) → IsFound words found → AskFor words found
+IsReadLine words = (verb : Verb) (name : Option Text) → IsRead words verb name → AskFor words verb name
 
 bare_reads : (words : List Text) → AreDocument words None → subcommand_of grove_command words ≡ None → IsReadLine words
-bare_reads words are none found is = inr (are, (is.bare none).0, (is.bare none).1)
+bare_reads words are none verb name is = inr (are, (is.bare none).0, (is.bare none).1)
 
 -- the words after a command that are taken name the command's document, and its place
-names_document : (command : Command) (rest : List Text) → fault_of grove_command (word_of command ∷ rest) ≡ []
-    → (found : Order) → IsFound (word_of command ∷ rest) found → found.command ≡ command
-    → AreFor command (word_of command ∷ rest) (text_of found.document)
-names_document command rest taken found is same =
-    let rows = rows_after (rules_of command) [] rest in
-    let taken_for : AreTakenFor command (word_of command ∷ rest) (text_of found.document) =
-    (taken, rows, rows_are command rest, sym (is.document (word_of command) rows (rows_are command rest))) in
+names_document : (verb : Verb) (rest : List Text) → fault_of grove_command (word_of verb ∷ rest) ≡ []
+    → (found : Verb) (name : Option Text) → IsRead (word_of verb ∷ rest) found name → found ≡ verb → AreFor verb (word_of verb ∷ rest) name
+names_document verb rest taken found name is same =
+    let rows = rows_after (rules_of verb) [] rest in
+    let taken_for : AreTakenFor verb (word_of verb ∷ rest) name = (taken, rows, rows_are verb rest, sym (is.name (word_of verb) rows (rows_are verb rest))) in
     (inr taken_for, λ placed. is.place (ap has_place same ∙ placed))
 
-command_reads : (command : Command) (rest : List Text) → fault_of grove_command (word_of command ∷ rest) ≡ [] → IsReadLine (word_of command ∷ rest)
-command_reads command rest taken found is =
-    let same : found.command ≡ command = is.command (word_of command) (rows_after (rules_of command) [] rest) (rows_are command rest) ∙ (is_one_of command).named in
-    inl (subst (λ c. AreFor c (word_of command ∷ rest) (text_of found.document)) (sym same) (names_document command rest taken found is same))
+command_reads : (verb : Verb) (rest : List Text) → fault_of grove_command (word_of verb ∷ rest) ≡ [] → IsReadLine (word_of verb ∷ rest)
+command_reads verb rest taken found name is =
+    let same : found ≡ verb = is.verb (word_of verb) (rows_after (rules_of verb) [] rest) (rows_are verb rest) ∙ (is_one_of verb).named in
+    inl (subst (λ v. AreFor v (word_of verb ∷ rest) name) (sym same) (names_document verb rest taken found name is same))
 
 pub line_reads : (words : List Text) → fault_of grove_command words ≡ [] → IsReadLine words
 line_reads [] taken = bare_reads [] (inl refl) no_command_found
@@ -214,7 +206,7 @@ line_reads (word ∷ rest) taken = by_which (which word)
     by_kind none (plain_kind other is) = refused (top_plain word rest none other is)
 
     by_which : Which word → IsReadLine (word ∷ rest)
-    by_which (a_command command is) =
-        subst (λ w. IsReadLine (w ∷ rest)) (sym is) (command_reads command rest (subst (λ w. fault_of grove_command (w ∷ rest) ≡ []) is taken))
+    by_which (a_command verb is) =
+        subst (λ w. IsReadLine (w ∷ rest)) (sym is) (command_reads verb rest (subst (λ w. fault_of grove_command (w ∷ rest) ≡ []) is taken))
     by_which (a_help is) = refused (subst (λ w. IsFaulty (fault_of grove_command (w ∷ rest))) (sym is) (help_then rest))
     by_which (neither none) = by_kind none (kind_of word)

@@ -1,15 +1,11 @@
--- The word that clap finds is the command's, and the place is the one that its texts write. What an order says by the texts of a command, it says by the words.
-use Rattle.std.proofs.Common.{◌≡◌, ◌∙◌, ℕ, ap, ◌<◌, ◌⊎◌, codes, false, List, [], true, unwrap_or, Option, Some, None, Result, Ok, Err, IfSome, IsSomeAnd, inl, inr, option_map, refl, subst, sym, arith}
-use Rattle.std.specs.Prelude.{option_and_then}
+-- Clap finds a command's word with its rows, and the place is the one that its texts write.
+use Rattle.std.proofs.Common.{◌≡◌, ◌∙◌, ℕ, ap, ◌<◌, ◌⊎◌, Option, Some, None, Result, Ok, Err, IfSome, IsSomeAnd, inl, inr, option_map, refl, subst, sym, arith}
 use Rattle.std.specs.Net.Grammar.{IsIpText, Parses}
 use Rattle.std.specs.Str.Parse.{ParsesUnsigned, digits_value, without_leading_plus}
 use Rattle.std.specs.declared.net.ip_addr.IpAddr.{IpAddr}
-use Rattle.clap.specs.Words.{ReadsOne, Row, Text, all_of, one_of, subcommand_of}
-use Rattle.grove_words.specs.declared.order.Form.TheVariants.{Svg, Text as Written}
-use Rattle.grove_words.specs.declared.order.Order.{Order}
+use Rattle.clap.specs.Words.{ReadsOne, Text}
 use Rattle.grove_words.specs.declared.order.Place.{Place}
-use Rattle.grove_words.specs.CommandLines.{grove_command, lines_given, text_given, AreWorkers, Chooses, IsIdle, IsPlace, Writes}
-use Rattle.grove_words.specs.Steps.{Says}
+use Rattle.grove_words.specs.CommandLines.{IsPlace, Writes}
 
 -- an address that is read is what its text writes
 address_read : {E : Type 0} (gives : Text → Result IpAddr E → Type 0) (found : Option Text) (address : Option IpAddr) → (found ≡ None → address ≡ None)
@@ -81,58 +77,14 @@ pub place_unread : {E F : Type 0} (gives : Text → Result IpAddr E → Type 0) 
 place_unread gives offers bound ported address port text parses ported_text reads (inl none) p is = address_unread gives bound address text parses none p.address is.0
 place_unread gives offers bound ported address port text parses ported_text reads (inr none) p is = port_unread offers ported port ported_text reads none p.port is.1
 
--- the text under a name among a command's rows is the one that the words give
-pub text_among : (words : List Text) (found : Option (Text × List Row)) (rows : List Row) (name : Text) → Some rows ≡ option_map (λ f. f.1) found
-    → found ≡ subcommand_of grove_command words → one_of name rows ≡ text_given words name
-text_among words None rows name at is = absurd (cc)
-text_among words (Some (word, below)) rows name at is =
-    let same : rows ≡ below = cc in
-    ap (one_of name) same ∙ ap (option_and_then (λ (f : Text × List Row). one_of name f.1)) is
-
--- what an order says by some texts, it says by the same texts
-pub says_same : (texts others : Text → Option Text) (order : Order) → ((name : Text) → texts name ≡ others name) → Says texts order → Says others order
-says_same texts others order same says = record {
-  workers = subst (λ t. AreWorkers t order.workers) (same (codes "workers")) says.workers;
-  form = subst (λ t. Chooses Written Svg t order.form) (same (codes "text")) says.form;
-  in_document = subst (λ t. Chooses true false t order.in_document) (same (codes "document")) says.in_document;
-  explain = subst (λ t. Chooses true false t order.explain) (same (codes "explain")) says.explain;
-  verbose = subst (λ t. Chooses true false t order.verbose) (same (codes "verbose")) says.verbose;
-  idle = subst (λ t. IsIdle t order.patience.idle) (same (codes "idle")) says.idle;
-  busy = subst (λ t. Chooses true false t order.patience.tells_busy) (same (codes "busy")) says.busy;
-  place = λ placed. subst (λ t. IsSomeAnd order.place (IsPlace t (others (codes "port")))) (same (codes "address"))
-      (subst (λ t. IsSomeAnd order.place (IsPlace (texts (codes "address")) t)) (same (codes "port")) (says.place placed));
-}
-
--- without a command an order says what it does by no text
-pub says_bare : (words : List Text) (found : Option (Text × List Row)) (order : Order) → None ≡ option_map (λ f. f.1) found → found ≡ subcommand_of grove_command words
-    → Says (λ name. None) order → Says (text_given words) order
-says_bare words None order none is says =
-    says_same (λ name. None) (text_given words) order (λ name. ap (option_and_then (λ (f : Text × List Row). one_of name f.1)) is) says
-says_bare words (Some f) order none is says = absurd (cc)
-
--- the lines of a command, of what clap found
-abbrev lines_of : Option (Text × List Row) → List Text
-lines_of found = unwrap_or (option_and_then (λ (f : Text × List Row). all_of (codes "LINE") f.1) found) []
-
--- those among a command's rows are the lines that the words give
-pub lines_among : (words : List Text) (found : Option (Text × List Row)) (rows : List Row) → Some rows ≡ option_map (λ f. f.1) found
-    → found ≡ subcommand_of grove_command words → unwrap_or (all_of (codes "LINE") rows) [] ≡ lines_given words
-lines_among words None rows at is = absurd (cc)
-lines_among words (Some (word, below)) rows at is =
-    let same : rows ≡ below = cc in
-    ap (λ r. unwrap_or (all_of (codes "LINE") r) []) same ∙ ap lines_of is
-
--- and without a command there are none
-pub no_lines : (words : List Text) (found : Option (Text × List Row)) → None ≡ option_map (λ f. f.1) found → found ≡ subcommand_of grove_command words
-    → [] ≡ lines_given words
-no_lines words None none is = ap lines_of is
-no_lines words (Some f) none is = absurd (cc)
-
--- the word that clap finds is the command's
-pub word_among : {A B : Type 0} (name : A → Text) (below : A → B) (found : Option A) (word other : Text) (rows : B) → Some word ≡ option_map name found
-    → option_map {U = Text × B} (λ a. (name a, below a)) found ≡ Some (other, rows) → word ≡ other
-word_among name below None word other rows is at = absurd (cc)
-word_among {A} {B} name below (Some a) word other rows is at =
+-- clap finds a command's word with its rows
+pub found_is : {A B : Type 0} (name : A → Text) (below : A → B) (found : Option A) (word : Text) (rows : B) → Some word ≡ option_map name found
+    → Some rows ≡ option_map {T = Text × B} (λ both. both.1) (option_map {U = Text × B} (λ a. (name a, below a)) found)
+    → ◌≡◌ {A = Option (Text × B)} (Some (word, rows)) (option_map {U = Text × B} (λ a. (name a, below a)) found)
+found_is name below None word rows is at = absurd (cc)
+found_is {A} {B} name below (Some a) word rows is at =
     let one : word ≡ name a = cc in
-    let both : ◌≡◌ {A = Text × B} (name a, below a) (other, rows) = cc in
-    one ∙ ap (λ (both : Text × B). both.0) both
+    let two : rows ≡ below a = cc in
+    let P : Text → Type 0 = λ w. ◌≡◌ {A = Option (Text × B)} (Some (w, rows)) (Some (name a, below a)) in
+    let Q : B → Type 0 = λ r. ◌≡◌ {A = Option (Text × B)} (Some (name a, r)) (Some (name a, below a)) in
+    subst P (sym one) (subst Q (sym two) refl)

@@ -1,21 +1,28 @@
 -- The words of a command line: which order they are, and how clap is to read them.
-use Rattle.std.specs.Prelude.{◌≡◌, ◌≢◌, ◌<◌, ◌≤◌, ℕ, pos, codes, Bool, true, false, ◌||◌, List, [], ◌∷◌, ◌++◌, map, Option, None, Some, is_some, option_map, option_and_then, slice_get, unwrap_or, IsSomeAnd, ◌⊎◌}
-use Rattle.std.specs.Borrow.{Bor}
+use Rattle.std.specs.Prelude.{◌≡◌, ◌≢◌, ◌<◌, ◌≤◌, ℕ, pos, codes, Bool, true, false, ◌||◌, List, [], ◌∷◌, ◌++◌, map, Option, None, Some, is_some, option_and_then, slice_get, IsSomeAnd, ◌⊎◌}
 use Rattle.std.specs.Str.{chars}
 use Rattle.std.specs.Str.Parse.{IsNumeral, digits_value, without_leading_plus}
 use Rattle.std.specs.Net.Grammar.{IsIpText}
 use Rattle.clap.specs.Lexer.{long_of, short_of}
-use Rattle.clap.specs.Words.{App, IsAmong, Row, Rule, Shape, all_of, fault_of, first_of, new_app, new_rule, one_of, subcommand_of}
+use Rattle.clap.specs.Words.{App, IsAmong, Row, Rule, Shape, fault_of, first_of, new_app, new_rule, one_of, subcommand_of}
 use Rattle.clap.specs.declared.builder.action.ArgAction.TheVariants.{Append, SetTrue}
 use Rattle.clap.specs.declared.builder.value_parser.ValueParser.TheVariants.{Signed}
 use Rattle.clap.specs.declared.error.kind.ErrorKind.TheVariants.{DisplayHelp, DisplayVersion}
-use Rattle.grove_words.specs.declared.order.Command.{Command}
-use Rattle.grove_words.specs.declared.order.Command.TheVariants.{Judge, Check, Plan, Draw, Run, Audit, Serve, Page, Ask}
 use Rattle.grove_words.specs.declared.order.Form.{Form}
 use Rattle.grove_words.specs.declared.order.Form.TheVariants.{Svg, Text}
-use Rattle.grove_words.specs.declared.order.Order.{Order}
-use Rattle.grove_words.specs.declared.order.Patience.{Patience}
 use Rattle.grove_words.specs.declared.order.Place.{Place}
+
+-- the commands by their words
+pub data Verb : Type 0 where
+  Judge : Verb
+  Check : Verb
+  Plan : Verb
+  Draw : Verb
+  Run : Verb
+  Audit : Verb
+  Serve : Verb
+  Page : Verb
+  Ask : Verb
 
 -- ---- the command line that clap reads
 
@@ -60,7 +67,7 @@ abbrev pub command_with : List ℕ → List Rule → Shape
 command_with word rules = record (new_app word).top { rules = rules }
 
 -- the commands, each with its word and what it takes
-abbrev pub shape_for : Command → Shape
+abbrev pub shape_for : Verb → Shape
 shape_for Judge = command_with (codes "judge") reading
 shape_for Check = command_with (codes "check") reading
 shape_for Plan = command_with (codes "plan") (reading ++ flag (codes "document") ∷ [])
@@ -85,19 +92,15 @@ text_given words name = option_and_then (λ found. one_of name found.1) (subcomm
 -- ---- commands, documents and places
 
 -- the commands that serve a store at a place
-abbrev pub serves : Command → Bool
+abbrev pub serves : Verb → Bool
 serves Serve = true
 serves Page = true
 serves _ = false
 
 -- the commands that have a place: those, and the one that asks a server
-abbrev pub has_place : Command → Bool
+abbrev pub has_place : Verb → Bool
 has_place Ask = true
-has_place command = serves command
-
--- the name of a document, as text
-abbrev pub text_of : Option (Bor (List ℕ)) → Option (List ℕ)
-text_of name = option_map (λ text. text.now) name
+has_place verb = serves verb
 
 -- a word is an option where two hyphens and more begin it, or one and a character
 abbrev pub is_option : List ℕ → Bool
@@ -114,14 +117,14 @@ AreDocument words (Some name) = ((words ≡ name ∷ []) × IsPlain name)
     ⊎ ((words ≡ codes "--" ∷ name ∷ []) ⊎ ((words ≡ name ∷ codes "--" ∷ []) × IsPlain name))
 
 -- the words are a command that has no option of its own, and then its document
-abbrev pub AreCommand : Command → List (List ℕ) → Option (List ℕ) → Type 0
-AreCommand command words document = ((shape_for command).rules ≡ reading)
-    × (rest : List (List ℕ)) × (words ≡ (shape_for command).name ∷ rest) × AreDocument rest document
+abbrev pub AreCommand : Verb → List (List ℕ) → Option (List ℕ) → Type 0
+AreCommand verb words name = ((shape_for verb).rules ≡ reading)
+    × (rest : List (List ℕ)) × (words ≡ (shape_for verb).name ∷ rest) × AreDocument rest name
 
--- clap takes the words for a command, options and all, and this is the document among them
-abbrev pub AreTakenFor : Command → List (List ℕ) → Option (List ℕ) → Type 0
-AreTakenFor command words document = (fault_of grove_command words ≡ [])
-    × (rows : List Row) × (subcommand_of grove_command words ≡ Some ((shape_for command).name, rows)) × (first_of (codes "DOC") rows ≡ document)
+-- clap takes the words for a command, options and all, and this names the document among them
+abbrev pub AreTakenFor : Verb → List (List ℕ) → Option (List ℕ) → Type 0
+AreTakenFor verb words name = (fault_of grove_command words ≡ [])
+    × (rows : List Row) × (subcommand_of grove_command words ≡ Some ((shape_for verb).name, rows)) × (first_of (codes "DOC") rows ≡ name)
 
 -- the text writes this number
 abbrev pub Writes : List ℕ → ℕ → Type 0
@@ -138,22 +141,21 @@ GivePlace words place = IsPlace (text_given words (codes "address")) (text_given
 -- ---- the words that are an order
 
 -- the words are a command with its document, if that has a name, and with its place, if it has one
-abbrev pub AreFor : Command → List (List ℕ) → Option (List ℕ) → Type 0
-AreFor command words document = (AreCommand command words document ⊎ AreTakenFor command words document)
-    × (has_place command ≡ true → (place : Place) × GivePlace words place)
+abbrev pub AreFor : Verb → List (List ℕ) → Option (List ℕ) → Type 0
+AreFor verb words name = (AreCommand verb words name ⊎ AreTakenFor verb words name)
+    × (has_place verb ≡ true → (place : Place) × GivePlace words place)
 
--- the words ask for an order; with no command, standard input is to be judged
-abbrev pub AskFor : List (List ℕ) → Order → Type 0
-AskFor words order = AreFor order.command words (text_of order.document)
-    ⊎ (AreDocument words None × (order.command ≡ Judge) × (order.document ≡ None))
+-- the words ask for a command and the document of a name, or with no name standard input; with no command, that is to be judged
+abbrev pub AskFor : List (List ℕ) → Verb → Option (List ℕ) → Type 0
+AskFor words verb name = AreFor verb words name ⊎ (AreDocument words None × (verb ≡ Judge) × (name ≡ None))
 
 -- they ask for an order with a device of its own: a document with a name, or a place
 abbrev pub NameDevice : List (List ℕ) → Type 0
-NameDevice words = (order : Order) × AskFor words order × ((order.document ≢ None) ⊎ (has_place order.command ≡ true))
+NameDevice words = (verb : Verb) × (name : Option (List ℕ)) × AskFor words verb name × ((name ≢ None) ⊎ (has_place verb ≡ true))
 
 -- they ask to serve at this place
 abbrev pub AskToServe : List (List ℕ) → Place → Type 0
-AskToServe words place = (order : Order) × AskFor words order × (serves order.command ≡ true) × GivePlace words place
+AskToServe words place = (verb : Verb) × (name : Option (List ℕ)) × AskFor words verb name × (serves verb ≡ true) × GivePlace words place
 
 -- they ask for help or the version
 abbrev pub AskToShow : List (List ℕ) → Type 0
@@ -161,7 +163,7 @@ AskToShow words = (fault_of grove_command words ≡ DisplayHelp ∷ []) ⊎ (fau
 
 -- they ask for no order, and not for help or the version
 pub record AreWrong (words : List (List ℕ)) : Type 0 where
-  pub no_order : (order : Order) → ¬ AskFor words order
+  pub no_order : (verb : Verb) (name : Option (List ℕ)) → ¬ AskFor words verb name
   pub no_help : ¬ IsAmong DisplayHelp (fault_of grove_command words)
   pub no_version : ¬ IsAmong DisplayVersion (fault_of grove_command words)
 
@@ -172,41 +174,16 @@ abbrev pub AreWorkers : Option (List ℕ) → ℕ → Type 0
 AreWorkers None workers = workers ≡ 4
 AreWorkers (Some text) workers = (number : ℕ) → Writes text number → 1 ≤ number → number ≤ 16 → workers ≡ number
 
--- the words ask for so many workers
-abbrev pub AskForWorkers : List (List ℕ) → ℕ → Type 0
-AskForWorkers words workers = AreWorkers (text_given words (codes "workers")) workers
-
 -- the text of a flag chooses the first of two values where it is set, else the second
 abbrev pub Chooses : {A : Type 0} → A → A → Option (List ℕ) → A → Type 0
 Chooses set unset None value = value ≡ unset
 Chooses set unset (Some text) value = (text ≡ codes "true" → value ≡ set) × (text ≡ codes "false" → value ≡ unset)
 
--- the words ask for this form
-abbrev pub AskForForm : List (List ℕ) → Form → Type 0
-AskForForm words form = Chooses Text Svg (text_given words (codes "text")) form
-
--- the words ask for a plan in its document
-abbrev pub AskForDocument : List (List ℕ) → Bool → Type 0
-AskForDocument words in_document = Chooses true false (text_given words (codes "document")) in_document
-
 -- the words ask for the system's reason where a file or a port fails
 abbrev pub AskToExplain : List (List ℕ) → Bool → Type 0
 AskToExplain words explain = Chooses true false (text_given words (codes "explain")) explain
-
--- the words ask a server to tell of its connections
-abbrev pub AskToTell : List (List ℕ) → Bool → Type 0
-AskToTell words verbose = Chooses true false (text_given words (codes "verbose")) verbose
 
 -- so many seconds are asked for by a text: the number from 1 to 86400 that it writes, and none where there is none
 abbrev pub IsIdle : Option (List ℕ) → Option ℕ → Type 0
 IsIdle None idle = idle ≡ None
 IsIdle (Some text) idle = (number : ℕ) → Writes text number → 1 ≤ number → number ≤ 86400 → idle ≡ Some number
-
--- the words ask for this patience
-abbrev pub AskForPatience : List (List ℕ) → Patience → Type 0
-AskForPatience words patience = IsIdle (text_given words (codes "idle")) patience.idle
-    × Chooses true false (text_given words (codes "busy")) patience.tells_busy
-
--- the lines that the words ask a server
-abbrev pub lines_given : List (List ℕ) → List (List ℕ)
-lines_given words = unwrap_or (option_and_then (λ found. all_of (codes "LINE") found.1) (subcommand_of grove_command words)) []

@@ -1,4 +1,4 @@
 pub mod CommandLines
 pub mod NoOrders
-pub mod Refusals
+pub mod Orders
 pub mod Steps

@@ -1,14 +1,20 @@
 -- For the proofs alone: what the steps of building and of reading a command line give.
-use Rattle.std.specs.Prelude.{◌≡◌, ℕ, List, Option, codes, true, false, IsSomeAnd, if◌then◌else◌}
+use Rattle.std.specs.Prelude.{◌≡◌, ◌⊎◌, ℕ, List, [], Option, None, Some, codes, true, false, if◌then◌else◌}
 use Rattle.std.specs.Str.{bytes_eq}
-use Rattle.clap.specs.Words.{App, Rule, Shape, new_app, rule_of, shape_of}
+use Rattle.clap.specs.Words.{App, HasKind, Row, Rule, Shape, fault_of, first_of, new_app, one_of, rule_of, shape_of}
+use Rattle.clap.specs.Values.{kind_of}
 use Rattle.clap.specs.declared.builder.arg.Arg.{Arg}
 use Rattle.clap.specs.declared.builder.command.Command.{Command as ClapCommand, out-Command}
-use Rattle.grove_words.specs.declared.order.Command.{Command}
-use Rattle.grove_words.specs.declared.order.Command.TheVariants.{Judge, Check, Plan, Draw, Run, Audit, Serve, Page, Ask}
-use Rattle.grove_words.specs.declared.order.Form.TheVariants.{Svg, Text}
+use Rattle.clap.specs.declared.error.Error.{Error}
+use Rattle.clap.specs.declared.error.kind.ErrorKind.TheVariants.{InvalidValue, OutOfMemory}
+use Rattle.grove_words.specs.declared.order.Command.TheVariants as command
+use Rattle.grove_words.specs.declared.order.Document.TheVariants.{StandardInput}
+use Rattle.grove_words.specs.declared.order.Invocation.{Invocation}
 use Rattle.grove_words.specs.declared.order.Order.{Order}
-use Rattle.grove_words.specs.CommandLines.{has_place, AreWorkers, Chooses, IsIdle, IsPlace}
+use Rattle.grove_words.specs.declared.order.Order.TheVariants as order
+use Rattle.grove_words.specs.declared.order.Place.{Place}
+use Rattle.grove_words.specs.CommandLines.{grove_command, has_place, Verb, Judge, Check, Plan, Draw, Run, Audit, Serve, Page, Ask, AskFor, Chooses, IsPlace}
+use Rattle.grove_words.specs.Orders.{lines_in, name_in, verb_of, Says}
 
 -- an argument has this rule, and is its command's alone
 abbrev pub HasRule : Rule → Arg → Type 0
@@ -22,9 +28,9 @@ HasShape shape command = (shape_of command ≡ shape) × ((out-Command command).
 abbrev pub no_command : App
 no_command = record { top = record (new_app (codes "grove")).top { no_binary_name = true; has_version = true }; subs = (new_app (codes "grove")).subs }
 
--- the command that a word names; any other word is taken for `judge`
-abbrev pub command_named : List ℕ → Command
-command_named word =
+-- the verb that a word is; any other word is taken for `judge`
+abbrev pub verb_named : List ℕ → Verb
+verb_named word =
     if bytes_eq word (codes "check") then Check
     else if bytes_eq word (codes "plan") then Plan
     else if bytes_eq word (codes "draw") then Draw
@@ -35,13 +41,41 @@ command_named word =
     else if bytes_eq word (codes "ask") then Ask
     else Judge
 
--- an order says what the texts under the names of its options do
-pub record Says (texts : List ℕ → Option (List ℕ)) (order : Order) : Type 0 where
-  pub workers : AreWorkers (texts (codes "workers")) order.workers
-  pub form : Chooses Text Svg (texts (codes "text")) order.form
-  pub in_document : Chooses true false (texts (codes "document")) order.in_document
-  pub explain : Chooses true false (texts (codes "explain")) order.explain
-  pub verbose : Chooses true false (texts (codes "verbose")) order.verbose
-  pub idle : IsIdle (texts (codes "idle")) order.patience.idle
-  pub busy : Chooses true false (texts (codes "busy")) order.patience.tells_busy
-  pub place : has_place order.command ≡ true → IsSomeAnd order.place (IsPlace (texts (codes "address")) (texts (codes "port")))
+-- an order's document has this name, if it has one
+abbrev pub HasName : Option (List ℕ) → Order → Type 0
+HasName name (order.Do command document) = name_in document ≡ name
+HasName name (order.Ask place lines) = Unit {0}
+
+-- this was found under a command's word
+pub record IsFoundIn (word : List ℕ) (rows : List Row) (invocation : Invocation) : Type 0 where
+  pub verb : verb_of invocation.order ≡ verb_named word
+  pub name : HasName (first_of (codes "DOC") rows) invocation.order
+  pub said : Says (λ name. one_of name rows) (lines_in rows) invocation.order
+  pub explain : Chooses true false (one_of (codes "explain") rows) invocation.explain
+
+-- this was found, with a command's word or with none
+abbrev pub IsFound : Option (List ℕ × List Row) → Invocation → Type 0
+IsFound None invocation = (invocation.order ≡ order.Do command.Judge StandardInput) × (invocation.explain ≡ false)
+IsFound (Some (word, rows)) invocation = IsFoundIn word rows invocation
+
+-- there is no memory, or the texts give no place
+abbrev pub IsNoPlace : (List ℕ → Option (List ℕ)) → Error → Type 0
+IsNoPlace texts error = (kind_of error ≡ OutOfMemory)
+    ⊎ ((kind_of error ≡ InvalidValue) × ((place : Place) → ¬ IsPlace (texts (codes "address")) (texts (codes "port")) place))
+
+-- and the word is that of a command with a place
+abbrev pub IsUnplaced : List ℕ → (List ℕ → Option (List ℕ)) → Error → Type 0
+IsUnplaced word texts error = (kind_of error ≡ OutOfMemory)
+    ⊎ ((kind_of error ≡ InvalidValue) × (has_place (verb_named word) ≡ true) × ((place : Place) → ¬ IsPlace (texts (codes "address")) (texts (codes "port")) place))
+
+abbrev pub IsPlaceless : Option (List ℕ × List Row) → Error → Type 0
+IsPlaceless None error = kind_of error ≡ OutOfMemory
+IsPlaceless (Some (word, rows)) error = IsUnplaced word (λ name. one_of name rows) error
+
+-- words that clap takes, and that are no order all the same: they have no place where one is asked for
+abbrev pub IsNowhere : List (List ℕ) → Error → Type 0
+IsNowhere words error = (kind_of error ≡ InvalidValue) × (fault_of grove_command words ≡ []) × ((verb : Verb) (name : Option (List ℕ)) → ¬ AskFor words verb name)
+
+-- what words are told that are no order
+abbrev pub IsTold : List (List ℕ) → Error → Type 0
+IsTold words error = HasKind (fault_of grove_command words) error ⊎ IsNowhere words error

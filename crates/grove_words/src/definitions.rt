@@ -1,6 +1,6 @@
 ghost use Rattle.std.specs.Prelude.{◌≡◌, ◌∷◌, [], true, codes, IfOk};
 ghost use Rattle.clap.specs.Words.{App, Shape, app_of, with_subcommand};
-ghost use Rattle.grove_words.specs.declared.order.Command.TheVariants.{Plan, Draw, Run, Ask};
+ghost use Rattle.grove_words.specs.CommandLines.{Plan, Draw, Run, Ask};
 ghost use Rattle.grove_words.specs.CommandLines.{command_with, flag, grove_command, numbered, reading, serving, shape_for, valued, workers_option};
 ghost use Rattle.grove_words.specs.Steps.{no_command, HasRule, HasShape};
 

@@ -1,9 +1,9 @@
 //! The words of a command line: the order that they are, or what they are told.
 #![tactic(auto)]
 
-pub use command_line::{lines_asked, order_of};
+pub use command_line::order_of;
 pub use no_order::{NoOrder, not_text};
-pub use order::{Command, Form, Order, Patience, Place};
+pub use order::{Command, Document, Form, Invocation, Order, Patience, Place, Serving, Workers};
 
 mod command_line;
 mod definitions;

@@ -1,33 +1,73 @@
-ghost use Rattle.std.specs.Prelude.{◌≡◌};
-ghost use Rattle.grove_words.specs.CommandLines.{has_place, serves};
+ghost use Rattle.std.specs.Prelude.{◌≤◌};
 
 use std::net::IpAddr;
 
-/// What the words of a command line ask for.
-#[derive(Clone, Copy, Debug, PartialEq, Eq)]
-pub struct Order<'a> {
-    /// What is to be done.
-    pub command: Command,
-    /// The name of the document's file; without it, the document is standard input.
-    pub document: Option<&'a str>,
-    /// How many workers there are to run a batch.
-    pub workers: u32,
-    /// Where to listen, if a store is to be served, or where a server is, if one is to be asked.
-    pub place: Option<Place>,
-    /// How a drawing is to be written.
-    pub form: Form,
-    /// Whether a plan is to be written in its document.
-    pub in_document: bool,
-    /// Whether the system's reason is told where a file or a port fails.
+/// What the words of a command line ask for, and whether the system's reason is told where a file or a port fails.
+#[derive(Drop)]
+pub struct Invocation<'a> {
+    pub order: Order<'a>,
     pub explain: bool,
-    /// Whether a server tells of its connections.
-    pub verbose: bool,
-    /// What is done with connections that idle, and with those that find no seat.
-    pub patience: Patience,
 }
 
-/// Where a store is served.
-#[derive(Clone, Copy, Debug, PartialEq, Eq)]
+/// What is to be done.
+#[derive(Drop)]
+pub enum Order<'a> {
+    /// A command is done with a document.
+    Do {
+        command: Command,
+        document: Document<'a>,
+    },
+    /// A server is asked these lines, or those of standard input if there are none.
+    Ask {
+        place: Place,
+        lines: Vec<&'a str>,
+    },
+}
+
+/// What is done with a document.
+#[derive(Clone, Copy)]
+pub enum Command {
+    Judge,
+    Check,
+    /// The plan is written in its document, or alone.
+    Plan { in_document: bool },
+    Draw { form: Form },
+    Run { workers: Workers },
+    Audit,
+    /// Its store is served to sessions.
+    Serve(Serving),
+    /// Its store is served over HTTP.
+    Page(Serving),
+}
+
+/// Where a document is.
+#[derive(Clone, Copy)]
+pub enum Document<'a> {
+    StandardInput,
+    /// In the file of this name.
+    Named(&'a str),
+}
+
+/// Where and how a store is served.
+#[derive(Clone, Copy)]
+pub struct Serving {
+    pub place: Place,
+    pub workers: Workers,
+    pub patience: Patience,
+    /// Whether standard error is told of connections.
+    pub verbose: bool,
+}
+
+/// How many workers run lists at once.
+#[derive(Clone, Copy)]
+pub struct Workers {
+    pub number: u32,
+    pub ghost some: { 1 ≤ number },
+    pub ghost few: { number ≤ 16 },
+}
+
+/// An address and a port.
+#[derive(Clone, Copy)]
 pub struct Place {
     pub address: IpAddr,
     /// 0 stands for any port that is free.
@@ -35,7 +75,7 @@ pub struct Place {
 }
 
 /// What a server does with connections that idle, and with those that find no seat.
-#[derive(Clone, Copy, Debug, PartialEq, Eq)]
+#[derive(Clone, Copy)]
 pub struct Patience {
     /// After how many seconds without a whole line a connection is ended; without it, never.
     pub idle: Option<u32>,
@@ -44,40 +84,10 @@ pub struct Patience {
 }
 
 /// How a drawing is written.
-#[derive(Clone, Copy, Debug, PartialEq, Eq)]
+#[derive(Clone, Copy)]
 pub enum Form {
     /// As an SVG document.
     Svg,
     /// As lines for a terminal.
     Text,
-}
-
-/// What is to be done with a document, or with a server.
-#[derive(Clone, Copy, Debug, PartialEq, Eq)]
-pub enum Command {
-    Judge,
-    Check,
-    Plan,
-    Draw,
-    Run,
-    Audit,
-    Serve,
-    Page,
-    Ask,
-}
-
-impl Command {
-    /// The command listens at a place.
-    pub fn serves(self) -> bool
-        ensures { result ≡ serves self }
-    {
-        matches!(self, Command::Serve | Command::Page)
-    }
-
-    /// The command has a place.
-    pub fn has_place(self) -> bool
-        ensures { result ≡ has_place self }
-    {
-        matches!(self, Command::Serve | Command::Page | Command::Ask)
-    }
 }

@@ -6,8 +6,8 @@ use Rattle.grove_answer.specs.Outcomes.{IsAudited}
 use Rattle.grove_answer.proofs.Audits.{replay_fault_fits}
 use Rattle.grove_answer.proofs.auditing.audit_history.Goals as goal
 
-pub of_replay-requires : goal.of_replay-requires
-of_replay-requires c = replay_fault_fits c.args.history.now.tree c.deref.result.now c.deref-2.result.now c.in-Err.fault c.in-Err.ensures.fault
+pub of-requires : goal.of-requires
+of-requires c = replay_fault_fits c.args.history.now.tree c.deref.result.now c.deref-2.result.now c.in-Err.fault c.in-Err.ensures.fault
 
 pub returns-in-Ok : goal.returns-in-Ok
 returns-in-Ok c =

@@ -7,10 +7,10 @@ use Rattle.grove_answer.proofs.running.run_jobs.Goals as goal
 pub run_legal-requires-clause-legal : goal.run_legal-requires-clause-legal
 run_legal-requires-clause-legal g c κs live = settled_legal c.args.tree.now (map (λ (job : Job). job.list) c.args.jobs.now) c.args.jobs.now c.requires.settled
 
-pub of_run-requires : goal.of_run-requires
-of_run-requires g c = run_fault_fits c.args.tree.now c.in-Err.fault c.in-Err.ensures.fault
+pub of-requires : goal.of-requires
+of-requires g c = run_fault_fits c.args.tree.now c.in-Err.fault c.in-Err.ensures.fault
 
 pub returns-in-Err : goal.returns-in-Err
 returns-in-Err g c =
-    says_run_fault c.args.tree.now c.args.records.now (map (λ (job : Job). job.list) c.args.jobs.now) c.in-Err.fault c.of_run.result
-    c.in-Err.ensures.fault c.of_run.ensures.told c.of_run.ensures.memory
+    says_run_fault c.args.tree.now c.args.records.now (map (λ (job : Job). job.list) c.args.jobs.now) c.in-Err.fault c.of.result
+    c.in-Err.ensures.fault c.of.ensures

@@ -1,4 +1,4 @@
-use Rattle.grove_words.specs.declared.order.Command.TheVariants.{Judge, Check, Plan, Draw, Run, Audit, Serve, Page, Ask}
+use Rattle.grove_words.specs.CommandLines.{Judge, Check, Plan, Draw, Run, Audit, Serve, Page, Ask}
 use Rattle.grove_words.specs.CommandLines.{shape_for}
 use Rattle.grove_words.specs.Steps.{no_command}
 use Rattle.grove_words.proofs.definitions.command_line.Goals as goal

@@ -1,0 +1,129 @@
+ghost use Rattle.std.specs.Prelude.{◌≡◌, ◌≤◌, true, false, ⊤, Result, Ok, IfOk, IfErr, IfSome};
+ghost use Rattle.serde_json.specs.Data.{Data, depth};
+ghost use Rattle.serde_json.specs.View.{view};
+ghost use Rattle.grove_wire.specs.declared.fault.WireFault.{WireFault};
+ghost use Rattle.grove_wire.specs.Forms.{AreArraysShort, HasShortArrays};
+ghost use Rattle.grove_words.specs.CommandLines.{has_place, serves};
+ghost use Rattle.grove_words.specs.Orders.{verb_for};
+ghost use Rattle.grove_answer.specs.Outcomes.{ThenSays};
+ghost use Rattle.grove_answer.specs.Says.{refusal_outcome, Says};
+ghost use Rattle.grove.specs.Answers.{IsAnswerTo};
+ghost use Rattle.grove.specs.Endings.{Blames};
+ghost use Rattle.grove.specs.Outcomes.{document_for, MaySay};
+
+use crate::answer::{Answer, Response, Stop};
+use crate::document::read_for;
+use crate::hinting::hint_beside;
+use crate::serving::serve_document;
+use grove_answer::{
+    Refusal, audit_document, check_document, draw_document, judge_document, plan_document,
+    planned_document, run_document,
+};
+use grove_draw::Form;
+use grove_serve::{Host, Talk};
+use grove_words::{Command, Form as WrittenForm};
+use serde_json::Value;
+use std::alloc::Global;
+use std::net::{Net, TcpListener, TcpStream};
+
+/// What a command answers to the bytes of its document, and what a person is told beside it.
+pub fn response_to<R: Host + Net<Listener = TcpListener, Stream = TcpStream>>(
+    rt: &R,
+    command: Command,
+    bytes: &[u8],
+) -> Result<Response, Stop>
+    ensures said { IfOk result (λ response. IsAnswerTo command (document_for command bytes.now) response.answer) }
+    ensures blamed { IfErr result (Blames (has_place (verb_for command) ≡ true) ⊤) }
+{
+    let alloc = rt.alloc();
+    match read_for(alloc, command, bytes) {
+        Ok(document) => {
+            let answer = answer_to(rt, command, &document)?;
+            let hint = hint_beside(alloc, command, bytes, Some(&document), &answer);
+            Ok(Response { answer, hint })
+        }
+        Err(fault) => {
+            let answer = refused(alloc, Refusal::of_wire(alloc, &fault))?;
+            let hint = hint_beside(alloc, command, bytes, None, &answer);
+            Ok(Response { answer, hint })
+        }
+    }
+}
+
+/// What a command answers to its document.
+fn answer_to<R: Host + Net<Listener = TcpListener, Stream = TcpStream>>(
+    rt: &R,
+    command: Command,
+    document: &Value,
+) -> Result<Answer, Stop>
+    requires short { HasShortArrays (view document.now) }
+    requires all_short { AreArraysShort (view document.now) }
+    requires shallow { depth (view document.now) ≤ 127 }
+    ensures said { IfOk result (IsAnswerTo command (Ok (view document.now))) }
+    ensures blamed { IfErr result (Blames (has_place (verb_for command) ≡ true) ⊤) }
+{
+    let alloc = rt.alloc();
+    match command {
+        Command::Judge => done(alloc, judge_document(alloc, document)),
+        Command::Check => done(alloc, check_document(alloc, document)),
+        Command::Plan { in_document } => done(alloc, plan_for(alloc, document, in_document)),
+        Command::Draw { form } => done(alloc, draw_document(alloc, document, form_of(form))),
+        Command::Run { workers } => {
+            done(alloc, run_document(rt, alloc, document, workers.number))
+        }
+        Command::Audit => done(alloc, audit_document(alloc, document)),
+        Command::Serve(serving) => serve_document(rt, document, serving, Talk::Lines),
+        Command::Page(serving) => serve_document(rt, document, serving, Talk::Requests),
+    }
+}
+
+/// The answer that a command's result makes: its lines, or the line that says what is refused.
+fn done(alloc: Global, lines: Result<String, Refusal>) -> Result<Answer, Stop>
+    ensures said { (command : Command) (document : Data) → serves (verb_for command) ≡ false → Says (MaySay command document) lines
+        → IfOk result (IsAnswerTo command (Ok document)) }
+    ensures memory { IfErr result (λ stop. stop ≡ Stop.Memory) }
+{
+    match lines {
+        Ok(lines) => Ok(Answer::Done(lines)),
+        Err(refusal) => refused(alloc, refusal),
+    }
+}
+
+/// The answer that a refusal makes.
+pub fn refused(alloc: Global, refusal: Refusal) -> Result<Answer, Stop>
+    ensures said { (command : Command) (found : Result Data WireFault) → IfSome (refusal_outcome refusal) (ThenSays found (MaySay command))
+        → IfOk result (IsAnswerTo command found) }
+    ensures memory { IfErr result (λ stop. stop ≡ Stop.Memory) }
+{
+    match refusal {
+        Refusal::Fault { fault, text } => {
+            let line = format!(in alloc; "refused {text}\n")?;
+            Ok(Answer::Refused { line, fault })
+        }
+        Refusal::Memory => Err(Stop::Memory),
+    }
+}
+
+/// What is said of the settled plan: its lines, or the document with it.
+fn plan_for(alloc: Global, document: &Value, in_document: bool) -> Result<String, Refusal>
+    requires short { HasShortArrays (view document.now) }
+    requires shallow { depth (view document.now) ≤ 127 }
+    ensures { Says (MaySay (Command.Plan in_document) (view document.now)) result }
+{
+    if in_document {
+        planned_document(alloc, document)
+    } else {
+        plan_document(alloc, document)
+    }
+}
+
+/// The form of a drawing that the words ask for.
+fn form_of(form: WrittenForm) -> Form
+    ensures svg { form ≡ WrittenForm.Svg → result ≡ Form.Svg }
+    ensures text { form ≡ WrittenForm.Text → result ≡ Form.Text }
+{
+    match form {
+        WrittenForm::Svg => Form::Svg,
+        WrittenForm::Text => Form::Text,
+    }
+}

@@ -1,0 +1,43 @@
+-- What is said of each fault for which a document is refused.
+use Rattle.std.specs.Prelude.{ℕ, Bool, true, false, codes, decimal, List, ◌++◌}
+use Rattle.grove_tree.specs.Trees.{Rows}
+use Rattle.grove_plan.specs.declared.fault.PlanFault.TheVariants as plan
+use Rattle.grove_proof.specs.declared.fault.ProofFault.TheVariants as proof
+use Rattle.grove_core.specs.declared.fault.ReplayFault.TheVariants as replay
+use Rattle.grove_core.specs.declared.run_fault.RunFault.TheVariants as run
+use Rattle.grove_wire.specs.declared.fault.WireFault.TheVariants as wire
+use Rattle.grove_wire.specs.declared.faults.Fault.{Fault}
+use Rattle.grove_wire.specs.declared.faults.Fault.TheVariants.{Wire, Plan, Proof, Run, Replay, Standing}
+use Rattle.grove_wire.specs.declared.faults.StandingFault.{StandingFault}
+use Rattle.grove_wire.specs.declared.faults.StandingFault.TheVariants.{Record, Replies}
+use Rattle.grove_wire.specs.Texts.{wire_text, plan_text, proof_text, run_text, replay_text, FaultFits as PlanFaultFits, ProofFaultFits, RunFaultFits, ReplayFaultFits}
+
+abbrev pub standing_text : StandingFault → List ℕ
+standing_text (Record node) = codes "standing records " ++ decimal node
+standing_text (Replies job) = codes "standing replies " ++ decimal job
+
+abbrev pub fault_text : Rows → Fault → List ℕ
+fault_text rows (Wire fault) = wire_text fault
+fault_text rows (Plan fault) = plan_text rows fault
+fault_text rows (Proof fault) = proof_text rows fault
+fault_text rows (Run fault) = run_text rows fault
+fault_text rows (Replay fault) = replay_text rows fault
+fault_text rows (Standing fault) = standing_text fault
+
+-- the nodes that it names are nodes of the tree
+abbrev pub FaultFits : Rows → Fault → Type 0
+FaultFits rows (Wire fault) = Unit {0}
+FaultFits rows (Plan fault) = PlanFaultFits rows fault
+FaultFits rows (Proof fault) = ProofFaultFits rows fault
+FaultFits rows (Run fault) = RunFaultFits rows fault
+FaultFits rows (Replay fault) = ReplayFaultFits rows fault
+FaultFits rows (Standing fault) = Unit {0}
+
+-- is it want of memory, which no document is refused for?
+abbrev pub wants_memory : Fault → Bool
+wants_memory (Wire wire.Memory) = true
+wants_memory (Plan plan.Memory) = true
+wants_memory (Proof proof.Memory) = true
+wants_memory (Run run.Memory) = true
+wants_memory (Replay replay.Memory) = true
+wants_memory _ = false

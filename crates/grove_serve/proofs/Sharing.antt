@@ -1,0 +1,17 @@
+-- What the threads of connections share, and what they take with them.
+use denote.Param.Send.{IsSend, IsSync, sendable}
+use Rattle.std.proofs.Crossing.{crosses}
+use Rattle.std.specs.contracts.net.TcpStream as TcpStream
+use Rattle.grove_serve.specs.contracts.seats.Seats as Seats
+use Rattle.grove_serve.specs.contracts.talking.Caller as Caller
+
+-- threads may share seats
+pub Seats-sync : IsSync Seats.the_row
+Seats-sync = search (sendable, crosses) depth 40
+
+stream-send : IsSend TcpStream.the_row
+stream-send = search (sendable, crosses) depth 40
+
+-- a connection may go to another thread
+pub caller-send : IsSend Caller.the_row
+caller-send = search (sendable, crosses, stream-send) depth 40

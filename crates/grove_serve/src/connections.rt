@@ -1,0 +1,158 @@
+ghost use Rattle.std.specs.Prelude.{◌≡◌, false};
+
+use crate::host::Host;
+use crate::minutes::tell_minutes;
+use crate::seats::Seats;
+use crate::service::Service;
+use crate::talking::{Caller, serve_caller};
+use grove_desk::{Desk, Opening};
+use grove_session::{WriterSink, write_whole};
+use std::marker::Brand;
+use std::net::{Shutdown, SocketAddr, TcpListener, TcpStream};
+use std::sync::Wait;
+use std::time::Clock;
+use std::{io, thread};
+
+/// The system's numbers of the errors that there is no descriptor left for this process, and none for any.
+const NO_DESCRIPTOR_HERE: i32 = 24;
+
+const NO_DESCRIPTOR_AT_ALL: i32 = 23;
+
+/// What a connection is told that there is no seat for.
+const BUSY_LINE: &[u8] = b"{\"error\":\"busy\"}\n";
+
+/// Serves connections, as many at once as there are seats, until one can't be accepted and the others have ended. A
+/// connection that there is no descriptor for waits for one; one that no thread can be started for is closed.
+pub fn serve<R: Host>(rt: &R, service: Service) {
+    serve_as::<Brand, R>(rt, service);
+}
+
+/// Serves connections at a desk over the service's store, which keeps no journal.
+fn serve_as<B: Opening + Send + Sync, R: Host>(rt: &R, service: Service)
+    requires store { service.store ≡ B.store }
+    requires kept { B.kept ≡ false }
+{
+    let Service {
+        store,
+        listener,
+        manner,
+    } = service;
+    let desk = Desk::<B>::open(rt.alloc(), store, false);
+    let seats = Seats::new(manner);
+    serve_at(rt, &desk, &seats, &listener);
+}
+
+/// Serves the listener's connections at the desk, each in its seat.
+fn serve_at<B: Opening + Send + Sync, R: Host>(
+    rt: &R,
+    desk: &Desk<B>,
+    seats: &Seats,
+    listener: &TcpListener,
+) {
+    thread::scope(thread::scope_env(), rt, |scope| {
+        if seats.log().is_some() {
+            let _told = scope.spawn(move || tell_minutes(rt, desk, seats));
+        }
+        for _ in rt.forever() {
+            match next_seated(rt, seats, listener) {
+                Ok(Some(caller)) => {
+                    let number = caller.number;
+                    let spawned = scope.spawn(move || serve_caller(rt, desk, seats, caller));
+                    if spawned.is_err() {
+                        tell_threadless(rt, seats, number);
+                        seats.leave(rt);
+                    }
+                }
+                Ok(None) => {}
+                Err(_) => break,
+            }
+        }
+        if let Some(log) = seats.log() {
+            log.close(rt);
+        }
+    });
+}
+
+/// The next connection, in a seat; nobody, where there was no seat or no descriptor for it, which is waited for then. A
+/// connection that isn't told of seats isn't accepted until it has one.
+fn next_seated<R: Wait + Clock + Eprint>(
+    rt: &R,
+    seats: &Seats,
+    listener: &TcpListener,
+) -> io::Result<Option<Caller>> {
+    let tells_busy = seats.patience().tells_busy;
+    if !tells_busy {
+        seats.take(rt);
+    }
+    match listener.accept() {
+        Ok((stream, address)) => {
+            let number = tell_arrival(rt, seats, address);
+            Ok(seated(rt, seats, Caller { stream, number }, tells_busy))
+        }
+        Err(error) if wants_descriptor(&error) => {
+            if let Some(log) = seats.log() {
+                log.want_descriptor(rt);
+            }
+            if !tells_busy {
+                seats.leave(rt);
+            }
+            seats.wait(rt);
+            Ok(None)
+        }
+        Err(error) => Err(error),
+    }
+}
+
+/// The caller, in a seat that it has or takes. Where there is none for it, it is told so.
+fn seated<R: Wait + Eprint>(
+    rt: &R,
+    seats: &Seats,
+    caller: Caller,
+    tells_busy: bool,
+) -> Option<Caller> {
+    if !tells_busy || seats.take_free(rt) {
+        return Some(caller);
+    }
+    tell_busy(&caller.stream);
+    if let Some(log) = seats.log() {
+        let number = caller.number;
+        log.tell(rt, format_args!("connection {number} was told busy"));
+    }
+    None
+}
+
+/// Tells that a connection was taken, and gives its number.
+fn tell_arrival<R: Wait + Eprint>(rt: &R, seats: &Seats, address: SocketAddr) -> u64 {
+    let Some(log) = seats.log() else {
+        return 0;
+    };
+    log.have_descriptor();
+    let number = log.next_number();
+    log.tell(rt, format_args!("connection {number} from {address}"));
+    number
+}
+
+/// Tells that there was no thread for the connection.
+fn tell_threadless<R: Wait + Eprint>(rt: &R, seats: &Seats, number: u64) {
+    if let Some(log) = seats.log() {
+        log.tell(
+            rt,
+            format_args!("connection {number} cannot be served: no thread"),
+        );
+    }
+}
+
+/// Says that there is no seat. Nobody waits for a client that takes nothing.
+fn tell_busy(stream: &TcpStream) {
+    let _at_once = stream.set_nonblocking(true);
+    let _told = write_whole(&mut WriterSink::new(stream), BUSY_LINE);
+    let _ended = stream.shutdown(Shutdown::Write);
+}
+
+/// Whether a descriptor is all that was wanting.
+fn wants_descriptor(error: &io::Error) -> bool {
+    matches!(
+        error.raw_os_error(),
+        Some(NO_DESCRIPTOR_HERE | NO_DESCRIPTOR_AT_ALL)
+    )
+}

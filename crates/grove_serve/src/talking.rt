@@ -1,0 +1,94 @@
+use crate::ending::Ending;
+use crate::guest::Guest;
+use crate::host::Host;
+use crate::seats::Seats;
+use crate::service::Talk;
+use crate::timed_stream::TimedStream;
+use crate::watching::{WatchedDesk, session_at};
+use grove_desk::{Desk, Opening};
+use grove_page::{PAGE, serve_page};
+use grove_session::{ReaderSource, SessionFault, WriterSink};
+use std::cell::Cell;
+use std::hash::RandomState;
+use std::net::TcpStream;
+use std::time::Duration;
+
+/// A connection that was taken.
+#[derive(Drop)]
+pub struct Caller {
+    pub stream: TcpStream,
+    /// Its number in the log, if there is one.
+    pub number: u64,
+}
+
+/// A session, or requests, over the connection, which is closed then and leaves its seat. What ends it ends it alone, and
+/// nobody is left there to be told of it.
+pub fn serve_caller<B: Opening, R: Host>(rt: &R, desk: &Desk<B>, seats: &Seats, caller: Caller) {
+    let Caller { stream, number } = caller;
+    // No reply is to wait until the one before it has arrived.
+    let _at_once = stream.set_nodelay(true);
+    let guest = seats.log().map(|log| Guest::new(log, number));
+    let ending = match (seats.talk(), seats.patience().idle) {
+        (Talk::Lines, None) => {
+            let mut source = ReaderSource::new(&stream);
+            let sink = WriterSink::new(&stream);
+            Ending::of_session(session_at(rt, desk, guest.as_ref(), &mut source, sink))
+        }
+        (Talk::Lines, Some(idle)) => answer_in_time(rt, desk, &stream, guest.as_ref(), idle),
+        (Talk::Requests, idle) => answer_requests(rt, desk, &stream, guest.as_ref(), idle),
+    };
+    if let Some(guest) = &guest {
+        guest.tell_end(rt, ending);
+    }
+    // Whoever waits for the seat may wait for the descriptor.
+    drop(stream);
+    seats.leave(rt);
+}
+
+/// A session over the stream, which may idle for so many seconds. A client that takes nothing of its replies idles too.
+fn answer_in_time<B: Opening, R: Host>(
+    rt: &R,
+    desk: &Desk<B>,
+    stream: &TcpStream,
+    guest: Option<&Guest<'_>>,
+    seconds: u32,
+) -> Ending {
+    let longest = Duration::from_secs(u64::from(seconds));
+    if stream.set_write_timeout(Some(longest)).is_err() {
+        return Ending::Untimed;
+    }
+    let is_late = Cell::new(false);
+    let mut source = ReaderSource::new(TimedStream::new(rt, stream, longest, &is_late));
+    let sink = WriterSink::new(stream);
+    match session_at(rt, desk, guest, &mut source, sink) {
+        Err(SessionFault::Read) if is_late.get() => Ending::Idle(seconds),
+        ended => Ending::of_session(ended),
+    }
+}
+
+/// Requests of HTTP over the stream, which may send nothing for so many seconds, or for ever.
+fn answer_requests<B: Opening, R: Host>(
+    rt: &R,
+    desk: &Desk<B>,
+    stream: &TcpStream,
+    guest: Option<&Guest<'_>>,
+    idle: Option<u32>,
+) -> Ending {
+    let Ok(keys) = RandomState::new(rt) else {
+        return Ending::Unkeyed;
+    };
+    let longest = idle.map(|seconds| Duration::from_secs(u64::from(seconds)));
+    if stream.set_read_timeout(longest).is_err() || stream.set_write_timeout(longest).is_err() {
+        return Ending::Untimed;
+    }
+    let mut reader = stream;
+    let mut writer = stream;
+    let ended = match guest {
+        Some(guest) => {
+            let watched = WatchedDesk::new(desk, guest);
+            serve_page(rt, &watched, PAGE, keys, &mut reader, &mut writer)
+        }
+        None => serve_page(rt, desk, PAGE, keys, &mut reader, &mut writer),
+    };
+    Ending::of_requests(ended, idle)
+}

@@ -1,0 +1,93 @@
+ghost use Rattle.std.specs.Prelude.{◌≡◌};
+ghost use Rattle.std.specs.Io.{ReadsAtMost};
+ghost use Rattle.std.specs.Io.KnownBytes.{ReadConsumes};
+
+use crate::ending::is_late;
+use std::cell::Cell;
+use std::io::{self, Read};
+use std::net::TcpStream;
+use std::time::{Clock, Duration, Instant};
+
+/// A reader whose next read can be limited in time.
+pub trait LimitedRead: Read {
+    /// Lets a read wait so long; nothing stands for ever.
+    fn limit_read(&self, longest: Option<Duration>) -> io::Result<()>;
+}
+
+impl LimitedRead for &TcpStream {
+    fn limit_read(&self, longest: Option<Duration>) -> io::Result<()> {
+        self.set_read_timeout(longest)
+    }
+}
+
+/// A connection that may idle for so long and no longer: a read of it fails once a line has been waited for all that time.
+/// Bytes without a line feed win none, and the time in which a line is answered doesn't count. What it reads is what the
+/// stream gives.
+#[derive(Drop)]
+pub struct TimedStream<'a, R, S> {
+    clock: &'a R,
+    stream: S,
+    longest: Duration,
+    /// Since when a line has been waited for; nothing, where the last one has just come.
+    since: Option<Instant>,
+    /// Whether the time was up.
+    is_late: &'a Cell<bool>,
+}
+
+impl<'a, R: Clock, S: LimitedRead> TimedStream<'a, R, S> {
+    /// A connection for which nothing is waited for yet. Once the time was up, `is_late` tells so.
+    pub fn new(
+        clock: &'a R,
+        stream: S,
+        longest: Duration,
+        is_late: &'a Cell<bool>,
+    ) -> TimedStream<'a, R, S> {
+        TimedStream {
+            clock,
+            stream,
+            longest,
+            since: None,
+            is_late,
+        }
+    }
+
+    /// How long the next read may wait, as there is so much time left. Where there is none, the system refuses the limit.
+    fn time_left(&mut self) -> io::Result<Duration>
+        ensures { self.new.stream ≡ self.old.stream }
+    {
+        let now = Instant::now(self.clock)?;
+        let since = match self.since {
+            Some(since) => since,
+            None => now,
+        };
+        self.since = Some(since);
+        Ok(self.longest.saturating_sub(now.duration_since(since)))
+    }
+
+    /// Reads before the time is up.
+    fn read_in_time(&mut self, buffer: &mut [u8]) -> io::Result<usize>
+        ensures bound { ReadsAtMost result buffer.new }
+        ensures bytes { ReadConsumes (S.remaining self.old.stream) (S.remaining self.new.stream) result buffer.new }
+    {
+        let left = self.time_left()?;
+        self.is_late.set(left.is_zero());
+        self.stream.limit_read(Some(left))?;
+        let read = self.stream.read(buffer);
+        if let Err(error) = &read {
+            self.is_late.set(is_late(error));
+        }
+        read
+    }
+}
+
+impl<R: Clock, S: LimitedRead> Read for TimedStream<'_, R, S> {
+    ghost remaining = { λ timed. S.remaining timed.stream };
+
+    fn read(&mut self, buffer: &mut [u8]) -> io::Result<usize> {
+        let count = self.read_in_time(buffer)?;
+        if buffer[..count].contains(&b'\n') {
+            self.since = None;
+        }
+        Ok(count)
+    }
+}
