@@ -26,6 +26,8 @@ LOOKED_AT = ("/document", "/nodes")
 # How long a round is to take, and after which parts of it the line and the looks come.
 ROUND = 0.25
 LINE_AFTER, LOOKS_AFTER = 0.3, 0.3
+# After a round that was over too early, the next one is taken to last so much of what was thought.
+SOONER = 0.7
 NUMBERED = "/n0/n0"
 
 
@@ -42,7 +44,9 @@ def look_beside(program: str, count: int, tally: Tally) -> None:
         lists, lasts = a_round(clients[0], random)
         were_out = 0
         for number in range(MOST_TIMES):
-            were_out += look_once(store, clients, a_long_line(random, lists), lasts, f"time {number}", tally)
+            is_out = look_once(store, clients, a_long_line(random, lists), lasts, f"time {number}", tally)
+            were_out += is_out
+            lasts *= 1 if is_out else SOONER
             if were_out == TIMES:
                 break
     tally.blame("all times", None if were_out else "no round had the store when they came")
