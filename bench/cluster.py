@@ -1,23 +1,28 @@
 #!/usr/bin/python3
 """Times plans on etcd clusters that it starts on loopback. Needs what tests/cluster/run needs.
 
-    usage: bench/cluster.py [throughput] [contention] [large]        (default: all)
+    usage: bench/cluster.py [--grove PROGRAM] [--runs N] [throughput] [contention] [chain] [root] [submitting] [large]
+                                                                                        (default: all)
 
 throughput: 200 jobs of one `add`, each at a leaf of its own, by 1, 4 and 16 workers on one and on three members.
-contention: 64 jobs of 4 accesses of 5 ms each by 1, 4 and 16 workers on three members; by settled plans, by plans that
-lock everything first, and by transactions that compare what they read and try again (etcd's STM). `hot`: each job adds
-to the root's record and then to three of 64 leaves; `mild`: to four of 64 leaves. Work is what accesses take, waits is
-how many locks found their node held.
-Both are done RUNS times, all cases in turn; the median is printed, with the least and the most in brackets.
-large: trees of 1,111,111 and of some 1,000 nodes are loaded, and the same jobs of 8 accesses planned, submitted and run
-in each.
+contention: 64 jobs of 4 accesses of 5 ms each by 1, 4 and 16 workers on three members; by settled plans, by plans
+that lock everything first, and by transactions that compare what they read and try again (etcd's STM). `hot`: each
+job adds to the root's record and then to three of 64 leaves; `mild`: to four of 64 leaves. chain: 64 jobs that take
+one from the root, from one of four nodes below it and from one of four below that, 5 ms each; the same ways, and
+`records`: a lock for each record, taken in sorted order and held to the end. root: 250 jobs of one `add` at the root
+by 1, 4 and 16 workers. submitting: 2,000 jobs of one `add` at random leaves, submitted by 4 processes while 8 workers
+do them. All these are done RUNS times, all cases in turn; the median is printed, with the least and the most in
+brackets. large: trees of 1,111,111 and of some 1,000 nodes are loaded, and the same jobs of 8 accesses planned,
+submitted and run in each.
 """
+import argparse
 import itertools
 import json
 import statistics
 import subprocess
 import sys
 import time
+from collections import Counter
 from pathlib import Path
 from random import Random
 
@@ -25,87 +30,159 @@ TOP = Path(__file__).resolve().parents[1]
 sys.path.insert(0, str(TOP / "tests/cluster"))
 from members_at_hand import Cluster  # noqa: E402
 
+from grove_etcd.auditing import audit  # noqa: E402
 from grove_etcd.command_line import GROVE  # noqa: E402
-from grove_etcd.epochs import Submitter  # noqa: E402
 from grove_etcd.groups import answer  # noqa: E402
+from grove_etcd.jobs import Job  # noqa: E402
+from grove_etcd.journal import Journal  # noqa: E402
 from grove_etcd.keys import Keys  # noqa: E402
 from grove_etcd.loading import load  # noqa: E402
-from grove_etcd.members import Members, putting, unchanged  # noqa: E402
+from grove_etcd.members import Members  # noqa: E402
+from grove_etcd.refusals import Refused  # noqa: E402
+from grove_etcd.submitting import Submitter  # noqa: E402
 from grove_etcd.tree import names_of, ways_down  # noqa: E402
+from grove_etcd.waiting import wait  # noqa: E402
+from grove_etcd.wire import absent, deleting, putting, unchanged  # noqa: E402
 from grove_etcd.worker import Worker  # noqa: E402
+from grove_etcd.works import slots  # noqa: E402
 
 WORKERS = (1, 4, 16)
-RUNS = 3
 SLOT = 0.005
 LEAVES = [f"/l{number}" for number in range(64)]
+MANY_LEAVES = [f"/l{number:03}" for number in range(250)]
 
 
-class Counting(Worker):
-    """Counts commits that failed, notes when the last one was made, and how long it worked."""
+class Timed(Journal):
+    """Notes when the last commit was made."""
 
-    failed, last, waited = 0, 0.0, 0.0
+    last = 0.0
 
-    def commit(self, job, group, found):
-        done = super().commit(job, group, found)
-        self.failed += not done
-        self.last = time.time()
-        return done
-
-    def wait_for(self, group, revision):
-        begun = time.monotonic()
-        holder = super().wait_for(group, revision)
-        self.waited += time.monotonic() - begun
-        return holder
+    def tell(self, event, **facts):
+        super().tell(event, **facts)
+        if event == "commit":
+            self.last = time.time()
 
 
-def work(members, keys, slot):
-    worker = Counting(members, keys, slot=slot)
-    worker.run(until_ended=True)
-    return {"failed": worker.failed, "last": worker.last, "waited": worker.waited, "tries": 0}
+def settled(members, keys, _lists, slot):
+    journal = Timed()
+    Worker(members, keys, slots(slot) if slot else None, journal=journal).run(until_ended=True)
+    counts = journal.counts
+    return {
+        "last": journal.last,
+        "works": counts["work"],
+        "commits": counts["commit"],
+        "failed": counts["commit_failed"],
+    }
 
 
-def compare_and_retry(members, keys, lists):
+def compare_and_retry(members, keys, lists, slot):
     """Does lists by transactions that are made only if nothing that they read has changed."""
-    tries = 0
+    told = Counter()
     for accesses in lists:
-        done = None
-        while done is None:
-            tries += 1
-            found = members.get(*{keys.record(access[1]) for access in accesses})
-            records = {keys.record(access[1]): 0 for access in accesses}
-            records |= {key: int(text) for key, text in found.values.items()}
-            for access in accesses:
-                time.sleep(SLOT)
-                records[keys.record(access[1])], _ = answer(records[keys.record(access[1])], access)
+        is_done = False
+        while not is_done:
+            found, records = read_records(members, keys, accesses)
+            do(keys, accesses, records, slot, told)
             guards = [unchanged(key, found.revision_of(key)) for key in records]
-            done = members.commit(guards, [putting(key, str(record)) for key, record in records.items()])
-    return {"failed": tries - len(lists), "last": time.time(), "waited": 0.0, "tries": tries}
+            is_done = members.commit(guards, [putting(key, str(record)) for key, record in records.items()]).succeeded
+            told["commits" if is_done else "failed"] += 1
+    return {"works": 0, "commits": 0, "failed": 0, **told, "last": time.time()}
 
 
-def be_worker(addresses, store, slot):
+def record_locks(members, keys, lists, slot):
+    """Locks each record's own key, in sorted order, and lets go of all with the records' new values."""
+    told, name = Counter(), str(time.time_ns())
+    for accesses in lists:
+        owners = sorted(keys.owner(access[1]) for access in accesses)
+        for owner in owners:
+            while not members.commit([absent(owner)], [putting(owner, name)]).succeeded:
+                told["failed"] += 1
+                found = members.get(owner)
+                if found.value(owner) is not None:
+                    wait(members, owner, found.revision, 5)
+        _, records = read_records(members, keys, accesses)
+        do(keys, accesses, records, slot, told)
+        puts = [putting(key, str(record)) for key, record in records.items()]
+        members.commit([], [*puts, *map(deleting, owners)])
+        told["commits"] += len(owners) + 1
+    return {"works": 0, "commits": 0, "failed": 0, **told, "last": time.time()}
+
+
+def read_records(members, keys, accesses):
+    found = members.get(*{keys.record(access[1]) for access in accesses})
+    return found, {keys.record(access[1]): int(found.value(keys.record(access[1])) or "0") for access in accesses}
+
+
+def do(keys, accesses, records, slot, told):
+    for access in accesses:
+        time.sleep(slot)
+        told["works"] += 1
+        records[keys.record(access[1])], _ = answer(records[keys.record(access[1])], access)
+
+
+WAYS = {"settled": settled, "all-first": settled, "stm": compare_and_retry, "records": record_locks}
+
+
+def be_worker(way, addresses, store, slot):
     """A process of its own: says that it is ready, waits for a line with its lists, and prints what it counted."""
     members, keys = Members(addresses.split(",")), Keys(store)
-    members.get(keys.epoch())
+    members.get(keys.head())
     print("ready", flush=True)
     lists = json.loads(sys.stdin.readline())
-    told = work(members, keys, float(slot)) if lists is None else compare_and_retry(members, keys, lists)
-    print(json.dumps(told), flush=True)
+    print(json.dumps(WAYS[way](members, keys, lists, float(slot))), flush=True)
 
 
-def run_workers(cluster, store, count, slot, lists=None):
-    """How many seconds passed until the last commit, and what all workers counted together."""
-    words = [sys.executable, __file__, "worker", cluster.addresses, store, str(slot)]
+def be_submitter(addresses, store, grove):
+    members, keys = Members(addresses.split(",")), Keys(store)
+    submitter = Submitter(members, keys, grove)
+    print("ready", flush=True)
+    lists = json.loads(sys.stdin.readline())
+    for start in range(0, len(lists), 20):
+        submitter.submit_all(lists[start : start + 20])
+    print(json.dumps({"last": time.time()}), flush=True)
+
+
+def start(*words):
     streams = {"stdin": subprocess.PIPE, "stdout": subprocess.PIPE, "text": True}
-    started = [subprocess.Popen(words, **streams) for _ in range(count)]
-    for worker in started:
-        worker.stdout.readline()
+    return subprocess.Popen([sys.executable, __file__, *map(str, words)], **streams)
+
+
+def begin(started, lines):
+    """Once all are ready each gets its line; gives the time."""
+    for each in started:
+        each.stdout.readline()
     begun = time.time()
-    for number, worker in enumerate(started):
-        worker.stdin.write(json.dumps(lists and lists[number::count]) + "\n")
-        worker.stdin.flush()
+    for each, line in zip(started, lines):
+        each.stdin.write(json.dumps(line) + "\n")
+        each.stdin.flush()
+    return begun
+
+
+def run_workers(cluster, store, count, slot, way="settled", lists=()):
+    """How many seconds passed until the last commit, and what all workers counted together."""
+    started = [start("worker", way, cluster.addresses, store, slot) for _ in range(count)]
+    begun = begin(started, [lists[number::count] for number in range(count)])
     told = [json.loads(worker.communicate()[0]) for worker in started]
     total = {name: sum(each[name] for each in told) for name in told[0]}
     return max(each["last"] for each in told) - begun, total
+
+
+def submit_planned(members, keys, lists, plans):
+    submitter = Submitter(members, keys, str(GROVE))
+    now = time.time_ns() // 1000
+    jobs = zip(itertools.count(), lists, plans)
+    submitter.put_all([Job(f"job.{number}", now + number, accesses, plan) for number, accesses, plan in jobs])
+
+
+def audit_all(members, keys, grove):
+    """Whether each epoch's audit passes, and how many there are."""
+    for epochs in itertools.count():
+        try:
+            audit(members, keys, grove)
+        except Refused as refused:
+            if str(refused) == "no-jobs":
+                return epochs
+            raise
 
 
 def leaf_plan(path):
@@ -123,27 +200,39 @@ def spread(values, form="{:,.0f}"):
     return "{} ({} to {})".format(*told)
 
 
-def throughput():
+def throughput(given):
     for count in (1, 3):
         rates = {workers: [] for workers in WORKERS}
         with Cluster(count) as cluster:
-            for turn in range(RUNS):
+            for turn in range(given.runs):
                 for workers, found in rates.items():
-                    found.append(add_at_leaves(cluster, f"t{turn}-{workers}", workers))
+                    found.append(one_add(cluster, given, f"t{turn}-{workers}", workers, MANY_LEAVES[:200])[0])
         for workers, found in rates.items():
             print(f"{count} members, {workers} workers: {spread(found)} jobs a second", flush=True)
 
 
-def add_at_leaves(cluster, name, workers):
-    """How many jobs a second."""
-    leaves = [f"/l{number:03}" for number in range(200)]
+def root(given):
+    found = {workers: [] for workers in WORKERS}
+    with Cluster(3) as cluster:
+        for turn in range(given.runs):
+            for workers, told in found.items():
+                told.append(one_add(cluster, given, f"r{turn}-{workers}", workers, ["/"] * 250))
+    for workers, told in found.items():
+        rates, failed = zip(*told)
+        print(
+            f"root, {workers} workers: {spread(rates)} jobs a second, {spread(failed, '{:.2f}')} commits failed a job",
+            flush=True,
+        )
+
+
+def one_add(cluster, given, name, workers, paths):
+    """How many jobs a second, and how many commits failed a job."""
     members, keys = cluster.members(), Keys(name)
-    load(members, keys, rows_below_root(leaves, 50))
-    submitter = Submitter(members, keys, GROVE)
-    for path in leaves:
-        submitter.submit_planned([["add", path, 1]], leaf_plan(path))
-    spent, _ = run_workers(cluster, name, workers, 0)
-    return len(leaves) / spent
+    load(members, keys, rows_below_root(MANY_LEAVES, 50))
+    submit_planned(members, keys, [[["add", path, 1]] for path in paths], map(leaf_plan, paths))
+    spent, total = run_workers(cluster, name, workers, 0)
+    audit_all(members, keys, given.grove)
+    return len(paths) / spent, total["failed"] / len(paths)
 
 
 def locking_all_first(accesses):
@@ -158,36 +247,100 @@ def contended(kind, random):
     return [["add", path, 1] for path in nodes]
 
 
-def contention():
+def contention(given):
     cases = list(itertools.product(("hot", "mild"), ("settled", "all-first", "stm"), WORKERS))
+    compare(
+        given, cases, lambda kind, number: contended(kind, Random(f"{kind} {number}")), rows_below_root(LEAVES, 50)
+    )
+
+
+def chain(given):
+    rows = [{"parent": None, "name": "", "weight": 50, "value": 1000}]
+    for region in range(4):
+        rows.append({"parent": 0, "name": f"r{region}", "weight": 10, "value": 300})
+        above = len(rows) - 1
+        rows += [{"parent": above, "name": f"t{team}", "weight": 1, "value": 100} for team in range(4)]
+    cases = list(itertools.product(("chain",), ("settled", "all-first", "stm", "records"), WORKERS))
+    compare(given, cases, lambda _, number: charge(Random(f"chain {number}")), rows)
+
+
+def charge(random):
+    region, team = random.randrange(4), random.randrange(4)
+    return [["take", path, 1] for path in ("/", f"/r{region}", f"/r{region}/t{team}")]
+
+
+def compare(given, cases, list_of, rows):
     found = {case: [] for case in cases}
     with Cluster(3) as cluster:
-        for turn in range(RUNS):
+        for turn in range(given.runs):
             for case in cases:
-                found[case].append(contend(cluster, turn, *case))
+                lists = [list_of(case[0], number) for number in range(64)]
+                found[case].append(contend(cluster, given, turn, *case, lists, rows))
     for case, runs in found.items():
-        rate, waits, waited, wasted, failed = zip(*runs)
+        rate, waits, wasted, commits, failed = zip(*runs)
         print(
-            f"{case}: {spread(rate)} jobs a second; {spread(waits)} waits, {spread(waited)} ms a job;"
-            f" {spread(failed)} commits failed" + (f"; thrown away {spread(wasted, '{:.1f}')}" if "stm" in case else ""),
+            f"{case}: {spread(rate)} jobs a second; {spread(waits)} waits; {spread(commits, '{:.1f}')} commits a job,"
+            f" {spread(failed, '{:.1f}')} failed; thrown away {spread(wasted, '{:.1f}')}",
             flush=True,
         )
 
 
-def contend(cluster, turn, kind, way, workers):
-    """Jobs a second, waits, milliseconds of waiting a job, work thrown away in parts of the useful, failed commits. (A
-    plan's worker keeps the work of an access when a commit fails, so what is thrown away is counted for STM alone.)"""
-    lists = [contended(kind, Random(f"{kind} {number}")) for number in range(64)]
+def contend(cluster, given, turn, kind, way, workers, lists, rows):
+    """Jobs a second, waits, work thrown away in parts of the useful, commits and failed ones a job."""
     members, keys = cluster.members(), Keys(f"{kind}-{way}-{workers}-{turn}")
-    load(members, keys, rows_below_root(LEAVES, 50))
-    submitter = Submitter(members, keys, GROVE)
-    for accesses in lists if way != "stm" else []:
-        plan = submitter.plan(accesses) if way == "settled" else locking_all_first(accesses)
-        submitter.submit_planned(accesses, plan)
-    spent, total = run_workers(cluster, keys.store, workers, SLOT, lists if way == "stm" else None)
-    waits = sum('"mark":true' in text for text in members.below(keys.events(1)).values.values())
-    wasted = total["failed"] / len(lists) if way == "stm" else 0.0
-    return len(lists) / spent, waits, total["waited"] / len(lists) * 1000, wasted, total["failed"]
+    load(members, keys, rows)
+    if WAYS[way] is settled:
+        submitter = Submitter(members, keys, given.grove)
+        weights = submitter.weights(lists)
+        plans = [
+            submitter.planner.plan(each, weights) if way == "settled" else locking_all_first(each) for each in lists
+        ]
+        submit_planned(members, keys, lists, plans)
+    spent, total = run_workers(cluster, keys.store, workers, SLOT, way, lists)
+    waits = sum('"mark":true' in entry.value for entry in members.below(keys.whole("e")).entries.values())
+    if WAYS[way] is settled:
+        audit_all(members, keys, given.grove)
+    wasted = total["works"] / sum(map(len, lists)) - 1
+    return len(lists) / spent, waits, wasted, total["commits"] / len(lists), total["failed"] / len(lists)
+
+
+def submitting(given):
+    rates = []
+    with Cluster(3) as cluster:
+        for turn in range(given.runs):
+            rates.append(submit_and_work(cluster, given, f"s{turn}"))
+    submitted, done, epochs = zip(*rates)
+    print(f"submitting: {spread(submitted)} submitted, {spread(done)} done a second, {epochs} epochs", flush=True)
+
+
+def submit_and_work(cluster, given, name):
+    """How many jobs a second were submitted, and done from the first submission to the last commit; and how many
+    epochs they were."""
+    members, keys, random = cluster.members(), Keys(name), Random(name)
+    load(members, keys, rows_below_root(MANY_LEAVES, 50))
+    lists = [[["add", random.choice(MANY_LEAVES), 1]] for _ in range(2000)]
+    submitters = [start("submitter", cluster.addresses, name, given.grove) for _ in range(4)]
+    workers = [start("lasting", cluster.addresses, name, len(lists)) for _ in range(8)]
+    begin(workers, [None] * 8)
+    begun = begin(submitters, [lists[number::4] for number in range(4)])
+    submitted = max(json.loads(each.communicate()[0])["last"] for each in submitters)
+    done = max(json.loads(each.communicate()[0])["last"] for each in workers)
+    ended = len(members.below(keys.whole("j"), keys_only=True).entries)
+    if ended != len(lists):
+        raise RuntimeError(f"{ended} jobs have ended")
+    return len(lists) / (submitted - begun), len(lists) / (done - begun), audit_all(members, keys, given.grove)
+
+
+def be_lasting(addresses, store, wanted):
+    """A worker that ends once so many jobs have been submitted and all have ended."""
+    members, keys = Members(addresses.split(",")), Keys(store)
+    print("ready", flush=True)
+    sys.stdin.readline()
+    journal = Timed()
+    while members.count(keys.whole("j")) < int(wanted):
+        Worker(members, keys, journal=journal).run(until_ended=True)
+        time.sleep(0.02)
+    print(json.dumps({"last": journal.last}), flush=True)
 
 
 def rows_of_tens(depth):
@@ -215,7 +368,7 @@ def rows_of_paths(paths):
     return rows
 
 
-def large():
+def large(given):
     rows, paths = rows_of_tens(6)
     random = Random("large")
     leaves = [path for path in paths if len(names_of(path)) == 6]
@@ -228,30 +381,38 @@ def large():
             begun = time.monotonic()
             load(members, keys, some)
             print(f"{len(some):,} nodes loaded in {time.monotonic() - begun:.1f} s", flush=True)
-            time_jobs(members, keys, lists)
+            time_jobs(members, keys, lists, given.grove)
 
 
-def time_jobs(members, keys, lists):
-    submitter, times = Submitter(members, keys, GROVE), []
+def time_jobs(members, keys, lists, grove):
+    submitter, times = Submitter(members, keys, grove), []
     for accesses in lists:
         begun = time.monotonic()
-        plan = submitter.plan(accesses)
+        plan = submitter.planner.plan(accesses, submitter.weights([accesses]))
         planned = time.monotonic()
-        job = submitter.submit_planned(accesses, plan)
+        submitter.submit_planned(accesses, plan)
         submitted = time.monotonic()
-        worker = Worker(members, keys)
-        worker.run_job(worker.read_job(*job)[0])
+        Worker(members, keys).run(until_ended=True)
         times.append((planned - begun, submitted - planned, time.monotonic() - submitted))
     planned, submitted, ran = (f"{statistics.median(part) * 1000:.1f}" for part in zip(*times))
     print(f"  a job, median of {len(lists)}: planned {planned}, submitted {submitted}, run {ran} ms", flush=True)
 
 
+KINDS = {kind.__name__: kind for kind in (throughput, contention, chain, root, submitting, large)}
+PARTS = {"worker": be_worker, "submitter": be_submitter, "lasting": be_lasting}
+
+
 def main():
-    if sys.argv[1:2] == ["worker"]:
-        be_worker(*sys.argv[2:])
+    if sys.argv[1:2] and sys.argv[1] in PARTS:
+        PARTS[sys.argv[1]](*sys.argv[2:])
         return
-    for name in sys.argv[1:] or ["throughput", "contention", "large"]:
-        {"throughput": throughput, "contention": contention, "large": large}[name]()
+    words = argparse.ArgumentParser(description="Times plans on etcd clusters.")
+    words.add_argument("--grove", default=str(GROVE))
+    words.add_argument("--runs", type=int, default=3)
+    words.add_argument("kinds", nargs="*", metavar="KIND")
+    given = words.parse_args()
+    for name in given.kinds or KINDS:
+        KINDS[name](given)
 
 
 if __name__ == "__main__":

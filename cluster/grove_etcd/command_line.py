@@ -1,50 +1,82 @@
 """What the programs have in common: their words, and how they end."""
+from __future__ import annotations
+
 import argparse
+import os
 import sys
 from pathlib import Path
-
-import grpc
+from typing import Any, Callable
 
 from .keys import Keys
-from .members import Lost, Members
-from .refusals import Refused
+from .members import Credentials, Lost, Members, addresses_of
+from .refusals import Failed, Refused
 
 TOP = Path(__file__).resolve().parents[2]
 # The program of the checkout; or, where tools/package has put these into lib/grove/cluster, that of the same prefix.
 GROVE = TOP / "crates/grove/out/grove" if (TOP / "crates").is_dir() else TOP.parents[1] / "bin/grove"
+# As etcdctl has it.
+PASSWORD = "ETCDCTL_PASSWORD"
+
+Program = Callable[[Members, Keys, argparse.Namespace], None]
 
 
-def words(description):
+def words(description: str) -> argparse.ArgumentParser:
     """The words that every program takes."""
     parser = argparse.ArgumentParser(description=description)
     parser.add_argument("--members", default="127.0.0.1:2379", metavar="HOST:PORT,..", help="the cluster's members")
     parser.add_argument("--store", default="grove", metavar="NAME", help="what all keys begin with")
+    parser.add_argument("--cacert", metavar="FILE", help="speak TLS, to members with certificates of this authority")
+    parser.add_argument("--cert", metavar="FILE", help="the certificate that members are shown")
+    parser.add_argument("--key", metavar="FILE", help="the key of that certificate")
+    parser.add_argument("--user", metavar="NAME[:PASSWORD]", help=f"a user of etcd; the password may be in {PASSWORD}")
     return parser
 
 
-def with_grove(parser):
+def with_grove(parser: argparse.ArgumentParser) -> argparse.ArgumentParser:
     parser.add_argument("--grove", default=str(GROVE), metavar="PROGRAM", help="the program that plans and audits")
     return parser
 
 
-def run(parser, program):
-    """Runs a program on the members and keys that its words name. Status 1 where it refuses, 2 where the words are wrong,
-    3 where no member answers, or etcd doesn't do what it is asked for."""
+def credentials_of(given: argparse.Namespace) -> Credentials:
+    if (given.cert is None) != (given.key is None):
+        raise ValueError("--cert and --key go together")
+    if given.cert is not None and given.cacert is None:
+        raise ValueError("--cert needs --cacert")
+    user, _, password = given.user.partition(":") if given.user else (None, "", "")
+    return Credentials(given.cacert, given.cert, given.key, user, password or os.environ.get(PASSWORD))
+
+
+def run(parser: argparse.ArgumentParser, program: Program) -> None:
+    """Runs a program on the members and keys that its words name. Status 1 where it refuses, 2 where the words are
+    wrong, 3 where no member answers, or something doesn't do what it is asked for."""
     given = parser.parse_args()
     try:
-        keys, members = Keys(given.store), Members(given.members.split(","))
+        addresses, keys, credentials = addresses_of(given.members), Keys(given.store), credentials_of(given)
     except ValueError as bad:
         parser.error(str(bad))
+    sys.exit(status_of(lambda: program(Members(addresses, credentials), keys, given)))
+
+
+def status_of(program: Callable[[], Any]) -> int:
+    """Runs the program; whatever it ends by is told in a line."""
     try:
-        program(members, keys, given)
+        program()
+        sys.stdout.flush()
+        return 0
     except Refused as refused:
-        print(f"refused {refused}")
-        sys.exit(1)
+        print(f"refused {refused}", flush=True)
+        return 1
     except Lost as lost:
-        print(f"no member answers; what was to be written may have been: {lost}", file=sys.stderr)
-        sys.exit(3)
-    except grpc.RpcError as error:
-        print(f"etcd says: {error.details()}", file=sys.stderr)
-        sys.exit(3)
+        return told(f"no member answers; what was to be written may have been: {lost}", 3)
+    except Failed as failed:
+        return told(str(failed), 3)
+    except BrokenPipeError:
+        os.dup2(os.open(os.devnull, os.O_WRONLY), sys.stdout.fileno())
+        return 3
     except KeyboardInterrupt:
-        sys.exit(130)
+        return 130
+
+
+def told(line: str, status: int) -> int:
+    print(" ".join(line.split()), file=sys.stderr)
+    return status

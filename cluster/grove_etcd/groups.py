@@ -3,72 +3,162 @@
 The steps are taken one after the other in the state that stood when the nodes were seen; the guards of the transaction
 are all that the steps need of it. Then the rules allow each of them at the transaction's revision, too.
 """
-from .jobs import Progress
+from __future__ import annotations
 
-# Each is at most one change and one compare; progress and event come to them, and a mark's compare.
-MOST_STEPS = 120
-LEAST, MOST = -(2**63), 2**63 - 1
+import re
+from dataclasses import dataclass, field
+from enum import Enum
+
+from .documents import LEAST, MOST
+from .jobs import Access, Event, Job, Kind, Progress, Reply, Step
+from .keys import Keys
+from .refusals import Refused
+from .wire import Found
+
+# Each is at most one change and one compare.
+MOST_STEPS = 100
+RECORD = re.compile(r"-?[0-9]{1,19}")
 
 
+class Turn(Enum):
+    """Why a group ends before a lock: another job holds the node, or it is free, and an older job waits for it."""
+
+    HELD = "held"
+    OTHERS = "others"
+
+
+@dataclass
 class Group:
     """Steps that are taken from a progress on."""
 
-    def __init__(self, progress):
-        self.progress = progress
-        self.taken = 0
-        # The nodes that have to be free; those that change hands, with whether they are held in the end.
-        self.locked, self.held = [], {}
-        # Records as they are in the end, and those of them that the group changes.
-        self.records, self.changed = {}, set()
-        self.replies = []
-        # The node whose lock comes next and is held by another job, by which, and whether the step gets its mark.
-        self.blocked, self.holder, self.mark = None, None, False
+    progress: Progress
+    taken: int = 0
+    # The nodes that have to be free, and those that change hands, with whether they are held in the end.
+    locked: list[str] = field(default_factory=list)
+    hands: dict[str, bool] = field(default_factory=dict)
+    # Records as they are in the end, and those of them that the group changes.
+    records: dict[str, int] = field(default_factory=dict)
+    changed: set[str] = field(default_factory=set)
+    replies: list[Reply] = field(default_factory=list)
+    # The node whose lock comes next and isn't for this job yet, and why.
+    blocked: str | None = None
+    turn: Turn | None = None
 
-    def lock(self, path):
+    def lock(self, path: str) -> None:
         self.locked.append(path)
-        self.held[path] = True
+        self.hands[path] = True
+        self.taken += 1
 
-    def unlock(self, path):
-        if self.held.get(path):
-            del self.held[path]
+    def unlock(self, path: str) -> None:
+        if self.hands.get(path):
+            del self.hands[path]
         else:
-            self.held[path] = False
+            self.hands[path] = False
+        self.taken += 1
 
-    def access(self, path, before, after, reply):
-        self.records[path] = after
-        if after != before:
+    def access(self, path: str, before: int, access: Access) -> None:
+        record = self.records.get(path, before)
+        self.records[path], reply = answer(record, access)
+        if self.records[path] != record:
             self.changed.add(path)
         self.replies.append(reply)
+        self.taken += 1
 
-    def stop(self, path, holder):
-        """Ends before the lock of a node that is held."""
-        self.blocked, self.holder = path, holder
-        self.mark = self.taken > 0 or not self.progress.marked
+    def stop(self, path: str, turn: Turn) -> None:
+        """Ends before the lock of a node."""
+        self.blocked, self.turn = path, turn
 
-    def does_nothing(self):
-        return self.taken == 0 and not self.mark
+    @property
+    def may_mark(self) -> bool:
+        """Does the next step get its mark, if its node is held at the group's transaction?"""
+        return self.blocked is not None and (self.taken > 0 or not self.progress.marked)
 
-    def after(self):
-        """The progress that it leaves."""
+    @property
+    def waits(self) -> bool:
+        """Does it put the job among the waiters of its next node?"""
+        return self.blocked is not None and (self.taken > 0 or not self.progress.waits)
+
+    def does_nothing(self) -> bool:
+        ends_empty_plan = not self.progress.steps and not self.progress.groups
+        marks = self.turn is Turn.HELD and self.may_mark
+        return not (self.taken or marks or self.waits or ends_empty_plan)
+
+    def after(self, is_held: bool = False) -> Progress:
+        """The progress that it leaves, where the next node is held at its transaction, or isn't."""
         old = self.progress
-        return Progress(old.step + self.taken, old.steps, old.groups + 1, self.mark, old.replies + self.replies)
+        stays = not self.taken
+        marked = (is_held and self.may_mark) or (stays and old.marked)
+        waits = self.blocked is not None or (stays and old.waits)
+        return Progress(old.step + self.taken, old.steps, old.groups + 1, marked, waits, old.replies + self.replies)
+
+    def event(self, is_held: bool = False) -> Event:
+        mark = is_held and self.may_mark
+        return Event(self.taken, mark, {path: self.records[path] for path in sorted(self.changed)})
 
 
-def answer(record, access):
+@dataclass(frozen=True)
+class Limits:
+    """Up to where a group goes: whether an access ends it, since it has work; whether a free node is left to those
+    that wait for it longer; and a node at which the job stands in line first, since others came to it in between."""
+
+    works: bool = False
+    queues: bool = True
+    contested: str | None = None
+
+
+def group_of(keys: Keys, job: Job, steps: list[Step], progress: Progress, found: Found, limits: Limits) -> Group:
+    """As many of the steps, which come next, as can be taken, as the nodes were seen."""
+    group = Group(progress)
+    for step in steps:
+        if step.kind is Kind.LOCK:
+            turn = turn_of(keys, job, step.path, found, limits, progress.waits and not group.taken)
+            if turn:
+                group.stop(step.path, turn)
+                return group
+            group.lock(step.path)
+        elif step.kind is Kind.UNLOCK:
+            group.unlock(step.path)
+        elif limits.works and group.taken:
+            return group
+        else:
+            before = record_of(keys, step.path, found)
+            group.access(step.path, before, job.accesses[step.access])
+    return group
+
+
+def turn_of(keys: Keys, job: Job, path: str, found: Found, limits: Limits, stands: bool) -> Turn | None:
+    """Who stands in line for the node goes before those that come later, and after those whose jobs are older."""
+    if found.value(keys.owner(path)):
+        return Turn.HELD
+    if not limits.queues:
+        return None
+    if stands:
+        return Turn.OTHERS if older_waiter(keys, job, path, found) else None
+    return Turn.OTHERS if path == limits.contested or found.below(keys.waiters(path)) else None
+
+
+def older_waiter(keys: Keys, job: Job, path: str, found: Found) -> str | None:
+    """The key of the one that stands before the job in the node's line, as it was read."""
+    own = keys.waiter(path, job.age, job.name)
+    return max((key for key in found.below(keys.waiters(path)) if key < own), default=None)
+
+
+def record_of(keys: Keys, path: str, found: Found) -> int:
+    text = found.value(keys.record(path)) or "0"
+    if not RECORD.fullmatch(text):
+        raise Refused(f"stray-record {path}")
+    return int(text)
+
+
+def answer(record: int, access: Access) -> tuple[int, Reply]:
     """What an access leaves of its node's record, and its reply (docs/PROTOCOL.md)."""
     operation = access[0]
     if operation == "get":
         return record, record
-    number = access[2]
-    after = {"set": number, "add": record + number, "take": record - number}[operation]
+    number = int(access[2])
     if operation == "take" and record < number:
         return record, "short"
+    after = number if operation == "set" else record + number if operation == "add" else record - number
     if not LEAST <= after <= MOST:
         return record, "range"
     return after, "ok" if operation == "set" else after
-
-
-def length_of(access):
-    """How many slots an access takes."""
-    items = 2 if access[0] == "get" else 3
-    return access[items] if len(access) > items else 1

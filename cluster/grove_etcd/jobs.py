@@ -1,66 +1,161 @@
-"""Jobs as they stand in etcd: the list with its plan, and the progress."""
+"""Jobs as they stand in etcd: the list with its plan, the progress, who goes on with it, and the events."""
+from __future__ import annotations
+
 import json
-from typing import NamedTuple
+from dataclasses import asdict, dataclass, field, replace
+from enum import Enum
+from functools import cached_property
+from typing import Any, Iterable, Union
+
+# As a document has them: `["add","/a",1]`, `["lock","/a"]`, and 7, "ok", "range" or "short".
+Access = list[Union[str, int]]
+Reply = Union[int, str]
 
 
-def written(value):
+def written(value: object) -> str:
     return json.dumps(value, separators=(",", ":"))
 
 
-class Job(NamedTuple):
-    """A job of an epoch."""
+class Kind(Enum):
+    LOCK = "lock"
+    UNLOCK = "unlock"
+    ACCESS = "access"
 
-    epoch: int
-    number: int
-    accesses: list
-    plan: list
+
+@dataclass(frozen=True)
+class Step:
+    """A step of a plan, with its node; that of an access is the one that it accesses."""
+
+    kind: Kind
+    path: str
+    access: int = -1
+
+
+def path_of_access(access: Access) -> str:
+    return str(access[1])
+
+
+def slots_of(access: Access) -> int:
+    """How many slots an access takes."""
+    items = 2 if access[0] == "get" else 3
+    return int(access[items]) if len(access) > items else 1
+
+
+@dataclass(frozen=True)
+class Job:
+    """A list with a legal plan, under a name; `age` is when it was submitted, in microseconds by some clock."""
+
+    name: str
+    age: int
+    accesses: list[Access]
+    plan: list[list[Any]]
 
     @staticmethod
-    def read(epoch, number, text):
+    def read(name: str, text: str) -> Job:
         told = json.loads(text)
-        return Job(epoch, number, told["list"], told["plan"])
+        return Job(name, told["age"], told["list"], told["plan"])
 
-    def nodes(self):
+    def text(self) -> str:
+        return written({"age": self.age, "list": self.accesses, "plan": self.plan})
+
+    @cached_property
+    def steps(self) -> list[Step]:
+        return [self.step(kind, what) for kind, what in self.plan]
+
+    def step(self, kind: str, what: Any) -> Step:
+        if kind == "access":
+            return Step(Kind.ACCESS, path_of_access(self.accesses[what]), what)
+        return Step(Kind(kind), what)
+
+    def nodes(self) -> set[str]:
         """The nodes that it names."""
-        locked = {what for kind, what in self.plan if kind != "access"}
-        return locked | self.accessed()
+        return {step.path for step in self.steps} | set(map(path_of_access, self.accesses))
 
-    def accessed(self):
-        return {access[1] for access in self.accesses}
-
-    def most_events(self):
+    def most_events(self) -> int:
         """Each step is taken once, and each lock may be waited for once."""
-        return len(self.plan) + sum(kind == "lock" for kind, _ in self.plan)
-
-    def text(self):
-        return written({"list": self.accesses, "plan": self.plan})
+        return len(self.plan) + sum(step.kind is Kind.LOCK for step in self.steps)
 
 
-class Progress(NamedTuple):
-    """How many steps of how many are done, in how many groups, whether the next one has its mark, and the replies."""
+@dataclass(frozen=True)
+class Progress:
+    """How many steps of how many are done, in how many groups, whether the next one has its mark and stands among the
+    waiters of its node, and the replies."""
 
     step: int
     steps: int
-    groups: int
-    marked: bool
-    replies: list
+    groups: int = 0
+    marked: bool = False
+    waits: bool = False
+    replies: list[Reply] = field(default_factory=list)
 
     @staticmethod
-    def read(text):
+    def read(text: str) -> Progress:
         return Progress(**json.loads(text))
 
-    def text(self):
-        return written(self._asdict())
+    def text(self) -> str:
+        return written(asdict(self))
 
-    def has_ended(self):
+    def has_ended(self) -> bool:
         return self.step == self.steps
 
 
-def owner_text(epoch, number):
-    return f"{epoch}/{number}"
+@dataclass(frozen=True)
+class UnderWay:
+    """Which worker goes on with a job, and how often the present access's work has failed; a job that is set aside is
+    taken up by nobody, and one that is by nobody (an empty name) at once. `waits` is the node that it waits for."""
+
+    by: str
+    waits: str | None = None
+    fails: int = 0
+    why: str = ""
+    aside: bool = False
+
+    @staticmethod
+    def read(text: str) -> UnderWay:
+        return UnderWay(**json.loads(text))
+
+    def text(self) -> str:
+        return written(asdict(self))
 
 
-def owner_read(text):
-    """The epoch and the number of the job that holds a node."""
-    epoch, number = text.split("/")
-    return int(epoch), int(number)
+@dataclass(frozen=True)
+class Event:
+    """What a group of a job's steps did: how many it took, whether it marked the next one, and the records it left;
+    and its place among the groups of one transaction."""
+
+    takes: int
+    mark: bool
+    records: dict[str, int]
+    place: int = 0
+
+    @staticmethod
+    def read(text: str) -> Event:
+        return Event(**json.loads(text))
+
+    def text(self) -> str:
+        return written(asdict(self))
+
+
+@dataclass(frozen=True)
+class Waiter:
+    """A job in a node's line, with what is put for it where the node is handed to it: its event's number, and its
+    progress once it has the lock."""
+
+    group: int
+    progress: dict[str, Any]
+
+    @staticmethod
+    def of(progress: Progress) -> Waiter:
+        locked = replace(progress, step=progress.step + 1, groups=progress.groups + 1, marked=False, waits=False)
+        return Waiter(progress.groups, asdict(locked))
+
+    @staticmethod
+    def read(text: str) -> Waiter:
+        return Waiter(**json.loads(text))
+
+    def text(self) -> str:
+        return written(asdict(self))
+
+
+def nodes_of(jobs: Iterable[Job]) -> set[str]:
+    return {path for job in jobs for path in job.nodes()}

@@ -1,78 +1,121 @@
-"""The keys of a store in etcd, all below its name."""
+"""The keys of a store in etcd, all below its name, and by which revisions an audit closes the chain of records.
+
+A path begins with a slash, so the weight of `/a/b` stands at `STORE/m/a/b`. A job has a NAME of its own, by which it
+is made once; its AGE, a time of the submitter's clock, only says whom to prefer. GROUP counts the transactions of a
+job.
+
+    head               the format, and the open epoch. Made by the last commit of `load`, put once by each audit that
+                       closes an epoch: its version is the number of the open epoch
+    load               the token of the loader; no other one's batch is made
+    m/PATH             the node's weight, the reweighing that made it, and the record that was loaded
+    r/PATH             the node's record; 0 where there is no such key
+    o/PATH             the name of the job that holds the node, or nothing. It is never deleted, so its version counts
+                       how often the node changed hands
+    v/PATH//AGE/NAME   a job that waits for the node, in the order in which they are woken; with what is put for it
+                       where the node is handed to it
+    p/NAME             the job: its list, plan and age; put once
+    q/AGE/NAME         is there until the job's first group is taken
+    u/NAME             is there from then on until the job ends: which worker goes on with it. It is put by each of
+                       its groups, by each sign of life, and by whoever takes the job up; the guard of the next group,
+                       or sign, is that nobody else did
+    j/NAME             the job's progress; put once by each group
+    e/NAME/GROUP       what the group took, whether it marked the next step, the records that it left, and its place
+                       among the groups of its transaction; put once
+    x/EPOCH            the jobs of an epoch that is closed or about to be
+    b/PATH//EPOCH      what the epoch left of a node that its jobs name: the record, the revision of the write that
+                       left it, and the version of `o/PATH`
+    w/EPOCH/PATH       how often the node was waited for
+    weighing           the last reweighing, and whether it is done
+
+The chain: what an epoch begins with of a node is the last `b/PATH//EPOCH` before it, or what `load` left (`m/PATH`,
+with a record put before `head` was made). The key `r/PATH` has to have been put last by that write, or by a
+transaction with an event, of a job that isn't forgotten, which says so and whose steps access the node
+(`stray-record`).
+"""
+from __future__ import annotations
+
 import re
 
 NAME = re.compile(r"[a-z0-9_-]{1,32}")
+# Of jobs: what is given by `submit --id`, or made up, and the number of the list.
+JOB_NAME = re.compile(r"[a-z0-9_-]{1,64}\.[0-9]{1,9}")
+# Of the keys and their values as they are described here.
+FORMAT = 2
 
 
 class Keys:
-    """A path begins with a slash, so the weight of `/a/b` stands at `grove/m/a/b`."""
-
-    def __init__(self, store):
+    def __init__(self, store: str) -> None:
         if not NAME.fullmatch(store):
             raise ValueError(f"a store's name has 1 to 32 of a to z, 0 to 9, _ and -: {store!r}")
         self.store = store
 
-    def weight(self, path):
-        return f"{self.store}/m{path}"
+    def head(self) -> str:
+        return f"{self.store}/head"
 
-    def record(self, path):
-        return f"{self.store}/r{path}"
-
-    def owner(self, path):
-        """Which job holds the node; there is no such key while nobody does."""
-        return f"{self.store}/o{path}"
-
-    def epoch(self):
-        """The present epoch's number, and how much is in it."""
+    def old_head(self) -> str:
+        """Where the first format had the present epoch."""
         return f"{self.store}/epoch"
 
-    def plan(self, epoch, job):
-        """A job's list and plan, which never change."""
-        return f"{self.plans(epoch)}{job:03}"
+    def load(self) -> str:
+        return f"{self.store}/load"
 
-    def progress(self, epoch, job):
-        return f"{self.progresses(epoch)}{job:03}"
+    def weight(self, path: str) -> str:
+        return f"{self.store}/m{path}"
 
-    def event(self, epoch, job, group):
-        """What one group of a job's steps did; its revision says when."""
-        return f"{self.events(epoch)}{job:03}/{group:06}"
+    def record(self, path: str) -> str:
+        return f"{self.store}/r{path}"
 
-    def opening(self, epoch, path):
-        """The record with which an epoch began, of a node that one of its jobs accesses."""
-        return f"{self.openings(epoch)[:-1]}{path}"
+    def owner(self, path: str) -> str:
+        return f"{self.store}/o{path}"
 
-    def waits(self, epoch, path):
-        """How often a node was waited for, as the audit of the epoch found."""
+    def waiters(self, path: str) -> str:
+        """No name is empty, so no other node's waiters begin so."""
+        return f"{self.store}/v{path}//"
+
+    def waiter(self, path: str, age: int, name: str) -> str:
+        return f"{self.waiters(path)}{age:017}/{name}"
+
+    def job(self, name: str) -> str:
+        return f"{self.store}/p/{name}"
+
+    def fresh(self, age: int, name: str) -> str:
+        return f"{self.store}/q/{age:017}/{name}"
+
+    def under_way(self, name: str) -> str:
+        return f"{self.store}/u/{name}"
+
+    def progress(self, name: str) -> str:
+        return f"{self.store}/j/{name}"
+
+    def events(self, name: str) -> str:
+        return f"{self.store}/e/{name}/"
+
+    def event(self, name: str, group: int) -> str:
+        return f"{self.events(name)}{group:06}"
+
+    def closed(self, epoch: int) -> str:
+        return f"{self.store}/x/{epoch:010}"
+
+    def all_left(self, path: str) -> str:
+        return f"{self.store}/b{path}//"
+
+    def left(self, path: str, epoch: int) -> str:
+        return f"{self.all_left(path)}{epoch:010}"
+
+    def waits(self, epoch: int, path: str) -> str:
         return f"{self.all_waits(epoch)[:-1]}{path}"
 
-    def audited(self, epoch):
-        """Is there once the epoch's audit has passed."""
-        return f"{self.store}/d/{epoch:010}"
-
-    def weighing(self):
-        """The number of the last reweighing, and up to which epoch it counts waits."""
-        return f"{self.store}/weighing"
-
-    def plans(self, epoch):
-        return f"{self.store}/p/{epoch:010}/"
-
-    def progresses(self, epoch):
-        return f"{self.store}/j/{epoch:010}/"
-
-    def events(self, epoch):
-        return f"{self.store}/e/{epoch:010}/"
-
-    def openings(self, epoch):
-        return f"{self.store}/a/{epoch:010}/"
-
-    def all_waits(self, epoch):
+    def all_waits(self, epoch: int) -> str:
         return f"{self.store}/w/{epoch:010}/"
 
-    def whole(self, kind):
+    def weighing(self) -> str:
+        return f"{self.store}/weighing"
+
+    def whole(self, kind: str) -> str:
         """Below which all keys of a kind stand, as the `m` of weights."""
         return f"{self.store}/{kind}/"
 
 
-def after(prefix):
-    """The first key behind all that begin so."""
-    return prefix[:-1] + chr(ord(prefix[-1]) + 1)
+def last_part(key: str) -> str:
+    """A job's name, or an epoch's number, with which the key ends."""
+    return key.rpartition("/")[2]

@@ -1,50 +1,84 @@
-"""A document's tree and records into etcd, in transactions of many nodes; a tree may have millions of nodes."""
+"""A document's tree and records into etcd, in transactions of many nodes; a tree may have millions of nodes.
+
+Until it is done there is no head, so that no job can be submitted. Each transaction is guarded by that, and by the
+loader's own token: of two loaders the later one goes on, and the other changes nothing from then on.
+"""
+from __future__ import annotations
+
+import uuid
 from concurrent.futures import ThreadPoolExecutor
+from itertools import islice
+from typing import Any, Iterable, Iterator
 
-from .epochs import epoch_text
-from .members import MOST_OPERATIONS, absent, deleting_below, putting
+from .documents import paths_of
+from .head import head_text
+from .keys import Keys
+from .members import MOST_OPERATIONS, Members
 from .refusals import Refused
-from .tree import BadTree, paths_of
+from .weights import Weight
+from .wire import Guard, Operation, absent, deleting_below, putting, unchanged
 
-# Transactions on their way at once.
-AT_ONCE = 8
+# Transactions on their way at once, and those that are made ready meanwhile.
+AT_ONCE, READY = 8, 32
 
 
-def load(members, keys, rows):
-    """Gives the number of nodes. Until it is done there is no epoch, so that no job can be submitted."""
-    try:
-        paths = paths_of(rows)
-    except BadTree as bad:
-        raise Refused(str(bad)) from bad
-    if keys.epoch() in members.get(keys.epoch()).values:
-        raise Refused("loaded")
-    members.write([deleting_below(keys.whole(kind)) for kind in "mr"])
-    with ThreadPoolExecutor(AT_ONCE) as pool:
-        for _ in pool.map(members.write, batches(changes(keys, paths, rows))):
-            pass
-    members.commit([absent(keys.epoch())], [putting(keys.epoch(), epoch_text(1))])
+def load(members: Members, keys: Keys, rows: list[Any]) -> int:
+    """Gives the number of nodes."""
+    paths = paths_of(rows)
+    loader = Loader(members, keys)
+    loader.begin()
+    loader.make_all(batches(changes(keys, paths, rows)))
+    loader.make([putting(keys.head(), head_text(1))])
     return len(paths)
 
 
-def changes(keys, paths, rows):
+class Loader:
+    def __init__(self, members: Members, keys: Keys) -> None:
+        self.members, self.keys = members, keys
+        self.token = uuid.uuid4().hex
+        self.guards: list[Guard] = []
+
+    def begin(self) -> None:
+        """From now on no other loader's transaction is made."""
+        found = self.members.get(self.keys.head(), self.keys.old_head())
+        if found.entries:
+            raise Refused("loaded")
+        no_store = [absent(self.keys.head()), absent(self.keys.old_head())]
+        changes = [putting(self.keys.load(), self.token), *(deleting_below(self.keys.whole(kind)) for kind in "mr")]
+        if not self.members.write(changes, no_store):
+            raise Refused("loaded")
+        token = self.members.get(self.keys.load())
+        if token.value(self.keys.load()) != self.token:
+            raise Refused("other-loader")
+        self.guards = [*no_store, unchanged(self.keys.load(), token.revision_of(self.keys.load()))]
+
+    def make(self, changes: list[Operation]) -> None:
+        if not self.members.write(changes, self.guards) and not self.is_made():
+            raise Refused("other-loader")
+
+    def is_made(self) -> bool:
+        """Did the commit that made the head bring no answer, and was made?"""
+        found = self.members.get(self.keys.head(), self.keys.load())
+        return found.value(self.keys.head()) is not None and found.value(self.keys.load()) == self.token
+
+    def make_all(self, batches: Iterable[list[Operation]]) -> None:
+        left = iter(batches)
+        with ThreadPoolExecutor(AT_ONCE) as pool:
+            while ready := list(islice(left, READY)):
+                for _ in pool.map(self.make, ready):
+                    pass
+
+
+def changes(keys: Keys, paths: list[str], rows: list[Any]) -> Iterator[Operation]:
     """A weight for each node, and a record for each whose isn't 0."""
     for path, row in zip(paths, rows):
-        yield putting(keys.weight(path), weight_text(row["weight"], 0))
-        if row.get("value", 0):
-            yield putting(keys.record(path), str(row["value"]))
+        record = row.get("value", 0)
+        yield putting(keys.weight(path), Weight(row["weight"], 0, record).text())
+        if record:
+            yield putting(keys.record(path), str(record))
 
 
-def weight_text(weight, weighed):
-    """A weight, with the number of the last reweighing that changed it."""
-    return f"{weight} {weighed}"
-
-
-def batches(changes_wanted):
-    batch = []
-    for change in changes_wanted:
-        batch.append(change)
-        if len(batch) == MOST_OPERATIONS:
-            yield batch
-            batch = []
-    if batch:
+def batches(wanted: Iterable[Operation]) -> Iterator[list[Operation]]:
+    left = iter(wanted)
+    while batch := list(islice(left, MOST_OPERATIONS)):
         yield batch

@@ -3,15 +3,19 @@
 What is read is as it stood when it was asked for (etcd's linearizable reads). A commit that brought no answer may have
 happened: it raises `Lost`, and isn't made again here.
 """
-import itertools
+from __future__ import annotations
+
 import random
 import time
+from dataclasses import dataclass
+from pathlib import Path
+from typing import Any, Callable, Iterator, Sequence
 
-import etcd3
 import grpc
 from etcd3 import etcdrpc
 
-from .keys import after
+from .refusals import Failed
+from .wire import Done, Found, Guard, Operation, after, counting, done, ranging, reading, transaction
 
 # Of operations in a transaction, and of its compares (etcd's own limit, as it comes).
 MOST_OPERATIONS = 128
@@ -20,7 +24,8 @@ PAGE = 2000
 # How long one member may take to answer, and how long none may.
 CALL_SECONDS = 5.0
 GIVE_UP_SECONDS = 60.0
-PAUSE_SECONDS = 0.05
+# Between tries; each pause is some part of the next length.
+FIRST_PAUSE_SECONDS, LONGEST_PAUSE_SECONDS = 0.05, 3.0
 OPTIONS = [
     ("grpc.initial_reconnect_backoff_ms", 100),
     ("grpc.max_reconnect_backoff_ms", 1000),
@@ -28,6 +33,8 @@ OPTIONS = [
     # So one connection that hangs, as those made while a member starts, is no other client's.
     ("grpc.use_local_subchannel_pool", 1),
 ]
+WATCH = "/etcdserverpb.Watch/Watch"
+# RESOURCE_EXHAUSTED is said by a member that has too much to do, or no space left.
 NO_ANSWER = {
     grpc.StatusCode.UNAVAILABLE,
     grpc.StatusCode.DEADLINE_EXCEEDED,
@@ -35,6 +42,7 @@ NO_ANSWER = {
     grpc.StatusCode.UNKNOWN,
     grpc.StatusCode.INTERNAL,
     grpc.StatusCode.ABORTED,
+    grpc.StatusCode.RESOURCE_EXHAUSTED,
 }
 
 
@@ -42,141 +50,192 @@ class Lost(Exception):
     """No member answered; what was to be written may have been."""
 
 
-class Found:
-    """The values of keys and the revisions at which they were put, as they stood at one revision."""
+@dataclass(frozen=True)
+class Credentials:
+    """As etcdctl has them: files with certificates and a key, and a user with a password."""
 
-    def __init__(self, revision):
-        self.revision, self.values, self.put_at = revision, {}, {}
+    cacert: str | None = None
+    cert: str | None = None
+    key: str | None = None
+    user: str | None = None
+    password: str | None = None
 
-    def add(self, pairs):
-        for pair in pairs:
-            key = pair.key.decode()
-            self.values[key], self.put_at[key] = pair.value.decode(), pair.mod_revision
+    def channel(self, address: str) -> Any:
+        if self.cacert is None:
+            return grpc.insecure_channel(address, options=OPTIONS)
+        root, key, cert = (file and content_of(file) for file in (self.cacert, self.key, self.cert))
+        return grpc.secure_channel(address, grpc.ssl_channel_credentials(root, key, cert), options=OPTIONS)
 
-    def revision_of(self, key):
-        """At which revision the key was put; 0 where it isn't there, as etcd has it."""
-        return self.put_at.get(key, 0)
+
+def content_of(file: str) -> bytes:
+    try:
+        return Path(file).read_bytes()
+    except OSError as why:
+        raise Failed(f"{file}: {why.strerror}") from why
+
+
+class Member:
+    """One member, with a connection of its own."""
+
+    def __init__(self, address: str, credentials: Credentials) -> None:
+        self.address, self.credentials = address, credentials
+        self.channel = credentials.channel(address)
+        self.calls = etcdrpc.KVStub(self.channel)
+        # Called with one request: a stream of them would take a thread for each watch.
+        self.watch = self.channel.unary_stream(
+            WATCH,
+            request_serializer=etcdrpc.WatchRequest.SerializeToString,
+            response_deserializer=etcdrpc.WatchResponse.FromString,
+        )
+        self.token: tuple[tuple[str, str], ...] = ()
+
+    def let_in(self, seconds: float) -> None:
+        """Asks for a token by the user's name and password, if there is a user."""
+        if self.credentials.user is None:
+            return
+        request = etcdrpc.AuthenticateRequest(name=self.credentials.user, password=self.credentials.password or "")
+        answer = etcdrpc.AuthStub(self.channel).Authenticate(request, seconds)
+        self.token = (("token", answer.token),)
+
+    def ask(self, call: Any, request: Any, seconds: float) -> Any:
+        """Calls the member; where a token is wanted, or another one, with that."""
+        if self.credentials.user is not None and not self.token:
+            self.let_in(seconds)
+        try:
+            return call(request, seconds, metadata=self.token)
+        except grpc.RpcError as error:
+            if self.credentials.user is None or not wants_token(error):
+                raise
+        self.let_in(seconds)
+        return call(request, seconds, metadata=self.token)
+
+
+def wants_token(error: Any) -> bool:
+    return error.code() is grpc.StatusCode.UNAUTHENTICATED or "invalid auth token" in (error.details() or "")
 
 
 class Members:
-    def __init__(self, addresses, seconds=CALL_SECONDS):
+    def __init__(
+        self, addresses: Sequence[str], credentials: Credentials = Credentials(), seconds: float = CALL_SECONDS
+    ) -> None:
         """Of a member that hasn't answered for so many seconds, no answer is waited for any longer."""
         self.seconds = seconds
-        self.clients = [connected(address) for address in addresses]
-        random.shuffle(self.clients)
+        self.members = [Member(address, credentials) for address in addresses]
+        random.shuffle(self.members)
 
     @property
-    def channel(self):
-        """That of the member which is asked at present."""
-        return self.clients[0].channel
+    def asked(self) -> Member:
+        """That which is asked at present."""
+        return self.members[0]
 
-    def turn(self):
-        """From now on asks the next member."""
-        self.clients.append(self.clients.pop(0))
+    def turn(self, from_member: Member) -> None:
+        """From now on asks the next member, if it is this one that is asked."""
+        if self.members[0] is from_member:
+            self.members = [*self.members[1:], from_member]
 
-    def get(self, *keys, revision=0):
+    def get(self, *keys: str, revision: int = 0) -> Found:
         """These keys, all as they stood at one revision, at present where none is named; at most 128."""
-        request = etcdrpc.TxnRequest(success=[reading(key, revision) for key in keys])
-        answer = self.ask_until_told(lambda stub: stub.Txn(request, self.seconds))
-        found = Found(answer.header.revision)
-        for response in answer.responses:
-            found.add(response.response_range.kvs)
-        return found
+        return self.read([reading(key, revision) for key in keys])
 
-    def pages(self, prefix, revision=0, until=None):
-        """The keys that begin so, or those before `until`, in parts, all as they stood at one revision."""
-        start, end = prefix, until or after(prefix)
-        for _ in itertools.count():
-            request = etcdrpc.RangeRequest(key=start.encode(), range_end=end.encode(), limit=PAGE, revision=revision)
-            answer = self.ask_until_told(lambda stub, request=request: stub.Range(request, self.seconds))
+    def read(self, reads: list[Operation]) -> Found:
+        """At most 128 reads, at one revision."""
+        request = transaction([], reads, [])
+        return done(self.ask_until_told(lambda member: member.ask(member.calls.Txn, request, self.seconds))).found
+
+    def read_all(self, reads: Sequence[Operation], revision: int) -> Found:
+        """Any number of reads, all of which name this revision."""
+        whole = Found(revision)
+        for start in range(0, len(reads), MOST_OPERATIONS):
+            whole.entries.update(self.read(list(reads[start : start + MOST_OPERATIONS])).entries)
+        return whole
+
+    def count(self, prefix: str) -> int:
+        """How many keys begin so."""
+        return int(self.range(counting(prefix)).count)
+
+    def range(self, request: Any) -> Any:
+        return self.ask_until_told(lambda member: member.ask(member.calls.Range, request, self.seconds))
+
+    def pages(self, prefix: str, revision: int = 0, keys_only: bool = False) -> Iterator[Found]:
+        """The keys that begin so, in parts, all as they stood at one revision."""
+        start, more = prefix, True
+        while more:
+            answer = self.range(ranging(start, after(prefix), PAGE, revision, keys_only))
             revision = revision or answer.header.revision
             found = Found(revision)
             found.add(answer.kvs)
             yield found
-            if not answer.more:
-                return
-            start = answer.kvs[-1].key.decode() + "\0"
+            more = answer.more
+            start = answer.kvs[-1].key.decode() + "\0" if more else start
 
-    def below(self, prefix, revision=0, until=None):
+    def below(self, prefix: str, revision: int = 0, keys_only: bool = False) -> Found:
         """All that `pages` gives, at once."""
-        pages = self.pages(prefix, revision, until)
+        pages = self.pages(prefix, revision, keys_only)
         whole = next(pages)
         for page in pages:
-            whole.values.update(page.values)
-            whole.put_at.update(page.put_at)
+            whole.entries.update(page.entries)
         return whole
 
-    def commit(self, guards, changes):
-        """Makes the changes if all guards hold. Gives the revision at which they were made, and `None` where they
-        weren't."""
-        request = etcdrpc.TxnRequest(compare=guards, success=changes)
+    def commit(
+        self,
+        guards: list[Guard],
+        changes: list[Operation],
+        then: Sequence[Operation] = (),
+        otherwise: Sequence[Operation] = (),
+    ) -> Done:
+        """Makes the changes if all guards hold, and reads `then`; else reads `otherwise`."""
+        request, member = transaction(guards, [*changes, *then], list(otherwise)), self.asked
         try:
-            answer = self.clients[0].kvstub.Txn(request, self.seconds)
+            return done(member.ask(member.calls.Txn, request, self.seconds))
         except grpc.RpcError as error:
-            self.turn()
-            raise lost(error) from error
-        return answer.header.revision if answer.succeeded else None
+            self.turn(member)
+            raise lost(member, error) from error
 
-    def write(self, changes):
-        """Makes changes that may as well be made twice, until they are made."""
-        request = etcdrpc.TxnRequest(success=changes)
-        self.ask_until_told(lambda stub: stub.Txn(request, self.seconds))
+    def write(self, changes: list[Operation], guards: Sequence[Guard] = ()) -> bool:
+        """Makes changes that may as well be made twice, until they are made, or a guard doesn't hold."""
+        request = transaction(list(guards), changes, [])
+        answer = self.ask_until_told(lambda member: member.ask(member.calls.Txn, request, self.seconds))
+        return bool(answer.succeeded)
 
-    def ask_until_told(self, asked):
-        """Asks one member after the other."""
+    def ask_until_told(self, asked: Callable[[Member], Any]) -> Any:
+        """Asks one member after the other, for a minute."""
         until = time.monotonic() + GIVE_UP_SECONDS
-        while True:
+        for pause in pauses():
+            member = self.asked
             try:
-                return asked(self.clients[0].kvstub)
+                return asked(member)
             except grpc.RpcError as error:
-                self.turn()
-                no_answer = lost(error)
+                self.turn(member)
+                no_answer = lost(member, error)
                 if time.monotonic() > until:
                     raise no_answer from error
-            time.sleep(PAUSE_SECONDS)
+            time.sleep(pause)
 
-    def close(self):
-        for client in self.clients:
-            client.close()
-
-
-def connected(address):
-    host, _, port = address.rpartition(":")
-    return etcd3.client(host=host, port=int(port), grpc_options=OPTIONS)
+    def close(self) -> None:
+        for member in self.members:
+            member.channel.close()
 
 
-def lost(error):
-    """The error as `Lost`; any that is no want of an answer is raised as it is."""
+def pauses() -> Iterator[float]:
+    """Growing, and of random length, so that many don't come again at once."""
+    longest = FIRST_PAUSE_SECONDS
+    while True:
+        yield longest * random.uniform(0.5, 1)
+        longest = min(LONGEST_PAUSE_SECONDS, 2 * longest)
+
+
+def lost(member: Member, error: Any) -> Lost:
+    """The error as `Lost`; any that is no want of an answer is told as it is."""
     if error.code() not in NO_ANSWER:
-        raise error
-    return Lost(error.details())
+        raise Failed(f"etcd at {member.address} says: {error.details()}") from error
+    return Lost(f"{member.address}: {error.details()}")
 
 
-def reading(key, revision):
-    return etcdrpc.RequestOp(request_range=etcdrpc.RangeRequest(key=key.encode(), revision=revision))
-
-
-def putting(key, value):
-    return etcdrpc.RequestOp(request_put=etcdrpc.PutRequest(key=key.encode(), value=value.encode()))
-
-
-def deleting(key):
-    return etcdrpc.RequestOp(request_delete_range=etcdrpc.DeleteRangeRequest(key=key.encode()))
-
-
-def deleting_below(prefix):
-    request = etcdrpc.DeleteRangeRequest(key=prefix.encode(), range_end=after(prefix).encode())
-    return etcdrpc.RequestOp(request_delete_range=request)
-
-
-def unchanged(key, revision):
-    """Was the key last put at this revision? At revision 0, isn't it there?"""
-    return etcdrpc.Compare(result="EQUAL", target="MOD", key=key.encode(), mod_revision=revision)
-
-
-def absent(key):
-    return etcdrpc.Compare(result="EQUAL", target="VERSION", key=key.encode(), version=0)
-
-
-def present(key):
-    return etcdrpc.Compare(result="NOT_EQUAL", target="VERSION", key=key.encode(), version=0)
+def addresses_of(text: str) -> list[str]:
+    """`HOST:PORT,..` as addresses, whichever are wrong by name."""
+    addresses = text.split(",")
+    for address in addresses:
+        host, _, port = address.rpartition(":")
+        if not (host and port.isdecimal() and 0 < int(port) < 65536):
+            raise ValueError(f"a member is HOST:PORT, as 127.0.0.1:2379: {address!r}")
+    return addresses

@@ -1,193 +1,200 @@
-"""A worker: takes jobs' steps in groups, each one transaction, and waits where a node is held.
+"""A worker: looks for jobs that nobody has begun, and for those that nobody goes on with any more, and does them.
 
-A job belongs to nobody. Whoever reads its progress may go on with it, and of two that do, one finds its guards broken.
-So a worker may die at any time; another takes up what it left, once that hasn't moved for a while. When to do so is a
-guess by the clock, and nothing but time hangs on it.
+A job belongs to nobody for good. A worker may die at any time; another takes up what it left, once that hasn't given a
+sign of life for a while.
 """
+from __future__ import annotations
+
 import random
 import time
+import uuid
+from typing import Optional
 
-from .epochs import epoch_read
-from .groups import MOST_STEPS, Group, answer, length_of
-from .jobs import Job, Progress, owner_read, owner_text, written
-from .members import Lost, absent, deleting, present, putting, unchanged
+from .attempt import Attempt, Means, Work
+from .head import need_store
+from .jobs import Job, UnderWay
+from .journal import Journal
+from .keys import Keys, last_part
+from .members import Lost, Members, pauses
+from .seeing import Seen
+from .together import Together, reads_together
 from .waiting import wait
+from .wire import Found, after, reading_below
+
+# Jobs that are looked at at once, and those whose plans are read at once.
+MOST_LOOKED_AT, MOST_BEGUN = 256, 24
+# Where workers come to the same jobs, each takes a smaller share of them; this is the smallest.
+MOST_SHARES = 32
+# How long a worker steps back where others come to the nodes of its jobs.
+STEP_BACK_SECONDS, LONGEST_STEP_BACK_SECONDS = 0.05, 1.5
 
 
 class Worker:
-    def __init__(self, members, keys, patience=2.0, slot=0.0):
-        """What hasn't moved for `patience` seconds is taken up. Where a slot has a length in seconds, each access is
-        given as many slots as it is long, with its node held; else an access takes no time."""
-        self.members, self.keys, self.patience, self.slot = members, keys, patience, slot
-        # When each job's progress was first seen as it is, by its key.
-        self.seen = {}
+    attempt = Attempt
 
-    def run(self, until_ended=False):
-        """Does jobs for good, or until all that are there have ended."""
-        while True:
-            begun, fresh = self.look()
-            if until_ended and not begun and not fresh:
-                return
-            if not self.run_fresh(fresh) and not self.take_up(begun):
-                self.idle()
+    def __init__(
+        self,
+        members: Members,
+        keys: Keys,
+        work: Optional[Work] = None,
+        patience: float = 2.0,
+        tries: int = 5,
+        journal: Optional[Journal] = None,
+    ) -> None:
+        """What gives no sign of life for `patience` seconds is taken up; a job whose work has failed `tries` times at
+        one access is set aside."""
+        name = uuid.uuid4().hex[:12]
+        self.means = Means(members, keys, name, work, patience, tries, journal or Journal())
+        self.members, self.keys = members, keys
+        # How many times in a row others had come to the nodes in between.
+        self.clashes = 0
+        # Which share of the jobs that are looked at it takes.
+        self.shares = 1
+        self.pauses = pauses()
 
-    def look(self):
-        """The present epoch's jobs that have begun and haven't ended, and those that haven't begun."""
-        epoch = self.present_epoch()
-        found = self.members.below(self.keys.progresses(epoch))
-        begun, fresh = [], []
-        for key, text in found.values.items():
-            progress, number = Progress.read(text), int(key.rpartition("/")[2])
-            if not progress.has_ended():
-                (begun if progress.groups else fresh).append((epoch, number, found.put_at[key]))
-        return begun, fresh
+    def stop(self) -> None:
+        """Ends after the group that goes on; others may go on with the job at once."""
+        self.means.stopping = True
 
-    def present_epoch(self):
-        self.epoch_seen = self.members.get(self.keys.epoch())
-        return epoch_read(self.keys, self.epoch_seen)["epoch"]
-
-    def run_fresh(self, fresh):
-        """Does jobs that nobody has begun, from a random one on, until it meets one that another worker has. Were there
-        any?"""
-        first = random.randrange(len(fresh)) if fresh else 0
-        for epoch, number, _ in fresh[first:] + fresh[:first]:
-            job, progress = self.read_job(epoch, number)
-            if progress.groups:
+    def run(self, until_ended: bool = False) -> None:
+        """Does jobs for good, or until all that are there have ended or are set aside."""
+        need_store(self.members, self.keys)
+        self.means.journal.tell("started", worker=self.means.name)
+        while not self.means.stopping:
+            found = self.look()
+            fresh = self.fresh_of(found)
+            begun = self.under_way_of(found)
+            if until_ended and not fresh and all(each.aside for each in begun.values()):
                 break
-            self.run_job(job)
-        return bool(fresh)
-
-    def take_up(self, begun):
-        """Does one job that hasn't moved for a while. Is there any?"""
-        still = [(epoch, number) for epoch, number, put_at in begun if self.is_still(epoch, number, put_at)]
-        if still:
-            self.run_job(self.read_job(*random.choice(still))[0])
-        return bool(still)
-
-    def is_still(self, epoch, number, put_at):
-        """Has the job's progress stood as it does for as long as this worker is patient?"""
-        before, since = self.seen.get((epoch, number), (None, 0))
-        if before != put_at:
-            self.seen[epoch, number] = put_at, time.monotonic()
-            return False
-        return time.monotonic() - since >= self.patience
-
-    def idle(self):
-        """Until jobs are submitted, or it is time to look for those that don't move."""
-        wait(self.members, self.keys.epoch(), self.epoch_seen.revision, self.patience / 4)
-
-    def read_job(self, epoch, number):
-        plan, progress = self.keys.plan(epoch, number), self.keys.progress(epoch, number)
-        found = self.members.get(plan, progress)
-        return Job.read(epoch, number, found.values[plan]), Progress.read(found.values[progress])
-
-    def run_job(self, job):
-        """Does a job to its end, and before it those that it waits for and that nobody goes on with."""
-        waiting = [job]
-        while waiting:
-            holder = self.go_on(waiting[-1])
-            if holder is None:
-                waiting.pop()
-            else:
-                waiting.append(self.read_job(*holder)[0])
-
-    def go_on(self, job):
-        """Does the job's steps; gives a job that it waits for and that doesn't move, or `None` once it has ended."""
-        step, worked = 0, None
-        while True:
-            group, at, revision = self.next_group(job, step)
-            if group is None or group.progress.has_ended():
-                return None
-            if self.slot and worked != group.progress.step and self.is_access(job, group.progress.step):
-                worked = group.progress.step
-                time.sleep(self.slot * length_of(job.accesses[job.plan[worked][1]]))
+            if self.take_up(begun, found):
                 continue
-            step = group.progress.step
-            if group.does_nothing():
-                holder = self.wait_for(group, revision)
-                if holder:
-                    return holder
-            elif self.commit(job, group, at):
-                step += group.taken
-
-    def is_access(self, job, step):
-        return job.plan[step][0] == "access"
-
-    def next_group(self, job, step):
-        """The group of the steps from the present one on, with what it saw; `step` is a guess of which that is."""
-        while True:
-            steps = job.plan[step : step + MOST_STEPS]
-            owners = {what: self.keys.owner(what) for kind, what in steps if kind == "lock"}
-            accessed = {job.accesses[what][1] for kind, what in steps if kind == "access"}
-            progress_key = self.keys.progress(job.epoch, job.number)
-            found = self.members.get(progress_key, *owners.values(), *map(self.keys.record, sorted(accessed)))
-            if progress_key not in found.values:
-                return None, found, found.revision
-            progress = Progress.read(found.values[progress_key])
-            if progress.step == step:
-                return self.group(job, progress, steps, found), found, found.revision
-            step = progress.step
-
-    def group(self, job, progress, steps, found):
-        """The steps that can be taken, as the nodes were seen."""
-        group = Group(progress)
-        for kind, what in steps:
-            if kind == "lock":
-                holder = found.values.get(self.keys.owner(what))
-                if holder is not None:
-                    group.stop(what, holder)
-                    break
-                group.lock(what)
-            elif kind == "unlock":
-                group.unlock(what)
-            elif self.slot and group.taken:
-                break
+            if fresh:
+                self.run_batch(self.batch_of(fresh))
             else:
-                self.access(group, job.accesses[what], found)
-            group.taken += 1
-        return group
+                self.idle(found)
+        self.means.journal.tell("stopped", worker=self.means.name)
 
-    def access(self, group, access, found):
-        path = access[1]
-        before = group.records.get(path)
-        if before is None:
-            before = int(found.values.get(self.keys.record(path), "0"))
-        after, reply = answer(before, access)
-        group.access(path, before, after, reply)
+    def look(self) -> Found:
+        """The oldest jobs that nobody has begun, and those under way."""
+        fresh, begun = self.keys.whole("q"), self.keys.whole("u")
+        return self.members.read([reading_below(fresh, MOST_LOOKED_AT, keys_only=True), reading_below(begun)])
 
-    def guards(self, job, group, found):
-        """What has to hold for the group's steps to be the job's next ones, and to be allowed."""
-        keys = self.keys
-        progress = keys.progress(job.epoch, job.number)
-        free = [absent(keys.owner(path)) for path in group.locked]
-        records = [keys.record(path) for path in group.records]
-        held = [present(keys.owner(group.blocked))] if group.mark else []
-        return [*(unchanged(key, found.revision_of(key)) for key in [progress, *records]), *free, *held]
+    def fresh_of(self, found: Found) -> list[str]:
+        return [last_part(key) for key in sorted(found.below(self.keys.whole("q")))]
 
-    def changes(self, job, group):
-        """What the group leaves: progress, owners, records, and its event."""
-        keys, after = self.keys, group.after()
-        owner = owner_text(job.epoch, job.number)
-        event = keys.event(job.epoch, job.number, group.progress.groups)
-        return [
-            putting(keys.progress(job.epoch, job.number), after.text()),
-            putting(event, written({"takes": group.taken, "mark": group.mark})),
-            *(putting(keys.owner(path), owner) for path, held in group.held.items() if held),
-            *(deleting(keys.owner(path)) for path, held in group.held.items() if not held),
-            *(putting(keys.record(path), str(group.records[path])) for path in sorted(group.changed)),
-        ]
+    def under_way_of(self, found: Found) -> dict[str, UnderWay]:
+        begun = found.below(self.keys.whole("u"))
+        return {last_part(key): UnderWay.read(entry.value) for key, entry in begun.items()}
 
-    def commit(self, job, group, found):
-        """Takes the steps; whether they were taken for sure. If not, the progress is read again in any case."""
+    def batch_of(self, fresh: list[str]) -> list[Job]:
+        """Some of those jobs, from a random one on, with their plans."""
+        first = random.randrange(len(fresh))
+        chosen = (fresh[first:] + fresh[:first])[: max(1, min(MOST_BEGUN, len(fresh) // self.shares))]
+        return self.jobs(chosen)
+
+    def jobs(self, names: list[str]) -> list[Job]:
+        found = self.members.get(*map(self.keys.job, names))
+        texts = ((name, found.value(self.keys.job(name))) for name in names)
+        return [Job.read(name, text) for name, text in texts if text is not None]
+
+    def run_batch(self, jobs: list[Job]) -> None:
+        """Does jobs that nobody has begun: without work as many as can be in one transaction, and the others one by
+        one, until it meets one that another worker has."""
+        if self.means.work is None:
+            jobs = self.do_together(jobs)
+        self.do_one_by_one(jobs)
+
+    def do_together(self, jobs: list[Job]) -> list[Job]:
+        """Gives those of the jobs that have to be done by themselves."""
+        some, reads = reads_together(self.keys, jobs)
+        if not some:
+            return jobs[:1]
+        together = Together(self.keys, self.members.read(reads))
+        for job in some:
+            together.add(job)
+        if not together.done:
+            return together.left
         try:
-            return self.members.commit(self.guards(job, group, found), self.changes(job, group)) is not None
-        except Lost:
-            return False
+            done = self.members.commit(together.guards(), together.changes(), [], reads)
+        except Lost as lost:
+            self.means.journal.tell("lost", why=lost)
+            time.sleep(next(self.pauses))
+            return []
+        self.pauses = pauses()
+        self.means.journal.tell("commit" if done.succeeded else "commit_failed")
+        for job, _ in together.done if done.succeeded else ():
+            self.means.journal.tell("ended", job=job.name, groups=1)
+        are_taken = not done.succeeded and together.are_taken(done.found)
+        self.shares = min(MOST_SHARES, self.shares * 2) if are_taken else max(1, self.shares // 2)
+        self.step_back(not done.succeeded and not are_taken)
+        return together.left if done.succeeded else []
 
-    def wait_for(self, group, revision):
-        """Waits until the node changes hands. If it doesn't, and the holder hasn't moved for a while, gives that."""
-        if wait(self.members, self.keys.owner(group.blocked), revision, self.patience):
-            return None
-        epoch, number = owner_read(group.holder)
-        key = self.keys.progress(epoch, number)
-        return (epoch, number) if self.is_still(epoch, number, self.members.get(key).revision_of(key)) else None
+    def do_one_by_one(self, jobs: list[Job]) -> None:
+        until = time.monotonic() + self.means.patience
+        ahead: Seen | None = None
+        for number, job in enumerate(jobs):
+            following = jobs[number + 1] if number + 1 < len(jobs) else None
+            attempt = self.attempt(self.means, job, following)
+            found = ahead or attempt.look(0)
+            if found is None or found.under_way is not None:
+                return
+            attempt.run(found)
+            ahead = attempt.ahead
+            self.step_back(attempt.stepped_back)
+            if self.means.stopping or self.take_up_abandoned(attempt) or time.monotonic() > until:
+                return
+
+    def step_back(self, clashed: bool) -> None:
+        """From the second time on that others were at a job's nodes, one after the other, this worker pauses: they get
+        on the faster, and it tries less often in vain."""
+        self.clashes = self.clashes + 1 if clashed else 0
+        if self.clashes > 1:
+            self.means.journal.tell("stepped_back")
+            longest = min(LONGEST_STEP_BACK_SECONDS, STEP_BACK_SECONDS * 3 ** (self.clashes - 2))
+            time.sleep(longest * random.uniform(0.5, 1))
+
+    def take_up(self, begun: dict[str, UnderWay], found: Found) -> bool:
+        """Goes on with one job that nobody goes on with. Is there any?"""
+        self.means.stills.forget_all_but(set(begun))
+        left = []
+        for name, under_way in begun.items():
+            revision = found.revision_of(self.keys.under_way(name))
+            is_still = self.means.stills.is_still(name, revision, self.means.patience)
+            if not under_way.aside and (under_way.by == "" or is_still):
+                left.append(name)
+        left = self.those_that_can_go_on(begun, left)
+        return bool(left) and self.go_on_with(random.choice(left))
+
+    def those_that_can_go_on(self, begun: dict[str, UnderWay], names: list[str]) -> list[str]:
+        """Without those that wait for a node which another job holds."""
+        names = names[:MOST_BEGUN]
+        nodes = {name: begun[name].waits for name in names}
+        owners = {path: self.keys.owner(path) for path in nodes.values() if path is not None}
+        held = self.members.get(*owners.values()) if owners else Found(0)
+        return [name for name, path in nodes.items() if path is None or held.value(owners[path]) in (None, "", name)]
+
+    def go_on_with(self, name: str) -> bool:
+        """Takes a job up, if it is there and nobody else does."""
+        jobs = self.jobs([name])
+        if not jobs:
+            return False
+        attempt = self.attempt(self.means, jobs[0])
+        found = attempt.look(0)
+        if found is None or found.under_way is None or found.under_way.aside:
+            return False
+        self.means.journal.tell("taken_up", job=name, by=self.means.name)
+        attempt.run(
+            attempt.put_under_way(found, UnderWay(self.means.name, found.under_way.waits, found.under_way.fails))
+        )
+        self.take_up_abandoned(attempt)
+        return True
+
+    def take_up_abandoned(self, attempt: Attempt) -> bool:
+        """Does the job that the attempt has waited for, if nobody does; was there one?"""
+        return attempt.abandoned is not None and self.go_on_with(attempt.abandoned)
+
+    def idle(self, found: Found) -> None:
+        """Until jobs are submitted, or it is time to look for those that are left."""
+        fresh = self.keys.whole("q")
+        seconds = min(1.0, self.means.patience / 4)
+        wait(self.members, fresh, found.revision, seconds, lambda change: change.value is not None, after(fresh))

@@ -9,7 +9,7 @@ from pathlib import Path
 TOP = Path(__file__).resolve().parents[2]
 sys.path[:0] = [str(TOP / "cluster"), str(TOP / "tests")]
 
-from grove_etcd.members import Lost, Members  # noqa: E402
+from grove_etcd.members import Credentials, Lost, Members  # noqa: E402
 from server import HOST, free_port  # noqa: E402
 
 # How long a member may take to answer after it was started.
@@ -23,6 +23,9 @@ class Cluster:
         self.clients, self.peers = ([f"{HOST}:{free_port()}" for _ in range(count)] for _ in range(2))
         self.started = [None] * count
         self.room = tempfile.TemporaryDirectory(prefix="grove-etcd-")
+        # As the programs' words have them, and as the members are spoken to.
+        self.credentials, self.scheme, self.more_words = [], "http", []
+        self.let_in = Credentials()
 
     @property
     def addresses(self):
@@ -32,16 +35,16 @@ class Cluster:
         for member in range(len(self.clients)):
             self.start(member)
         for address in self.clients:
-            need_answer(address)
+            need_answer(address, self.let_in)
         return self
 
     def start(self, member):
         """Starts a member; one that was killed goes on with its data."""
         everyone = ",".join(f"m{number}=http://{peer}" for number, peer in enumerate(self.peers))
-        client, peer = f"http://{self.clients[member]}", f"http://{self.peers[member]}"
+        client, peer = f"{self.scheme}://{self.clients[member]}", f"http://{self.peers[member]}"
         words = ["--name", f"m{member}", "--data-dir", f"{self.room.name}/{member}", "--initial-cluster", everyone]
         words += ["--listen-client-urls", client, "--advertise-client-urls", client]
-        words += ["--listen-peer-urls", peer, "--initial-advertise-peer-urls", peer]
+        words += ["--listen-peer-urls", peer, "--initial-advertise-peer-urls", peer, *self.more_words]
         words += ["--logger", "zap", "--log-level", "fatal", "--log-outputs", "/dev/null"]
         streams = dict.fromkeys(["stdin", "stdout", "stderr"], subprocess.DEVNULL)
         self.started[member] = subprocess.Popen(["etcd", *words], **streams)
@@ -51,7 +54,7 @@ class Cluster:
         self.started[member].wait()
 
     def members(self):
-        return Members(self.clients)
+        return Members(self.clients, self.let_in)
 
     def __exit__(self, *_):
         for started in self.started:
@@ -61,11 +64,37 @@ class Cluster:
         self.room.cleanup()
 
 
-def need_answer(address):
+class SecretCluster(Cluster):
+    """One member that speaks TLS and wants a certificate, made by openssl."""
+
+    def __init__(self):
+        super().__init__(1)
+        room = Path(self.room.name)
+        self.cacert, self.cert, self.key = (str(room / name) for name in ("ca.pem", "cert.pem", "key.pem"))
+        extension = room / "names"
+        extension.write_text(f"subjectAltName=IP:{HOST}\n", encoding="utf-8")
+        ca_key, request = room / "ca-key.pem", room / "request.pem"
+        openssl(
+            "req", "-x509", "-newkey", "rsa:2048", "-nodes", "-subj", "/CN=ca", "-keyout", ca_key, "-out", self.cacert
+        )
+        openssl("req", "-newkey", "rsa:2048", "-nodes", "-subj", "/CN=grove", "-keyout", self.key, "-out", request)
+        signing = ["-CA", self.cacert, "-CAkey", ca_key, "-CAcreateserial", "-extfile", extension]
+        openssl("x509", "-req", "-in", request, *signing, "-out", self.cert)
+        self.scheme, self.let_in = "https", Credentials(self.cacert, self.cert, self.key)
+        self.credentials = ["--cacert", self.cacert, "--cert", self.cert, "--key", self.key]
+        self.more_words = ["--client-cert-auth", "--trusted-ca-file", self.cacert]
+        self.more_words += ["--cert-file", self.cert, "--key-file", self.key]
+
+
+def openssl(*words):
+    subprocess.run(["openssl", *words], check=True, capture_output=True)
+
+
+def need_answer(address, credentials=Credentials()):
     """Waits until the member answers; each try has a connection of its own, since one made too early hangs."""
     until = time.monotonic() + SECONDS
     while True:
-        members = Members([address], seconds=0.5)
+        members = Members([address], credentials, seconds=0.5)
         try:
             return members.commit([], [])
         except Lost:

@@ -33,6 +33,7 @@ IN_BASH = {
     "serve --tree = t": "tree.json",
     "serve --tree =": "tree.json other",
     "serve --port ": "",
+    "serve --an": "--any-port",
     "serve --id": "--idle",
     "serve t": "",
     "ask --a": "--address",

@@ -77,7 +77,7 @@ def cluster(packages: Packages, room: Path, tally: Tally) -> None:
     with Etcd() as etcd:
         members = ["--members", f"{HOST}:{etcd.port}"]
         note("loaded 5 nodes", "grove-load", *members, DOCUMENT)
-        note("submitted 1/2", "grove-submit", *members, DOCUMENT)
+        note("submitted orders.2", "grove-submit", *members, "--id", "orders", DOCUMENT)
         note("", "grove-work", *members, "--until-ended")
         note("epoch 1: 3 jobs, 3 ended; 0 nodes held", "grove-status", *members)
         note("order [", "grove-audit", *members)

@@ -19,8 +19,9 @@ from looking import below, note_equal, note_silent, with_manual
 from packages import PROGRAM, Packages, called, copy_of_checkout, package
 from sweeps.program import Tally
 
-# What a unit file has to have.
-GRANTED = ["DynamicUser=yes", "NoNewPrivileges=yes", "MemoryMax=", "TasksMax=", "--explain", "--verbose", "--idle"]
+# What a unit file has to have, and what that of a server.
+GRANTED = ["DynamicUser=yes", "NoNewPrivileges=yes", "MemoryMax=", "TasksMax=", "--verbose"]
+SERVERS = {"grove-page.service": ["--explain", "--idle"], "grove-serve.service": ["--explain", "--idle"]}
 
 
 @dataclass(frozen=True)
@@ -97,11 +98,11 @@ def owned(packages: Packages, _room: Path, tally: Tally) -> None:
 def unit_files(packages: Packages, _room: Path, tally: Tally) -> None:
     """They pass systemd's own check, and have the limits."""
     units = sorted((packages.prefix / "lib/systemd/system").iterdir())
-    note_equal(tally, "the files", [unit.name for unit in units], ["grove-page.service", "grove-serve.service"])
+    note_equal(tally, "the files", [unit.name for unit in units], [*SERVERS, "grove-work.service"])
     for unit in units:
         ran = called("systemd-analyze", "verify", unit, env=with_manual(packages.prefix))
         note_silent(tally, unit.name, ran)
-        for line in GRANTED:
+        for line in GRANTED + SERVERS.get(unit.name, []):
             note_equal(tally, f"{unit.name}: {line}", line in unit.read_text(), True)
 
 

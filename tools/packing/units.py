@@ -1,4 +1,4 @@
-"""Unit files of systemd for `grove serve` and `grove page`."""
+"""Unit files of systemd for `grove serve`, `grove page` and the worker of `cluster/`."""
 
 from __future__ import annotations
 
@@ -39,7 +39,55 @@ MemoryMax=2G
 TasksMax=64
 LimitNOFILE=64
 
-# A user of its own for as long as it runs, and no rights beyond reading, and talking over TCP.
+@RIGHTS@
+
+[Install]
+WantedBy=multi-user.target
+"""
+
+WORK = """\
+# grove-work as a service: a worker that does the jobs of a store on an etcd cluster (CLUSTER.md). Any number may run.
+#
+#   systemctl enable --now grove-work
+[Unit]
+Description=grove-work, a worker on an etcd cluster
+Documentation=man:grove-work(1)
+After=network-online.target
+Wants=network-online.target
+
+[Service]
+Type=exec
+# Its words. `systemctl edit grove-work` gives others (Environment= again), and so does a line GROVE_WORK="--verbose" in
+# /etc/default/grove.
+#   --members, --store     where the jobs are
+#   --cacert, --cert, --key, --user     as etcdctl has them; the password may stand in ETCDCTL_PASSWORD
+#   --work MODULE:FUNCTION  what an access stands for; the module is found by PYTHONPATH
+#   --verbose               the journal gets a line for each event
+#   --metrics PORT          counts of events over HTTP
+Environment="GROVE_WORK=--members 127.0.0.1:2379 --verbose"
+EnvironmentFile=-/etc/default/grove
+ExecStart=@PREFIX@/bin/grove-work $GROVE_WORK
+# SIGTERM ends it after the group that goes on, with the work that belongs to it.
+TimeoutStopSec=300
+# Status 1 is a store that isn't there or of another format, 2 a wrong word: neither gets better by another start. 3 is
+# that no member of etcd answered for a minute.
+Restart=on-failure
+RestartSec=5
+RestartPreventExitStatus=1 2
+
+# Limits.
+MemoryMax=1G
+TasksMax=128
+LimitNOFILE=256
+
+@RIGHTS@
+
+[Install]
+WantedBy=multi-user.target
+"""
+
+RIGHTS = """\
+# A user of its own for as long as it runs, and no rights beyond reading, and talking over @SPEAKS@.
 DynamicUser=yes
 NoNewPrivileges=yes
 CapabilityBoundingSet=
@@ -56,7 +104,7 @@ ProtectKernelLogs=yes
 ProtectKernelModules=yes
 ProtectKernelTunables=yes
 ProtectProc=invisible
-RestrictAddressFamilies=AF_INET AF_INET6
+RestrictAddressFamilies=@FAMILIES@
 RestrictNamespaces=yes
 RestrictRealtime=yes
 RestrictSUIDSGID=yes
@@ -65,9 +113,6 @@ MemoryDenyWriteExecute=yes
 SystemCallArchitectures=native
 SystemCallFilter=@system-service
 SystemCallErrorNumber=EPERM
-
-[Install]
-WantedBy=multi-user.target
 """
 
 SERVE = {
@@ -88,14 +133,20 @@ PAGE = {
 }
 
 
+# Names of members are looked up by the C library, which asks the system over these.
+OF_WORK = {"SPEAKS": "TCP and looking up names", "FAMILIES": "AF_INET AF_INET6 AF_UNIX AF_NETLINK"}
+OF_SERVER = {"SPEAKS": "TCP", "FAMILIES": "AF_INET AF_INET6"}
+
+
 def units(prefix: str, server_memory: str) -> dict[str, str]:
     """The unit files by name, for a program below this prefix."""
     place = {"PREFIX": prefix, "SERVER_MEMORY": server_memory}
-    return {f"grove-{of['COMMAND']}.service": filled({**of, **place}) for of in (SERVE, PAGE)}
+    servers = {f"grove-{of['COMMAND']}.service": filled(UNIT, {**of, **OF_SERVER, **place}) for of in (SERVE, PAGE)}
+    return {**servers, "grove-work.service": filled(WORK, {**OF_WORK, **place})}
 
 
-def filled(values: dict[str, str]) -> str:
-    text = UNIT
+def filled(text: str, values: dict[str, str]) -> str:
+    text = text.replace("@RIGHTS@\n", RIGHTS)
     for name, value in values.items():
         text = text.replace(f"@{name}@", value)
     return text

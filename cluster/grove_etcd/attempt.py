@@ -1,0 +1,338 @@
+"""A worker's going on with one job: group after group, work before each access, and waiting where a node is held.
+
+The job is the worker's for as long as nobody else has put `u/NAME`: each group, and each sign of life, is guarded by
+that. So of two workers at one job one finds its guard broken and lets the job be. When to take a job up is a guess by
+the clock; if it is wrong, work can have been done twice, and nothing else.
+"""
+from __future__ import annotations
+
+import time
+from dataclasses import dataclass, field, replace
+from functools import cached_property
+from typing import Callable, Iterator, Optional
+
+from .groups import Group, Limits, Turn, group_of, older_waiter, record_of
+from .jobs import Access, Event, Job, Kind, Progress, UnderWay, Waiter, written
+from .journal import Journal
+from .keys import Keys, last_part
+from .members import MOST_OPERATIONS, Lost, Members, pauses
+from .refusals import Refused
+from .seeing import Seen, contested, reads_for, seen, window
+from .signs import Signs, Stills
+from .waiting import wait
+from .wire import Guard, Operation, choosing, deleting, other_than, putting, unchanged
+
+# Does what an access stands for, with its node held: of the access, the record that it finds, and a token, the same
+# for each try at this access and for no other one.
+Work = Callable[[Access, int, str], None]
+
+
+@dataclass
+class Means:
+    """What a worker goes on with jobs by."""
+
+    members: Members
+    keys: Keys
+    name: str
+    # Where there is none, accesses take no time.
+    work: Optional[Work] = None
+    # What gives no sign of life for so many seconds is taken up.
+    patience: float = 2.0
+    # A job whose work has failed so often at one access is set aside.
+    tries: int = 5
+    journal: Journal = field(default_factory=Journal)
+    # The group that goes on is the last one.
+    stopping: bool = False
+    stills: Stills = field(default_factory=Stills)
+
+    @cached_property
+    def signs(self) -> Signs:
+        return Signs(self.members, self.keys, self.beat_seconds)
+
+    @property
+    def beat_seconds(self) -> float:
+        return self.patience / 2.5
+
+
+class Attempt:
+    def __init__(self, means: Means, job: Job, following: Job | None = None) -> None:
+        """With the job's last commit the following one is looked at already."""
+        self.means, self.members, self.keys = means, means.members, means.keys
+        self.job, self.following = job, following
+        # The following job as it was seen, and a job that this one waits for and that nobody goes on with.
+        self.ahead: Seen | None = None
+        self.abandoned: str | None = None
+        # Others came to its nodes in between, before anybody had begun it.
+        self.stepped_back = False
+        self.limits = Limits(works=means.work is not None)
+        self.worked_at: int | None = None
+        self.waits_since: float | None = None
+        self.pauses: Iterator[float] = pauses()
+
+    def run(self, found: Seen | None) -> None:
+        """Until the job has ended, is set aside, or is another worker's; or until the worker is to stop."""
+        while found is not None:
+            if not found.is_for(self.means.name):
+                self.means.journal.tell("dropped", job=self.job.name)
+                return
+            if self.means.stopping and self.worked_at != found.progress.step:
+                self.leave(found)
+                return
+            found = self.go_on_or_set_aside(found)
+
+    def go_on_or_set_aside(self, found: Seen) -> Seen | None:
+        """A record that is none sets the job aside, for somebody to look at."""
+        try:
+            return self.go_on(found)
+        except Refused as why:
+            self.means.journal.tell("stray", job=self.job.name, why=why)
+            self.set_aside(found, str(why), 0)
+            return None
+
+    def go_on(self, found: Seen) -> Seen | None:
+        """Work, a group, or waiting. Gives the job as it is then; None where there is no more to do."""
+        progress = found.progress
+        if progress.has_ended() and progress.groups:
+            return None
+        if self.needs_work(progress):
+            return self.do_work(found)
+        steps = window(self.job, progress.step)
+        group = group_of(self.keys, self.job, steps, progress, found.found, self.limits)
+        return self.wait(found, group) if group.does_nothing() else self.commit(found, group)
+
+    def look(self, step: int) -> Seen | None:
+        """Reads the job; `step` is a guess of which comes next."""
+        reads = reads_for(self.keys, self.job, step, self.limits)
+        return self.at(step, seen(self.keys, self.job, self.members.read(reads)))
+
+    def at(self, step: int, found: Seen | None) -> Seen | None:
+        """The job as it was seen with what the steps from this one on need; anew where its node was handed to it."""
+        return found if found is None or found.progress.step == step else self.look(found.progress.step)
+
+    # Groups
+
+    def commit(self, found: Seen, group: Group) -> Seen | None:
+        """Takes the steps, and looks at what comes next in the same transaction."""
+        after, changes = group.after(), self.changes(found, group)
+        then = self.reads_then(after)
+        if len(changes) + len(then) > MOST_OPERATIONS:
+            then = []
+        otherwise = reads_for(self.keys, self.job, found.progress.step, self.limits)
+        try:
+            done = self.members.commit(self.guards(found, group), changes, then, otherwise)
+        except Lost as lost:
+            return self.look_again(found.progress.step, lost)
+        if not done.succeeded:
+            self.means.journal.tell("commit_failed")
+            now = self.at(found.progress.step, seen(self.keys, self.job, done.found))
+            return self.give_way(group, found, now)
+        self.means.journal.tell("commit")
+        self.limits = replace(self.limits, contested=None, queues=True)
+        self.waits_since = None
+        if group.blocked is not None:
+            self.means.journal.tell("waits", job=self.job.name, node=group.blocked)
+        if after.has_ended():
+            self.means.journal.tell("ended", job=self.job.name, groups=after.groups)
+            self.ahead = seen(self.keys, self.following, done.found) if self.following and then else None
+            return None
+        return seen(self.keys, self.job, done.found) if then else self.look(after.step)
+
+    def give_way(self, group: Group, before: Seen, now: Seen | None) -> Seen | None:
+        """Where others came to a node in between, the job stands in line for it; a fresh one is left for later."""
+        path = contested(self.keys, group, before.found, now.found) if now is not None else None
+        self.limits = replace(self.limits, contested=path)
+        self.stepped_back = path is not None and now is not None and now.under_way is None
+        return None if self.stepped_back else now
+
+    def look_again(self, step: int, lost: Lost) -> Seen | None:
+        """After a commit that brought no answer; it may have been made."""
+        self.means.journal.tell("lost", job=self.job.name, why=lost)
+        time.sleep(next(self.pauses))
+        return self.look(step)
+
+    def reads_then(self, after: Progress) -> list[Operation]:
+        if not after.has_ended():
+            return reads_for(self.keys, self.job, after.step, self.limits)
+        return reads_for(self.keys, self.following, 0, self.limits) if self.following else []
+
+    def guards(self, found: Seen, group: Group) -> list[Guard]:
+        """What has to hold for the group's steps to be the job's next ones, and to be allowed."""
+        owners = [self.keys.owner(path) for path in group.locked]
+        records = [self.keys.record(path) for path in group.records]
+        same = [*owners, *records]
+        same += [self.keys.progress(self.job.name), *(key for key, _ in self.handed(found, group).values())]
+        return [found.claim(self.keys, self.job), *(unchanged(key, found.found.revision_of(key)) for key in same)]
+
+    def handed(self, found: Seen, group: Group) -> dict[str, tuple[str, Waiter]]:
+        """The nodes that are let go for which somebody stands in line: the key of the first, and what it waits
+        with."""
+        handed = {}
+        for path in (path for path, held in group.hands.items() if not held):
+            line = found.found.below(self.keys.waiters(path))
+            first = min(line, default=None)
+            if first is not None and line[first].value:
+                handed[path] = first, Waiter.read(line[first].value)
+        return handed
+
+    def changes(self, found: Seen, group: Group) -> list[Operation]:
+        """What the group leaves: progress, event, owners, records, and the job's place in line."""
+        keys, name, after = self.keys, self.job.name, group.after()
+        changes = self.told(group)
+        changes += self.claims(found, group, after)
+        handed = self.handed(found, group)
+        owners = {path: name if held else "" for path, held in group.hands.items()}
+        owners |= {path: last_part(key) for path, (key, _) in handed.items()}
+        changes += [putting(keys.owner(path), owner) for path, owner in owners.items()]
+        changes += [each for place, told in enumerate(handed.values(), 1) for each in self.hand_over(place, *told)]
+        changes += [putting(keys.record(path), str(group.records[path])) for path in sorted(group.changed)]
+        if found.progress.waits and group.taken:
+            first = self.job.steps[found.progress.step].path
+            changes.append(deleting(keys.waiter(first, self.job.age, name)))
+        return changes
+
+    def hand_over(self, place: int, key: str, waiter: Waiter) -> list[Operation]:
+        """The first in line takes the lock in the transaction in which the node is let go."""
+        name = last_part(key)
+        event = putting(self.keys.event(name, waiter.group), Event(1, False, {}, place).text())
+        return [deleting(key), putting(self.keys.progress(name), written(waiter.progress)), event]
+
+    def told(self, group: Group) -> list[Operation]:
+        """Progress and event. Whether the node at which the group stops is held, and so gets a mark, is found out by
+        the transaction itself."""
+
+        def puts(is_held: bool) -> list[Operation]:
+            event = self.keys.event(self.job.name, group.progress.groups)
+            after = group.after(is_held)
+            puts = [putting(self.keys.progress(self.job.name), after.text())]
+            if group.blocked is not None:
+                own = self.keys.waiter(group.blocked, self.job.age, self.job.name)
+                puts.append(putting(own, Waiter.of(after).text()))
+            return [*puts, putting(event, group.event(is_held).text())]
+
+        if group.blocked is None:
+            return puts(False)
+        return [choosing([other_than(self.keys.owner(group.blocked), "")], puts(True), puts(False))]
+
+    def claims(self, found: Seen, group: Group, after: Progress) -> list[Operation]:
+        """The job is begun, this worker's from now on, or ended."""
+        fresh = [deleting(self.keys.fresh(self.job.age, self.job.name))] if found.under_way is None else []
+        key = self.keys.under_way(self.job.name)
+        if not after.has_ended():
+            return [*fresh, putting(key, UnderWay(self.means.name, group.blocked).text())]
+        return fresh or [deleting(key)]
+
+    # Work
+
+    def needs_work(self, progress: Progress) -> bool:
+        is_access = not progress.has_ended() and self.job.steps[progress.step].kind is Kind.ACCESS
+        return self.limits.works and is_access and self.worked_at != progress.step
+
+    def do_work(self, found: Seen) -> Seen | None:
+        """Does the work of the next access, with a sign of life now and then."""
+        step = self.job.steps[found.progress.step]
+        record = record_of(self.keys, step.path, found.found)
+        under_way = found.under_way or UnderWay(self.means.name)
+        failure: Exception | None = None
+        self.means.signs.begin(self.job.name, found)
+        try:
+            self.perform(self.job.accesses[step.access], record, f"{self.job.name}/{step.access}")
+        except Exception as why:  # whatever the work raises, it has failed
+            failure = why
+        finally:
+            last = self.means.signs.end()
+        if last is None:
+            self.means.journal.tell("dropped", job=self.job.name)
+            return None
+        if failure is None:
+            self.worked_at = last.progress.step
+            return last
+        return self.fail(last, under_way.fails + 1, f"{type(failure).__name__}: {failure}")
+
+    def perform(self, access: Access, record: int, token: str) -> None:
+        """Calls the work; once a try."""
+        if self.means.work is not None:
+            self.means.journal.tell("work", job=token)
+            self.means.work(access, record, token)
+
+    def fail(self, found: Seen, fails: int, why: str) -> Seen | None:
+        """After a pause the work is tried again, or the job is set aside."""
+        self.means.journal.tell("work_failed", job=self.job.name, fails=fails, why=why)
+        if fails >= self.means.tries:
+            self.set_aside(found, why, fails)
+            return None
+        return self.pause(found, UnderWay(self.means.name, fails=fails, why=why))
+
+    def pause(self, found: Seen, under_way: UnderWay) -> Seen | None:
+        """Until the next try, with signs of life."""
+        until = time.monotonic() + next(self.pauses)
+        last: Seen | None = found
+        while last is not None and last.is_for(self.means.name):
+            last = self.put_under_way(last, under_way)
+            left = until - time.monotonic()
+            if left <= 0 or self.means.stopping:
+                break
+            time.sleep(min(left, self.means.beat_seconds))
+        return last
+
+    def set_aside(self, found: Seen, why: str, fails: int) -> None:
+        self.means.journal.tell("set_aside", job=self.job.name, why=why)
+        self.put_under_way(found, UnderWay("", fails=fails, why=why, aside=True))
+
+    def leave(self, found: Seen) -> None:
+        """Lets others go on with the job at once."""
+        if found.under_way is not None:
+            self.means.journal.tell("left", job=self.job.name)
+            self.put_under_way(found, replace(found.under_way, by=""))
+
+    def put_under_way(self, found: Seen, under_way: UnderWay) -> Seen | None:
+        """Says who goes on with the job; gives it as it is then."""
+        changes = [putting(self.keys.under_way(self.job.name), under_way.text())]
+        if found.under_way is None:
+            changes.append(deleting(self.keys.fresh(self.job.age, self.job.name)))
+        reads = reads_for(self.keys, self.job, found.progress.step, self.limits)
+        try:
+            done = self.members.commit([found.claim(self.keys, self.job)], changes, reads, reads)
+        except Lost as lost:
+            return self.look_again(found.progress.step, lost)
+        return self.at(found.progress.step, seen(self.keys, self.job, done.found))
+
+    # Waiting
+
+    def wait(self, found: Seen, group: Group) -> Seen | None:
+        """Waits for the one that stands before the job in line, or else for the node; with a sign of life where that
+        takes long."""
+        path = str(group.blocked)
+        before = older_waiter(self.keys, self.job, path, found.found) if self.limits.queues else None
+        revision, seconds = found.found.revision, self.means.beat_seconds
+        if before is not None:
+            came = wait(self.members, before, revision, seconds, lambda change: change.value is None)
+            return self.look(found.progress.step) if came else self.wait_on(found, path, before)
+        if group.turn is not Turn.HELD:
+            return self.look(found.progress.step)
+        ours = ("", self.job.name)
+        came = wait(self.members, self.keys.owner(path), revision, seconds, lambda change: change.value in ours)
+        if came and not came.value and self.limits.works:
+            # No record is read before the work, so nothing has to be looked at.
+            return found.freed(self.keys, path, came.revision)
+        step = found.progress.step + bool(came and came.value)
+        return self.look(step) if came else self.wait_on(found, path, None)
+
+    def wait_on(self, found: Seen, path: str, before: str | None) -> Seen | None:
+        """Gives a sign of life. Where nobody goes on with what the job waits for, the job is left, or goes first."""
+        now = time.monotonic()
+        self.waits_since = self.waits_since or now
+        other = last_part(before) if before else str(found.found.value(self.keys.owner(path)))
+        key = self.keys.under_way(other)
+        told = self.members.get(key)
+        is_still = self.means.stills.is_still(other, told.revision_of(key), self.means.patience)
+        text = told.value(key)
+        others = UnderWay.read(text) if text is not None else None
+        if others is not None and (others.by == "" or is_still):
+            if not before:
+                self.abandoned = None if others.aside else other
+                self.leave(found)
+                return None
+            self.limits = replace(self.limits, queues=False)
+        elif others is None and before and now - self.waits_since > self.means.patience:
+            self.limits = replace(self.limits, queues=False)
+        return self.put_under_way(found, found.under_way or UnderWay(self.means.name, path))

@@ -1,0 +1,216 @@
+"""The chain of records: what an epoch begins with and leaves of each node, and that nobody else came to the node.
+
+The groups of all jobs that no closed epoch has are gone through in the order of their revisions. They say who holds
+each node, how often each owner's key was put, and which revisions put a record. What stands in etcd has to be that.
+"""
+from __future__ import annotations
+
+import json
+from collections import Counter
+from dataclasses import asdict, dataclass, field
+from typing import Iterable
+
+from .groups import RECORD
+from .head import Head
+from .jobs import Kind, written
+from .keys import Keys
+from .members import Members
+from .past import Past, Taken, in_order
+from .refusals import Refused
+from .seeing import window
+from .weights import Weight
+from .wire import Entry, Found, reading, reading_last
+
+
+@dataclass(frozen=True)
+class Left:
+    """What an epoch, or `load`, left of a node: the record, the revision of the write that left it, and how often the
+    owner's key had been put."""
+
+    record: int
+    revision: int
+    hands: int = 0
+    # At which revision the node was let go last.
+    freed: int = 0
+
+    @staticmethod
+    def read(text: str) -> Left:
+        return Left(**json.loads(text))
+
+    def text(self) -> str:
+        return written(asdict(self))
+
+
+@dataclass
+class Passing:
+    """What groups did to nodes, one after the other."""
+
+    holders: dict[str, str] = field(default_factory=dict)
+    # How often each owner's key was put; and the last group that put each record.
+    hands: Counter[str] = field(default_factory=Counter)
+    writers: dict[str, Taken] = field(default_factory=dict)
+    # At which revision each node was let go last.
+    freed: dict[str, int] = field(default_factory=dict)
+    # The jobs that locked each node, in order.
+    lockers: dict[str, list[str]] = field(default_factory=dict)
+
+    def go_through(self, groups: Iterable[Taken]) -> None:
+        for group in groups:
+            self.pass_by(group)
+            self.need_mark(group)
+
+    def pass_by(self, group: Taken) -> None:
+        """The owner's key of a node is put where a group takes the node or lets it go; where it is handed to the next
+        job that counts as one put, the one by which it is let go."""
+        name = group.job.name
+        changing = {step.path for step in group.steps if step.kind is not Kind.ACCESS}
+        held = {path for path in changing if self.holders.get(path) == name}
+        for step in group.steps:
+            if step.kind is Kind.LOCK:
+                self.holders[step.path] = name
+                self.lockers.setdefault(step.path, []).append(name)
+            elif step.kind is Kind.UNLOCK:
+                self.holders.pop(step.path, None)
+                self.freed[step.path] = group.revision
+        if not group.is_handed:
+            for path in changing:
+                self.hands[path] += (path in held) != (self.holders.get(path) == name)
+        accessed = {step.path for step in group.steps if step.kind is Kind.ACCESS}
+        for path in group.event.records:
+            if path not in accessed:
+                raise Refused(f"stray-record {path}")
+            self.writers[path] = group
+
+    def need_mark(self, group: Taken) -> None:
+        """A group that stops before a lock marks it, where another job holds the node. (One that has all the steps
+        that were looked at hasn't looked at the next one, and neither has one that was handed its node.)"""
+        step, name = group.next_step, group.job.name
+        if step is None or step.kind is not Kind.LOCK or group.event.mark or group.is_handed:
+            return
+        holder = self.holders.get(step.path)
+        if holder not in (None, name) and group.event.takes < len(window(group.job, group.first)):
+            raise Refused(f"left-out {name}")
+
+
+@dataclass(frozen=True)
+class Node:
+    """A node as it stood: its record, its owner, its weight, what the epoch began with, and what the last epoch
+    left."""
+
+    path: str
+    record: Entry | None
+    owner: Entry | None
+    weight: Weight
+    opening: Left | None
+    last: Left | None
+    last_epoch: int
+
+
+class Chain:
+    """An epoch's nodes, in the midst of all that was done since the last closed epoch."""
+
+    def __init__(
+        self, head: Head, number: int, nodes: dict[str, Node], epoch: list[Past], open_jobs: list[Past]
+    ) -> None:
+        """`open_jobs` are all those that no closed epoch has, where it is open those of the epoch, too."""
+        self.head, self.number, self.nodes = head, number, nodes
+        self.is_open = number == head.epoch
+        self.own, self.all = Passing(), Passing()
+        self.own.go_through(in_order(epoch))
+        self.all.go_through(in_order(open_jobs))
+
+    def check(self) -> None:
+        for path, node in self.nodes.items():
+            self.check_record(path, node)
+            self.check_owner(path, node)
+
+    def check_record(self, path: str, node: Node) -> None:
+        """It was put last by the last of those that say so, or by the epoch that is closed, or by `load`."""
+        last, put_at = node.last, node.record.put_at if node.record else 0
+        if node.record and not RECORD.fullmatch(node.record.value):
+            raise Refused(f"stray-record {path}")
+        if path in self.all.writers:
+            is_well = put_at == self.all.writers[path].revision
+        elif last is not None:
+            is_well = put_at == last.revision
+        else:
+            value = int(node.record.value) if node.record else 0
+            is_well = put_at <= self.head.loaded_at and value == node.weight.loaded
+        if not is_well:
+            raise Refused(f"stray-record {path}")
+
+    def check_owner(self, path: str, node: Node) -> None:
+        owner = (node.owner.value if node.owner else "") or None
+        if owner is not None and owner != self.all.holders.get(path):
+            raise Refused(f"left-owner {path}")
+        version = node.owner.version if node.owner else 0
+        before = node.last.hands if node.last else 0
+        if version != before + self.all.hands[path] or owner != self.all.holders.get(path):
+            raise Refused(f"left-out {path}")
+
+    def opening(self, path: str) -> int:
+        node = self.nodes[path]
+        return node.opening.record if node.opening else node.weight.loaded
+
+    def left(self, path: str) -> Left:
+        """What the epoch leaves: of a record that stands, what stands; else what the group that put it says."""
+        node = self.nodes[path]
+        opening = node.opening or Left(node.weight.loaded, self.loaded_revision(node))
+        writer = self.own.writers.get(path)
+        revision = writer.revision if writer else opening.revision
+        record = writer.event.records[path] if writer else opening.record
+        if self.stands(path, node):
+            record = int(node.record.value) if node.record else 0
+        freed = self.own.freed.get(path, opening.freed)
+        return Left(record, revision, opening.hands + self.own.hands[path], freed)
+
+    def was_held(self, path: str, revision: int) -> bool:
+        """Did a job of an earlier epoch let the node go only after this revision?"""
+        opening = self.nodes[path].opening
+        return opening is not None and revision < opening.freed
+
+    def stands(self, path: str, node: Node) -> bool:
+        """Has nobody put the record since, not even a later job in the same transaction?"""
+        if self.is_open:
+            return self.own.writers.get(path) is self.all.writers.get(path)
+        return node.last_epoch == self.number and path not in self.all.writers
+
+    def loaded_revision(self, node: Node) -> int:
+        """0 where the node's record has been put since; then nobody asks."""
+        is_loaded = node.record is not None and node.record.put_at <= self.head.loaded_at
+        return node.record.put_at if node.record and is_loaded else 0
+
+
+def nodes_at(members: Members, keys: Keys, paths: Iterable[str], epoch: int, head: Head) -> dict[str, Node]:
+    """These nodes at the head's revision, with what the epochs before this one left, and those before the open one."""
+    at, reads = head.revision, []
+    paths = sorted(paths)
+    for path in paths:
+        reads += [reading(key, at) for key in (keys.record(path), keys.owner(path), keys.weight(path))]
+        reads.append(reading_last(keys.all_left(path), keys.left(path, epoch), at))
+        reads.append(reading_last(keys.all_left(path), keys.left(path, head.epoch), at))
+    found = members.read_all(reads, at)
+    left: dict[str, list[tuple[int, Left]]] = {}
+    prefix = keys.whole("b")[:-1]
+    for key, entry in found.below(keys.whole("b")).items():
+        path, _, number = key[len(prefix) :].rpartition("//")
+        left.setdefault(path, []).append((int(number), Left.read(entry.value)))
+    return {
+        path: node_of(keys, path, found, sorted(left.get(path, []), key=lambda each: each[0]), epoch) for path in paths
+    }
+
+
+def node_of(keys: Keys, path: str, found: Found, left: list[tuple[int, Left]], epoch: int) -> Node:
+    weight = found.value(keys.weight(path))
+    if weight is None:
+        raise Refused(f"no-path {path}")
+    before = [each for number, each in left if number < epoch]
+    return Node(
+        path,
+        found.entries.get(keys.record(path)),
+        found.entries.get(keys.owner(path)),
+        Weight.read(weight),
+        before[-1] if before else None,
+        left[-1][1] if left else None,
+        left[-1][0] if left else 0,
+    )

@@ -1,0 +1,44 @@
+"""The store as a whole: is there one, of which format, and which epoch is open."""
+from __future__ import annotations
+
+import json
+from dataclasses import dataclass
+
+from .jobs import written
+from .keys import FORMAT, Keys
+from .members import Members
+from .refusals import Refused
+from .wire import Found, Guard, unchanged
+
+
+@dataclass(frozen=True)
+class Head:
+    """The open epoch; `loaded_at` is the revision at which the store was there as `load` left it."""
+
+    epoch: int
+    revision: int
+    put_at: int
+    loaded_at: int
+
+    def guard(self, keys: Keys) -> Guard:
+        return unchanged(keys.head(), self.put_at)
+
+
+def head_text(epoch: int) -> str:
+    return written({"format": FORMAT, "epoch": epoch})
+
+
+def head_of(keys: Keys, found: Found) -> Head:
+    entry = found.entries.get(keys.head())
+    if entry is None:
+        raise Refused("other-format 1" if keys.old_head() in found.entries else "not-loaded")
+    told = json.loads(entry.value)
+    if told["format"] != FORMAT:
+        raise Refused(f"other-format {told['format']}")
+    if entry.version != told["epoch"]:
+        raise Refused("stray-head")
+    return Head(told["epoch"], found.revision, entry.put_at, entry.made_at)
+
+
+def need_store(members: Members, keys: Keys) -> Head:
+    return head_of(keys, members.get(keys.head(), keys.old_head()))

@@ -1,0 +1,72 @@
+"""What a worker tells of itself: a line an event on standard error, and counts of them over HTTP."""
+from __future__ import annotations
+
+import logging
+import threading
+from collections import Counter
+from http.server import BaseHTTPRequestHandler, ThreadingHTTPServer
+
+LOG = logging.getLogger("grove")
+# Of which no line is written, since there are so many.
+COUNTED = {"commit", "commit_failed", "stepped_back", "work"}
+# Of which a line is written even where none is asked for.
+WARNED = {"work_failed", "set_aside", "lost", "stray"}
+FORM = """\
+# HELP grove_worker_events_total What happened to this worker, by event.
+# TYPE grove_worker_events_total counter
+"""
+
+
+class Journal:
+    def __init__(self) -> None:
+        self.counts: Counter[str] = Counter()
+        self.lock = threading.Lock()
+
+    def tell(self, event: str, **facts: object) -> None:
+        with self.lock:
+            self.counts[event] += 1
+        if event not in COUNTED:
+            level = logging.WARNING if event in WARNED else logging.INFO
+            LOG.log(level, "%s", line_of(event, facts))
+
+    def metrics(self) -> str:
+        """In the text form of Prometheus."""
+        with self.lock:
+            counts = sorted(self.counts.items())
+        return FORM + "".join(f'grove_worker_events_total{{event="{event}"}} {count}\n' for event, count in counts)
+
+
+def line_of(event: str, facts: dict[str, object]) -> str:
+    return " ".join([event, *(f"{name}={quoted(str(value))}" for name, value in facts.items())])
+
+
+def quoted(text: str) -> str:
+    """On one line, and in quotes where it has a space."""
+    plain = "".join(each if each.isprintable() else "?" for each in text)
+    return '"' + plain.replace('"', "'") + '"' if " " in plain or not plain else plain
+
+
+def log_to_standard_error(verbose: bool) -> None:
+    logging.basicConfig(format="%(levelname)s %(message)s", level=logging.WARNING)
+    LOG.setLevel(logging.INFO if verbose else logging.WARNING)
+
+
+def serve_metrics(journal: Journal, host: str, port: int) -> ThreadingHTTPServer:
+    """Answers `GET /metrics`, in a thread that ends with the program."""
+
+    class Metrics(BaseHTTPRequestHandler):
+        def do_GET(self) -> None:
+            is_known = self.path == "/metrics"
+            content = journal.metrics().encode() if is_known else b"not found\n"
+            self.send_response(200 if is_known else 404)
+            self.send_header("Content-Type", "text/plain; version=0.0.4")
+            self.send_header("Content-Length", str(len(content)))
+            self.end_headers()
+            self.wfile.write(content)
+
+        def log_message(self, *_: object) -> None:
+            """Whoever asks for counts isn't told of."""
+
+    server = ThreadingHTTPServer((host, port), Metrics)
+    threading.Thread(target=server.serve_forever, daemon=True).start()
+    return server

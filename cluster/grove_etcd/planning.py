@@ -1,0 +1,78 @@
+"""Settled plans, over the nodes on the ways down to those accessed alone.
+
+A plan depends on the tree with its weights, and on the nodes and lengths of the accesses, and on no name. So a plan is
+kept by numbers, and serves each list whose ways have this form.
+"""
+from __future__ import annotations
+
+import json
+from typing import Any, Hashable, Mapping
+
+from .documents import LEAST, MOST, is_whole
+from .jobs import slots_of, written
+from .program import ask
+from .tree import Row, rows_of, way_down, ways_down
+
+MOST_KEPT = 1024
+MOST_ACCESSES, MOST_SLOTS = 64, 1000
+ITEMS = {"get": 2, "set": 3, "add": 3, "take": 3}
+
+
+class Planner:
+    def __init__(self, grove: str) -> None:
+        self.grove = grove
+        self.kept: dict[Hashable, list[list[Any]]] = {}
+
+    def plan(self, accesses: list[Any], weights: Mapping[str, int]) -> list[list[Any]]:
+        """The plan, or what the store's program refuses the list for. Weights are those of the nodes on the ways."""
+        ways = ways_of(accesses)
+        paths = [path for path in ways if all(above in weights for above in way_down(path))]
+        rows = rows_of(paths, weights, {})
+        form = form_of(rows, paths, accesses)
+        if form is None:
+            return self.ask(rows, accesses)
+        if form not in self.kept:
+            if len(self.kept) == MOST_KEPT:
+                self.kept.clear()
+            number_of = {path: number for number, path in enumerate(paths)}
+            plan = self.ask(rows, accesses)
+            self.kept[form] = [[kind, what if kind == "access" else number_of[what]] for kind, what in plan]
+        return [[kind, what if kind == "access" else paths[what]] for kind, what in self.kept[form]]
+
+    def ask(self, rows: list[Row], accesses: list[Any]) -> list[list[Any]]:
+        told = ask(self.grove, "plan", written({"version": 2, "nodes": rows, "list": accesses}))
+        plan: list[list[Any]] = json.loads(told["plan"])
+        return plan
+
+
+def ways_of(accesses: Any) -> list[str]:
+    """What isn't of an access's form is left for the store's program to refuse."""
+    items = accesses if isinstance(accesses, list) else []
+    named = [access[1] for access in items if isinstance(access, list) and len(access) > 1]
+    return ways_down([path for path in named if isinstance(path, str) and path.startswith("/")] + ["/"])
+
+
+def form_of(rows: list[Row], paths: list[str], accesses: list[Any]) -> Hashable | None:
+    """What the plan depends on; None where the list can't be planned, or may not be."""
+    number_of = {path: number for number, path in enumerate(paths)}
+    if not isinstance(accesses, list) or len(accesses) > MOST_ACCESSES:
+        return None
+    if not all(is_access(access) and access[1] in number_of for access in accesses):
+        return None
+    tree = tuple((row["parent"], row["weight"]) for row in rows)
+    return tree, tuple((number_of[access[1]], slots_of(access)) for access in accesses)
+
+
+def is_access(access: Any) -> bool:
+    if not isinstance(access, list) or len(access) < 2 or not isinstance(access[0], str):
+        return False
+    items = ITEMS.get(access[0], 0)
+    numbers = access[2:items]
+    lengths = access[items:]
+    return (
+        items <= len(access) <= items + 1
+        and items > 0
+        and isinstance(access[1], str)
+        and all(is_whole(number, LEAST, MOST) for number in numbers)
+        and all(is_whole(length, 1, MOST_SLOTS) for length in lengths)
+    )

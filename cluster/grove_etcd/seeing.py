@@ -1,0 +1,87 @@
+"""A job as a worker sees it: its progress, who goes on with it, and what its next steps need, all at one revision."""
+from __future__ import annotations
+
+from dataclasses import dataclass, replace
+
+from .groups import MOST_STEPS, Group, Limits
+from .jobs import Job, Kind, Progress, Step, UnderWay
+from .keys import Keys
+from .wire import Entry, Found, Guard, Operation, reading, reading_below, reading_last, unchanged
+
+# Of what is read for the next steps.
+MOST_READS = 120
+
+
+@dataclass(frozen=True)
+class Seen:
+    progress: Progress
+    # None while nobody has begun the job.
+    under_way: UnderWay | None
+    found: Found
+
+    def claim(self, keys: Keys, job: Job) -> Guard:
+        """That nobody else has begun the job, or gone on with it, or taken it up."""
+        key = keys.under_way(job.name) if self.under_way else keys.fresh(job.age, job.name)
+        return unchanged(key, self.found.revision_of(key))
+
+    def is_for(self, worker: str) -> bool:
+        return self.under_way is None or self.under_way.by == worker
+
+    def freed(self, keys: Keys, path: str, revision: int) -> Seen:
+        """The same, but for a node that was let go at this revision, as a watch told."""
+        entry = Entry("", revision, 0, 0)
+        return replace(self, found=Found(revision, {**self.found.entries, keys.owner(path): entry}))
+
+
+def window(job: Job, step: int) -> list[Step]:
+    """The steps that the next group may take."""
+    steps: list[Step] = []
+    reads = 0
+    for each in job.steps[step : step + MOST_STEPS]:
+        reads += {Kind.LOCK: 3, Kind.ACCESS: 1, Kind.UNLOCK: 1}[each.kind]
+        if reads > MOST_READS:
+            break
+        steps.append(each)
+    return steps
+
+
+def reads_for(keys: Keys, job: Job, step: int, limits: Limits) -> list[Operation]:
+    """What has to be read before the steps from this one on."""
+    reads = [
+        reading(key) for key in (keys.fresh(job.age, job.name), keys.under_way(job.name), keys.progress(job.name))
+    ]
+    records: set[str] = set()
+    for number, each in enumerate(window(job, step)):
+        if each.kind is Kind.ACCESS:
+            if limits.works and number:
+                records.add(each.path)
+                break
+            records.add(each.path)
+        elif each.kind is Kind.LOCK:
+            own = keys.waiter(each.path, job.age, job.name)
+            line = keys.waiters(each.path)
+            reads += [reading(keys.owner(each.path)), reading_below(line, limit=1, keys_only=True)]
+            reads.append(reading_last(line, own, keys_only=True))
+        else:
+            # Whom the node is handed to.
+            reads.append(reading_below(keys.waiters(each.path), limit=1))
+    return reads + [reading(keys.record(path)) for path in sorted(records)]
+
+
+def seen(keys: Keys, job: Job, found: Found) -> Seen | None:
+    """None where the job has ended, or is forgotten."""
+    if found.value(keys.fresh(job.age, job.name)) is not None:
+        return Seen(Progress(0, len(job.plan)), None, found)
+    under_way, progress = found.value(keys.under_way(job.name)), found.value(keys.progress(job.name))
+    if under_way is None:
+        return None
+    told = Progress.read(progress) if progress is not None else Progress(0, len(job.plan))
+    return Seen(told, UnderWay.read(under_way), found)
+
+
+def contested(keys: Keys, group: Group, before: Found, now: Found) -> str | None:
+    """The first node of the group's locks that another job came to in between."""
+    for path in group.locked:
+        if any(before.revision_of(key) != now.revision_of(key) for key in (keys.owner(path), keys.record(path))):
+            return path
+    return None

@@ -1,0 +1,82 @@
+"""Signs of life: given while a job's work goes on, and missed where a worker gives none."""
+from __future__ import annotations
+
+import threading
+import time
+from dataclasses import dataclass, field, replace
+from typing import TYPE_CHECKING
+
+from .keys import Keys
+from .members import Lost, Members
+from .refusals import Failed
+from .wire import Found, putting, reading, unchanged
+
+if TYPE_CHECKING:
+    from .seeing import Seen
+
+
+class Signs:
+    """Puts `u/NAME` anew every so many seconds for the job that work goes on for, as long as nobody takes it up. One
+    thread does so for all of a worker's jobs, one after the other."""
+
+    def __init__(self, members: Members, keys: Keys, seconds: float) -> None:
+        self.members, self.keys, self.seconds = members, keys, seconds
+        self.lock = threading.Lock()
+        # The job as it was seen, with its last sign; None while no work goes on.
+        self.name, self.taken = "", False
+        self.last: Seen | None = None
+        self.due = 0.0
+        self.thread: threading.Thread | None = None
+
+    def begin(self, name: str, found: Seen) -> None:
+        with self.lock:
+            self.name, self.last, self.taken = name, found, False
+            self.due = time.monotonic() + self.seconds
+        if self.thread is None:
+            self.thread = threading.Thread(target=self.give, daemon=True)
+            self.thread.start()
+
+    def end(self) -> Seen | None:
+        """The job with its last sign; None where another worker has taken it up."""
+        with self.lock:
+            last, self.last = self.last, None
+            return None if self.taken else last
+
+    def give(self) -> None:
+        while True:
+            time.sleep(self.seconds / 4)
+            with self.lock:
+                if self.last is not None and not self.taken and time.monotonic() >= self.due:
+                    self.give_one(self.last)
+
+    def give_one(self, last: Seen) -> None:
+        key, found = self.keys.under_way(self.name), last.found
+        text = found.entries[key].value
+        guard = unchanged(key, found.revision_of(key))
+        try:
+            done = self.members.commit([guard], [putting(key, text)], [reading(key)], [reading(key)])
+        except (Lost, Failed):
+            return
+        # Where a sign brought no answer and was given all the same, it is still this worker that it tells of.
+        self.taken = done.found.value(key) != text
+        entries = {**found.entries, **done.found.entries}
+        self.last = replace(last, found=Found(found.revision, entries))
+        self.due = time.monotonic() + self.seconds
+
+
+@dataclass
+class Stills:
+    """When each job's last sign was first seen, by the job's name."""
+
+    since: dict[str, tuple[int, float]] = field(default_factory=dict)
+
+    def is_still(self, name: str, revision: int, patience: float) -> bool:
+        """Has the last sign of the job been that of this revision for as long as one is patient?"""
+        before, since = self.since.get(name, (None, 0.0))
+        if before != revision:
+            self.since[name] = revision, time.monotonic()
+            return False
+        return time.monotonic() - since >= patience
+
+    def forget_all_but(self, names: set[str]) -> None:
+        self.since = {name: seen for name, seen in self.since.items() if name in names}

@@ -1,0 +1,155 @@
+"""Lists become jobs. Each has a name of its own, so that it is made once whatever is repeated, and submitters need no
+number from each other."""
+from __future__ import annotations
+
+import time
+import uuid
+from typing import Any, Iterator, Optional
+
+from .head import need_store
+from .jobs import Access, Job, Progress, Reply
+from .keys import JOB_NAME, Keys
+from .members import GIVE_UP_SECONDS, MOST_OPERATIONS, Lost, Members, pauses
+from .planning import Planner, ways_of
+from .refusals import Refused
+from .waiting import changes
+from .weights import Weight
+from .wire import Operation, absent, after, putting, reading
+
+# Of a job's text, and of those of one transaction, so that this has less than the 1.5 MiB that etcd takes.
+MOST_BYTES = 1_000_000
+# Of jobs in one transaction; each is two puts.
+MOST_JOBS = MOST_OPERATIONS // 2
+# How long a watch for replies lasts.
+WATCH_SECONDS = 5.0
+
+
+class Submitter:
+    """Plans lists, and submits them."""
+
+    def __init__(self, members: Members, keys: Keys, grove: str) -> None:
+        self.members, self.keys = members, keys
+        self.planner = Planner(grove)
+        need_store(members, keys)
+
+    def submit(self, accesses: list[Any]) -> str:
+        """Gives the job's name."""
+        return self.submit_all([accesses])[0]
+
+    def submit_all(self, lists: list[Any], name: Optional[str] = None) -> list[str]:
+        """Gives the jobs' names, `name` with the number of the list. Where a list is refused nothing is submitted; one
+        that was submitted by its name isn't again."""
+        name = uuid.uuid4().hex if name is None else name
+        if not JOB_NAME.fullmatch(f"{name}.0"):
+            raise Refused("bad-id")
+        now = time.time_ns() // 1000
+        jobs = []
+        weights = self.weights(lists)
+        for number, accesses in enumerate(lists):
+            plan = self.plan(number, accesses, weights)
+            jobs.append(Job(f"{name}.{number}", now + number, accesses, plan))
+            if len(jobs[-1].text()) > MOST_BYTES:
+                raise Refused(f"job-too-large lists {number}")
+        self.put_all(jobs)
+        return [job.name for job in jobs]
+
+    def submit_planned(self, accesses: list[Access], plan: list[list[Any]]) -> str:
+        job = Job(f"{uuid.uuid4().hex}.0", time.time_ns() // 1000, accesses, plan)
+        self.put_all([job])
+        return job.name
+
+    def plan(self, number: int, accesses: list[Any], weights: dict[str, int]) -> list[list[Any]]:
+        try:
+            return self.planner.plan(accesses, weights)
+        except Refused as why:
+            raise Refused(place_in_lists(str(why), number)) from why
+
+    def weights(self, lists: list[Any]) -> dict[str, int]:
+        """Those on the ways down to all nodes that are accessed."""
+        paths = sorted({path for accesses in lists for path in ways_of(accesses)})
+        weights: dict[str, int] = {}
+        for start in range(0, len(paths), MOST_OPERATIONS):
+            part = {self.keys.weight(path): path for path in paths[start : start + MOST_OPERATIONS]}
+            found = self.members.get(*part)
+            weights |= {part[key]: Weight.read(entry.value).weight for key, entry in found.entries.items()}
+        return weights
+
+    def put_all(self, jobs: list[Job]) -> None:
+        for batch in batches_of(jobs):
+            until = time.monotonic() + GIVE_UP_SECONDS
+            for pause in pauses():
+                try:
+                    batch = self.put(batch)
+                except Lost:
+                    if time.monotonic() > until:
+                        raise
+                    time.sleep(pause)
+                if not batch:
+                    break
+
+    def put(self, jobs: list[Job]) -> list[Job]:
+        """Puts jobs in one transaction; gives those that weren't, since others were there already."""
+        keys = [self.keys.job(job.name) for job in jobs]
+        done = self.members.commit(list(map(absent, keys)), self.changes(jobs), [], list(map(reading, keys)))
+        if done.succeeded:
+            return []
+        left = []
+        for job, key in zip(jobs, keys):
+            text = done.found.value(key)
+            if text is None:
+                left.append(job)
+            elif Job.read(job.name, text).accesses != job.accesses:
+                raise Refused(f"id-taken {job.name}")
+        return left
+
+    def changes(self, jobs: list[Job]) -> list[Operation]:
+        texts = [putting(self.keys.job(job.name), job.text()) for job in jobs]
+        return texts + [putting(self.keys.fresh(job.age, job.name), "") for job in jobs]
+
+    def replies(self, names: list[str]) -> Iterator[tuple[str, list[Reply]]]:
+        """Those of these jobs, each once it has ended."""
+        left = dict.fromkeys(names)
+        while left:
+            some = list(left)[:MOST_OPERATIONS]
+            found = self.members.get(*map(self.keys.progress, some))
+            told = {name: found.value(self.keys.progress(name)) for name in some}
+            ended = {name: text for name, text in told.items() if text and Progress.read(text).has_ended()}
+            for name, text in ended.items():
+                del left[name]
+                yield name, Progress.read(text).replies
+            if not ended and left:
+                first, last = min(left), max(left)
+                self.await_change(self.keys.progress(first), after(self.keys.progress(last)), found.revision)
+
+    def await_change(self, start: str, end: str, revision: int) -> None:
+        """Until one of these jobs has ended; others whose names lie between them may be told of, too."""
+        came = changes(self.members, start, revision, WATCH_SECONDS, end)
+        try:
+            for change in came:
+                if change.value is not None and Progress.read(change.value).has_ended():
+                    return
+        finally:
+            came.close()
+
+
+def batches_of(jobs: list[Job]) -> Iterator[list[Job]]:
+    batch: list[Job] = []
+    size = 0
+    for job in jobs:
+        length = len(job.text())
+        if batch and (len(batch) == MOST_JOBS or size + length > MOST_BYTES):
+            yield batch
+            batch, size = [], 0
+        batch.append(job)
+        size += length
+    if batch:
+        yield batch
+
+
+def place_in_lists(fault: str, number: int) -> str:
+    """A fault of a list as one of a document's lists (docs/FORMATS.md)."""
+    words = fault.split()
+    if "list" not in words:
+        return f"{fault} lists {number}"
+    at = words.index("list")
+    return " ".join([*words[:at], "lists", str(number), *words[at + 1 :]])

@@ -1,0 +1,18 @@
+"""What `m/PATH` has: a node's weight, which reweighing made it, and the record that was loaded."""
+from __future__ import annotations
+
+from dataclasses import dataclass
+
+
+@dataclass(frozen=True)
+class Weight:
+    weight: int
+    made_by: int
+    loaded: int
+
+    @staticmethod
+    def read(text: str) -> Weight:
+        return Weight(*map(int, text.split()))
+
+    def text(self) -> str:
+        return f"{self.weight} {self.made_by} {self.loaded}"

@@ -1,0 +1,166 @@
+"""etcd's messages: the only module, beside that of the members, that knows the generated stubs."""
+from __future__ import annotations
+
+from dataclasses import dataclass, field
+from typing import Any, Iterable, NewType
+
+from etcd3 import etcdrpc
+
+# What a transaction compares, and what it does: a read or a change.
+Guard = NewType("Guard", object)
+Operation = NewType("Operation", object)
+# The kind of an event by which a key is deleted.
+DELETED = 1
+
+
+@dataclass(frozen=True)
+class Entry:
+    """A key's value, the revisions at which it was put last and made, and how often it was put since it was made."""
+
+    value: str
+    put_at: int
+    made_at: int
+    version: int
+
+
+@dataclass
+class Found:
+    """Keys that were read, all as they stood at one revision."""
+
+    revision: int
+    entries: dict[str, Entry] = field(default_factory=dict)
+
+    def add(self, pairs: Iterable[Any]) -> None:
+        for pair in pairs:
+            entry = Entry(pair.value.decode(), pair.mod_revision, pair.create_revision, pair.version)
+            self.entries[pair.key.decode()] = entry
+
+    def value(self, key: str) -> str | None:
+        entry = self.entries.get(key)
+        return entry.value if entry else None
+
+    def revision_of(self, key: str) -> int:
+        """At which revision the key was put; 0 where it isn't there, as etcd has it."""
+        entry = self.entries.get(key)
+        return entry.put_at if entry else 0
+
+    def version_of(self, key: str) -> int:
+        entry = self.entries.get(key)
+        return entry.version if entry else 0
+
+    def below(self, prefix: str) -> dict[str, Entry]:
+        return {key: entry for key, entry in self.entries.items() if key.startswith(prefix)}
+
+
+@dataclass
+class Done:
+    """What became of a transaction: whether its guards held, at which revision, and what it read."""
+
+    succeeded: bool
+    found: Found
+
+
+def after(prefix: str) -> str:
+    """The first key behind all that begin so."""
+    return prefix[:-1] + chr(ord(prefix[-1]) + 1)
+
+
+def transaction(guards: list[Guard], then: list[Operation], otherwise: list[Operation]) -> Any:
+    return etcdrpc.TxnRequest(compare=guards, success=then, failure=otherwise)
+
+
+def done(answer: Any) -> Done:
+    found = Found(answer.header.revision)
+    for response in answer.responses:
+        if response.WhichOneof("response") == "response_range":
+            found.add(response.response_range.kvs)
+    return Done(answer.succeeded, found)
+
+
+def ranging(start: str, end: str, limit: int = 0, revision: int = 0, keys_only: bool = False) -> Any:
+    """The keys from `start` up to `end`, in their order."""
+    return etcdrpc.RangeRequest(
+        key=start.encode(), range_end=end.encode(), limit=limit, revision=revision, keys_only=keys_only
+    )
+
+
+def counting(prefix: str) -> Any:
+    return etcdrpc.RangeRequest(key=prefix.encode(), range_end=after(prefix).encode(), count_only=True)
+
+
+def reading(key: str, revision: int = 0) -> Operation:
+    return Operation(etcdrpc.RequestOp(request_range=etcdrpc.RangeRequest(key=key.encode(), revision=revision)))
+
+
+def reading_below(prefix: str, limit: int = 0, revision: int = 0, keys_only: bool = False) -> Operation:
+    request = ranging(prefix, after(prefix), limit, revision, keys_only)
+    return Operation(etcdrpc.RequestOp(request_range=request))
+
+
+def reading_last(start: str, end: str, revision: int = 0, keys_only: bool = False) -> Operation:
+    """The last key from `start` up to `end`."""
+    request = ranging(start, end, 1, revision, keys_only)
+    request.sort_order, request.sort_target = etcdrpc.RangeRequest.DESCEND, etcdrpc.RangeRequest.KEY
+    return Operation(etcdrpc.RequestOp(request_range=request))
+
+
+def putting(key: str, value: str) -> Operation:
+    return Operation(etcdrpc.RequestOp(request_put=etcdrpc.PutRequest(key=key.encode(), value=value.encode())))
+
+
+def deleting(key: str) -> Operation:
+    return Operation(etcdrpc.RequestOp(request_delete_range=etcdrpc.DeleteRangeRequest(key=key.encode())))
+
+
+def deleting_from(start: str, end: str) -> Operation:
+    request = etcdrpc.DeleteRangeRequest(key=start.encode(), range_end=end.encode())
+    return Operation(etcdrpc.RequestOp(request_delete_range=request))
+
+
+def deleting_below(prefix: str) -> Operation:
+    return deleting_from(prefix, after(prefix))
+
+
+def choosing(guards: list[Guard], then: list[Operation], otherwise: list[Operation]) -> Operation:
+    """One or the other, within a transaction."""
+    return Operation(etcdrpc.RequestOp(request_txn=transaction(guards, then, otherwise)))
+
+
+def unchanged(key: str, revision: int) -> Guard:
+    """Was the key last put at this revision? At revision 0, isn't it there?"""
+    return Guard(etcdrpc.Compare(result="EQUAL", target="MOD", key=key.encode(), mod_revision=revision))
+
+
+def absent(key: str) -> Guard:
+    return unchanged(key, 0)
+
+
+def present(key: str) -> Guard:
+    return Guard(etcdrpc.Compare(result="GREATER", target="VERSION", key=key.encode(), version=0))
+
+
+def other_than(key: str, value: str) -> Guard:
+    """Is there such a key, with another value?"""
+    return Guard(etcdrpc.Compare(result="NOT_EQUAL", target="VALUE", key=key.encode(), value=value.encode()))
+
+
+def watching(key: str, revision: int, end: str | None = None) -> Any:
+    """Tells of each change of the key, or of those up to `end`, after the revision."""
+    create = etcdrpc.WatchCreateRequest(key=key.encode(), start_revision=revision + 1)
+    if end is not None:
+        create.range_end = end.encode()
+    return etcdrpc.WatchRequest(create_request=create)
+
+
+@dataclass(frozen=True)
+class Change:
+    """What a watch tells of: a key that was put, or deleted (then it has no value), and at which revision."""
+
+    key: str
+    value: str | None
+    revision: int
+
+
+def change(event: Any) -> Change:
+    value = None if event.type == DELETED else event.kv.value.decode()
+    return Change(event.kv.key.decode(), value, event.kv.mod_revision)

@@ -1,0 +1,39 @@
+"""What an access stands for: a function that the command line names, or time alone."""
+from __future__ import annotations
+
+import importlib
+import time
+
+from .attempt import Work
+from .jobs import Access, slots_of
+from .refusals import Failed
+
+
+def work_named(text: str) -> Work:
+    """The function of `MODULE:FUNCTION`."""
+    module, _, name = text.partition(":")
+    try:
+        found = vars(importlib.import_module(module)).get(name)
+    except Exception as why:  # whatever stands in the module, it is told in a line
+        raise Failed(f"{text}: {type(why).__name__}: {why}") from why
+    if not callable(found):
+        raise Failed(f"{text}: the module has no such function")
+    work: Work = found
+    return work
+
+
+def slots(seconds: float) -> Work:
+    """Each access takes its slots' time."""
+
+    def wait(access: Access, _record: int, _token: str) -> None:
+        time.sleep(seconds * slots_of(access))
+
+    return wait
+
+
+def address_of(text: str) -> tuple[str, int]:
+    """`[ADDRESS:]PORT`; of no address, this machine alone."""
+    host, _, port = text.rpartition(":")
+    if not port.isdecimal() or not 0 < int(port) < 65536:
+        raise Failed(f"--metrics is [ADDRESS:]PORT, as 9464: {text!r}")
+    return host or "127.0.0.1", int(port)

@@ -1,0 +1,210 @@
+"""Trials of loading, submitting and asking: what is done once, what is refused, and with which place."""
+import json
+import subprocess
+import threading
+from concurrent.futures import ThreadPoolExecutor
+
+from store_at_hand import BOTH, SMALL, Programs, Store, refusal
+
+from grove_etcd.choosing import MOST_JOBS
+from grove_etcd.documents import array_of, parsed, paths_of
+from grove_etcd.head import head_text
+from grove_etcd.keys import Keys
+from grove_etcd.loading import Loader, batches, changes, load
+from grove_etcd.submitting import Submitter
+from grove_etcd.wire import putting
+
+
+def flat(count, record, letters):
+    rows = [{"parent": None, "name": "", "weight": 1, "value": record}]
+    for number in range(count):
+        rows.append(
+            {"parent": 0, "name": f"{letters[number % len(letters)]}{number}", "weight": record, "value": record}
+        )
+    return rows
+
+
+def loads_that_mix_leave_one_document(cluster, grove):
+    """Two at once, by the programs; and one that was delayed, until another had loaded, and until jobs had run."""
+    programs = Programs(cluster, "mix")
+    files = [programs.file(f"mix-{n}.json", json.dumps({"nodes": flat(3000, n, "ab"[:n])})) for n in (1, 2)]
+    started = [programs.start("load", file, stdout=subprocess.PIPE) for file in files]
+    printed = [each.communicate(timeout=60)[0].strip() for each in started]
+    found = cluster.members().below("mix/r/").entries.values()
+    records = {entry.value for entry in found}
+    names = {key.rpartition("/")[2][:1] for key in cluster.members().below("mix/m/").entries}
+    one = records == {"1"} and names == {"", "a"} or records == {"2"} and names == {"", "a", "b"}
+    if not one or printed.count("loaded 3001 nodes") != 1:
+        return f"printed {printed}, records {records}, names {names}"
+    return delayed_loaders(cluster, grove)
+
+
+def delayed_loaders(cluster, grove):
+    members, keys = cluster.members(), Keys("delayed")
+    late, later = Loader(members, keys), Loader(members, keys)
+    late.begin()
+    load(members, keys, SMALL)
+    wanted = list(batches(changes(keys, paths_of(flat(200, 3, "q")), flat(200, 3, "q"))))
+    came = [refusal(late.make_all, wanted), refusal(late.make, [putting(keys.head(), head_text(1))])]
+    came.append(refusal(later.begin))
+    nodes = len(members.below(keys.whole("m")).entries)
+    is_well = came == ["refused other-loader"] * 2 + ["refused loaded"] and nodes == len(SMALL)
+    return None if is_well else f"came {came}, {nodes} nodes"
+
+
+def what_is_submitted_by_an_id_is_made_once(cluster, grove):
+    """Repeated, also by several at once and where only a part was submitted; and its replies are printed."""
+    store, programs = Store(cluster, grove, "ids"), Programs(cluster, "ids")
+    lists = [[["add", "/a", 1]], [["get", "/b/c"], ["take", "/a", 100]]]
+    file = programs.file("ids.json", json.dumps({"lists": lists}))
+    words = ["submit", "--grove", grove, "--id", "once"]
+    store.submitter.submit_all(lists[:1], "once")
+    with ThreadPoolExecutor(4) as pool:
+        printed = list(pool.map(lambda _: programs.lines(*words, file), range(4)))
+    thread = threading.Thread(target=store.work)
+    waits = programs.start(*words, "--wait", file, stdout=subprocess.PIPE)
+    thread.start()
+    replies = waits.communicate(timeout=60)[0].splitlines()
+    thread.join()
+    other = programs.run(*words, programs.file("other.json", json.dumps({"lists": [BOTH]})))
+    came = store.records("/a"), sorted(replies[2:]), {tuple(each) for each in printed}, other
+    told = ["replies once.0 [11]", 'replies once.1 [5,"short"]']
+    wanted = [11], told, {("submitted once.0", "submitted once.1")}, (1, "refused id-taken once.0\n")
+    return None if came == wanted else f"wanted {wanted}; came {came}"
+
+
+def a_full_epoch_is_followed_by_the_next(cluster, grove):
+    """Without anybody being refused, and while a job goes on that has begun before all of them."""
+    store = Store(cluster, grove, "epochs", [[["add", "/b/c", 1]]])
+    goes_on = store.attempt(0)
+    found = goes_on.look(0)
+    found = goes_on.go_on(found)
+    store.submitter.submit_all([[["add", "/a", 1]]] * (MOST_JOBS + 10))
+    store.worker().run_batch([])
+    left = store.worker()
+    while fresh := left.fresh_of(left.look()):
+        left.run_batch(left.batch_of(fresh))
+    audits = [store.audit() for _ in range(2)]
+    none = refusal(store.audit)
+    goes_on.run(found)
+    last = store.audit()
+    early = refusal(store.forget, 2)
+    for epoch in (1, 2, 3):
+        store.audit(epoch)
+    store.forget(1)
+    came = (
+        [len(each.jobs) for each in (*audits, last)],
+        none,
+        early,
+        refusal(store.audit, 1),
+        store.records("/a", "/b/c"),
+    )
+    wanted = [MOST_JOBS, 10, 1], "refused no-jobs", "refused epoch-not-oldest", "refused no-jobs", [276, 6]
+    return None if came == wanted else f"wanted {wanted}; came {came}"
+
+
+def what_is_wrong_is_refused_by_name(cluster, grove):
+    store, empty, old = Store(cluster, grove, "refused"), Keys("empty"), Keys("old")
+    store.write(putting(old.old_head(), "{}"), putting(Keys("new").head(), '{"format":3,"epoch":1}'))
+    came = [
+        refusal(load, store.members, store.keys, SMALL),
+        refusal(load, store.members, old, SMALL),
+        refusal(load, store.members, empty, [*SMALL, {"parent": 0, "name": "a-d", "weight": 1}]),
+        refusal(load, store.members, empty, [*SMALL, {"parent": 0, "name": "x", "weight": True}]),
+        refusal(load, store.members, empty, [{**SMALL[0], "value": "x"}]),
+        *(refusal(Submitter, store.members, keys, grove) for keys in (empty, old, Keys("new"))),
+        refusal(store.submitter.submit, [["get", "/q"]]),
+        refusal(store.submitter.submit_all, [BOTH, [["get", "/b/c"], ["get"]]]),
+        refusal(store.submitter.submit_all, [BOTH, 7]),
+        refusal(store.submitter.submit_all, [BOTH, [["get", "/b", 1001]]]),
+        refusal(store.submitter.submit_all, [BOTH], "Id"),
+        refusal(store.audit),
+    ]
+    wanted = ["loaded", "loaded", "row 5 twice-named", "shape nodes 5", "shape nodes 0"]
+    wanted += ["not-loaded", "other-format 1", "other-format 3"]
+    wanted += ["no-path lists 0 0", "shape lists 1 1", "shape lists 1", "bad-length lists 1 0", "bad-id", "no-jobs"]
+    written = store.members.below(empty.whole("m")).entries, store.members.below(store.keys.whole("p")).entries
+    if any(written):
+        return f"there was written {written}"
+    return None if came == [f"refused {name}" for name in wanted] else f"came {came}"
+
+
+def errors_are_a_line_and_a_status(cluster, grove):
+    """Of each program's wrong words and missing things."""
+    programs = Programs(cluster, "errors")
+    bad, nodes = programs.file("bad.json", "{"), programs.file("nodes.json", json.dumps({"nodes": SMALL}))
+    lists = programs.file("lists.json", json.dumps({"lists": [BOTH]}))
+    came = [
+        programs.run("load", "/no/such.json"),
+        programs.run("load", bad),
+        programs.run("load", lists),
+        programs.run("load", nodes),
+        programs.run("submit", "--grove", "/no/such", lists),
+        programs.run("submit", "--grove", "/usr/bin/false", lists),
+        programs.run("status", "--record", "/q"),
+        programs.run("work", "--work", "no_module:it", "--until-ended"),
+        programs.run("work", "--metrics", "x"),
+        programs.run("status", "--cacert", "/no/such", "--members", cluster.addresses),
+    ]
+    wanted = [
+        (3, "/no/such.json: No such file or directory\n"),
+        (1, "refused bad-json\n"),
+        (1, "refused shape nodes\n"),
+    ]
+    wanted += [(0, "loaded 5 nodes\n"), (3, "/no/such: No such file or directory\n")]
+    wanted += [
+        (3, "/usr/bin/false plan ended with status 1:\n"),
+        (1, "epoch 1: 0 jobs, 0 ended; 0 nodes held\nrefused no-path /q\n"),
+    ]
+    wanted += [(3, "no_module:it: ModuleNotFoundError: No module named 'no_module'\n")]
+    wanted += [(3, "--metrics is [ADDRESS:]PORT, as 9464: 'x'\n"), (3, "/no/such: No such file or directory\n")]
+    words = [
+        programs.run("status", *each)[0] for each in (("--members", "127.0.0.1"), ("--store", "A"), ("--cert", "x"))
+    ]
+    faults = [f"wanted {want}; came {each}" for each, want in zip(came, wanted) if each != want]
+    return "; ".join(faults) or (None if words == [2, 2, 2] else f"statuses {words}")
+
+
+def a_document_is_read_as_the_program_reads_it(_cluster, grove):
+    """Rows that were changed a little: the same refusal, or none."""
+    faults = []
+    for text in documents():
+        ran = subprocess.run([*grove.split(), "plan"], input=text.encode(), capture_output=True, check=False)
+        wanted = ran.stdout.decode().strip() if ran.returncode else "read"
+        came = refusal(lambda: paths_of(array_of(parsed(text.encode()), "nodes")) and "read")
+        if came != wanted:
+            faults.append(f"{text}: wanted {wanted}; came {came}")
+    return "; ".join(faults) or None
+
+
+def documents():
+    rows = ['{"parent":null,"name":"","weight":5}', '{"parent":0,"name":"a","weight":1,"value":%s}']
+    whole = '{"list":[],"nodes":[%s]}'
+    for value in (
+        "1",
+        "-0",
+        "1.0",
+        "1e2",
+        "9223372036854775807",
+        "9223372036854775808",
+        "true",
+        "null",
+        '"x"',
+        "1e400",
+        "NaN",
+    ):
+        yield whole % ",".join(rows) % value
+    for row in (
+        '{"parent":1,"name":"a","weight":1}',
+        '{"parent":null,"name":"b","weight":1}',
+        '{"parent":0,"name":"A","weight":1}',
+    ):
+        yield whole % ",".join([rows[0], row])
+    for weight in ("0", "1001", "4294967296", "-1", "true"):
+        yield whole % ('{"parent":null,"name":"","weight":%s}' % weight)
+    yield whole % ""
+    yield whole % ('{"parent":null,"name":"\\ud800","weight":1}')
+    yield whole % ('{"parent":null,"name":"","weight":1,"more":%s%s}' % ("[" * 126, "]" * 126))
+    yield '{"list":[],"nodes":7}'
+    yield '{"list":[],"version":3,"nodes":[]}'
+    yield "[]"

@@ -1,0 +1,5 @@
+"""Where the package is."""
+import sys
+from pathlib import Path
+
+sys.path.insert(0, str(Path(__file__).resolve().parents[3] / "cluster"))

@@ -1,0 +1,126 @@
+"""Trials of work: with its node held, once for each try, by workers that are slow, that are killed, and that fail."""
+import http.client
+import os
+import signal
+import subprocess
+from collections import Counter
+from pathlib import Path
+
+from members_at_hand import TOP
+from server import HOST, free_port
+from store_at_hand import Programs, Store, await_true
+
+HERE = Path(__file__).parent
+ROOT = [["add", "/", 1], ["add", "/a", 1]]
+
+
+class Counted:
+    """Workers whose work is counted, on a store with jobs for these lists."""
+
+    def __init__(self, cluster, grove, name, lists, seconds):
+        self.store = Store(cluster, grove, name, lists)
+        self.programs = Programs(cluster, name)
+        self.room = Path(cluster.room.name, name)
+        self.room.mkdir()
+        self.environment = {
+            **os.environ,
+            "PYTHONPATH": f"{HERE}:{TOP}/cluster",
+            "PYTHONDONTWRITEBYTECODE": "1",
+            "COUNTED_ROOM": str(self.room),
+            "COUNTED_MEMBERS": cluster.addresses,
+            "COUNTED_STORE": name,
+            "COUNTED_SECONDS": str(seconds),
+        }
+
+    def start(self, function, *words, **how):
+        words = ["--work", f"counted_work:{function}", *words]
+        return self.programs.start("work", *words, env=self.environment, **how)
+
+    def tries(self):
+        """Each line's token with what is told of it."""
+        file = self.room / "tries"
+        return [line.split() for line in file.read_text().splitlines()] if file.exists() else []
+
+    def fault(self, accesses, killed=0):
+        """Each access has been done, each try with the node held, and none more often than there was cause."""
+        self.store.audit()
+        held = Counter(token for token, told in self.tries() if told == "True")
+        unheld = [token for token, told in self.tries() if told == "False"]
+        begun = Counter(token for token, told in self.tries() if told == "begun")
+        more = sum(begun.values()) - len(begun)
+        if unheld or len(held) != accesses or more > killed or (not killed and set(held.values()) != {1}):
+            return f"{unheld} weren't held, {len(held)} of {accesses} were done, {more} more than once; {held}"
+        return None
+
+
+def slow_work_is_done_once(cluster, grove):
+    """Work that takes far longer than a worker is patient, by more workers than have anything to do at once."""
+    counted = Counted(cluster, grove, "slow", [ROOT] * 6, 0.8)
+    started = [counted.start("begin", "--patience", "0.4", "--until-ended") for _ in range(4)]
+    statuses = [worker.wait(90) for worker in started]
+    return counted.fault(12) or (None if statuses == [0] * 4 else f"statuses {statuses}")
+
+
+def work_of_a_killed_worker_is_done_again(cluster, grove):
+    counted = Counted(cluster, grove, "redone", [ROOT] * 6, 0.3)
+    killed = 2
+    for turn in range(killed):
+        worker = counted.start("begin", "--patience", "1")
+        begun = len(counted.tries())
+        if not await_true(lambda: len(counted.tries()) > begun and counted.tries()[-1][1] == "begun"):
+            return "no work was begun"
+        worker.send_signal(signal.SIGKILL)
+        worker.wait()
+    started = [counted.start("begin", "--patience", "1", "--until-ended") for _ in range(3)]
+    statuses = [worker.wait(90) for worker in started]
+    return counted.fault(12, killed) or (None if statuses == [0] * 3 else f"statuses {statuses}")
+
+
+def work_that_fails_sets_its_job_aside(cluster, grove):
+    """Others go on, the job is named, and ends once it is tried again."""
+    counted = Counted(cluster, grove, "fails", [[["add", "/a", 1]], [["add", "/b", 1]]], 0)
+    (counted.room / "broken").touch()
+    aside, other = counted.store.jobs
+    worker = counted.start("fail_at_a", "--tries", "3", "--until-ended", stderr=subprocess.PIPE)
+    errors = worker.communicate(timeout=60)[1]
+    told = counted.programs.lines("status", "--failed")
+    tries = Counter(token for token, _ in counted.tries())
+    early = counted.programs.run("retry", other)
+    (counted.room / "broken").unlink()
+    again = counted.programs.lines("retry")
+    counted.start("fail_at_a", "--until-ended").wait(60)
+    counted.store.audit()
+    came = worker.returncode, told[-1], tries[f"{aside}/0"], early, again, counted.store.records("/a", "/b")
+    failed = f"failed {aside}: RuntimeError: the machine is broken"
+    wanted = 0, failed, 3, (1, f"refused not-set-aside {other}\n"), [f"to be tried {aside}"], [11, 1]
+    if "set_aside" not in errors or "Traceback" in errors:
+        return f"it said {errors}"
+    return None if came == wanted else f"wanted {wanted}; came {came}"
+
+
+def a_worker_that_is_told_to_end_ends_after_its_group(cluster, grove):
+    """And another one goes on at once, however patient it is; meanwhile its counts can be read."""
+    counted = Counted(cluster, grove, "ending", [ROOT], 1)
+    port = free_port()
+    worker = counted.start("begin", "--verbose", "--metrics", str(port), stderr=subprocess.PIPE)
+    if not await_true(lambda: counted.tries()):
+        return "no work was begun"
+    metrics = asked(port, "/metrics"), asked(port, "/")
+    worker.send_signal(signal.SIGTERM)
+    errors = worker.communicate(timeout=20)[1]
+    another = counted.start("begin", "--patience", "60", "--until-ended")
+    statuses = worker.returncode, another.wait(30)
+    if 'grove_worker_events_total{event="work"} 1' not in metrics[0] or metrics[1] != "not found\n":
+        return f"its counts were {metrics}"
+    if statuses != (0, 0) or f"left job={counted.store.jobs[0]}" not in errors or "stopped" not in errors:
+        return f"statuses {statuses}, {errors}"
+    return counted.fault(2)
+
+
+def asked(port, path):
+    """The body of what is answered."""
+    connection = http.client.HTTPConnection(HOST, port, timeout=10)
+    connection.request("GET", path)
+    body = connection.getresponse().read().decode()
+    connection.close()
+    return body
