@@ -47,7 +47,7 @@ class Server:
     """The program, serving, for as long as it is entered."""
 
     def __init__(self, program, words, folder=None, **how):
-        self.port = int(words[words.index("--port") + 1])
+        self.port = int(words[words.index("--port") + 1]) if "--port" in words else None
         self.host = words[words.index("--bind") + 1] if "--bind" in words else HOST
         streams = {"stdin": subprocess.DEVNULL, "stdout": subprocess.PIPE, "stderr": subprocess.PIPE, **how}
         self.started = subprocess.Popen([program, *words], cwd=folder, **streams)
@@ -69,7 +69,7 @@ class Server:
         shown = f"[{self.host}]" if ":" in self.host else self.host
         if before != b"listening " + shown.encode() or line != before + b":%d\n" % int(port or 0):
             return False
-        if self.port == 0:
+        if self.port is None:
             self.port = int(port)
         return self.port == int(port) and 1 <= self.port <= 65535
 
@@ -85,13 +85,13 @@ class Server:
 
 
 class Serving(Server):
-    """The program, serving a document that is given as bytes."""
+    """The program, serving a document that is given as bytes, at a port that is free, or at this one, or at any."""
 
-    def __init__(self, program, document, workers=1, port=None, further=(), command="serve", **how):
+    def __init__(self, program, document, workers=1, port=None, any_port=False, further=(), command="serve", **how):
         self.room = tempfile.TemporaryDirectory(prefix="grove-serve-")
         (Path(self.room.name) / "tree.json").write_bytes(document)
-        given = str(free_port() if port is None else port)
-        words = [command, "--tree", "tree.json", "--port", given, "--workers", str(workers), *further]
+        place = ["--any-port"] if any_port else ["--port", str(port or free_port())]
+        words = [command, "--tree", "tree.json", *place, "--workers", str(workers), *further]
         super().__init__(program, words, self.room.name, **how)
 
     def __exit__(self, *_):

@@ -15,7 +15,7 @@ from listening import Place
 READING = ("judge", "check", "plan", "draw", "run", "audit")
 SERVING = ("serve", "page")
 VALUED = ("--tree", "--port", "--bind", "--address", "--workers", "--idle")
-FLAGS = ("--explain", "--document", "--text", "--busy", "--verbose")
+FLAGS = ("--explain", "--document", "--text", "--any-port", "--busy", "--verbose")
 # What the program takes of a document: no more than a byte above the longest history.
 MOST_BYTES = 67_108_864
 # The name that a document has for the program.
@@ -64,8 +64,12 @@ class Given:
             return self.values.get("--tree")
         return self.plain[0] if self.command in READING and self.plain else None
 
+    def takes_any_port(self) -> bool:
+        """Whether a server is to listen at a port that nobody names."""
+        return self.serves() and "--any-port" in self.words and "--port" not in self.values
+
     def place(self) -> Place | None:
-        """Where a server is to listen, with port 0 for any."""
+        """Where a server is to listen, if its port is named."""
         _, address = self.values.get("--bind", (0, "127.0.0.1"))
         _, port = self.values.get("--port", (0, ""))
         try:

@@ -6,6 +6,7 @@ import errno
 import json
 import os
 import socket
+import struct
 import threading
 from functools import partial
 
@@ -13,7 +14,7 @@ from server import HOST, Serving, free_port
 from store import Store
 
 from sweeps.connections import ADD, REPLIES, TEXT, TREE, WEIGHTS
-from sweeps.program import DEVICE, Ran, Tally, Try, run
+from sweeps.program import DEVICE, Ran, Tally, Try, because, run
 from sweeps.talks import lines_of, look, note_replies
 
 TRIED = "runs of the client, and lines that they asked"
@@ -30,6 +31,8 @@ def tries(program: str, room: str) -> list[Try]:
         Try("many lines", partial(many, program)),
         Try("no server", partial(nobody, program)),
         Try("servers that are lost", partial(lost, program)),
+        Try("how a server is lost", partial(explained, program)),
+        Try("standard input and output that fail", partial(streams, program)),
         Try("bytes as they come", partial(exact, program)),
     ]
 
@@ -82,8 +85,7 @@ def nobody(program: str, tally: Tally) -> None:
     for lines in ((), (ADD.decode(),)):
         tally.compare(f"{len(lines)} lines", ask(program, free_port(), *lines, text=ADD), DEVICE)
     port = free_port()
-    reason = f"cannot reach {HOST}:{port}: {os.strerror(errno.ECONNREFUSED)} (os error {errno.ECONNREFUSED})\n"
-    wanted = Ran(DEVICE.status, b"", reason.encode() + DEVICE.err)
+    wanted = because(f"cannot reach {HOST}:{port}", errno.ECONNREFUSED)
     tally.compare("explained", ask(program, port, "--explain", text=ADD), wanted)
 
 
@@ -121,6 +123,50 @@ def lost(program: str, tally: Tally) -> None:
         whole = b"".join(reply for reply in texts if reply.endswith(b"\n"))
         with Canned(*texts) as server:
             tally.compare(f"{texts!r}", ask(program, server.port, text=text), Ran(3, whole, b"device\n"))
+
+
+def explained(program: str, tally: Tally) -> None:
+    """A server that closes before a reply or within one, that says more than a line, that speaks HTTP, or that breaks off."""
+    lose = "lost the server at {}: it closed the connection before the end of a reply"
+    long = "no reply of the server at {}: more than a line came for one"
+    http = "no reply of the server at {}: it speaks HTTP"
+    for text, reason in ((b"", lose), (b'{"a', lose), (b"{}\n{}\n", long), (b"HTTP/1.1 400 Bad Request\r\n\r\n", http)):
+        with Canned(text) as server:
+            wanted = because(reason.format(f"{HOST}:{server.port}"))
+            tally.compare(f"{text!r}", ask(program, server.port, "--explain", text=ADD), wanted)
+    with Serving(program, TREE, command="page") as server:
+        wanted = because(http.format(f"{HOST}:{server.port}"))
+        tally.compare("a page", ask(program, server.port, "--explain", text=WEIGHTS), wanted)
+    with Broken() as server:
+        wanted = because(f"lost the server at {HOST}:{server.port}", errno.ECONNRESET)
+        tally.compare("a connection that is reset", ask(program, server.port, "--explain", text=ADD), wanted)
+
+
+class Broken(Canned):
+    """A server that reads a line, and resets the connection."""
+
+    def serve(self) -> None:
+        self.listener.settimeout(SECONDS)
+        connection, _ = self.listener.accept()
+        connection.settimeout(SECONDS)
+        connection.recv(1)
+        connection.setsockopt(socket.SOL_SOCKET, socket.SO_LINGER, struct.pack("ii", 1, 0))
+        connection.close()
+
+
+def streams(program: str, tally: Tally) -> None:
+    """The client's own input is a folder, or its output is full."""
+    with Serving(program, TREE) as server:
+        words = ("ask", "--port", str(server.port), "--explain")
+        folder = os.open("/", os.O_RDONLY)
+        try:
+            ran = run(program, *words, text=None, stdin=folder)
+            tally.compare("a folder", ran, because("cannot read standard input", errno.EISDIR))
+        finally:
+            os.close(folder)
+        with open("/dev/full", "wb") as full:
+            ran = run(program, *words, text=WEIGHTS, stdout=full)
+            tally.compare("full", ran, because("cannot write standard output", errno.ENOSPC))
 
 
 def exact(program: str, tally: Tally) -> None:

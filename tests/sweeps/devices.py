@@ -2,6 +2,7 @@
 
 from __future__ import annotations
 
+import errno
 import os
 import resource
 import select
@@ -14,7 +15,7 @@ from functools import partial
 
 from sweeps.documents import EXAMPLES, Asked, certified_examples, examples, helped, wrong_words
 from sweeps.growths import is_told
-from sweeps.program import DEVICE, Ran, Tally, Try, run
+from sweeps.program import DEVICE, Ran, Tally, Try, because, run
 from sweeps.served_devices import failing, library_in
 
 TRIED = "runs with a device that is closed, full, of another kind, or in pieces"
@@ -25,6 +26,8 @@ MOST_CALLS = 20_000
 # A terminal holds no more than this before it is read. Ctrl-D is typed at the end of an input.
 TERMINAL_HOLDS = 4000
 END_OF_INPUT = b"\x04"
+# What `--explain` says before the system's reason.
+NO_READ, NO_WRITE = "cannot read standard input", "cannot write standard output"
 # Where standard error fails too, nothing can be said.
 SILENT = Ran(3, b"", b"")
 
@@ -33,6 +36,9 @@ def tries(program: str, room: str) -> list[Try]:
     fixed = [
         Try("standard output", partial(failing_output, program)),
         Try("standard output that takes some bytes", partial(cut_output, program)),
+        Try("why standard output failed", partial(explained_output, program)),
+        Try("why standard input failed", partial(explained_input, program)),
+        Try("why a call failed", partial(explained_call, program, library_in(room))),
         Try("each write of standard output", partial(fail_each, program, library_in(room), "output")),
         Try("each read of standard input", partial(fail_each, program, library_in(room), "input")),
         Try("standard error while there is an answer", partial(unused_errors, program)),
@@ -62,6 +68,40 @@ def failing_output(program: str, tally: Tally) -> None:
         with unread() as pipe:
             ran = run(program, *asked.words, text=asked.text, stdout=pipe)
             tally.compare(f"{asked.name}, a pipe that nobody reads", ran, DEVICE)
+
+
+def explained(asked: Asked) -> Asked:
+    """The same words with `--explain`."""
+    return replace(asked, words=(*asked.words, "--explain"))
+
+
+def explained_output(program: str, tally: Tally) -> None:
+    for asked in map(explained, examples() + named_examples()):
+        with open("/dev/full", "wb") as full:
+            ran = run(program, *asked.words, text=asked.text, stdout=full)
+            tally.compare(f"{asked.name}, full", ran, because(NO_WRITE, errno.ENOSPC))
+        tally.compare(f"{asked.name}, closed", closing(program, ">&-", asked), because(NO_WRITE, errno.EBADF))
+        with unread() as pipe:
+            ran = run(program, *asked.words, text=asked.text, stdout=pipe)
+            tally.compare(f"{asked.name}, a pipe that nobody reads", ran, because(NO_WRITE, errno.EPIPE))
+
+
+def explained_input(program: str, tally: Tally) -> None:
+    for command in ("judge", "check", "plan", "run", "draw", "audit"):
+        asked = Asked(command, (command, "--explain"), b"", 3)
+        tally.compare(f"{command}, closed", closing(program, "<&-", asked), because(NO_READ, errno.EBADF))
+        with opened(str(EXAMPLES), os.O_RDONLY) as folder:
+            ran = run(program, *asked.words, text=None, stdin=folder)
+            tally.compare(f"{command}, a folder", ran, because(NO_READ, errno.EISDIR))
+
+
+def explained_call(program: str, library: str, tally: Tally) -> None:
+    """The first read, or write, that fails."""
+    for asked in map(explained, examples()):
+        for kind, reason in (("input", NO_READ), ("output", NO_WRITE)):
+            with failing(library, kind, 1, {}) as (how, _):
+                ran = run(program, *asked.words, text=asked.text, **how)
+            tally.compare(f"{asked.name}, {kind}", ran, because(reason, errno.EIO))
 
 
 def cut_output(program: str, tally: Tally) -> None:

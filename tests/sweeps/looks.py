@@ -39,7 +39,7 @@ def look_beside(program: str, count: int, tally: Tally) -> None:
     random = Random(f"looks {count}")
     store = Store(deep(random, 0))
     document = json.dumps({"nodes": store.nodes}).encode()
-    with Serving(program, document, port=0, command="page") as server, ExitStack() as room:
+    with Serving(program, document, any_port=True, command="page") as server, ExitStack() as room:
         clients = [room.enter_context(Client(server.port)) for _ in range(2 + count)]
         lists, lasts = a_round(clients[0], random)
         were_out = 0

@@ -5,16 +5,15 @@ from __future__ import annotations
 
 import errno
 import json
-import os
 import socket
 from contextlib import ExitStack
 from functools import partial
 
-from server import NotListening, Serving, connected
+from server import NotListening, Serving, connected, free_port
 from store import Store
 
 from sweeps.connections import TREE, WEIGHTS
-from sweeps.program import DEVICE, Ran, Tally, Try
+from sweeps.program import DEVICE, Ran, Tally, Try, because
 from sweeps.talks import note_replies
 
 TRIED = "places that a server was told"
@@ -47,8 +46,8 @@ def is_here(address: str) -> bool:
 def serve_at(program: str, address: str, asked: str, tally: Tally) -> None:
     """At a port of its own, and at any: it says its address, and the port that it listens on, and answers there."""
     store = Store(json.loads(TREE))
-    for port in (None, 0):
-        with Serving(program, TREE, port=port, further=["--bind", address]) as server:
+    for any_port in (False, True):
+        with Serving(program, TREE, any_port=any_port, further=["--bind", address]) as server:
             server.host = asked
             note_replies(store, WEIGHTS, server.talk(WEIGHTS), f"{address}, port {server.port}", tally)
 
@@ -56,7 +55,7 @@ def serve_at(program: str, address: str, asked: str, tally: Tally) -> None:
 def serve_many(program: str, tally: Tally) -> None:
     """Each has a port of its own."""
     with ExitStack() as room:
-        ports = [room.enter_context(Serving(program, TREE, port=0)).port for _ in range(MANY)]
+        ports = [room.enter_context(Serving(program, TREE, any_port=True)).port for _ in range(MANY)]
         for port in ports:
             with connected(port) as connection:
                 connection.sendall(WEIGHTS)
@@ -67,29 +66,26 @@ def serve_many(program: str, tally: Tally) -> None:
 
 def serve_twice(program: str, tally: Tally) -> None:
     """At the address that another one has, but no other."""
-    with Serving(program, TREE, port=0) as server:
+    with Serving(program, TREE, any_port=True) as server:
         tally.compare("the same address", ended(program, server.port, "127.0.0.1"), DEVICE)
-        wanted = because(f"127.0.0.1:{server.port}", errno.EADDRINUSE)
+        wanted = because(f"cannot listen on 127.0.0.1:{server.port}", errno.EADDRINUSE)
         tally.compare("the same address, explained", ended(program, server.port, "127.0.0.1", "--explain"), wanted)
         with Serving(program, TREE, port=server.port, further=["--bind", "127.0.0.2"]) as other:
             tally.note("another address", None if other.is_running() else "it has ended")
 
 
 def serve_nowhere(program: str, tally: Tally) -> None:
-    tally.compare(NOWHERE, ended(program, 0, NOWHERE), DEVICE)
-    wanted = because(f"{NOWHERE}:0", errno.EADDRNOTAVAIL)
-    tally.compare(f"{NOWHERE}, explained", ended(program, 0, NOWHERE, "--explain"), wanted)
+    free = free_port()
+    for port, place in ((None, NOWHERE), (free, f"{NOWHERE}:{free}")):
+        tally.compare(f"{NOWHERE}, port {port}", ended(program, port, NOWHERE), DEVICE)
+        wanted = because(f"cannot listen on {place}", errno.EADDRNOTAVAIL)
+        tally.compare(f"{NOWHERE}, port {port}, explained", ended(program, port, NOWHERE, "--explain"), wanted)
 
 
-def because(place: str, number: int) -> Ran:
-    """What is said of a place that can't be listened on for this error."""
-    return Ran(3, b"", f"cannot listen on {place}: {os.strerror(number)} (os error {number})\ndevice\n".encode())
-
-
-def ended(program: str, port: int, address: str, *further: str) -> Ran:
-    """How a server that can't listen ends."""
+def ended(program: str, port: int | None, address: str, *further: str) -> Ran:
+    """How a server that can't listen ends, at a port or at any."""
     try:
-        with Serving(program, TREE, port=port, further=["--bind", address, *further]):
+        with Serving(program, TREE, port=port, any_port=port is None, further=["--bind", address, *further]):
             return Ran(None, b"", b"")
     except NotListening as why:
         return Ran(*why.ended)

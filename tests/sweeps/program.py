@@ -36,6 +36,12 @@ DEVICE = Ran(3, b"", b"device\n")
 MEMORY = Ran(3, b"", b"memory\n")
 
 
+def because(reason: str, number: int | None = None, out: bytes = b"") -> Ran:
+    """What `--explain` brings: the reason, with the system's error of a number, before the word."""
+    system = f": {os.strerror(number)} (os error {number})" if number else ""
+    return Ran(3, out, f"{reason}{system}\ndevice\n".encode())
+
+
 def short(text: bytes) -> str:
     return repr(text) if len(text) <= 100 else f"{text[:80]!r}.. ({len(text)} bytes)"
 

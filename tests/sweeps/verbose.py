@@ -265,7 +265,7 @@ def no_descriptor(program: str, library: str, tally: Tally) -> None:
     """No connection can be taken for a while, for want of a descriptor: this is told once."""
     with Telling(program, env=failing(library, 5, errno.EMFILE)) as server, connected(server.port) as client:
         came = ask(client, ADD)
-        first = "a connection waits for a descriptor"
+        first = "no descriptor is left for the next connection"
         wanted = [first, arrival(1, client), ended(1, 1, "its input ended")]
         tally.note("the reply", None if len(lines_of(came)) == 1 else f"came {came!r}")
         compare(wanted, server.told_of(3), tally)

@@ -12,10 +12,14 @@ use Rattle.grove_wire.specs.declared.fault.WireFault.TheVariants.{BadJson, Shape
 use Rattle.grove_wire.specs.declared.place.Part.TheVariants.{Whole}
 use Rattle.grove_wire.specs.Outcomes.{◌>>=◌, or_fault, Gives}
 use Rattle.grove_wire.specs.Places.{whole_of}
-use Rattle.grove_wire.specs.Reading.{value_of, object_of, version_in, versioned, document_within, document_of, history_of}
+use Rattle.grove_wire.specs.Reading.{value_of, object_at, version_in, document_within, document_of, history_of}
 use Rattle.grove_words.specs.declared.order.Command.{Command}
 use Rattle.grove_words.specs.declared.order.Command.TheVariants.{Judge, Check, Plan, Draw, Run, Audit, Serve, Page}
 use Rattle.grove.specs.Outcomes.{document_for}
+
+-- a document that tells a version that there is
+abbrev versioned : Data → Result Data WireFault
+versioned d = version_in d >>= λ version. Ok d
 
 past_version : (x d : Data) (version : Result Version WireFault) → (version >>= λ v. Ok x) ≡ Ok d → x ≡ d
 past_version x d (Ok v) is = cc
@@ -25,7 +29,7 @@ past_object : (x d : Data) (test : Bool) → ((if test then Ok x else Err (Shape
 past_object x d true is = past_version x d (version_in x) is
 past_object x d false is = absurd (cc)
 
-past_value : (value : Option Data) (d : Data) → ((or_fault BadJson value >>= object_of) >>= versioned) ≡ Ok d → value ≡ Some d
+past_value : (value : Option Data) (d : Data) → ((or_fault BadJson value >>= object_at (whole_of Whole)) >>= versioned) ≡ Ok d → value ≡ Some d
 past_value None d is = absurd (cc)
 past_value (Some x) d is = ap Some (past_object x d (is_some (as_object x)) is)
 
@@ -39,7 +43,7 @@ past_text false value d is = absurd (cc)
 
 level_within : (most : ℕ) (bytes : List ℕ) (d : Data) → document_within most bytes ≡ Ok d → depth d ≤ 127
 level_within most bytes d is =
-    depth-read bytes d (past_text (is_utf8 bytes) (read bytes) d (past_value (value_of bytes) d (past_limit (nat_lt most (length bytes)) d ((or_fault BadJson (value_of bytes) >>= object_of) >>= versioned) is)))
+    depth-read bytes d (past_text (is_utf8 bytes) (read bytes) d (past_value (value_of bytes) d (past_limit (nat_lt most (length bytes)) d ((or_fault BadJson (value_of bytes) >>= object_at (whole_of Whole)) >>= versioned) is)))
 
 -- so for each command
 pub shallow_for : (command : Command) (bytes : List ℕ) (d : Data) → document_for command bytes ≡ Ok d → depth d ≤ 127

@@ -13,9 +13,10 @@ use Rattle.grove_words.specs.declared.order.Order.{Order}
 use Rattle.grove_words.specs.declared.order.Order.TheVariants as order
 use Rattle.grove_words.specs.declared.order.Place.{Place}
 use Rattle.grove_words.specs.declared.order.Serving.{Serving}
-use Rattle.grove_words.specs.CommandLines.{has_place, serves, text_given, Verb, Ask, Serve, Page, AreWrong, AskFor, AskToExplain, AskToServe, AskToShow, GivePlace, NameDevice}
+use Rattle.grove_words.specs.CommandLines.{has_place, serves, text_given, Verb, Ask, Serve, Page, AreWrong, AskFor, AskToExplain, AskToServe, AskToShow, IsPlace, NameDevice}
 use Rattle.grove_words.specs.NoOrders.{TellsShown, TellsWrong}
-use Rattle.grove_words.specs.Orders.{lines_given, name_in, verb_for, AskForOrder, IsAskedBy, Says, SaysCommand}
+use Rattle.grove_words.specs.Invocations.{lines_given, name_in, AskForOrder, IsAskedBy, Says}
+use Rattle.grove_words.specs.Orders.{verb_for, SaysCommand}
 use Rattle.grove_words.proofs.Orders.{not_shown, same_name, same_verb}
 use Rattle.grove_answer.specs.Outcomes.{Outcome, ThenSays}
 use Rattle.grove.specs.declared.answer.Stop.{Stop}
@@ -49,9 +50,9 @@ refusal_printed (Err fault) status old new is out one = (fault, out)
 
 -- a place that a command serves at is given by the words
 place_given : (words : List (List ℕ)) (it : Command) (serving : Serving) → SaysCommand (text_given words) it → serving_of it ≡ Some serving
-    → (serves (verb_for it) ≡ true) × GivePlace words serving.place
-place_given words (command.Serve given) serving said at = let same : given ≡ serving = cc in (refl, subst (λ (s : Serving). GivePlace words s.place) same said.place)
-place_given words (command.Page given) serving said at = let same : given ≡ serving = cc in (refl, subst (λ (s : Serving). GivePlace words s.place) same said.place)
+    → (serves (verb_for it) ≡ true) × IsPlace (text_given words) serving.place
+place_given words (command.Serve given) serving said at = let same : given ≡ serving = cc in (refl, subst (λ (s : Serving). IsPlace (text_given words) s.place) same said.place)
+place_given words (command.Page given) serving said at = let same : given ≡ serving = cc in (refl, subst (λ (s : Serving). IsPlace (text_given words) s.place) same said.place)
 place_given words command.Judge serving said at = absurd (cc)
 place_given words command.Check serving said at = absurd (cc)
 place_given words (command.Plan in_document) serving said at = absurd (cc)
@@ -178,7 +179,7 @@ module _ (words : List (List ℕ)) (it : Command) (document : Document) (asked :
       → Keeps old new ⊎ (SaysListening (AskToServe words) old new ⊎ AskToAsk words)
   listens old new (inl kept) = inl kept
   listens old new (inr (serving, at, line, names, out)) =
-      let given : (serves (verb_for it) ≡ true) × GivePlace words serving.place = place_given words it serving said at in
+      let given : (serves (verb_for it) ≡ true) × IsPlace (text_given words) serving.place = place_given words it serving said at in
       inr (inl (serving.place, (verb_for it, name_in document, asked, given.0, given.1), line, names, out))
 
   -- or stopped

@@ -8,7 +8,8 @@ use Rattle.grove_store.specs.StoreStates.{StoreState, opened}
 use Rattle.grove_wire.specs.declared.fault.WireFault.{WireFault}
 use Rattle.grove_wire.specs.Reading.{tree_in}
 use Rattle.grove_words.specs.CommandLines.{has_place, serves}
-use Rattle.grove_words.specs.Orders.{name_in, verb_for}
+use Rattle.grove_words.specs.Invocations.{name_in}
+use Rattle.grove_words.specs.Orders.{verb_for}
 use Rattle.grove_words.specs.declared.no_order.NoOrder.{NoOrder}
 use Rattle.grove_words.specs.declared.no_order.NoOrder.TheVariants as no
 use Rattle.grove_words.specs.declared.order.Command.{Command}

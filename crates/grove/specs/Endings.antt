@@ -7,6 +7,8 @@ use Rattle.std.specs.declared.net.ip_addr.IpAddr.{IpAddr}
 use Rattle.std.specs.declared.net.ip_addr.IpAddr.TheVariants.{V4, V6}
 use Rattle.grove_base.specs.Hints.{IsHint, IsSaid}
 use Rattle.grove_words.specs.declared.order.Place.{Place}
+use Rattle.grove_words.specs.declared.order.Port.{Port}
+use Rattle.grove_words.specs.declared.order.Port.TheVariants.{Any, Named}
 use Rattle.grove.specs.declared.answer.Stop.{Stop}
 use Rattle.grove.specs.declared.answer.Stop.TheVariants.{Device, Memory}
 
@@ -54,9 +56,10 @@ address_text (V6 address) = codes "[" ++ ipv6_text (ipv6_segments address) ++ co
 abbrev pub listening_line : IpAddr → ℕ → List ℕ
 listening_line address port = codes "listening " ++ address_text address ++ codes ":" ++ decimal port ++ 10 ∷ []
 
--- the port that is listened on is the one that was asked for, or any where 0 was
-abbrev pub IsPortFor : ℕ → ℕ → Type 0
-IsPortFor asked port = (1 ≤ port) × (port ≤ 65535) × (asked ≢ 0 → port ≡ asked)
+-- the port that is listened on is the one that was named, or any
+abbrev pub IsPortFor : Port → ℕ → Type 0
+IsPortFor Any port = (1 ≤ port) × (port ≤ 65535)
+IsPortFor (Named asked) port = port ≡ asked
 
 -- the text is the line for a place that was asked for
 abbrev pub NamesPlace : Place → List ℕ → Type 0

@@ -6,18 +6,17 @@ use crate::failure::Failure;
 use crate::server::Server;
 use grove_serve::Host;
 use grove_session::{BytesSource, SessionFault, Sink, Source, session};
-use grove_words::Place;
 use std::alloc::{AllocGlobal, Global};
-use std::net::{Net, TcpListener, TcpStream};
+use std::net::{Net, SocketAddr, TcpListener, TcpStream};
 
 /// Sources that were read as often aren't read for a session.
 const MOST_READS: u64 = 1 << 63;
 
-/// Asks the server at the place the lines, or those of the input if there are none, and prints its replies. Gives the
+/// Asks the server at the address the lines, or those of the input if there are none, and prints its replies. Gives the
 /// status of the process: 0, or 1 where a reply was an error.
 pub fn ask<R: Host + Net<Listener = TcpListener, Stream = TcpStream>, I: Source, O: Sink>(
     rt: &R,
-    place: Place,
+    address: SocketAddr,
     lines: &[&str],
     input: &mut I,
     out: &mut O,
@@ -27,16 +26,22 @@ pub fn ask<R: Host + Net<Listener = TcpListener, Stream = TcpStream>, I: Source,
     ensures blamed { IfErr result (Blames ⊤ ((I.has_failed input.new ≡ I.has_failed input.old) × (O.has_failed out.new ≡ O.has_failed out.old))) }
 {
     let text = text_of(rt.alloc(), lines)?;
-    let stream = match TcpStream::connect(rt, (place.address, place.port)) {
+    let stream = match TcpStream::connect(rt, address) {
         Ok(stream) => stream,
-        Err(error) => return Err(Failure::Reach(place, error).stop()),
+        Err(error) => return Err(Failure::Reach(address, error).stop()),
     };
     // No line is to wait until the reply before it has arrived.
     let _at_once = stream.set_nodelay(true);
     if text.is_empty() {
-        ask_lines(rt, &stream, input, out)
+        ask_lines(rt, &stream, address, input, out)
     } else {
-        ask_lines(rt, &stream, &mut BytesSource::new(text.as_bytes()), out)
+        ask_lines(
+            rt,
+            &stream,
+            address,
+            &mut BytesSource::new(text.as_bytes()),
+            out,
+        )
     }
 }
 
@@ -50,10 +55,12 @@ fn text_of(alloc: Global, lines: &[&str]) -> Result<String, Stop> {
     Ok(text)
 }
 
-/// Asks the server at the other end of the stream the lines of the source, and writes its replies.
+/// Asks the server at the other end of the stream the lines of the source, and writes its replies. Where the source or
+/// the sink fails, it says itself why.
 fn ask_lines<R: AllocGlobal, I: Source, O: Sink>(
     rt: &R,
     stream: &TcpStream,
+    address: SocketAddr,
     source: &mut I,
     sink: &mut O,
 ) -> Result<u8, Stop>
@@ -64,11 +71,11 @@ fn ask_lines<R: AllocGlobal, I: Source, O: Sink>(
     if source.failed() || sink.failed() || source.reads() >= MOST_READS {
         return Err(Stop::Device(None));
     }
-    let mut server = Server::new(stream);
+    let mut server = Server::new(stream, address);
     match session(rt, &mut server, source, sink) {
         Ok(_) if server.has_refused() => Ok(1),
         Ok(_) => Ok(0),
         Err(SessionFault::Memory) => Err(Stop::Memory),
-        Err(_) => Err(Stop::Device(None)),
+        Err(_) => Err(Stop::Device(server.failure())),
     }
 }

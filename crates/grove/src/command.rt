@@ -1,7 +1,7 @@
 ghost use Rattle.std.specs.Prelude.{◌≡◌, ◌≢◌, ℕ, List, Option, None, false, map, string_bytes, IfOk, IfErr};
 ghost use Rattle.grove_words.specs.CommandLines.{Ask, Verb, AskFor};
 ghost use Rattle.grove_words.specs.NoOrders.{HasText};
-ghost use Rattle.grove_words.specs.Orders.{name_in};
+ghost use Rattle.grove_words.specs.Invocations.{name_in};
 ghost use Rattle.grove.specs.Answers.{HasFile, IsDone, IsGivenUp, IsObeyed, IsStopped, IsTold};
 ghost use Rattle.grove.specs.Endings.{MayHint};
 ghost use Rattle.grove.specs.Runs.{streams, Does, DoesAt};
@@ -10,6 +10,8 @@ use crate::answer::{Response, Stop};
 use crate::answering::response_to;
 use crate::asking::ask;
 use crate::document::document_bytes;
+use crate::explained::Explained;
+use crate::failure::StreamErrors;
 use crate::hinting::awaited_by;
 use crate::output::{add, print, report, say_stop, tell};
 use grove_serve::Host;
@@ -26,8 +28,8 @@ use std::rt::Files;
 #[tactic(auto, using(crate::proofs::Orders::uninvited_does))]
 pub fn run_command<
     R: Host + Files + Net<Listener = TcpListener, Stream = TcpStream>,
-    I: Source,
-    O: Sink,
+    I: Source + Explained,
+    O: Sink + Explained,
     E: Sink,
 >(rt: &R, words: &[String], input: &mut I, out: &mut O, err: &mut E) -> u8
     ensures done { Does (map string_bytes words.now)
@@ -42,8 +44,8 @@ pub fn run_command<
 /// The same. Where the input `is_typed`, `err` says first which document is awaited.
 pub fn run_at<
     R: Host + Files + Net<Listener = TcpListener, Stream = TcpStream>,
-    I: Source,
-    O: Sink,
+    I: Source + Explained,
+    O: Sink + Explained,
     E: Sink,
 >(rt: &R, words: &[String], is_typed: bool, input: &mut I, out: &mut O, err: &mut E) -> u8
     ensures done { DoesAt is_typed (map string_bytes words.now)
@@ -57,7 +59,13 @@ pub fn run_at<
             invite(rt.alloc(), &invocation.order, is_typed, err);
             match obey(rt, &invocation.order, input, out, err) {
                 Ok(status) => status,
-                Err(why) => say_stop(rt.alloc(), why, &invocation, err),
+                Err(why) => {
+                    let streams = StreamErrors {
+                        input: input.error(),
+                        output: out.error(),
+                    };
+                    say_stop(rt.alloc(), why, &invocation, streams, err)
+                }
             }
         }
         Err(why) => say_no_order(why, out, err),
@@ -99,7 +107,7 @@ fn obey<
 {
     match order {
         Order::Do { command, document } => do_command(rt, *command, *document, input, out, err),
-        Order::Ask { place, lines } => ask(rt, *place, lines, input, out),
+        Order::Ask { server, lines } => ask(rt, *server, lines, input, out),
     }
 }
 

@@ -3,12 +3,13 @@ ghost use Rattle.serde_json.specs.Data.{depth};
 ghost use Rattle.serde_json.specs.View.{view};
 ghost use Rattle.grove_wire.specs.Forms.{AreArraysShort, HasShortArrays};
 ghost use Rattle.grove_wire.specs.Outcomes.{Gives};
-ghost use Rattle.grove_words.specs.Orders.{name_in};
+ghost use Rattle.grove_words.specs.Invocations.{name_in};
 ghost use Rattle.grove.specs.Answers.{most_bytes, IsAsGoodAs};
 ghost use Rattle.grove.specs.Endings.{Blames};
 ghost use Rattle.grove.specs.Outcomes.{document_for};
 
 use crate::answer::Stop;
+use crate::explained::Explained;
 use crate::failure::Failure;
 use crate::file_source::FileSource;
 use grove_serve::Host;

@@ -2,8 +2,9 @@ ghost use Rattle.std.specs.Prelude.{◌≡◌, ◌≢◌, true, None, IfOk, IfSo
 ghost use Rattle.grove.specs.Endings.{IsReasonLine};
 
 use crate::answer::Stop;
+use crate::server::Loss;
 use grove_base::{NoMemory, said};
-use grove_words::{Document, Invocation, Order, Place};
+use grove_words::{Document, Invocation, Order, Place, Port};
 use std::alloc::{AllocError, Global};
 use std::io::{self, ErrorKind};
 use std::net::SocketAddr;
@@ -11,43 +12,65 @@ use std::net::SocketAddr;
 /// The greatest number of characters of a file's name that are told.
 const MOST_SHOWN: usize = 200;
 
-/// What couldn't be done, and the system's error.
+/// What couldn't be done, and why.
 #[derive(Clone, Copy)]
 pub enum Failure {
     Open(io::Error),
     Read(io::Error),
+    Write(io::Error),
     Listen(Place, io::Error),
-    Reach(Place, io::Error),
+    Reach(SocketAddr, io::Error),
+    Lose(SocketAddr, Loss),
 }
 
 impl Failure {
     /// Why it stops the program.
     pub fn stop(self) -> Stop {
-        match self.error().kind() {
-            ErrorKind::OutOfMemory => Stop::Memory,
-            _ => Stop::Device(Some(self)),
-        }
-    }
-
-    fn error(self) -> io::Error {
         match self {
-            Failure::Open(error) | Failure::Read(error) => error,
-            Failure::Listen(_, error) | Failure::Reach(_, error) => error,
+            Failure::Open(error) | Failure::Listen(_, error) | Failure::Reach(_, error)
+                if error.kind() == ErrorKind::OutOfMemory => { Stop::Memory }
+            _ => Stop::Device(Some(self)),
         }
     }
 }
 
-/// The line that says what failed, where that is asked for. Without memory for it there is none.
-pub fn reason_for(alloc: Global, why: Stop, invocation: &Invocation<'_>) -> Option<String>
+/// Standard input and standard output: the system's error of each, where it has failed.
+#[derive(Clone, Copy)]
+pub struct StreamErrors {
+    pub input: Option<io::Error>,
+    pub output: Option<io::Error>,
+}
+
+impl StreamErrors {
+    fn failure(self) -> Option<Failure> {
+        match (self.input, self.output) {
+            (Some(error), _) => Some(Failure::Read(error)),
+            (None, Some(error)) => Some(Failure::Write(error)),
+            (None, None) => None,
+        }
+    }
+}
+
+/// The line that says what failed, where that is asked for and known: if the stop doesn't tell, the streams may.
+/// Without memory for it there is none.
+pub fn reason_for(
+    alloc: Global,
+    why: Stop,
+    invocation: &Invocation<'_>,
+    streams: StreamErrors,
+) -> Option<String>
     ensures line { IfSome result (λ line. IsReasonLine (string_bytes line)) }
     ensures asked { result ≢ None → invocation.now.explain ≡ true }
 {
-    match why {
-        Stop::Device(Some(failure)) if invocation.explain => {
-            reason_line(alloc, &invocation.order, failure).ok()
-        }
-        _ => None,
+    if !invocation.explain {
+        return None;
     }
+    let failure = match why {
+        Stop::Device(Some(failure)) => failure,
+        Stop::Device(None) => streams.failure()?,
+        Stop::Memory => return None,
+    };
+    reason_line(alloc, &invocation.order, failure).ok()
 }
 
 fn reason_line(alloc: Global, order: &Order<'_>, failure: Failure) -> Result<String, NoMemory>
@@ -67,18 +90,35 @@ fn reason(alloc: Global, order: &Order<'_>, failure: Failure) -> Result<String, 
             let file = file_of(alloc, order)?;
             format!(in alloc; "cannot read {file}: {error}")
         }
-        Failure::Listen(place, error) => {
-            let address = SocketAddr::new(place.address, place.port);
-            format!(in alloc; "cannot listen on {address}: {error}")
-        }
-        Failure::Reach(place, error) => {
-            let address = SocketAddr::new(place.address, place.port);
-            format!(in alloc; "cannot reach {address}: {error}")
-        }
+        Failure::Write(error) => format!(in alloc; "cannot write standard output: {error}"),
+        Failure::Listen(Place { address, port }, error) => match port {
+            Port::Named(port) => {
+                let address = SocketAddr::new(address, port);
+                format!(in alloc; "cannot listen on {address}: {error}")
+            }
+            Port::Any => format!(in alloc; "cannot listen on {address}: {error}"),
+        },
+        Failure::Reach(address, error) => format!(in alloc; "cannot reach {address}: {error}"),
+        Failure::Lose(address, loss) => reason_of_loss(alloc, address, loss),
     }
 }
 
-/// The name of the order's file, or its beginning.
+fn reason_of_loss(alloc: Global, address: SocketAddr, loss: Loss) -> Result<String, AllocError> {
+    match loss {
+        Loss::Failed(error) => format!(in alloc; "lost the server at {address}: {error}"),
+        Loss::Closed => {
+            format!(in alloc;
+                "lost the server at {address}: it closed the connection before the end of a reply"
+            )
+        }
+        Loss::LongReply => {
+            format!(in alloc; "no reply of the server at {address}: more than a line came for one")
+        }
+        Loss::Http => format!(in alloc; "no reply of the server at {address}: it speaks HTTP"),
+    }
+}
+
+/// The name of the order's file, or its beginning, and where it has none that of the stream.
 fn file_of(alloc: Global, order: &Order<'_>) -> Result<String, AllocError> {
     let name = match order {
         Order::Do {

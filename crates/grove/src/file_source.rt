@@ -1,6 +1,7 @@
 ghost use Rattle.std.specs.Prelude.{◌≤◌, length, IfOk};
 ghost use Rattle.std.specs.Io.KnownBytes.{ReadConsumes};
 
+use crate::explained::Explained;
 use grove_session::{DeviceFault, Source};
 use std::io;
 use std::io::{ErrorKind, Read};
@@ -21,9 +22,10 @@ impl<R: Read> FileSource<R> {
             reads: 0,
         }
     }
+}
 
-    /// The error of the latest read that failed.
-    pub fn error(&self) -> Option<io::Error> {
+impl<R: Read> Explained for FileSource<R> {
+    fn error(&self) -> Option<io::Error> {
         self.error
     }
 }

@@ -3,7 +3,9 @@
 
 use answer::Stop;
 use command::{run_at, run_command, say_no_order};
-use grove_session::{ReaderSource, WriterSink};
+use file_sink::FileSink;
+use file_source::FileSource;
+use grove_session::WriterSink;
 use grove_words::not_text;
 use output::report;
 use std::alloc::Global;
@@ -16,7 +18,9 @@ mod answering;
 mod asking;
 mod command;
 mod document;
+mod explained;
 mod failure;
+mod file_sink;
 mod file_source;
 mod hinting;
 mod output;
@@ -30,8 +34,8 @@ fn main(rt: HostRuntime) -> ExitCode {
     keep_freed_memory(rt.alloc());
     let stdin = rt.stdin();
     let is_typed = stdin.is_terminal();
-    let mut input = ReaderSource::new(stdin);
-    let mut out = WriterSink::new(rt.stdout());
+    let mut input = FileSource::new(stdin);
+    let mut out = FileSink::new(rt.stdout());
     let mut err = WriterSink::new(rt.stderr());
     let status = match env::args(&rt) {
         Ok(words) => match words.skip(1).collect::<Vec<String>>(rt.alloc()) {

@@ -4,7 +4,7 @@ ghost use Rattle.grove.specs.Answers.{printed, HasStatus, IsCutOff, IsDevice};
 ghost use Rattle.grove.specs.Endings.{stop_line, IsHintLine, MayHint, SaysStop};
 
 use crate::answer::{Answer, Stop};
-use crate::failure::reason_for;
+use crate::failure::{StreamErrors, reason_for};
 use grove_base::Hint;
 use grove_serve::{Host, serve};
 use grove_session::{DeviceFault, Sink, write_whole};
@@ -70,11 +70,17 @@ fn write_hint<E: Sink>(line: &str, err: &mut E)
 }
 
 /// Says on standard error why there is no answer, after the system's reason where that is asked for and known.
-pub fn say_stop<E: Sink>(alloc: Global, why: Stop, invocation: &Invocation<'_>, err: &mut E) -> u8
+pub fn say_stop<E: Sink>(
+    alloc: Global,
+    why: Stop,
+    invocation: &Invocation<'_>,
+    streams: StreamErrors,
+    err: &mut E,
+) -> u8
     ensures status { result ≡ 3 }
     ensures told { E.has_failed err.new ≡ false → SaysStop (invocation.now.explain ≡ true) why (E.contents err.old) (E.contents err.new) }
 {
-    match reason_for(alloc, why, invocation) {
+    match reason_for(alloc, why, invocation, streams) {
         Some(line) => report_after(&line, why, err),
         None => report(why, err),
     }

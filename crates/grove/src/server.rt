@@ -1,19 +1,42 @@
 ghost use Rattle.std.specs.Prelude.{◌≡◌, false};
 
-use grove_session::{AnswerFault, Answers, ReaderSource, Source, WriterSink, write_whole};
+use crate::explained::Explained;
+use crate::failure::Failure;
+use crate::file_source::FileSource;
+use grove_session::{AnswerFault, Answers, Source, WriterSink, write_whole};
 use std::alloc::{AllocGlobal, Global};
+use std::io;
 use std::marker::Model;
-use std::net::TcpStream;
+use std::net::{SocketAddr, TcpStream};
 
 /// How a reply begins that says that something couldn't be done.
 const ERROR_BEGINS: &[u8] = b"{\"error\":";
+
+/// How a reply of HTTP begins.
+const HTTP_BEGINS: &[u8] = b"HTTP/";
+
+/// Why a line got no reply.
+#[derive(Clone, Copy)]
+pub enum Loss {
+    /// The connection failed.
+    Failed(io::Error),
+    /// It was closed before the end of the reply.
+    Closed,
+    /// What came is more than a line.
+    LongReply,
+    /// It came by HTTP.
+    Http,
+}
 
 /// A server, which answers the lines of a session.
 #[derive(Drop)]
 pub struct Server<'a> {
     stream: &'a TcpStream,
+    address: SocketAddr,
     /// Whether a reply was an error.
     has_refused: bool,
+    /// Why the latest line got no reply.
+    loss: Option<Loss>,
 }
 
 impl<'a> Model for Server<'a> {
@@ -25,12 +48,22 @@ impl<'a> Model for Server<'a> {
 }
 
 impl<'a> Server<'a> {
-    pub fn new(stream: &'a TcpStream) -> Server<'a>
+    pub fn new(stream: &'a TcpStream, address: SocketAddr) -> Server<'a>
         ensures { result ≡ false }
     {
         Server {
             stream,
+            address,
             has_refused: false,
+            loss: None,
+        }
+    }
+
+    /// How the server was lost, if it was.
+    pub fn failure(&self) -> Option<Failure> {
+        match self.loss {
+            Some(loss) => Some(Failure::Lose(self.address, loss)),
+            None => None,
         }
     }
 
@@ -54,49 +87,75 @@ impl<'a, R: AllocGlobal> Answers<R> for Server<'a> {
     ghost asks = { ⊤ };
 
     fn answer(&mut self, rt: &R, line: &[u8]) -> Result<Vec<u8>, AnswerFault> {
-        let reply = asked(rt.alloc(), self.stream, line)?;
-        if reply.starts_with(ERROR_BEGINS) {
-            self.has_refused = true;
+        match asked(rt.alloc(), self.stream, line) {
+            Ok(reply) => {
+                if reply.starts_with(ERROR_BEGINS) {
+                    self.has_refused = true;
+                }
+                Ok(reply)
+            }
+            Err(NoReply::Lost(loss)) => {
+                self.loss = Some(loss);
+                Err(AnswerFault::Foreign)
+            }
+            Err(NoReply::Memory) => Err(AnswerFault::Memory),
         }
-        Ok(reply)
     }
 }
 
+/// Why there is no reply.
+enum NoReply {
+    Lost(Loss),
+    /// A growth was refused.
+    Memory,
+}
+
 /// Sends the line, and gives the reply. A server that takes no more of the line may have replied all the same.
-fn asked(alloc: Global, stream: &TcpStream, line: &[u8]) -> Result<Vec<u8>, AnswerFault> {
+fn asked(alloc: Global, stream: &TcpStream, line: &[u8]) -> Result<Vec<u8>, NoReply> {
     let mut sink = WriterSink::new(stream);
     if write_whole(&mut sink, line).is_ok() {
         let _ended = write_whole(&mut sink, b"\n");
     }
-    reply_of(alloc, &mut ReaderSource::new(stream))
+    reply_from(alloc, stream)
 }
 
 /// The reply, which is all that comes up to a line feed. Nothing may have come behind it.
-fn reply_of<S: Source>(alloc: Global, source: &mut S) -> Result<Vec<u8>, AnswerFault> {
-    let mut reply = read_line(alloc, source)?;
+fn reply_from(alloc: Global, stream: &TcpStream) -> Result<Vec<u8>, NoReply> {
+    let mut reply = read_line(alloc, stream)?;
+    if reply.starts_with(HTTP_BEGINS) {
+        return Err(NoReply::Lost(Loss::Http));
+    }
     match reply.pop() {
         Some(b'\n') if !reply.contains(&b'\n') => Ok(reply),
-        _ => Err(AnswerFault::Foreign),
+        _ => Err(NoReply::Lost(Loss::LongReply)),
     }
 }
 
 /// What is read until a line feed has come.
-fn read_line<S: Source>(alloc: Global, source: &mut S) -> Result<Vec<u8>, AnswerFault> {
+fn read_line(alloc: Global, stream: &TcpStream) -> Result<Vec<u8>, NoReply> {
+    let mut source = FileSource::new(stream);
     let mut line = Vec::new(alloc);
     let mut buffer = [0u8; 16_384];
     for _ in 0..u64::MAX {
         let Ok(count) = source.read(&mut buffer) else {
-            return Err(AnswerFault::Foreign);
+            return Err(NoReply::Lost(loss_by(source.error())));
         };
         if count == 0 {
-            return Err(AnswerFault::Foreign);
+            return Err(NoReply::Lost(Loss::Closed));
         }
         if line.extend_from_slice(&buffer[..count]).is_err() {
-            return Err(AnswerFault::Memory);
+            return Err(NoReply::Memory);
         }
         if buffer[..count].contains(&b'\n') {
             return Ok(line);
         }
     }
-    Err(AnswerFault::Foreign)
+    Err(NoReply::Lost(Loss::LongReply))
+}
+
+fn loss_by(error: Option<io::Error>) -> Loss {
+    match error {
+        Some(error) => Loss::Failed(error),
+        None => Loss::Closed,
+    }
 }

@@ -1,4 +1,4 @@
-ghost use Rattle.std.specs.Prelude.{◌≡◌, ◌⊎◌, Some, Ok, true, ⊤, IfOk, IfErr, IfSome, IsOkAnd, string_bytes};
+ghost use Rattle.std.specs.Prelude.{◌≡◌, ◌≤◌, ◌⊎◌, Some, Ok, true, ⊤, IfOk, IfErr, IfSome, IsOkAnd, string_bytes};
 ghost use Rattle.serde_json.specs.View.{view};
 ghost use Rattle.grove_store.specs.StoreStates.{opened};
 ghost use Rattle.grove_wire.specs.Forms.{HasShortArrays};
@@ -17,7 +17,7 @@ use grove_answer::{Refusal, or_refuse};
 use grove_serve::{Host, Manner, Patience, Service, Talk};
 use grove_store::{NoStore, Store};
 use grove_wire::read_tree;
-use grove_words::{Place, Serving, Workers};
+use grove_words::{Place, Port, Serving, Workers};
 use serde_json::Value;
 use std::alloc::{AllocError, Global};
 use std::net::{IpAddr, Net, TcpListener, TcpStream};
@@ -83,7 +83,7 @@ fn open_door<R: Host + Net<Listener = TcpListener, Stream = TcpStream>>(
 ) -> Result<Door, Stop>
     ensures { IfOk result (λ door. NamesPlace place (string_bytes door.line)) }
 {
-    let listener = match TcpListener::bind(rt, (place.address, place.port)) {
+    let listener = match TcpListener::bind(rt, (place.address, asked_port(place.port))) {
         Ok(listener) => listener,
         Err(error) => return Err(Failure::Listen(place, error).stop()),
     };
@@ -92,13 +92,28 @@ fn open_door<R: Host + Net<Listener = TcpListener, Stream = TcpStream>>(
     Ok(Door { listener, line })
 }
 
-/// The port that is listened on, where this place was asked for; for 0 the system has chosen one.
+/// The port that the system is asked for: at 0 it chooses one.
+fn asked_port(port: Port) -> u16 {
+    match port {
+        Port::Any => 0,
+        Port::Named(port) => port,
+    }
+}
+
+/// The port that is listened on, where this place was asked for.
 fn port_of(listener: &TcpListener, place: Place) -> Result<u16, Stop>
     ensures { IfOk result (IsPortFor place.port) }
 {
-    if place.port != 0 {
-        return Ok(place.port);
+    match place.port {
+        Port::Any => chosen_port(listener, place),
+        Port::Named(port) => Ok(port),
     }
+}
+
+/// The port that the system has chosen.
+fn chosen_port(listener: &TcpListener, place: Place) -> Result<u16, Stop>
+    ensures { IfOk result (λ port. (1 ≤ port) × (port ≤ 65535)) }
+{
     let port = match listener.local_addr() {
         Ok(address) => address.port(),
         Err(error) => return Err(Failure::Listen(place, error).stop()),

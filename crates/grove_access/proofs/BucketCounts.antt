@@ -1,8 +1,8 @@
 -- How many of the nodes that are out fall into a bucket.
-use Rattle.std.proofs.Common.{◌≡◌, ◌≢◌, ℕ, ◌+◌, ◌-◌, ◌<◌, ◌≤◌, ◌%◌, ℤ, eqb, List, [], ◌∷◌, ◌++◌, length, set, replicate, slice_get, Some, None, refl, ap, sym, ◌∙◌, inl, inr, arith}
+use Rattle.std.proofs.Common.{◌≡◌, ◌≢◌, ℕ, ◌+◌, ◌-◌, ◌<◌, ◌≤◌, ◌%◌, ℤ, eqb, List, [], ◌∷◌, ◌++◌, length, set, slice_get, Some, None, refl, ap, sym, ◌∙◌, inl, inr, arith}
 use Rattle.std.proofs.lemmas.Option.{none-some, same_Some, slice_get_within}
 use Rattle.std.proofs.lemmas.Bool.{cond-true, cond-false, eq-eqb, ne_eqb, cases_eq}
-use Rattle.grove_base.proofs.Lists.{get_set_same, get_set_other, replicate_got}
+use Rattle.grove_base.proofs.Lists.{get_set_same, get_set_other}
 use Rattle.grove_access.specs.declared.known.Known.{Known}
 use Rattle.grove_access.specs.declared.entry.Entry.{Entry}
 use Rattle.grove_access.specs.Carries.{known_at, without, settled}
@@ -52,10 +52,6 @@ in_settled entries (k ∷ known) bucket = let rest : in_bucket (settled entries 
 
 pub counts_settled : (counts : List ℕ) (entries : List Entry) (known new : List Known) → new ≡ settled entries known → Counts counts known → Counts counts new
 counts_settled counts entries known new is right = λ bucket count at few. right bucket count at few ∙ sym (in_settled entries known bucket) ∙ sym (ap (λ ks. in_bucket ks bucket) is)
-
--- no node is counted at first
-pub counts_none : (counts : List ℕ) (n : ℕ) → counts ≡ replicate n 0 → Counts counts []
-counts_none counts n is = λ bucket count at few. sym (replicate_got n 0 bucket count (sym (ap (λ (cs : List ℕ). slice_get cs bucket) is) ∙ at))
 
 -- the other buckets have as many as before
 other_more : (known : List Known) (item : Known) (place bucket : ℕ) → place ≡ item.node % 256 → bucket ≢ place → in_bucket (known ++ item ∷ []) bucket ≡ in_bucket known bucket

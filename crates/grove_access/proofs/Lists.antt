@@ -4,7 +4,8 @@ use Rattle.std.proofs.Math.Seq.{drop-cons}
 use Rattle.std.proofs.lemmas.Option.{slice_get_within, get_or_from_slice_get, none-some, same_Some}
 use Rattle.std.proofs.lemmas.Bool.{cond-true, cond-false, lt-ltb, le-ltb, cases_lt, cases_Bool, and_parts, and_from, leb-true, le-leb}
 use Rattle.grove_access.specs.declared.access.Access.{Access}
-use Rattle.grove_access.specs.Lists.{nodes_of, lengths_of, AreBelow, AreLengths, first_beyond, is_length, first_bad_length}
+use Rattle.grove_access.specs.Lists.{nodes_of, lengths_of, AreBelow, is_length}
+use Rattle.grove_access.specs.ListFaults.{AreLengths, first_beyond, first_bad_length}
 
 -- what stands at a place stands first in what is left from there
 pub drop_next : {A : Type 0} (xs : List A) (i : ℕ) (x : A) → slice_get xs i ≡ Some x → drop i xs ≡ x ∷ drop (suc i) xs

@@ -6,7 +6,8 @@ use Rattle.std.proofs.lemmas.Option.{slice_get-get_or, get_or_from_slice_get}
 use Rattle.std.proofs.lemmas.List.{get_or_past}
 use Rattle.std.proofs.lemmas.Bool.{cases_lt, cases_order}
 use Rattle.grove_access.specs.declared.access.Access.{Access}
-use Rattle.grove_access.specs.Lists.{lengths_of, AreLengths}
+use Rattle.grove_access.specs.Lists.{lengths_of}
+use Rattle.grove_access.specs.ListFaults.{AreLengths}
 use Rattle.grove_access.specs.Slots.{slots_before}
 use Rattle.grove_access.proofs.Lists.{length_at}
 

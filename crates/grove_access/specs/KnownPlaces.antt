@@ -1,4 +1,4 @@
--- Where a node stands among those that are out, and how many share a bucket.
+-- For the proofs alone: where a node stands among those that are out, and how many share a bucket.
 use Rattle.std.specs.Prelude.{◌≡◌, ℕ, ◌+◌, ◌<◌, ◌%◌, ◌==◌, List, [], ◌∷◌, slice_get, remove, Some, if◌then◌else◌}
 use Rattle.grove_access.specs.declared.known.Known.{Known}
 use Rattle.grove_access.specs.Carries.{known_at, without}

@@ -4,3 +4,4 @@ pub mod Slots
 pub mod Forced
 pub mod Carries
 pub mod KnownPlaces
+pub mod ListFaults

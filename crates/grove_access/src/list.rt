@@ -1,5 +1,6 @@
 ghost use Rattle.std.specs.Prelude.{◌≡◌, ◌≢◌, ◌<◌, ◌≤◌, ◌↔◌, length, IsTrue, IfOk, IfErr, IsErrOf, Some, None, slice_get};
-ghost use Rattle.grove_access.specs.Lists.{nodes_of, lengths_of, AreNodes, AreLengths, AreListed, first_beyond as first_place_beyond, first_bad_length as first_place_of_no_length, list_fault_of};
+ghost use Rattle.grove_access.specs.Lists.{nodes_of, lengths_of, AreNodes};
+ghost use Rattle.grove_access.specs.ListFaults.{AreLengths, AreListed, first_beyond as first_place_beyond, first_bad_length as first_place_of_no_length, list_fault_of};
 ghost use Rattle.grove_access.specs.Slots.{slots_before};
 
 use crate::{Access, ListFault};
@@ -22,7 +23,8 @@ pub struct AccessList {
 impl Model for AccessList {
     ghost use Rattle.std.specs.Prelude.{List, ◌≤◌, length};
     ghost use Rattle.grove_access.specs.declared.access.Access.{Access};
-    ghost use Rattle.grove_access.specs.Lists.{lengths_of, AreLengths};
+    ghost use Rattle.grove_access.specs.Lists.{lengths_of};
+    ghost use Rattle.grove_access.specs.ListFaults.{AreLengths};
 
     ghost Value = { List Access };
 

@@ -1,5 +1,5 @@
 -- What an audit says: of a finished run, and why there is none.
-use Rattle.std.proofs.Common.{◌≡◌, true, false, ℤ, List, reverse, Option, IfSome, inl, inr, subst, sym}
+use Rattle.std.proofs.Common.{ℤ, List, reverse, Option, IfSome, inr, subst, sym}
 use Rattle.grove_tree.specs.Trees.{Rows, IsTree}
 use Rattle.grove_access.specs.Lists.{nodes_of}
 use Rattle.grove_core.specs.declared.job.Job.{Job}
@@ -17,8 +17,8 @@ use Rattle.grove_wire.specs.Texts.{ReplayFaultFits}
 use Rattle.grove_answer.specs.declared.refusal.Refusal.{Refusal}
 use Rattle.grove_answer.specs.declared.refusal.Refusal.TheVariants as refusal
 use Rattle.grove_answer.specs.Outcomes.{History, IsAudited, IsFinishedHistory, IsMisstated, past_in}
-use Rattle.grove_answer.specs.Faults.{standing_text}
-use Rattle.grove_answer.specs.Says.{IsTold, refusal_outcome}
+use Rattle.grove_answer.specs.Faults.{standing_text, IsTold}
+use Rattle.grove_answer.specs.Says.{refusal_outcome}
 use Rattle.grove_answer.proofs.Faults.{fault_fits}
 
 -- what a history is refused for fits the tree
@@ -43,12 +43,3 @@ pub says_misstated : (history : History) (fault : StandingFault) (why : Refusal)
 says_misstated history fault (refusal.Fault said text) finished misstated told =
     inr (finished, subst (IsMisstated history.standing (run_records history.jobs history.records (past_in history)) (replies_of history.jobs history.records (past_in history))) (sym told.1) misstated)
 says_misstated history fault refusal.Memory finished misstated told = tt
-
--- a refusal tells what is amiss with the events
-pub says_replay_fault : (history : History) (fault : ReplayFault) (why : Refusal) → IsReplayFault history.tree history.jobs history.events fault
-    → IsTold history.tree (kind.Replay fault) why → IfSome (refusal_outcome why) (IsAudited history)
-says_replay_fault history fault refusal.Memory is told = tt
-says_replay_fault history (BadPlan t f) (refusal.Fault said text) is told = inl (BadPlan t f, (λ e. absurd (cc)), is, told.1)
-says_replay_fault history (BadEvent at f) (refusal.Fault said text) is told = inl (BadEvent at f, (λ e. absurd (cc)), is, told.1)
-says_replay_fault history (Unfinished t) (refusal.Fault said text) is told = inl (Unfinished t, (λ e. absurd (cc)), is, told.1)
-says_replay_fault history Memory (refusal.Fault said text) is told = let never : true ≡ false = told.2 in absurd (cc)

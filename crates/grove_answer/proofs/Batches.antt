@@ -14,7 +14,8 @@ use Rattle.grove_wire.specs.Texts.{RunFaultFits}
 use Rattle.grove_answer.specs.declared.refusal.Refusal.{Refusal}
 use Rattle.grove_answer.specs.declared.refusal.Refusal.TheVariants as refusal
 use Rattle.grove_answer.specs.Outcomes.{IsRunBatch, batch_lines}
-use Rattle.grove_answer.specs.Says.{IsTold, refusal_outcome}
+use Rattle.grove_answer.specs.Faults.{IsTold}
+use Rattle.grove_answer.specs.Says.{refusal_outcome}
 
 -- there are as many jobs as lists
 pub jobs_long : (tree : Rows) (lists : List (List Access)) (jobs : List Job) → AreSettledJobs tree lists jobs → length jobs ≡ length lists

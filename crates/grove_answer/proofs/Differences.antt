@@ -1,5 +1,5 @@
 -- Where two lists differ first.
-use Rattle.std.proofs.Common.{below_more, ◌+◌, map, ◌≡◌, ◌≢◌, ℕ, zero, suc, ◌<◌, ◌≤◌, List, [], ◌∷◌, length, get_or, Some, refl, sym, ◌∙◌, ap, arith}
+use Rattle.std.proofs.Common.{below_more, ◌+◌, map, ◌≡◌, ℕ, zero, suc, ◌<◌, ◌≤◌, List, [], ◌∷◌, length, get_or, Some, refl, sym, ◌∙◌, ap, arith}
 use Rattle.std.specs.List.{slice_get}
 use Rattle.std.proofs.lemmas.Option.{none-some, same_Some, slice_get-get_or, slice_get-map, slice_get_past}
 use Rattle.std.specs.Prelude.{option_map}
@@ -18,17 +18,9 @@ same_lists (x ∷ xs) (y ∷ ys) long alike =
     let first : x ≡ y = same_Some x y (alike zero (omega arith)) in
     let others : xs ≡ ys = same_lists xs ys (omega arith) (λ i lt. alike (suc i) (omega arith)) in cc
 
--- they differ where the one ends before the other
-pub differ_past : {A : Type 0} (xs ys : List A) (d : A) (at : ℕ) → length xs ≤ at → at < length ys → AreAlike xs ys at → DifferFirstAt xs ys at
-differ_past xs ys d at past there alike = (λ same. none-some (get_or ys at d) (sym (slice_get_past xs at past) ∙ same ∙ slice_get-get_or ys at d there), alike)
-
+-- they differ where one ends before the other
 pub differ_beyond : {A : Type 0} (xs ys : List A) (d : A) (at : ℕ) → at < length xs → length ys ≤ at → AreAlike xs ys at → DifferFirstAt xs ys at
 differ_beyond xs ys d at there past alike = (λ same. none-some (get_or xs at d) (sym (slice_get_past ys at past) ∙ sym same ∙ slice_get-get_or xs at d there), alike)
-
--- or where their items do
-pub differ_at : {A : Type 0} (xs ys : List A) (d e : A) (at : ℕ) → at < length xs → at < length ys → get_or xs at d ≢ get_or ys at e → AreAlike xs ys at → DifferFirstAt xs ys at
-differ_at xs ys d e at in_xs in_ys other alike =
-    (λ same. other (same_Some (get_or xs at d) (get_or ys at e) (sym (slice_get-get_or xs at d in_xs) ∙ same ∙ slice_get-get_or ys at e in_ys)), alike)
 
 -- one more item is alike
 pub alike_more : {A : Type 0} (xs ys : List A) (x : A) (at : ℕ) → slice_get xs at ≡ Some x → slice_get ys at ≡ Some x → AreAlike xs ys at → AreAlike xs ys (at + 1)

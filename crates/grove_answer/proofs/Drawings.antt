@@ -1,5 +1,5 @@
 -- What is said of a document that is drawn: some text, unless its own plan has a fault.
-use Rattle.std.proofs.Common.{◌≡◌, ◌≢◌, true, false, ℕ, List, [], Option, Some, None, Result, Ok, Err, IfSome, IsOkAnd, refl, subst, sym, ◌∙◌, ap}
+use Rattle.std.proofs.Common.{◌≡◌, ◌≢◌, true, false, ℕ, List, [], Option, Some, None, Result, Ok, Err, IfSome, IsOkAnd, option_and_then, refl, subst, sym, ◌∙◌, ap}
 use Rattle.grove_access.specs.Lists.{nodes_of}
 use Rattle.grove_draw.specs.declared.drawing.Drawing.{Drawing}
 use Rattle.grove_draw.specs.declared.picture.Picture.{Picture}
@@ -13,15 +13,15 @@ use Rattle.grove_wire.specs.declared.faults.Fault.TheVariants.{Plan}
 use Rattle.grove_answer.specs.declared.reading.Task.{Task}
 use Rattle.grove_answer.specs.declared.refusal.Refusal.{Refusal}
 use Rattle.grove_answer.specs.declared.refusal.Refusal.TheVariants as refusal
-use Rattle.grove_answer.specs.Outcomes.{ThenSays, unless_faulty, own_fault, IsDrawingOf, IsDrawn, PicturesOwn}
-use Rattle.grove_answer.specs.Faults.{wants_memory}
-use Rattle.grove_answer.specs.Says.{IsTold, refusal_outcome}
+use Rattle.grove_answer.specs.Outcomes.{ThenSays, unless_faulty, IsDrawingOf, IsDrawn, PicturesOwn}
+use Rattle.grove_answer.specs.Faults.{wants_memory, IsTold}
+use Rattle.grove_answer.specs.Says.{refusal_outcome}
 
 no_memory : (fault : PlanFault) → wants_memory (Plan fault) ≡ false → fault ≢ plan.Memory
 no_memory fault other is = let never : true ≡ false = subst (λ f. wants_memory (Plan f) ≡ false) is other in absurd (cc)
 
 -- an own plan that has a picture has no fault
-own_faultless : (task : Task) (own : Option (List Step)) (picture : Option Picture) → PicturesOwn task own picture → own_fault task own ≡ None
+own_faultless : (task : Task) (own : Option (List Step)) (picture : Option Picture) → PicturesOwn task own picture → option_and_then (plan_fault_of task.tree (nodes_of task.list)) own ≡ None
 own_faultless task None picture pictures = refl
 own_faultless task (Some steps) None pictures = absurd pictures
 own_faultless task (Some steps) (Some picture) pictures = legal_faultless task.tree (nodes_of task.list) steps pictures.0

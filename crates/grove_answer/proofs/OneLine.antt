@@ -1,6 +1,6 @@
 -- No refusal has a line feed in it: its words, numbers and paths have none.
 use Rattle.std.proofs.Common.{◌≡◌, ◌≢◌, ℕ, zero, suc, Bool, true, false, ◌&&◌, ℤ, List, [], ◌∷◌, ◌++◌, length, Option, Some, None, Result, Ok, Err, refl, sym, subst, inl, inr, arith}
-use Rattle.std.specs.Prelude.{codes, decimal}
+use Rattle.std.specs.Prelude.{codes, decimal, option_and_then}
 use Rattle.std.specs.Fmt.{signed_decimal}
 use Rattle.std.specs.List.{list_all}
 use Rattle.std.proofs.lemmas.List.Elements.{All-nil, All-cons, All-append}
@@ -15,7 +15,9 @@ use Rattle.grove_tree.proofs.FaultlessRows.{faultless_tree, faultless_within}
 use Rattle.grove_tree.proofs.PathDescent.{named}
 use Rattle.grove_access.specs.declared.access.Access.{Access}
 use Rattle.grove_access.specs.declared.reply.Reply.{Reply}
+use Rattle.grove_access.specs.Lists.{nodes_of}
 use Rattle.grove_plan.specs.declared.step.Step.{Step}
+use Rattle.grove_plan.specs.Faults.{plan_fault_of}
 use Rattle.grove_plan.specs.declared.fault.PlanFault.{PlanFault}
 use Rattle.grove_plan.specs.declared.fault.PlanFault.TheVariants as plan
 use Rattle.grove_proof.specs.declared.flow.FlowRow.{FlowRow}
@@ -31,13 +33,13 @@ use Rattle.grove_wire.specs.declared.place.Part.{Part}
 use Rattle.grove_wire.specs.declared.place.Part.TheVariants as part
 use Rattle.grove_wire.specs.declared.place.Place.{Place}
 use Rattle.grove_wire.specs.Places.{part_word}
-use Rattle.grove_wire.specs.Outcomes.{◌>>=◌}
-use Rattle.grove_wire.specs.Reading.{items_in, columns_of, unless_fault, tree_of, tree_in, list_in, lists_in, plan_in, flow_in}
+use Rattle.grove_wire.specs.Outcomes.{◌>>=◌, if_there}
+use Rattle.grove_wire.specs.Reading.{items_in, columns_of, unless_fault, tree_in, list_in, lists_in, plan_in, flow_in}
 use Rattle.grove_wire.specs.Histories.{Standing, jobs_in, events_in, standing_in}
-use Rattle.grove_wire.specs.Texts.{number_text, place_text, tree_text, wire_text, plan_text, proof_text, event_text, replay_text}
+use Rattle.grove_wire.specs.Texts.{number_text, place_text, tree_said, wire_text, plan_text, proof_text, event_text, replay_text}
 use Rattle.grove_wire.proofs.Feedless.{none_is, none_found, decimal_feedless, signed_feedless}
 use Rattle.grove_answer.specs.declared.reading.Task.{Task}
-use Rattle.grove_answer.specs.Outcomes.{Outcome, ThenSays, task_in, trial_in, claim_in, own_plan, sketch_in, batch_in, History, history_in, unless_faulty, own_fault, IsJudged, IsChecked, IsPlanned, IsDrawn, IsRunBatch, IsMisstated, IsAudited}
+use Rattle.grove_answer.specs.Outcomes.{Outcome, ThenSays, task_in, trial_in, claim_in, sketch_in, batch_in, History, history_in, unless_faulty, IsJudged, IsChecked, IsPlanned, IsDrawn, IsRunBatch, IsMisstated, IsAudited}
 use Rattle.grove_answer.specs.PlannedDocuments.{IsPlannedDocument}
 use Rattle.grove_answer.specs.Laws.{IsOneLine, RefusesInOneLine, FaultsAreOneLine, CommandsRefuseInOneLine}
 
@@ -82,7 +84,7 @@ place_is before place one =
     (joined (part_word place.part ++ number_text place.at) (number_text place.item)
     (joined (part_word place.part) (number_text place.at) (word_is place.part) (number_is place.at)) (number_is place.item))
 
-rule_is : (fault : TreeFault) → IsOneLine (tree_text fault)
+rule_is : (fault : TreeFault) → IsOneLine (tree_said fault).1
 rule_is tree.Empty = none_found (codes "tree empty") refl
 rule_is tree.TooMany = none_found (codes "tree too-many") refl
 rule_is (tree.BadParent row) = numbered (codes "row ") row (codes " bad-parent") refl refl
@@ -171,9 +173,9 @@ event_is event.NotBlocked = none_found (codes "not-blocked") refl
 event_is event.Marked = none_found (codes "marked") refl
 
 -- words, a number, a space, and a text
-numbered_text : (before : List ℕ) (n : ℕ) (text : List ℕ) → none_is before ≡ true → IsOneLine text → IsOneLine (before ++ decimal n ++ codes " " ++ text)
+numbered_text : (before : List ℕ) (n : ℕ) (text : List ℕ) → none_is before ≡ true → IsOneLine text → IsOneLine (before ++ decimal n ++ (codes " " ++ text))
 numbered_text before n text one of_text =
-    joined (before ++ decimal n ++ codes " ") text (numbered before n (codes " ") one refl) of_text
+    joined (before ++ decimal n) (codes " " ++ text) (ends_with before n one) (joined (codes " ") text (none_found (codes " ") refl) of_text)
 
 replay_is : (rows : Rows) → IsFaultless rows → (fault : ReplayFault) → IsOneLine (replay_text rows fault)
 replay_is rows faultless (replay.BadPlan job fault) = numbered_text (codes "job ") job (plan_text rows fault) refl (plan_is rows faultless fault)
@@ -206,7 +208,7 @@ tree_reads : (document : Data) → Reads (λ (stored : Rows × List ℤ). stored
 unfolding tree_in
 tree_reads document =
     after_reads (λ stored. stored.0) (items_in part.Nodes document) _ (λ ds.
-    after_reads (λ stored. stored.0) (columns_of ds) tree_of (λ columns. unless_broken columns (tree_fault_of columns.0) refl))
+    after_reads (λ stored. stored.0) (columns_of ds) (λ columns. unless_fault (tree_fault_of columns.0) columns) (λ columns. unless_broken columns (tree_fault_of columns.0) refl))
 
 task_reads : (document : Data) → Reads (λ (task : Task). task.tree) (task_in document)
 unfolding task_in
@@ -230,7 +232,7 @@ sketch_reads : (document : Data) → Reads (λ (sketch : Task × Option (List St
 unfolding sketch_in
 sketch_reads document =
     then_reads (λ task. task.tree) (λ sketch. sketch.0.tree) (task_in document) _ (task_reads document) (λ task faultless.
-    after_reads (λ sketch. sketch.0.tree) (own_plan task.tree document (get (codes "plan") document)) _ (λ own. faultless))
+    after_reads (λ sketch. sketch.0.tree) (if_there (λ plan. plan_in task.tree document) (get (codes "plan") document)) _ (λ own. faultless))
 
 batch_reads : (document : Data) → Reads (λ (batch : Rows × List ℤ × List (List Access)). batch.0) (batch_in document)
 unfolding batch_in
@@ -276,7 +278,7 @@ planned_document : (document : Data) (task : Task) → IsFaultless task.tree →
 planned_document document task faultless text (plan, is, claimed, (line, is_text, told)) = let never : ◌≡◌ {A = Outcome} (Err text) (Ok _) = told in cc
 
 drawn : (sketch : Task × Option (List Step)) → IsFaultless sketch.0.tree → RefusesInOneLine (IsDrawn sketch)
-drawn (task, own) faultless text (lines, says) = unless_legal task.tree faultless (own_fault task own) lines text says
+drawn (task, own) faultless text (lines, says) = unless_legal task.tree faultless (option_and_then (plan_fault_of task.tree (nodes_of task.list)) own) lines text says
 
 run_batch : (batch : Rows × List ℤ × List (List Access)) → IsFaultless batch.0 → RefusesInOneLine (IsRunBatch batch)
 run_batch (rows, records, lists) faultless text (inl foreign) = subst IsOneLine (sym foreign) (none_found (codes "foreign") refl)

@@ -11,8 +11,8 @@ use Rattle.grove_answer.specs.declared.reading.Task.{Task}
 use Rattle.grove_answer.specs.declared.refusal.Refusal.{Refusal}
 use Rattle.grove_answer.specs.declared.refusal.Refusal.TheVariants.{Fault, Memory}
 use Rattle.grove_answer.specs.Outcomes.{IsChecked}
-use Rattle.grove_answer.specs.Faults.{wants_memory}
-use Rattle.grove_answer.specs.Says.{IsTold, Says}
+use Rattle.grove_answer.specs.Faults.{wants_memory, IsTold}
+use Rattle.grove_answer.specs.Says.{Says}
 
 no_memory : (fault : ProofFault) → wants_memory (Proof fault) ≡ false → fault ≢ proof.Memory
 no_memory fault other is = let never : true ≡ false = subst (λ f. wants_memory (Proof f) ≡ false) is other in absurd (cc)

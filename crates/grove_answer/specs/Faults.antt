@@ -1,5 +1,5 @@
--- What is said of each fault for which a document is refused.
-use Rattle.std.specs.Prelude.{ℕ, Bool, true, false, codes, decimal, List, ◌++◌}
+-- For the proofs alone: what is said of each fault for which a document is refused.
+use Rattle.std.specs.Prelude.{◌≡◌, ℕ, Bool, true, false, string_bytes, codes, decimal, List, ◌++◌}
 use Rattle.grove_tree.specs.Trees.{Rows}
 use Rattle.grove_plan.specs.declared.fault.PlanFault.TheVariants as plan
 use Rattle.grove_proof.specs.declared.fault.ProofFault.TheVariants as proof
@@ -10,6 +10,8 @@ use Rattle.grove_wire.specs.declared.faults.Fault.{Fault}
 use Rattle.grove_wire.specs.declared.faults.Fault.TheVariants.{Wire, Plan, Proof, Run, Replay, Standing}
 use Rattle.grove_wire.specs.declared.faults.StandingFault.{StandingFault}
 use Rattle.grove_wire.specs.declared.faults.StandingFault.TheVariants.{Record, Replies}
+use Rattle.grove_answer.specs.declared.refusal.Refusal.{Refusal}
+use Rattle.grove_answer.specs.declared.refusal.Refusal.TheVariants as refusal
 use Rattle.grove_wire.specs.Texts.{wire_text, plan_text, proof_text, run_text, replay_text, FaultFits as PlanFaultFits, ProofFaultFits, RunFaultFits, ReplayFaultFits}
 
 abbrev pub standing_text : StandingFault → List ℕ
@@ -41,3 +43,8 @@ wants_memory (Proof proof.Memory) = true
 wants_memory (Run run.Memory) = true
 wants_memory (Replay replay.Memory) = true
 wants_memory _ = false
+
+-- a refusal is for the fault and has its text, unless memory is wanting
+abbrev pub IsTold : Rows → Fault → Refusal → Type 0
+IsTold rows fault (refusal.Fault told text) = (told ≡ fault) × (string_bytes text ≡ fault_text rows fault) × (wants_memory fault ≡ false)
+IsTold rows fault refusal.Memory = Unit {0}

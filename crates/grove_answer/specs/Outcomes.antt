@@ -1,5 +1,5 @@
 -- What each command says of a document: its lines, or the text of the first fault.
-use Rattle.std.specs.Prelude.{◌≡◌, ◌≢◌, ◌⊎◌, ℕ, ◌<◌, ℤ, codes, decimal, List, ◌++◌, length, map, reverse, slice_get, Option, Some, None, Result, Ok, Err}
+use Rattle.std.specs.Prelude.{◌≡◌, ◌≢◌, ◌⊎◌, ℕ, ◌<◌, ℤ, codes, decimal, List, ◌++◌, length, map, reverse, slice_get, Option, Some, None, option_and_then, Result, Ok, Err}
 use Rattle.serde_json.specs.Data.{Data}
 use Rattle.serde_json.specs.Find.{get}
 use Rattle.serde_json.specs.Written.{compact_text}
@@ -30,10 +30,9 @@ use Rattle.grove_core.specs.Orders.{placement_order}
 use Rattle.grove_core.specs.Laws.{IsEachOnce, IsSerialBy}
 use Rattle.grove_core.specs.Replays.{IsReplayFault}
 use Rattle.grove_wire.specs.declared.fault.WireFault.{WireFault}
-use Rattle.grove_wire.specs.Outcomes.{◌>>=◌}
+use Rattle.grove_wire.specs.Outcomes.{◌>>=◌, if_there}
 use Rattle.grove_wire.specs.Reading.{tree_in, list_in, lists_in, plan_in, flow_in}
-use Rattle.grove_wire.specs.Writing.{replies_data, numbers_data, plan_data, flow_data}
-use Rattle.grove_wire.specs.Replies.{counts_data, lists_data}
+use Rattle.grove_wire.specs.Writing.{plan_data, flow_data, array_of, count_data, number_data, reply_data}
 use Rattle.grove_wire.specs.Histories.{Standing, jobs_in, events_in, standing_in}
 use Rattle.grove_wire.specs.Texts.{wire_text, plan_text, proof_text, replay_text}
 use Rattle.grove_proof.specs.Checks.{ChecksAs}
@@ -76,14 +75,10 @@ batch_in document = do
   Ok (stored.0, stored.1, lists)
 
 -- a task, and a plan for it where the document has one
-abbrev pub own_plan : Rows → Data → Option Data → Result (Option (List Step)) WireFault
-own_plan tree document None = Ok None
-own_plan tree document (Some plan) = plan_in tree document >>= λ steps. Ok (Some steps)
-
 unfoldable pub sketch_in : Data → Result (Task × Option (List Step)) WireFault
 sketch_in document = do
   task ← task_in document
-  own ← own_plan task.tree document (get (codes "plan") document)
+  own ← if_there (λ plan. plan_in task.tree document) (get (codes "plan") document)
   Ok (task, own)
 
 -- jobs over a tree with records, the events of their run, and what is said to stand after them
@@ -107,8 +102,8 @@ history_in document = do
 abbrev pub judge_lines : ℕ → List Reply → List ℤ → List ℕ
 judge_lines cost replies records =
     codes "cost " ++ decimal cost
-    ++ codes "\nreplies " ++ compact_text (replies_data replies)
-    ++ codes "\nrecords " ++ compact_text (numbers_data records)
+    ++ codes "\nreplies " ++ compact_text (array_of reply_data replies)
+    ++ codes "\nrecords " ++ compact_text (array_of number_data records)
     ++ codes "\n"
 
 abbrev pub unless_faulty : Rows → Option PlanFault → List ℕ → Outcome
@@ -155,22 +150,19 @@ pub record IsDrawingOf (task : Task) (own : Option (List Step)) (drawing : Drawi
   pub is_settled : IsSettled task.tree (nodes_of task.list) (lengths_of task.list) plan
   pub picture : IsPictureOf task.tree task.list plan drawing.settled
 
-abbrev pub own_fault : Task → Option (List Step) → Option PlanFault
-own_fault task None = None
-own_fault task (Some plan) = plan_fault_of task.tree (nodes_of task.list) plan
-
 -- some text is made of the drawing
 abbrev pub IsDrawn : Task × Option (List Step) → Outcome → Type 0
-IsDrawn (task, own) outcome = (lines : List ℕ) × (outcome ≡ unless_faulty task.tree (own_fault task own) lines)
+IsDrawn (task, own) outcome =
+    (lines : List ℕ) × (outcome ≡ unless_faulty task.tree (option_and_then (plan_fault_of task.tree (nodes_of task.list)) own) lines)
 
 -- ---- run: the lists, each by its settled plan, brought to the end of some run, and the order in which doing them whole is the same
 
 abbrev pub batch_lines : List ℕ → List (List Reply) → List ℤ → List ℕ → List ℕ
 batch_lines order replies records waits =
-    codes "order " ++ compact_text (counts_data order)
-    ++ codes "\nreplies " ++ compact_text (lists_data replies)
-    ++ codes "\nrecords " ++ compact_text (numbers_data records)
-    ++ codes "\nwaits " ++ compact_text (counts_data waits)
+    codes "order " ++ compact_text (array_of count_data order)
+    ++ codes "\nreplies " ++ compact_text (array_of (array_of reply_data) replies)
+    ++ codes "\nrecords " ++ compact_text (array_of number_data records)
+    ++ codes "\nwaits " ++ compact_text (array_of count_data waits)
     ++ codes "\n"
 
 abbrev pub run_lines : Rows → List Job → List ℤ → List Event → List ℕ

@@ -1,12 +1,9 @@
 -- The outcome of a command's calls: what it says of a document, if memory is there.
-use Rattle.std.specs.Prelude.{◌≡◌, false, String, string_bytes, length, Option, Some, None, IfSome, Result, Ok, Err}
-use Rattle.grove_tree.specs.Trees.{Rows}
+use Rattle.std.specs.Prelude.{◌≡◌, String, string_bytes, length, Option, Some, None, IfSome, Result, Ok, Err}
 use Rattle.grove_access.specs.Lists.{nodes_of, AreNodes}
-use Rattle.grove_wire.specs.declared.faults.Fault.{Fault as DocumentFault}
 use Rattle.grove_answer.specs.declared.reading.Task.{Task}
 use Rattle.grove_answer.specs.declared.refusal.Refusal.{Refusal}
 use Rattle.grove_answer.specs.declared.refusal.Refusal.TheVariants.{Fault, Memory}
-use Rattle.grove_answer.specs.Faults.{fault_text, wants_memory}
 use Rattle.grove_answer.specs.Outcomes.{Outcome}
 
 -- the outcome that a refusal tells; want of memory is none
@@ -14,19 +11,10 @@ abbrev pub refusal_outcome : Refusal → Option Outcome
 refusal_outcome (Fault fault text) = Some (Err (string_bytes text))
 refusal_outcome Memory = None
 
--- the outcome that a command's calls have
-abbrev pub outcome_of : {Z : Type 0} → Result (String Z) Refusal → Option Outcome
-outcome_of (Ok lines) = Some (Ok (string_bytes lines))
-outcome_of (Err why) = refusal_outcome why
-
 -- the calls have an outcome that may be said, or none
 abbrev pub Says : {Z : Type 0} → (Outcome → Type 0) → Result (String Z) Refusal → Type 0
-Says MaySay result = IfSome (outcome_of result) MaySay
-
--- a refusal is for the fault and has its text, unless memory is wanting
-abbrev pub IsTold : Rows → DocumentFault → Refusal → Type 0
-IsTold rows fault (Fault told text) = (told ≡ fault) × (string_bytes text ≡ fault_text rows fault) × (wants_memory fault ≡ false)
-IsTold rows fault Memory = Unit {0}
+Says MaySay (Ok lines) = MaySay (Ok (string_bytes lines))
+Says MaySay (Err why) = IfSome (refusal_outcome why) MaySay
 
 -- a task's records are those of its tree's nodes, and so are the nodes of its list
 abbrev pub IsFitting : Task → Type 0

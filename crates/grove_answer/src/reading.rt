@@ -5,9 +5,10 @@ ghost use Rattle.grove_access.specs.Lists.{nodes_of, AreNodes};
 ghost use Rattle.grove_core.specs.Openings.{AllFit};
 ghost use Rattle.grove_wire.specs.Forms.{AreArraysShort, HasShortArrays};
 ghost use Rattle.grove_wire.specs.Histories.{standing_of};
-ghost use Rattle.grove_wire.specs.Outcomes.{Gives};
+ghost use Rattle.grove_wire.specs.Outcomes.{Gives, if_there};
+ghost use Rattle.grove_wire.specs.Reading.{plan_in};
 ghost use Rattle.grove_answer.specs.Says.{IsFitting};
-ghost use Rattle.grove_answer.specs.Outcomes.{task_in, trial_in, claim_in, sketch_in, batch_in, history_in, own_plan};
+ghost use Rattle.grove_answer.specs.Outcomes.{task_in, trial_in, claim_in, sketch_in, batch_in, history_in};
 
 use grove_access::{AccessList, Records};
 use grove_core::{Event, Job};
@@ -91,7 +92,8 @@ pub fn read_sketch(alloc: Global, document: &Value) -> Result<(Task, Option<Plan
 
 fn read_own_plan(alloc: Global, tree: &Tree, document: &Value) -> Result<Option<Plan>, WireFault>
     requires { HasShortArrays (view document.now) }
-    ensures { Gives (λ own. own) result (own_plan tree.now (view document.now) (get (codes "plan") (view document.now))) }
+    ensures { Gives (λ own. own) result
+        (if_there (λ plan. plan_in tree.now (view document.now)) (get (codes "plan") (view document.now))) }
 {
     match document.get("plan") {
         Some(_) => Ok(Some(read_plan(alloc, tree, document)?)),

@@ -1,8 +1,7 @@
 ghost use Rattle.std.specs.Prelude.{◌≡◌, ℕ, List, [], IfOk, IfErr, IsErrAnd, Ok, string_bytes};
 ghost use Rattle.grove_tree.specs.Trees.{Rows};
 ghost use Rattle.grove_wire.specs.declared.faults.Fault.TheVariants.{Wire};
-ghost use Rattle.grove_answer.specs.Faults.{fault_text, standing_text, wants_memory, FaultFits};
-ghost use Rattle.grove_answer.specs.Says.{IsTold};
+ghost use Rattle.grove_answer.specs.Faults.{fault_text, standing_text, wants_memory, FaultFits, IsTold};
 
 use grove_base::NoMemory;
 use grove_core::{ReplayFault, RunFault};

@@ -1,7 +1,6 @@
 ghost use Rattle.std.specs.Prelude.{◌≡◌, length, map, IfOk, string_bytes};
 ghost use Rattle.serde_json.specs.Written.{compact_text};
-ghost use Rattle.grove_wire.specs.Replies.{counts_data, lists_data};
-ghost use Rattle.grove_wire.specs.Writing.{replies_data, numbers_data, plan_data, flow_data, PlanFits, FlowFits};
+ghost use Rattle.grove_wire.specs.Writing.{plan_data, flow_data, PlanFits, FlowFits, array_of, count_data, number_data, reply_data};
 
 use grove_access::{Records, Reply};
 use grove_base::NoMemory;
@@ -14,7 +13,7 @@ use std::alloc::{AllocError, Global};
 /// The replies of a list, as JSON.
 #[tactic(auto, using(grove_wire::proofs::Floatless::replies_have_no_float))]
 pub fn replies_text(alloc: Global, replies: &[Reply]) -> Result<String, NoMemory>
-    ensures { IfOk result (λ text. string_bytes text ≡ compact_text (replies_data replies.now)) }
+    ensures { IfOk result (λ text. string_bytes text ≡ compact_text (array_of reply_data replies.now)) }
 {
     Ok(replies_value(alloc, replies)?.to_string(alloc)?)
 }
@@ -22,7 +21,7 @@ pub fn replies_text(alloc: Global, replies: &[Reply]) -> Result<String, NoMemory
 /// Numbers, as JSON.
 #[tactic(auto, using(grove_wire::proofs::Floatless::numbers_have_no_float))]
 pub fn numbers_text(alloc: Global, numbers: &[i64]) -> Result<String, NoMemory>
-    ensures { IfOk result (λ text. string_bytes text ≡ compact_text (numbers_data numbers.now)) }
+    ensures { IfOk result (λ text. string_bytes text ≡ compact_text (array_of number_data numbers.now)) }
 {
     Ok(numbers_value(alloc, numbers)?.to_string(alloc)?)
 }
@@ -59,7 +58,7 @@ pub fn flow_text(alloc: Global, tree: &Tree, flow: &Flow) -> Result<String, NoMe
 /// Counts, as JSON.
 #[tactic(auto, using(grove_wire::proofs::Floatless::counts_have_no_float))]
 pub fn counts_text(alloc: Global, counts: &[u32]) -> Result<String, NoMemory>
-    ensures { IfOk result (λ text. string_bytes text ≡ compact_text (counts_data counts.now)) }
+    ensures { IfOk result (λ text. string_bytes text ≡ compact_text (array_of count_data counts.now)) }
 {
     Ok(counts_value(alloc, counts)?.to_string(alloc)?)
 }
@@ -67,7 +66,7 @@ pub fn counts_text(alloc: Global, counts: &[u32]) -> Result<String, NoMemory>
 /// The replies of each list, as JSON.
 #[tactic(auto, using(grove_wire::proofs::Floatless::lists_have_no_float))]
 pub fn lists_text(alloc: Global, lists: &[&[Reply]]) -> Result<String, NoMemory>
-    ensures { IfOk result (λ text. string_bytes text ≡ compact_text (lists_data (map (λ list. list.now) lists.now))) }
+    ensures { IfOk result (λ text. string_bytes text ≡ compact_text (array_of (array_of reply_data) (map (λ list. list.now) lists.now))) }
 {
     Ok(lists_value(alloc, lists)?.to_string(alloc)?)
 }

@@ -13,7 +13,8 @@ use Rattle.grove_access.specs.declared.access.Access.{Access}
 use Rattle.grove_build.specs.declared.planning.Planned.{Planned}
 use Rattle.grove_build.specs.declared.targets.Target.{Target}
 use Rattle.grove_build.specs.Batches.{IsPlanned}
-use Rattle.grove_build.specs.KeptPlans.{Kept, kept_of, IsKeptFor, StandsAt, IsKeptIn, AreSettledFor}
+use Rattle.grove_build.specs.KeptPlans.{Kept, IsKeptFor, StandsAt, IsKeptIn, AreSettledFor}
+use Rattle.grove_build.specs.Keeping.{kept_of}
 use Rattle.grove_build.specs.Keeping.{AreTargetsOf, AddsAtMost}
 use Rattle.grove_build.proofs.TargetLists.{targets_alike}
 use Rattle.grove_build.proofs.Sorted.{planned_same}

@@ -4,7 +4,6 @@ pub mod Fitting
 pub mod Laying
 pub mod Alike
 pub mod Once
-pub mod Examples
 pub mod Lawful
 pub mod Found
 pub mod Cut

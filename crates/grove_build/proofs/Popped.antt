@@ -7,7 +7,8 @@ use Rattle.grove_access.specs.declared.access.Access.{Access}
 use Rattle.grove_build.specs.declared.planning.Planned.{Planned}
 use Rattle.grove_build.specs.declared.targets.Target.{Target}
 use Rattle.grove_build.specs.Batches.{IsPlanned}
-use Rattle.grove_build.specs.KeptPlans.{Kept, kept_of, AreSettledFor}
+use Rattle.grove_build.specs.KeptPlans.{Kept, AreSettledFor}
+use Rattle.grove_build.specs.Keeping.{kept_of}
 use Rattle.grove_build.specs.Keeping.{AreTargetsOf, AddsAtMost}
 use Rattle.grove_build.proofs.Batched.{some_right}
 use Rattle.grove_build.proofs.Keeping.{kept_planned, settled_added}

@@ -10,7 +10,8 @@ use Rattle.grove_base.proofs.Counting.{count_mono, numbers_length, least_is, las
 use Rattle.grove_base.proofs.Lists.{get_map}
 use Rattle.grove_tree.proofs.Tests.{is_at_true}
 use Rattle.grove_tree.proofs.Above.{parent_lt, above_le}
-use Rattle.grove_access.specs.Lists.{AreNodes, AreLengths}
+use Rattle.grove_access.specs.Lists.{AreNodes}
+use Rattle.grove_access.specs.ListFaults.{AreLengths}
 use Rattle.grove_access.specs.Slots.{slots_before}
 use Rattle.grove_access.proofs.Slots.{slots_tell}
 use Rattle.grove_access.specs.Forced.{IsForcedByTree, is_forced, forced_nodes, names_at, is_accessed, first_access, last_end}

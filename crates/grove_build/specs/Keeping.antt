@@ -4,8 +4,9 @@ use Rattle.std.specs.Borrow.{Bor}
 use Rattle.grove_access.specs.declared.access.Access.{Access}
 use Rattle.grove_access.specs.Lists.{nodes_of, lengths_of}
 use Rattle.grove_build.specs.declared.targets.Target.{Target}
-use Rattle.grove_build.specs.Batches.{AreUnlike}
+use Rattle.grove_build.specs.DistinctLists.{AreUnlike}
 use Rattle.grove_build.specs.KeptPlans.{Kept, IsKeptIn}
+use Rattle.grove_build.specs.declared.planning.Planned.{Planned}
 
 -- the targets of a list
 pub record AreTargetsOf (list : List Access) (targets : List Target) : Type 0 where
@@ -23,3 +24,11 @@ pub record AreMissing (plans : List Kept) (lists : List (List Access)) (parts : 
   pub among : (place : ℕ) (part : Bor (List Access)) → slice_get parts place ≡ Some part → (k : ℕ) × (slice_get lists k ≡ Some part.now)
   pub unlike : AreUnlike parts
   pub lacked : (place : ℕ) (part : Bor (List Access)) → slice_get parts place ≡ Some part → IsKeptIn plans part.now → ⊥
+
+-- what is kept for the lists with these targets
+abbrev pub kept_of : List Target → Planned → Kept
+kept_of targets planned = record {
+  nodes = map (λ (target : Target). target.node) targets;
+  lengths = map (λ (target : Target). target.length) targets;
+  planned = planned;
+}

@@ -1,10 +1,9 @@
 -- Plans that are kept, each for the lists with some targets.
-use Rattle.std.specs.Prelude.{◌≡◌, ℕ, List, map, slice_get, Some}
+use Rattle.std.specs.Prelude.{◌≡◌, ℕ, List, slice_get, Some}
 use Rattle.grove_tree.specs.Trees.{Rows}
 use Rattle.grove_access.specs.declared.access.Access.{Access}
 use Rattle.grove_access.specs.Lists.{nodes_of, lengths_of}
 use Rattle.grove_build.specs.declared.planning.Planned.{Planned}
-use Rattle.grove_build.specs.declared.targets.Target.{Target}
 use Rattle.grove_build.specs.Batches.{IsPlanned}
 
 -- what is planned for the lists that name these nodes, with these lengths
@@ -12,14 +11,6 @@ pub record Kept : Type 0 where
   pub nodes : List ℕ
   pub lengths : List ℕ
   pub planned : Planned
-
--- what is kept for the lists with these targets
-abbrev pub kept_of : List Target → Planned → Kept
-kept_of targets planned = record {
-  nodes = map (λ (target : Target). target.node) targets;
-  lengths = map (λ (target : Target). target.length) targets;
-  planned = planned;
-}
 
 -- it is kept for this list
 pub record IsKeptFor (list : List Access) (kept : Kept) : Type 0 where

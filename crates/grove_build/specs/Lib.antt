@@ -8,3 +8,4 @@ pub mod KeptPlans
 pub mod Keeping
 pub mod CutTrees
 pub mod SettledJobs
+pub mod DistinctLists

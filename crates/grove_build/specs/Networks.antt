@@ -2,7 +2,8 @@
 -- that order.
 use Rattle.std.specs.Prelude.{◌≡◌, ℕ, ◌<◌, ◌≤◌, length, slice_get, map, ◌+◌, ◌*◌, suc, List, [], ◌∷◌, ◌++◌, slice_index, Option, Some, None, ℤ, pos, neg_ℤ, int_lt, if◌then◌else◌, IfSome}
 use Rattle.grove_tree.specs.Trees.{Rows, weight_of, IsTree}
-use Rattle.grove_access.specs.Lists.{AreNodes, AreLengths}
+use Rattle.grove_access.specs.Lists.{AreNodes}
+use Rattle.grove_access.specs.ListFaults.{AreLengths}
 use Rattle.grove_access.specs.Slots.{slots_before}
 use Rattle.grove_access.specs.Forced.{forced_nodes}
 use Rattle.grove_proof.specs.declared.flow.FlowRow.{FlowRow}

@@ -2,7 +2,8 @@ ghost use Rattle.std.specs.Prelude.{◌≡◌, ◌≤◌, ◌<◌, [], List, len
 ghost use Rattle.grove_access.specs.declared.access.Access.{Access};
 ghost use Rattle.grove_access.specs.Lists.{nodes_of, AreNodes};
 ghost use Rattle.grove_build.specs.Batches.{IsPlanned};
-ghost use Rattle.grove_build.specs.KeptPlans.{Kept, kept_of, StandsAt, IsKeptIn, AreSettledFor};
+ghost use Rattle.grove_build.specs.KeptPlans.{Kept, StandsAt, IsKeptIn, AreSettledFor};
+ghost use Rattle.grove_build.specs.Keeping.{kept_of};
 ghost use Rattle.grove_build.specs.Keeping.{AreTargetsOf, AddsAtMost};
 
 use crate::planning::{Planned, plan};
@@ -27,7 +28,8 @@ pub struct KeptPlans {
 
 impl Model for KeptPlans {
     ghost use Rattle.std.specs.Prelude.{List, ◌≤◌, length, map};
-    ghost use Rattle.grove_build.specs.KeptPlans.{Kept, kept_of};
+    ghost use Rattle.grove_build.specs.KeptPlans.{Kept};
+    ghost use Rattle.grove_build.specs.Keeping.{kept_of};
 
     ghost Value = { List Kept };
 

@@ -25,7 +25,8 @@ use Rattle.grove_core.specs.Runs.{list_of, plan_of, steps_done, next_step, holds
 use Rattle.grove_tree.specs.Trees.{Rows}
 use Rattle.grove_core.specs.declared.progress.Progress.{Progress}
 use Rattle.grove_core.specs.declared.owner.Owner.{Owner}
-use Rattle.grove_core.specs.Kept.{CoreState, past_of, Owns, IsCore}
+use Rattle.grove_core.specs.Kept.{CoreState, past_of}
+use Rattle.grove_core.specs.Cores.{Owns, IsCore}
 use Rattle.grove_core.specs.CarriedTests.{is_owner, KnowsAll, HasAll, Follows}
 use Rattle.grove_core.specs.Carried.{records_of, IsOf, after_steps, replies_in}
 use Rattle.grove_core.proofs.Precedence.{within_jobs}

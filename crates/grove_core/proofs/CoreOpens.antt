@@ -6,7 +6,7 @@ use Rattle.std.proofs.lemmas.List.{length-replicate}
 use Rattle.std.proofs.lemmas.Bool.{cases_eq}
 use Rattle.grove_base.specs.Numbers.{count_below, sum_below}
 use Rattle.grove_tree.specs.Trees.{Rows, IsTree}
-use Rattle.grove_base.proofs.Counting.{count_le, count_hit, count_miss}
+use Rattle.grove_base.proofs.Counting.{count_hit, count_miss}
 use Rattle.grove_base.proofs.Lists.{get_append_cases, replicate_got, get_set_same, get_set_other}
 use Rattle.grove_plan.specs.declared.step.Step.{Step}
 use Rattle.grove_plan.specs.declared.step.Step.TheVariants.{Lock}
@@ -16,11 +16,12 @@ use Rattle.grove_core.specs.declared.locking.Locked.{Locked}
 use Rattle.grove_core.specs.declared.progress.Progress.{Progress}
 use Rattle.grove_core.specs.declared.fault.OpenFault.{OpenFault}
 use Rattle.grove_core.specs.declared.fault.OpenFault.TheVariants.{BadPlan, Memory}
-use Rattle.grove_core.specs.Runs.{list_of, plan_of, holds, AllLegal, lock_steps}
+use Rattle.grove_core.specs.Runs.{list_of, plan_of, holds, AllLegal}
+use Rattle.grove_core.specs.RunBounds.{lock_steps}
 use Rattle.grove_core.specs.declared.owner.Owner.{Owner}
 use Rattle.grove_core.specs.declared.owner.Owner.TheVariants.{Nobody}
 use Rattle.grove_core.specs.Orders.{first_lock}
-use Rattle.grove_core.specs.Kept.{time_in, IsFirst, TellsFirsts, IsOwned, IsCore}
+use Rattle.grove_core.specs.Cores.{time_in, IsFirst, TellsFirsts, IsOwned, IsCore}
 use Rattle.grove_core.specs.Starts.{fault_of, IsFaultOf, HasStarted}
 use Rattle.grove_core.specs.Openings.{job_fault, IsFirstFault}
 use Rattle.grove_core.proofs.Precedence.{within_jobs}
@@ -49,9 +50,6 @@ pub locks_passed : (plan : List Step) (n locks : ℕ) → locks ≡ count_below 
 locks_passed plan n locks is here =
     let e : count_below (suc n) (λ i. is_lock (slice_get plan i)) ≡ count_below n (λ i. is_lock (slice_get plan i)) = count_miss n (λ i. is_lock (slice_get plan i)) here in
     rw add-one (omega arith)
-
-pub locks_few : (plan : List Step) (locks : ℕ) → locks ≡ lock_steps plan → locks ≤ length plan
-locks_few plan locks is = let few : lock_steps plan ≤ length plan = count_le (length plan) (λ i. is_lock (slice_get plan i)) in omega arith
 
 -- the fault of a job that is read is that of its number
 pub job_fault_at : (rows : Rows) (jobs : List Job) (t : ℕ) (job : Job) → slice_get jobs t ≡ Some job → job_fault rows jobs t ≡ fault_of rows job

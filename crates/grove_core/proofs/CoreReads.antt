@@ -15,11 +15,12 @@ use Rattle.grove_core.specs.declared.job.Job.{Job}
 use Rattle.grove_core.specs.declared.event.Event.{Event}
 use Rattle.grove_core.specs.declared.event.Event.TheVariants.{Take}
 use Rattle.grove_core.specs.declared.progress.Progress.{Progress}
-use Rattle.grove_core.specs.Runs.{list_of, plan_of, steps_done, next_step, holds, is_marked, MayHappen, deeds, run_replies, waits_of, lock_steps, most_events}
+use Rattle.grove_core.specs.Runs.{list_of, plan_of, steps_done, next_step, holds, is_marked, MayHappen, deeds, run_replies, waits_of}
+use Rattle.grove_core.specs.RunBounds.{lock_steps, most_events}
 use Rattle.grove_core.specs.Orders.{lock_time}
 use Rattle.grove_core.specs.declared.owner.Owner.{Owner}
 use Rattle.grove_core.specs.Owners.{holder_of, last_of}
-use Rattle.grove_core.specs.Kept.{time_in, IsFirst, TellsFirsts, HasProgress, Owns, IsLastAt, IsCore}
+use Rattle.grove_core.specs.Cores.{time_in, IsFirst, TellsFirsts, HasProgress, Owns, IsLastAt, IsCore}
 use Rattle.grove_core.specs.CarriedTests.{is_owner}
 use Rattle.grove_core.proofs.Precedence.{within_jobs}
 use Rattle.grove_core.proofs.ConflictOrder.{access_held}

@@ -21,12 +21,13 @@ use Rattle.grove_core.specs.declared.event.Event.{Event}
 use Rattle.grove_core.specs.declared.event.Event.TheVariants.{Take, Mark}
 use Rattle.grove_core.specs.declared.locking.Locked.{Locked}
 use Rattle.grove_core.specs.declared.progress.Progress.{Progress}
-use Rattle.grove_core.specs.Runs.{list_of, plan_of, steps_done, next_step, holds, is_marked, IsFree, IsHeldBy, MayHappen, deed_of, run_records, run_replies, waits_of, lock_steps}
+use Rattle.grove_core.specs.Runs.{list_of, plan_of, steps_done, next_step, holds, is_marked, IsFree, IsHeldBy, MayHappen, deed_of, run_records, run_replies, waits_of}
+use Rattle.grove_core.specs.RunBounds.{lock_steps}
 use Rattle.grove_core.specs.Orders.{lock_time, earlier}
 use Rattle.grove_core.specs.declared.owner.Owner.{Owner}
 use Rattle.grove_core.specs.declared.owner.Owner.TheVariants.{Nobody, Holder, Last}
 use Rattle.grove_core.specs.Owners.{holder_of, last_of}
-use Rattle.grove_core.specs.Kept.{time_in, IsFirst, HasProgress, Owns, IsLastAt, IsOwned, IsCore}
+use Rattle.grove_core.specs.Cores.{time_in, IsFirst, HasProgress, Owns, IsLastAt, IsOwned, IsCore}
 use Rattle.grove_core.proofs.Precedence.{within_jobs}
 use Rattle.grove_core.proofs.CountChanges.{count_agree, count_added}
 use Rattle.grove_core.proofs.StepTimes.{time, steps_new, steps_other, time_within, lock_time_is}

@@ -23,7 +23,6 @@ pub mod CoreSteps
 pub mod CoreReads
 pub mod CoreOpens
 pub mod OrderByLevels
-pub mod WorkedRows
 pub mod CarriedCounts
 pub mod CarriedEntries
 pub mod CountChanges

@@ -11,7 +11,7 @@ use Rattle.grove_core.specs.declared.event.Event.{Event}
 use Rattle.grove_core.specs.declared.locking.Locked.{Locked}
 use Rattle.grove_core.specs.Runs.{plan_of, steps_done, next_step}
 use Rattle.grove_core.specs.Orders.{lock_time}
-use Rattle.grove_core.specs.Kept.{time_in}
+use Rattle.grove_core.specs.Cores.{time_in}
 use Rattle.grove_core.proofs.StepTimes.{time, lock_time_is}
 
 -- the first lock is of the node

@@ -14,7 +14,7 @@ use Rattle.grove_core.specs.declared.fault.StepFault.TheVariants.{NoTxn, Ended, 
 use Rattle.grove_core.specs.declared.fault.OpenFault.TheVariants.{BadPlan, Memory}
 use Rattle.grove_core.specs.Runs.{steps_done, next_step, holds, is_marked, IsRun, IsFree, IsBlocked, job_of}
 use Rattle.grove_core.specs.Openings.{job_fault}
-use Rattle.grove_core.specs.Laws.{RefusedMayNot, RefusedForOne, FirstFaultIsOne}
+use Rattle.grove_core.specs.FaultLaws.{RefusedMayNot, RefusedForOne, FirstFaultIsOne}
 use Rattle.grove_core.proofs.Precedence.{within_jobs}
 use Rattle.grove_core.proofs.MutualExclusion.{one_holder}
 

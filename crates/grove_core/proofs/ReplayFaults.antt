@@ -18,7 +18,8 @@ use Rattle.grove_core.specs.declared.fault.ReplayFault.{ReplayFault}
 use Rattle.grove_core.specs.declared.fault.ReplayFault.TheVariants.{BadPlan, BadEvent, Unfinished, Memory}
 use Rattle.grove_core.specs.Runs.{list_of, plan_of, steps_done, AllLegal, IsRun, IsRefused, MayHappen}
 use Rattle.grove_core.specs.Openings.{IsFirstFault}
-use Rattle.grove_core.specs.Replays.{past_after, IsFirstRefused, IsFirstUnfinished, ReplayFaultIsOne, FinishedIsFaultless}
+use Rattle.grove_core.specs.Replays.{past_after, IsFirstRefused, IsFirstUnfinished}
+use Rattle.grove_core.specs.ReplayLaws.{ReplayFaultIsOne, FinishedIsFaultless}
 use Rattle.grove_core.proofs.Refusals.{refused_may_not, refused_for_one, first_fault_is_one}
 use Rattle.grove_core.proofs.Replaying.{past_next}
 

@@ -19,7 +19,8 @@ use Rattle.grove_core.specs.declared.job.Job.{Job}
 use Rattle.grove_core.specs.declared.event.Event.{Event}
 use Rattle.grove_core.specs.declared.event.Event.TheVariants.{Take, Mark}
 use Rattle.grove_core.specs.Serial.{Deed, deeds_replies}
-use Rattle.grove_core.specs.Runs.{list_of, plan_of, steps_done, next_step, is_marked, IsRun, AllLegal, deed_at, deed_of, deeds, run_replies, waits_of, lock_steps, most_events}
+use Rattle.grove_core.specs.Runs.{list_of, plan_of, steps_done, next_step, is_marked, IsRun, AllLegal, deed_at, deed_of, deeds, run_replies, waits_of}
+use Rattle.grove_core.specs.RunBounds.{lock_steps, most_events}
 use Rattle.grove_core.proofs.ConflictEquivalence.{own, kept_if}
 use Rattle.grove_core.proofs.EachOnce.{one_if}
 use Rattle.grove_core.proofs.Precedence.{within_jobs}

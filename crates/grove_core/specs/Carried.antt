@@ -1,4 +1,4 @@
--- A job's accesses that were done on the records that it has out, before the core knows of them.
+-- For the proofs alone: a job's accesses that were done on the records that it has out, before the core knows of them.
 use Rattle.std.specs.Prelude.{◌≡◌, ℕ, ◌+◌, ◌<◌, ℤ, List, [], ◌∷◌, ◌++◌, length, replicate, slice_get, Some, is_some}
 use Rattle.grove_access.specs.declared.reply.Reply.{Reply}
 use Rattle.grove_access.specs.declared.entry.Entry.{Entry}

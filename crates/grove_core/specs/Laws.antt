@@ -1,16 +1,12 @@
 -- What holds of every run.
-use Rattle.std.specs.Prelude.{◌≡◌, ◌≢◌, ℕ, ◌<◌, ℤ, List, [], ◌∷◌, length, slice_get, Some}
+use Rattle.std.specs.Prelude.{◌≡◌, ℕ, ◌<◌, ℤ, List, [], ◌∷◌, length, slice_get, Some}
 use Rattle.grove_tree.specs.Trees.{Rows, IsTree}
 use Rattle.grove_core.specs.declared.job.Job.{Job}
 use Rattle.grove_core.specs.declared.event.Event.{Event}
 use Rattle.grove_core.specs.declared.event.Event.TheVariants.{Take}
-use Rattle.grove_core.specs.declared.fault.StepFault.{StepFault}
-use Rattle.grove_core.specs.declared.fault.OpenFault.{OpenFault}
-use Rattle.grove_core.specs.declared.fault.OpenFault.TheVariants.{Memory}
 use Rattle.grove_core.specs.Serial.{serial_records, serial_replies}
-use Rattle.grove_core.specs.Runs.{list_of, plan_of, steps_done, AllLegal, MayHappen, IsRun, IsFinished, IsBlocked, IsRefused, run_records, run_replies}
+use Rattle.grove_core.specs.Runs.{list_of, plan_of, steps_done, AllLegal, MayHappen, IsRun, IsFinished, IsBlocked, run_records, run_replies}
 use Rattle.grove_core.specs.Orders.{placement_order}
-use Rattle.grove_core.specs.Openings.{IsFirstFault}
 
 -- the lists done whole, one after the other, give the records and replies of the run
 pub record IsSerialBy (order : List ℕ) (jobs : List Job) (opening : List ℤ) (past : List Event) : Type 0 where
@@ -45,17 +41,3 @@ WaitsAlong jobs past t (next ∷ others) u = IsBlocked jobs past t next × Waits
 abbrev pub NoCircles : Type 0
 NoCircles = (rows : Rows) → IsTree rows → (jobs : List Job) → AllLegal rows jobs → (past : List Event) → IsRun jobs past
     → (t : ℕ) (others : List ℕ) → ¬ WaitsAlong jobs past t others t
-
--- an event that is refused may not happen
-abbrev pub RefusedMayNot : Type 0
-RefusedMayNot = (jobs : List Job) (past : List Event) (event : Event) (fault : StepFault) → IsRefused jobs past event fault → ¬ MayHappen jobs past event
-
--- a run refuses an event for one reason alone
-abbrev pub RefusedForOne : Type 0
-RefusedForOne = (jobs : List Job) (past : List Event) → IsRun jobs past → (event : Event) (one other : StepFault)
-    → IsRefused jobs past event one → IsRefused jobs past event other → one ≡ other
-
--- jobs have one first fault alone
-abbrev pub FirstFaultIsOne : Type 0
-FirstFaultIsOne = (rows : Rows) (jobs : List Job) (one other : OpenFault) → one ≢ Memory → other ≢ Memory
-    → IsFirstFault rows jobs one → IsFirstFault rows jobs other → one ≡ other

@@ -11,3 +11,7 @@ pub mod Carried
 pub mod CarriedTests
 pub mod Starts
 pub mod RunFaults
+pub mod Cores
+pub mod FaultLaws
+pub mod ReplayLaws
+pub mod RunBounds

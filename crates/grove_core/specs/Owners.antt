@@ -1,4 +1,4 @@
--- Which job has a node, or had it last.
+-- For the proofs alone: which job has a node, or had it last.
 use Rattle.std.specs.Prelude.{ℕ, Option, Some, None}
 use Rattle.grove_core.specs.declared.owner.Owner.{Owner}
 use Rattle.grove_core.specs.declared.owner.Owner.TheVariants.{Nobody, Holder, Last}

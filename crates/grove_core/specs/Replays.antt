@@ -1,5 +1,5 @@
 -- A history that is replayed: the first reason why it is no finished run of the jobs.
-use Rattle.std.specs.Prelude.{◌≡◌, ◌≢◌, ℕ, ◌<◌, ⊤, List, length, reverse, take, slice_get, Some}
+use Rattle.std.specs.Prelude.{◌≡◌, ℕ, ◌<◌, ⊤, List, length, reverse, take, slice_get, Some}
 use Rattle.grove_tree.specs.Trees.{Rows}
 use Rattle.grove_core.specs.declared.job.Job.{Job}
 use Rattle.grove_core.specs.declared.event.Event.{Event}
@@ -7,7 +7,7 @@ use Rattle.grove_core.specs.declared.fault.StepFault.{StepFault}
 use Rattle.grove_core.specs.declared.fault.OpenFault.TheVariants as opening
 use Rattle.grove_core.specs.declared.fault.ReplayFault.{ReplayFault}
 use Rattle.grove_core.specs.declared.fault.ReplayFault.TheVariants.{BadPlan, BadEvent, Unfinished, Memory}
-use Rattle.grove_core.specs.Runs.{plan_of, steps_done, AllLegal, IsRun, IsFinished, IsRefused}
+use Rattle.grove_core.specs.Runs.{plan_of, steps_done, AllLegal, IsRun, IsRefused}
 use Rattle.grove_core.specs.Openings.{IsFirstFault}
 
 -- the past after the first n events of a history
@@ -33,12 +33,3 @@ IsReplayFault rows jobs events (BadPlan t fault) = IsFirstFault rows jobs (openi
 IsReplayFault rows jobs events (BadEvent at fault) = AllLegal rows jobs × IsFirstRefused jobs events at fault
 IsReplayFault rows jobs events (Unfinished t) = AllLegal rows jobs × IsRun jobs (reverse events) × IsFirstUnfinished jobs (reverse events) t
 IsReplayFault rows jobs events Memory = ⊤
-
--- events have one first reason alone, and a finished run has none
-abbrev pub ReplayFaultIsOne : Type 0
-ReplayFaultIsOne = (rows : Rows) (jobs : List Job) (events : List Event) (one other : ReplayFault) → one ≢ Memory → other ≢ Memory
-    → IsReplayFault rows jobs events one → IsReplayFault rows jobs events other → one ≡ other
-
-abbrev pub FinishedIsFaultless : Type 0
-FinishedIsFaultless = (rows : Rows) (jobs : List Job) (events : List Event) → AllLegal rows jobs → IsRun jobs (reverse events) → IsFinished jobs (reverse events)
-    → (fault : ReplayFault) → IsReplayFault rows jobs events fault → fault ≡ Memory

@@ -1,4 +1,4 @@
--- Why jobs weren't brought to a finished run.
+-- For the proofs alone: why jobs weren't brought to a finished run.
 use Rattle.grove_core.specs.declared.fault.OpenFault.{OpenFault}
 use Rattle.grove_core.specs.declared.fault.OpenFault.TheVariants.{BadPlan as BadOpen, Memory as NoRoom}
 use Rattle.grove_core.specs.declared.run_fault.RunFault.{RunFault}

@@ -1,6 +1,6 @@
 -- Runs of jobs over their plans, as histories of events.
 use Rattle.std.specs.Prelude.{◌≡◌, ◌≢◌, ℕ, zero, suc, ◌+◌, ◌<◌, ◌≤◌, ◌==◌, ℤ, Bool, true, false, ⊤, List, [], ◌∷◌, ◌++◌, length, map, slice_get, Option, Some, None, if◌then◌else◌}
-use Rattle.grove_base.specs.Numbers.{count_below, numbers_below, sum_below}
+use Rattle.grove_base.specs.Numbers.{numbers_below}
 use Rattle.grove_tree.specs.Trees.{Rows}
 use Rattle.grove_access.specs.declared.access.Access.{Access}
 use Rattle.grove_access.specs.declared.reply.Reply.{Reply}
@@ -8,7 +8,7 @@ use Rattle.grove_access.specs.Lists.{nodes_of}
 use Rattle.grove_plan.specs.declared.step.Step.{Step}
 use Rattle.grove_plan.specs.declared.step.Step.TheVariants.{Lock}
 use Rattle.grove_plan.specs.declared.step.Step.TheVariants as plan_step
-use Rattle.grove_plan.specs.Plans.{locks, is_lock, held, IsLegal}
+use Rattle.grove_plan.specs.Plans.{locks, held, IsLegal}
 use Rattle.grove_core.specs.declared.job.Job.{Job}
 use Rattle.grove_core.specs.declared.event.Event.{Event}
 use Rattle.grove_core.specs.declared.event.Event.TheVariants.{Take, Mark}
@@ -123,11 +123,3 @@ abbrev pub waits_of : List Job → List Event → ℕ → ℕ
 waits_of jobs [] node = 0
 waits_of jobs (Take u ∷ past) node = waits_of jobs past node
 waits_of jobs (Mark u ∷ past) node = (if locks node (next_step jobs past u) then 1 else 0) + waits_of jobs past node
-
--- how many steps of a plan are locks
-abbrev pub lock_steps : List Step → ℕ
-lock_steps plan = count_below (length plan) (λ i. is_lock (slice_get plan i))
-
--- the steps and the lock steps of all plans together
-abbrev pub most_events : List Job → ℕ
-most_events jobs = sum_below (length jobs) (λ t. length (plan_of jobs t) + lock_steps (plan_of jobs t))

@@ -1,5 +1,6 @@
-ghost use Rattle.grove_core.specs.Laws.{RunsAreSerial, RunsGoOn, NoCircles, RefusedMayNot, RefusedForOne, FirstFaultIsOne};
-ghost use Rattle.grove_core.specs.Replays.{ReplayFaultIsOne, FinishedIsFaultless};
+ghost use Rattle.grove_core.specs.Laws.{RunsAreSerial, RunsGoOn, NoCircles};
+ghost use Rattle.grove_core.specs.FaultLaws.{RefusedMayNot, RefusedForOne, FirstFaultIsOne};
+ghost use Rattle.grove_core.specs.ReplayLaws.{ReplayFaultIsOne, FinishedIsFaultless};
 
 /// What holds of every run, said of the definitions alone: a finished run is serial by the placement order, which has
 /// each job once; in an unfinished one some job's next step may be done; no jobs wait for each other in a circle; an event

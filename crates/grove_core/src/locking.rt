@@ -1,5 +1,5 @@
 ghost use Rattle.std.specs.Prelude.{◌≡◌};
-ghost use Rattle.grove_core.specs.Kept.{time_in};
+ghost use Rattle.grove_core.specs.Cores.{time_in};
 ghost use Rattle.grove_core.specs.Orders.{first_lock, earlier};
 
 use grove_plan::Step;

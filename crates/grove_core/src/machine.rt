@@ -1,12 +1,14 @@
 ghost use Rattle.std.specs.Prelude.{◌≡◌, ℕ, ◌≤◌, ◌<◌, ◌∷◌, [], ◌++◌, length, reverse, IfOk, OnOk, OnErr, IfErr, MatchOption, Some, true, false, IsTrue, IfSome, IfNone, ◌↔◌};
-ghost use Rattle.grove_core.specs.Runs.{plan_of, next_step, AllLegal, IsRun, IsFinished, MayHappen, IsRefused, IsFree, IsHeldBy, is_marked, run_records, run_replies, waits_of, most_events};
+ghost use Rattle.grove_core.specs.Runs.{plan_of, next_step, AllLegal, IsRun, IsFinished, MayHappen, IsRefused, IsFree, IsHeldBy, is_marked, run_records, run_replies, waits_of};
+ghost use Rattle.grove_core.specs.RunBounds.{most_events};
 ghost use Rattle.grove_tree.specs.Trees.{IsTree};
 ghost use Rattle.grove_core.specs.Orders.{first_lock, lock_time, earlier};
 ghost use Rattle.grove_core.specs.Depths.{first_depth};
 ghost use Rattle.grove_core.specs.Laws.{CanGoOn};
 ghost use Rattle.grove_core.specs.Openings.{AllFit, IsFirstFault};
 ghost use Rattle.grove_core.specs.Replays.{IsFirstUnfinished};
-ghost use Rattle.grove_core.specs.Kept.{past_of, IsFirst};
+ghost use Rattle.grove_core.specs.Kept.{past_of};
+ghost use Rattle.grove_core.specs.Cores.{IsFirst};
 
 use crate::following::{is_owner, step_at};
 use crate::locking::{Locked, first_lock, time_in};
@@ -40,8 +42,9 @@ pub struct Core<'a> {
 
 impl<'a> Model for Core<'a> {
     ghost use Rattle.std.specs.Prelude.{◌≤◌, length, reverse, vec_capacity};
-    ghost use Rattle.grove_core.specs.Runs.{most_events};
-    ghost use Rattle.grove_core.specs.Kept.{CoreState, TellsFirsts, IsCore};
+    ghost use Rattle.grove_core.specs.RunBounds.{most_events};
+    ghost use Rattle.grove_core.specs.Kept.{CoreState};
+    ghost use Rattle.grove_core.specs.Cores.{TellsFirsts, IsCore};
 
     ghost Value = { CoreState };
 

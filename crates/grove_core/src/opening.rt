@@ -2,10 +2,11 @@ ghost use Rattle.std.specs.Prelude.{◌≡◌, ℕ, ◌^◌, ◌<◌, ◌≤◌,
 ghost use Rattle.grove_access.specs.Lists.{nodes_of, AreNodes};
 ghost use Rattle.grove_plan.specs.Plans.{is_lock, IsLegal};
 ghost use Rattle.grove_core.specs.declared.progress.Progress.{Progress};
-ghost use Rattle.grove_core.specs.Runs.{list_of, plan_of, lock_steps, AllLegal, most_events};
+ghost use Rattle.grove_core.specs.Runs.{list_of, plan_of, AllLegal};
+ghost use Rattle.grove_core.specs.RunBounds.{lock_steps, most_events};
 ghost use Rattle.grove_core.specs.Openings.{AllFit, IsFirstFault};
 ghost use Rattle.grove_core.specs.Starts.{fault_of, IsFaultOf, HasStarted};
-ghost use Rattle.grove_core.specs.Kept.{IsFirst, TellsFirsts};
+ghost use Rattle.grove_core.specs.Cores.{IsFirst, TellsFirsts};
 
 use crate::locking::first_lock;
 use crate::progress::Progress;

@@ -84,11 +84,10 @@ ledger_more opening kept before after journal noted receipts is round numbered m
     })
 
 -- a lawful round has at most as many replies as there are lines
-pub few_replies : {L R : Type 0} (line_of : L → List ℕ) (reply_of : R → List ℕ) (before after : StoreState) (texts : List (List ℕ)) (lines : List L) (replies : List R) → texts ≡ map line_of lines
-    → IsLawfulRound before (take (length replies) texts) (map reply_of replies) after → length replies ≤ length lines
-few_replies line_of reply_of before after texts lines replies are round =
-    let kept = (round_keeps before (take (length replies) texts) (map reply_of replies) after round).1 in
-    let many = length-map replies reply_of in
+pub few_replies : {L : Type 0} (line_of : L → List ℕ) (before after : StoreState) (texts : List (List ℕ)) (lines : List L) (replies : List (List ℕ)) → texts ≡ map line_of lines
+    → IsLawfulRound before (take (length replies) texts) replies after → length replies ≤ length lines
+few_replies line_of before after texts lines replies are round =
+    let kept = (round_keeps before (take (length replies) texts) replies after round).1 in
     let all : length texts ≡ length lines = ap length are ∙ length-map lines line_of in
     let cut = length-take (length replies) texts in
     omega arith

@@ -1,7 +1,7 @@
 -- Receipts that are made one after the other.
 use Rattle.std.proofs.Common.{◌≡◌, ℕ, ◌+◌, ◌-◌, ◌<◌, ◌≤◌, List, [], ◌∷◌, ◌++◌, length, map, take, drop, get_or, Option, refl, sym, ap, subst, ◌∙◌, inl, inr, arith, length-drop}
 use Rattle.std.proofs.lemmas.Bool.{cases_lt}
-use Rattle.std.proofs.lemmas.List.{length-map, get_or-map, length_push, length-take-le, take_more, map_push, get_or_append_left, get_or_push}
+use Rattle.std.proofs.lemmas.List.{length-map, get_or-map, get_or_read, length_push, length-take-le, take_more, map_push, get_or_append_left, get_or_push}
 use Rattle.std.proofs.lemmas.List.Elements.{All-push}
 use Rattle.std.proofs.Math.Seq.{take-length}
 use Rattle.grove_desk.specs.Receipts.{ReceiptState, number_at, AreNumbered}
@@ -21,52 +21,49 @@ numbered_more first receipts receipt are is place other lt = elim (cases_lt plac
 ]
 
 -- the receipt of the next line is one more
-pub noted_more : {L R : Type 0} (line_of : L → List ℕ) (reply_of : R → List ℕ) (first : Option ℕ) (lines : List L) (replies : List R) (rounds : ℕ) (receipts after : List ReceiptState) (i place number : ℕ) (line reply : List ℕ) (asked : L) (item : R)
-    → i < length replies → length replies ≤ length lines → length receipts ≡ i → place ≡ length receipts → IsNoted first (map line_of lines) (take i (map reply_of replies)) rounds receipts
-    → line ≡ line_of (get_or lines place asked) → reply ≡ reply_of item → item ≡ get_or replies i item → number ≡ number_at first place
+pub noted_more : {L : Type 0} (line_of : L → List ℕ) (first : Option ℕ) (lines : List L) (replies : List (List ℕ)) (rounds : ℕ) (receipts after : List ReceiptState) (i place number : ℕ) (line reply : List ℕ) (asked : L) (item : List ℕ)
+    → i < length replies → length replies ≤ length lines → length receipts ≡ i → place ≡ length receipts → IsNoted first (map line_of lines) (take i replies) rounds receipts
+    → line ≡ line_of (get_or lines place asked) → reply ≡ item → item ≡ get_or replies i item → number ≡ number_at first place
     → after ≡ receipts ++ record { number = number; line = line; reply = reply; rounds = rounds } ∷ []
-    → (length after ≡ i + 1) × IsNoted first (map line_of lines) (take (i + 1) (map reply_of replies)) rounds after
-noted_more line_of reply_of first lines replies rounds receipts after i place number line reply asked item within fit many here noted is_line is_reply is_item is_number pushed =
+    → (length after ≡ i + 1) × IsNoted first (map line_of lines) (take (i + 1) replies) rounds after
+noted_more line_of first lines replies rounds receipts after i place number line reply asked item within fit many here noted is_line is_reply is_item is_number pushed =
     let receipt : ReceiptState = record { number = number; line = line; reply = reply; rounds = rounds } in
-    let all_replies = length-map replies reply_of in
     let all_lines = length-map lines line_of in
-    let so_far : length (take i (map reply_of replies)) ≡ i = length-take-le i (map reply_of replies) (omega arith) in
-    let with_it : length (take (i + 1) (map reply_of replies)) ≡ i + 1 = length-take-le (i + 1) (map reply_of replies) (omega arith) in
+    let so_far : length (take i replies) ≡ i = length-take-le i replies (omega arith) in
+    let with_it : length (take (i + 1) replies) ≡ i + 1 = length-take-le (i + 1) replies (omega arith) in
     let at_place : place ≡ i = here ∙ many in
     let next_line : line ≡ get_or (map line_of lines) i [] =
     is_line ∙ ap (λ (n : ℕ). line_of (get_or lines n asked)) at_place ∙ sym (get_or-map line_of lines i asked [] (omega arith)) in
-    let next_reply : reply ≡ get_or (map reply_of replies) i [] = is_reply ∙ ap reply_of is_item ∙ sym (get_or-map reply_of replies i item [] within) in
-    let more : IsNoted first (map line_of lines) (take (i + 1) (map reply_of replies)) rounds (receipts ++ receipt ∷ []) = record {
+    let next_reply : reply ≡ get_or replies i [] = is_reply ∙ get_or_read replies i item within is_item [] in
+    let more : IsNoted first (map line_of lines) (take (i + 1) replies) rounds (receipts ++ receipt ∷ []) = record {
       asked = map_push (λ (e : ReceiptState). e.line) receipts receipt
           ∙ ap (λ (ls : List (List ℕ)). ls ++ line ∷ []) (noted.asked ∙ ap (λ (n : ℕ). take n (map line_of lines)) so_far)
           ∙ ap (λ (l : List ℕ). take i (map line_of lines) ++ l ∷ []) next_line
           ∙ sym (ap (λ (n : ℕ). take n (map line_of lines)) with_it ∙ take_more (map line_of lines) i [] (omega arith));
       replied = map_push (λ (e : ReceiptState). e.reply) receipts receipt
           ∙ ap (λ (rs : List (List ℕ)). rs ++ reply ∷ []) noted.replied
-          ∙ ap (λ (r : List ℕ). take i (map reply_of replies) ++ r ∷ []) next_reply
-          ∙ sym (take_more (map reply_of replies) i [] (omega arith));
+          ∙ ap (λ (r : List ℕ). take i replies ++ r ∷ []) next_reply
+          ∙ sym (take_more replies i [] (omega arith));
       counted = All-push (λ (e : ReceiptState). e.rounds ≡ rounds) receipts receipt noted.counted refl;
       numbered = numbered_more first receipts receipt noted.numbered (is_number ∙ ap (number_at first) here);
     } in (
       ap length pushed ∙ length_push receipts receipt ∙ ap (λ (n : ℕ). n + 1) many,
-      subst (λ (es : List ReceiptState). IsNoted first (map line_of lines) (take (i + 1) (map reply_of replies)) rounds es) (sym pushed) more,
+      subst (λ (es : List ReceiptState). IsNoted first (map line_of lines) (take (i + 1) replies) rounds es) (sym pushed) more,
     )
 
 -- once no reply of a lawful round is left, the receipts of its lines are a round
-pub noted_round : {L R : Type 0} (line_of : L → List ℕ) (reply_of : R → List ℕ) (first : Option ℕ) (lines : List L) (given replies rest : List R) (texts : List (List ℕ)) (receipts : List ReceiptState) (before after : StoreState)
+pub noted_round : {L : Type 0} (line_of : L → List ℕ) (first : Option ℕ) (lines : List L) (given replies rest texts : List (List ℕ)) (receipts : List ReceiptState) (before after : StoreState)
     → length rest ≡ 0 → rest ≡ drop (length receipts) replies → length receipts ≤ length replies → replies ≡ given
-    → texts ≡ map line_of lines → IsLawfulRound before (take (length given) texts) (map reply_of given) after
-    → IsNoted first (map line_of lines) (take (length receipts) (map reply_of replies)) after.rounds receipts
+    → texts ≡ map line_of lines → IsLawfulRound before (take (length given) texts) given after
+    → IsNoted first (map line_of lines) (take (length receipts) replies) after.rounds receipts
     → (map (λ receipt. receipt.line) receipts ≡ take (length receipts) (map line_of lines)) × IsRound before receipts after
-noted_round {R = R} line_of reply_of first lines given replies rest texts receipts before after none left within same are lawful noted =
+noted_round line_of first lines given replies rest texts receipts before after none left within same are lawful noted =
     let many : length rest ≡ length replies - length receipts = ap length left ∙ length-drop (length receipts) replies in
     let all : length receipts ≡ length given = let e : length replies ≡ length given = ap length same in omega arith in
-    let mapped : length (map reply_of given) ≡ length given = length-map given reply_of in
-    let told : take (length receipts) (map reply_of replies) ≡ map reply_of given =
-    ap (λ (rs : List R). take (length receipts) (map reply_of rs)) same
-    ∙ ap (λ (n : ℕ). take n (map reply_of given)) (all ∙ sym mapped) ∙ take-length (map reply_of given) in
+    let told : take (length receipts) replies ≡ given =
+    ap (λ (rs : List (List ℕ)). take (length receipts) rs) same ∙ ap (λ (n : ℕ). take n given) all ∙ take-length given in
     let asked : map (λ (receipt : ReceiptState). receipt.line) receipts ≡ take (length receipts) (map line_of lines) =
-    noted.asked ∙ ap (λ (n : ℕ). take n (map line_of lines)) (ap length told ∙ mapped ∙ sym all) in
+    noted.asked ∙ ap (λ (n : ℕ). take n (map line_of lines)) (ap length told ∙ sym all) in
     let put : take (length receipts) (map line_of lines) ≡ take (length given) texts =
     ap (λ (n : ℕ). take n (map line_of lines)) all ∙ ap (λ (ts : List (List ℕ)). take (length given) ts) (sym are) in (
       asked,

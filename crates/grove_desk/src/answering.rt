@@ -33,14 +33,15 @@ pub(crate) fn answer_taken<R: Threads + Wait + Sync, G: Gate + Sync>(
     let mut receipts = Vec::with_capacity(alloc, taken.len())?;
     let replies = {
         let lines = lines_of(alloc, taken)?;
-        store.answer_round(rt, alloc, &lines, gate)?
+        store.reply_round(rt, alloc, &lines, gate)?
     };
     for reply in replies {
         let place = receipts.len();
         receipts.push_reserved(Receipt {
             number: number_of(first, place),
             line: taken[place].line.take(alloc),
-            reply,
+            refusal: reply.refusal(),
+            reply: reply.into_text(),
             rounds: store.rounds(),
         });
     }

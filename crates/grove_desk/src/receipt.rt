@@ -1,7 +1,9 @@
 ghost use Rattle.std.specs.Prelude.{◌≡◌, ◌↔◌, IsTrue, IfOk};
-ghost use Rattle.grove_desk.specs.Receipts.{Follows};
 ghost use Rattle.std.specs.Option.{option_copied};
+ghost use Rattle.grove_store.specs.Refusals.{TellsRefusal};
+ghost use Rattle.grove_desk.specs.Receipts.{Follows};
 
+use grove_store::Refusal;
 use grove_tree::NoMemory;
 use std::alloc::Global;
 use std::marker::Model;
@@ -15,42 +17,42 @@ pub struct Receipt {
     pub line: Vec<u8>,
     /// The reply, without a line feed.
     pub reply: Vec<u8>,
+    /// Why the line is refused, if it is.
+    pub(crate) refusal: Option<Refusal>,
     /// The store's count of rounds once the line was answered.
     pub rounds: u64,
 }
 
 impl Model for Receipt {
+    ghost use Rattle.grove_store.specs.Refusals.{TellsRefusal};
     ghost use Rattle.grove_desk.specs.Receipts.{ReceiptState};
 
     ghost Value = { ReceiptState };
 
     ghost view = { λ receipt. record { number = receipt.number; line = receipt.line.items; reply = receipt.reply.items; rounds = receipt.rounds } };
+
+    ghost invariant = { λ receipt. TellsRefusal receipt.refusal receipt.reply.items };
 }
 
 impl Receipt {
-    /// The receipt of a line, of which it takes a copy.
-    pub(crate) fn new(
-        alloc: Global,
-        number: u64,
-        line: &[u8],
-        reply: &[u8],
-        rounds: u64,
-    ) -> Result<Receipt, NoMemory>
-        ensures { IfOk result (λ receipt. receipt ≡ record { number = number; line = line.now; reply = reply.now; rounds = rounds }) }
+    /// Why the line is refused, if it is.
+    pub fn refusal(&self) -> Option<Refusal>
+        ensures tells { TellsRefusal result self.now.reply }
     {
-        Ok(Receipt {
-            number,
-            line: Vec::from_slice(alloc, line)?,
-            reply: Vec::from_slice(alloc, reply)?,
-            rounds,
-        })
+        self.refusal
     }
 
     /// The same receipt once more.
     pub(crate) fn copy(&self, alloc: Global) -> Result<Receipt, NoMemory>
         ensures { IfOk result (λ copy. copy ≡ self.now) }
     {
-        Receipt::new(alloc, self.number, &self.line, &self.reply, self.rounds)
+        Ok(Receipt {
+            number: self.number,
+            line: Vec::from_slice(alloc, &self.line)?,
+            reply: Vec::from_slice(alloc, &self.reply)?,
+            refusal: self.refusal,
+            rounds: self.rounds,
+        })
     }
 
     /// Is it the receipt of this line?

@@ -70,6 +70,7 @@ impl<'a, B: Opening, R: Threads + Wait + Sync + AllocGlobal> Answers<R> for Visi
                     number,
                     line: Vec::new(alloc),
                     reply: Vec::new(alloc),
+                    refusal: None,
                     rounds,
                 });
                 Ok(reply)

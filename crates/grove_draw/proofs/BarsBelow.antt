@@ -1,5 +1,5 @@
 -- The bars of the nodes that were looked at so far, and of all nodes.
-use Rattle.std.proofs.Common.{◌≡◌, ℕ, ◌+◌, ◌*◌, true, false, List, [], ◌∷◌, ◌++◌, length, Some, map, refl, sym, ◌∙◌, ap, subst, arith, add-one, zero-add, mul-zero, Option, None, is_some, IfSome}
+use Rattle.std.proofs.Common.{◌≡◌, ℕ, ◌+◌, ◌*◌, true, false, List, [], ◌∷◌, ◌++◌, length, Some, map, sym, ◌∙◌, ap, subst, arith, add-one, zero-add, mul-zero, Option, None, is_some, IfSome}
 use Rattle.std.specs.List.{sum_by}
 use Rattle.std.proofs.lemmas.Option.{none-some, same_Some}
 use Rattle.std.proofs.lemmas.List.Elements.{All-nil, All-cons, All-append}
@@ -13,17 +13,10 @@ use Rattle.grove_plan.specs.declared.step.Step.{Step}
 use Rattle.grove_plan.specs.Plans.{holding, IsLegal}
 use Rattle.grove_proof.proofs.ForcedMarks.{passing_hit, passing_miss}
 use Rattle.grove_draw.specs.declared.bar.Bar.{Bar}
-use Rattle.grove_draw.specs.Pictures.{is_locked, node_of, cost_of, IsBarOf, AreLocked}
+use Rattle.grove_draw.specs.Pictures.{node_of, cost_of, IsBarOf, AreLocked}
+use Rattle.grove_draw.specs.Bars.{is_locked}
 use Rattle.grove_draw.specs.Bars.{AreBarsBelow}
 use Rattle.grove_draw.proofs.LockedNodes.{locked_by, locked_from, unlocked_free}
-
--- before the first node
-pub no_bars : (tree : Rows) (lengths : List ℕ) (plan : List Step) (bars : List Bar) → bars ≡ [] → AreBarsBelow tree lengths plan 0 bars
-no_bars tree lengths plan bars e = subst (λ (xs : List Bar). AreBarsBelow tree lengths plan 0 xs) (sym e) (record {
-  nodes = refl;
-  each = All-nil (IsBarOf tree lengths plan);
-  sum = refl;
-})
 
 -- a node that isn't locked has no bar
 pub bars_skip : (tree : Rows) (lengths : List ℕ) (plan : List Step) (n : ℕ) (bars : List Bar) → AreBarsBelow tree lengths plan n bars → is_locked plan n ≡ false

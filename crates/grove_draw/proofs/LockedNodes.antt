@@ -14,7 +14,7 @@ use Rattle.grove_plan.specs.Slots.{accesses_before, first_lock_slot, first_relea
 use Rattle.grove_plan.proofs.Held.{held_not, locks_true, locks_from, unlocks_from, accesses_length}
 use Rattle.grove_proof.specs.Five.{lock_time, release_time}
 use Rattle.grove_proof.proofs.FiveConstraints.{HasPlaces, places, holding_is}
-use Rattle.grove_draw.specs.Pictures.{is_locked}
+use Rattle.grove_draw.specs.Bars.{is_locked}
 
 -- a node that some step locks passes the test
 pub locked_from : (plan : List Step) (v : ℕ) → IsLockedBy plan v → is_locked plan v ≡ true
@@ -47,10 +47,6 @@ unchosen false x h = refl
 -- a node whose lock has a slot is locked
 pub slot_locked : (plan : List Step) (v slot : ℕ) → slot_of_lock plan v ≡ Some slot → is_locked plan v ≡ true
 slot_locked plan v slot h = (chosen (is_locked plan v) (first_lock_slot plan v) slot h).0
-
--- and one whose lock has none isn't
-pub no_slot_unlocked : (plan : List Step) (v : ℕ) → slot_of_lock plan v ≡ None → is_locked plan v ≡ false
-no_slot_unlocked plan v h = unchosen (is_locked plan v) (first_lock_slot plan v) h
 
 -- the slots of the lock and the release of a node, in order, and how long the node is held
 pub record HasSlots (nodes lengths : List ℕ) (plan : List Step) (v lock release : ℕ) : Type 0 where

@@ -1,20 +1,15 @@
 -- What is drawn of a plan.
-use Rattle.std.specs.Prelude.{◌≡◌, ℕ, ◌*◌, ◌↔◌, Bool, List, length, map, slice_get, sum_by, All, Some, string_bytes}
-use Rattle.grove_base.specs.Numbers.{any_below}
+use Rattle.std.specs.Prelude.{◌≡◌, ℕ, ◌*◌, ◌↔◌, List, map, sum_by, All, Some, string_bytes}
 use Rattle.grove_tree.specs.Trees.{Rows, weight_of, depth_of}
 use Rattle.grove_tree.specs.Paths.{path_of}
 use Rattle.grove_access.specs.declared.access.Access.{Access}
 use Rattle.grove_access.specs.Lists.{lengths_of}
 use Rattle.grove_plan.specs.declared.step.Step.{Step}
-use Rattle.grove_plan.specs.Plans.{locks, holding, cost, IsLockedBy}
+use Rattle.grove_plan.specs.Plans.{holding, cost, IsLockedBy}
 use Rattle.grove_plan.specs.Slots.{slot_of_lock, slot_of_release}
 use Rattle.grove_proof.specs.Forced.{Ascends, IsAmong}
 use Rattle.grove_draw.specs.declared.bar.Bar.{Bar}
 use Rattle.grove_draw.specs.declared.picture.Picture.{Picture}
-
--- a plan locks a node, as a test
-abbrev pub is_locked : List Step → ℕ → Bool
-is_locked plan node = any_below (length plan) (λ i. locks node (slice_get plan i))
 
 -- the nodes that a plan locks, in the tree's order
 pub record AreLocked (plan : List Step) (nodes : List ℕ) : Type 0 where

@@ -2,7 +2,8 @@ ghost use Rattle.std.specs.Prelude.{◌≡◌, ◌<◌, ◌≤◌, ◌-◌, ◌*
 ghost use Rattle.grove_access.specs.Lists.{nodes_of, lengths_of};
 ghost use Rattle.grove_access.specs.Slots.{slots_before};
 ghost use Rattle.grove_plan.specs.Plans.{IsLegal};
-ghost use Rattle.grove_draw.specs.Pictures.{is_locked, IsBarOf};
+ghost use Rattle.grove_draw.specs.Pictures.{IsBarOf};
+ghost use Rattle.grove_draw.specs.Bars.{is_locked};
 
 use grove_access::AccessList;
 use grove_base::NoMemory;

@@ -1,4 +1,4 @@
--- Amounts along arcs, and what enters and leaves a variable.
+-- For the proofs alone: amounts along arcs, and what enters and leaves a variable.
 use Rattle.std.specs.Prelude.{◌≡◌, ℕ, ◌+◌, ◌-◌, ◌≤◌, ◌<◌, ◌==◌, Bool, cond, List, [], ◌∷◌, length, slice_index, ℤ, pos, ◌+ℤ◌}
 use borrow.Author.Differences.{up}
 use Rattle.grove_base.specs.Numbers.{sum_below}

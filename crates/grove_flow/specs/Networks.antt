@@ -1,4 +1,4 @@
--- Difference constraints as arcs, and places that meet them.
+-- For the proofs alone: difference constraints as arcs, and places that meet them.
 use Rattle.std.specs.Prelude.{◌≡◌, ℕ, ◌+◌, ◌-◌, ◌*◌, ◌<◌, List, length, slice_index, slice_index_or, ℤ, pos, negsuc, ◌+ℤ◌, ◌≤ℤ◌}
 use Rattle.grove_flow.specs.declared.network.Arc.{Arc}
 

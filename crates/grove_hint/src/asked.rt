@@ -10,29 +10,17 @@ pub enum Asked {
     Serve,
 }
 
-static STORE: [&str; 1] = ["nodes"];
-
-static TASK: [&str; 2] = ["nodes", "list"];
-
-static TRIAL: [&str; 3] = ["nodes", "list", "plan"];
-
-static CLAIM: [&str; 4] = ["nodes", "list", "plan", "flow"];
-
-static BATCH: [&str; 2] = ["nodes", "lists"];
-
-static HISTORY: [&str; 3] = ["nodes", "jobs", "events"];
-
 impl Asked {
     /// The command's word, the members that its document has, and one that it may have.
     pub(crate) fn reads(self) -> (&'static str, &'static [&'static str], &'static str) {
         match self {
-            Asked::Judge => ("judge", &TRIAL, ""),
-            Asked::Check => ("check", &CLAIM, ""),
-            Asked::Plan => ("plan", &TASK, ""),
-            Asked::Draw => ("draw", &TASK, "plan"),
-            Asked::Run => ("run", &BATCH, ""),
-            Asked::Audit => ("audit", &HISTORY, "standing"),
-            Asked::Serve => ("serve", &STORE, ""),
+            Asked::Judge => ("judge", &["nodes", "list", "plan"], ""),
+            Asked::Check => ("check", &["nodes", "list", "plan", "flow"], ""),
+            Asked::Plan => ("plan", &["nodes", "list"], ""),
+            Asked::Draw => ("draw", &["nodes", "list"], "plan"),
+            Asked::Run => ("run", &["nodes", "lists"], ""),
+            Asked::Audit => ("audit", &["nodes", "jobs", "events"], "standing"),
+            Asked::Serve => ("serve", &["nodes"], ""),
         }
     }
 }

@@ -1,19 +1,15 @@
-//! The forms of what stands in documents and requests.
+//! The forms of what stands in documents and requests: what each has in it, and what each name stands for.
 use serde_json::Value;
 
 /// What has to stand somewhere.
 #[derive(Clone, Copy, PartialEq, Eq)]
 pub(crate) enum Form {
     Version,
-    /// `null`, or the number of an earlier row.
     Parent,
     Text,
     Path,
-    /// An unsigned number of 32 bits.
     Short,
-    /// A signed number of 64 bits.
     Signed,
-    /// An unsigned number of 64 bits.
     Amount,
     Length,
     Reply,
@@ -30,86 +26,73 @@ pub(crate) enum Form {
     Standing,
 }
 
-/// What stands in an object as a member, or in an array after its first word: the form of the whole, that word, the name
-/// of the member or item, and its form.
-pub(crate) static ITEMS: [(Form, &str, &str, Form); 43] = [
-    (Form::Document, "", "version", Form::Version),
-    (Form::Document, "", "nodes", Form::Array),
-    (Form::Document, "", "list", Form::Array),
-    (Form::Document, "", "plan", Form::Array),
-    (Form::Document, "", "flow", Form::Array),
-    (Form::Document, "", "lists", Form::Lists),
-    (Form::Document, "", "jobs", Form::Array),
-    (Form::Document, "", "events", Form::Array),
-    (Form::Document, "", "standing", Form::Standing),
-    (Form::Check, "", "version", Form::Version),
-    (Form::Check, "", "list", Form::Array),
-    (Form::Check, "", "plan", Form::Array),
-    (Form::Check, "", "flow", Form::Array),
-    (Form::Row, "", "parent", Form::Parent),
-    (Form::Row, "", "name", Form::Text),
-    (Form::Row, "", "weight", Form::Short),
-    (Form::Row, "", "value", Form::Signed),
-    (Form::FlowRow, "", "node", Form::Text),
-    (Form::FlowRow, "", "above", Form::Amount),
-    (Form::FlowRow, "", "held", Form::Amount),
-    (Form::FlowRow, "", "first", Form::Amount),
-    (Form::FlowRow, "", "last", Form::Amount),
-    (Form::FlowRow, "", "own", Form::Amount),
-    (Form::Job, "", "list", Form::Array),
-    (Form::Job, "", "plan", Form::Array),
-    (Form::Standing, "", "records", Form::Array),
-    (Form::Standing, "", "replies", Form::Array),
-    (Form::Access, "get", "path", Form::Path),
-    (Form::Access, "get", "length", Form::Length),
-    (Form::Access, "set", "path", Form::Path),
-    (Form::Access, "set", "number", Form::Signed),
-    (Form::Access, "set", "length", Form::Length),
-    (Form::Access, "add", "path", Form::Path),
-    (Form::Access, "add", "number", Form::Signed),
-    (Form::Access, "add", "length", Form::Length),
-    (Form::Access, "take", "path", Form::Path),
-    (Form::Access, "take", "number", Form::Signed),
-    (Form::Access, "take", "length", Form::Length),
-    (Form::Step, "lock", "path", Form::Path),
-    (Form::Step, "unlock", "path", Form::Path),
-    (Form::Step, "access", "access", Form::Short),
-    (Form::Event, "take", "job", Form::Short),
-    (Form::Event, "mark", "job", Form::Short),
-];
-
 /// May the member or item be absent?
 pub(crate) fn may_lack(name: &str) -> bool {
     matches!(name, "version" | "value" | "length")
 }
 
-static OPERATIONS: [&str; 4] = ["get", "set", "add", "take"];
-
-static STEPS: [&str; 3] = ["lock", "access", "unlock"];
-
-static EVENTS: [&str; 2] = ["take", "mark"];
-
 impl Form {
+    /// The form of the member or item of this name.
+    pub(crate) fn of(name: &str) -> Form {
+        match name {
+            "version" => Form::Version,
+            "parent" => Form::Parent,
+            "name" | "node" => Form::Text,
+            "path" => Form::Path,
+            "weight" | "access" | "job" => Form::Short,
+            "value" | "number" => Form::Signed,
+            "above" | "held" | "first" | "last" | "own" => Form::Amount,
+            "length" => Form::Length,
+            "lists" => Form::Lists,
+            "standing" => Form::Standing,
+            _ => Form::Array,
+        }
+    }
+
+    /// The names of its members, or of its items after the first word.
+    pub(crate) fn names(self, word: &str) -> &'static [&'static str] {
+        match (self, word) {
+            (Form::Access, "get") => &["path", "length"],
+            (Form::Access, _) => &["path", "number", "length"],
+            (Form::Step, "access") => &["access"],
+            (Form::Step, _) => &["path"],
+            (Form::Event, _) => &["job"],
+            (Form::Document, _) => {
+                &[
+                    "version", "nodes", "list", "lists", "plan", "flow", "jobs", "events",
+                    "standing",
+                ]
+            }
+            (Form::Check, _) => &["version", "list", "plan", "flow"],
+            (Form::Row, _) => &["parent", "name", "weight", "value"],
+            (Form::FlowRow, _) => &["node", "above", "held", "first", "last", "own"],
+            (Form::Job, _) => &["list", "plan"],
+            (Form::Standing, _) => &["records", "replies"],
+            _ => &[],
+        }
+    }
+
     /// What the first word of an array is, how its words are introduced, and the words.
     pub(crate) fn words(self) -> (&'static str, &'static str, &'static [&'static str]) {
         match self {
-            Form::Access => ("operation", "the four are", &OPERATIONS),
-            Form::Step => ("step", "steps are", &STEPS),
-            _ => ("event", "events are", &EVENTS),
+            Form::Access => ("operation", "the four are", &["get", "set", "add", "take"]),
+            Form::Step => ("step", "steps are", &["lock", "access", "unlock"]),
+            _ => ("event", "events are", &["take", "mark"]),
         }
     }
 
     /// Is the value of this kind? What stands in it isn't looked at.
     pub(crate) fn is_kind_of(self, value: &Value) -> bool {
+        let is_short = matches!(value.as_u64(), Some(0..=4_294_967_295));
         match self {
             Form::Version => matches!(value.as_u64(), Some(1 | 2)),
-            Form::Parent => value.is_null() || is_short(value),
-            Form::Text | Form::Path => value.is_string(),
-            Form::Short => is_short(value),
+            Form::Parent => value.is_null() || is_short,
+            Form::Short => is_short,
             Form::Signed => value.is_i64(),
             Form::Amount | Form::Length => value.is_u64(),
-            Form::Reply => value.is_i64()
-                || matches!(value.as_str(), Some("ok" | "range" | "short")),
+            Form::Text | Form::Path => value.is_string(),
+            Form::Reply => matches!(value.as_str(), Some("ok" | "range" | "short"))
+                || value.is_i64(),
             Form::Array | Form::Lists => value.is_array(),
             Form::Access => length_of(value) > 0,
             Form::Step | Form::Event => length_of(value) == 2,
@@ -144,14 +127,7 @@ impl Form {
     }
 }
 
-fn is_short(value: &Value) -> bool {
-    matches!(value.as_u64(), Some(0..=4_294_967_295))
-}
-
 /// The number of items, where the value is an array.
 pub(crate) fn length_of(value: &Value) -> usize {
-    match value {
-        Value::Array(items) => items.len(),
-        _ => 0,
-    }
+    value.as_array().map_or(0, |items| items.len())
 }

@@ -1,19 +1,18 @@
 use crate::asked::Asked;
 use crate::forms::length_of;
-use crate::histories::{event_amiss, standing_amiss};
 use crate::likeness::stray_member;
-use crate::paths::no_path;
 use crate::places::{Subject, Whole};
-use crate::plans::{flow_amiss, plan_amiss};
-use crate::shown::{Told, listed, words};
+use crate::rules::{event_amiss, flow_amiss, plan_amiss, standing_amiss};
+use crate::session::meaning;
+use crate::shown::{Listed, Told};
 use crate::syntax::syntax_amiss;
-use crate::trees::tree_amiss;
+use crate::trees::{no_path, tree_amiss};
 use grove_base::{Hint, NoMemory};
-use grove_core::{ReplayFault, RunFault};
+use grove_core::ReplayFault;
 use grove_proof::ProofFault;
 use grove_wire::{
     Fault, MOST_BYTES, MOST_EVENTS, MOST_HISTORY_BYTES, MOST_JOBS, MOST_LISTS, Part, Place,
-    WireFault,
+    WireFault, wire_fault_name,
 };
 use serde_json::Value;
 use std::alloc::Global;
@@ -46,25 +45,23 @@ pub fn hint(
         (fault, None) => match Value::from_slice(alloc, bytes) {
             Ok(document) => document_amiss(alloc, asked, &document, fault)?,
             Err(error) if error.is_memory() => return Err(NoMemory),
-            Err(error) => syntax_amiss(alloc, "the document", bytes, error.is_eof())?,
+            Err(error) => syntax_amiss(alloc, "the document", bytes, &error)?,
         },
     };
     Hint::new(alloc, &told)
 }
 
-/// What a person is told of a document that is taken: of a member that nothing uses, if it resembles one that the command
-/// would use and that isn't there.
+/// What a person is told of a document that is taken: of a member that nothing uses, if it resembles one that the
+/// command would use and that isn't there.
 pub fn oversight(alloc: Global, asked: Asked, document: &Value) -> Result<Option<Hint>, NoMemory> {
-    match stray_member(alloc, asked, document)? {
-        Some(told) => Ok(Some(Hint::new(alloc, &told)?)),
-        None => Ok(None),
-    }
+    let told = stray_member(alloc, asked, document)?;
+    told.map(|told| Hint::new(alloc, &told)).transpose()
 }
 
 /// What a person is told who starts the command at a terminal, without a document.
 pub fn awaited(alloc: Global, asked: Asked) -> Result<Hint, NoMemory> {
     let (command, members, _) = asked.reads();
-    let members = listed(alloc, members, " and ")?;
+    let members = Listed(members);
     let awaited = format!(in alloc;
         "\"{command}\" awaits a JSON document with {members} on standard input, up to its end (Ctrl-D)"
     )?;
@@ -99,20 +96,11 @@ pub(crate) fn amiss(alloc: Global, subject: Subject<'_>, fault: Fault) -> Told {
         Fault::Replay(ReplayFault::BadEvent(event, fault)) => {
             event_amiss(alloc, subject, event, fault)
         }
-        Fault::Replay(ReplayFault::Unfinished(job)) => Ok(format!(in alloc;
-            "job {job} has steps left after the last event"
-        )?),
+        Fault::Replay(ReplayFault::Unfinished(job)) => {
+            format!(in alloc; "job {job} has steps left after the last event")
+        }
         Fault::Standing(fault) => standing_amiss(alloc, subject, fault),
-        Fault::Run(_) | Fault::Replay(ReplayFault::Memory) => match subject.whole {
-            Whole::Document(_) => words(
-                alloc,
-                "the run failed; nothing is known to be wrong with the document",
-            ),
-            _ => words(
-                alloc,
-                "the run failed; nothing is known to be wrong with the line",
-            ),
-        },
+        Fault::Run(_) | Fault::Replay(ReplayFault::Memory) => meaning(alloc, "unfinished"),
     }
 }
 
@@ -123,16 +111,13 @@ fn unread(alloc: Global, subject: Subject<'_>, fault: WireFault) -> Told {
         WireFault::NoPath(place) => no_path(alloc, subject, place),
         WireFault::BadLength(place) => {
             let access = subject.value_at(place).and_then(Value::as_array);
-            let last = access.and_then(|items| items.last());
-            let (told, place) = (last.and_then(Value::as_u64), subject.shown(alloc, place)?);
-            let told = told.unwrap_or(0);
-            Ok(format!(in alloc; "{place} is {told} slots long, but an access has 1 to 1000")?)
+            let slots = access.and_then(|items| items.last()?.as_u64()).unwrap_or(0);
+            let spot = subject.spot(place);
+            format!(in alloc; "{spot} is {slots} slots long, but an access has 1 to 1000")
         }
         WireFault::Limit(place) => beyond(alloc, subject, place),
         WireFault::Tree(fault) => tree_amiss(alloc, subject.items(Part::Nodes, None), fault),
-        WireFault::BadJson | WireFault::Memory => {
-            words(alloc, "docs/FORMATS.md says what the refusal means")
-        }
+        WireFault::BadJson | WireFault::Memory => meaning(alloc, wire_fault_name(&fault)),
     }
 }
 
@@ -145,6 +130,6 @@ fn beyond(alloc: Global, subject: Subject<'_>, place: Place) -> Told {
         _ => (MOST_ACCESSES, "accesses"),
     };
     let count = subject.value_at(place).map_or(0, length_of);
-    let shown = subject.shown(alloc, place)?;
-    Ok(format!(in alloc; "{shown} has {count} {items}, but at most {most} are taken")?)
+    let spot = subject.spot(place);
+    format!(in alloc; "{spot} has {count} {items}, but at most {most} are taken")
 }

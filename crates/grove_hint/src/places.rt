@@ -1,20 +1,20 @@
+//! What stands at the place of a fault, and how the place is told.
 use crate::asked::Asked;
 use crate::differences::{difference, missing};
 use crate::forms::Form;
-use crate::shown::{Told, listed, words};
+use crate::shown::{Listed, Told};
 use grove_wire::{Part, Place};
 use serde_json::Value;
 use std::alloc::Global;
+use std::fmt;
 
 /// What is refused.
 #[derive(Clone, Copy)]
 pub(crate) enum Whole {
     Document(Asked),
-    /// The list of a request.
-    Plan,
-    /// The lists of a request.
-    Batch,
     Check,
+    /// The list or the lists of a request of this name.
+    Lists(&'static str),
 }
 
 /// What is refused, with its value.
@@ -24,26 +24,50 @@ pub(crate) struct Subject<'v> {
     pub value: &'v Value,
 }
 
-impl<'v> Subject<'v> {
-    /// What stands at the place.
-    pub(crate) fn value_at(self, place: Place) -> Option<&'v Value> {
-        let part = match (self.whole, place.part) {
-            (_, Part::Whole) | (Whole::Plan, Part::List) | (Whole::Batch, Part::Lists) =>
-                self.value,
-            (_, part) => self.holder_of(place)?.get(member_name(part))?,
-        };
-        match place.part {
-            Part::JobList | Part::JobPlan => within(part, place.item),
-            _ => within(within(part, place.at)?, place.item),
+/// A place of what is refused, in words.
+#[derive(Clone, Copy)]
+pub(crate) struct Spot {
+    whole: Whole,
+    place: Place,
+}
+
+impl fmt::Display for Spot {
+    fn fmt<W: fmt::Write>(&self, f: &mut fmt::Formatter<W>) -> fmt::Result {
+        let place = self.place;
+        match (self.whole, place.part) {
+            (Whole::Check, Part::Whole) => return f.write_str("check"),
+            (_, Part::Whole) => return f.write_str("the document"),
+            (Whole::Lists(name), _) => f.write_str(name)?,
+            _ => return write!(f, "{place}"),
         }
+        for number in place.at.iter().chain(&place.item) {
+            write!(f, " {number}")?;
+        }
+        Ok(())
+    }
+}
+
+impl<'v> Subject<'v> {
+    /// The place in words.
+    pub(crate) fn spot(self, place: Place) -> Spot {
+        let whole = self.whole;
+        Spot { whole, place }
     }
 
-    /// What the part at the place is a member of.
-    fn holder_of(self, place: Place) -> Option<&'v Value> {
-        match place.part {
-            Part::JobList | Part::JobPlan => within(self.value.get("jobs")?, place.at),
-            Part::StandingRecords | Part::StandingReplies => self.value.get("standing"),
-            _ => Some(self.value),
+    /// What stands at the place.
+    pub(crate) fn value_at(self, place: Place) -> Option<&'v Value> {
+        let holder = holder_of(place);
+        let object = match holder.part {
+            Part::Whole => self.value,
+            part => within(self.value.get(member_name(part))?, holder.at)?,
+        };
+        let part = match (self.whole, place.part) {
+            (Whole::Lists(_), _) | (_, Part::Whole) => object,
+            (_, part) => object.get(member_name(part))?,
+        };
+        match holder.part {
+            Part::Jobs => within(part, place.item),
+            _ => within(within(part, place.at)?, place.item),
         }
     }
 
@@ -51,22 +75,8 @@ impl<'v> Subject<'v> {
     pub(crate) fn items(self, part: Part, job: Option<u32>) -> &'v [Value] {
         let (at, item) = (job, None);
         match self.value_at(Place { part, at, item }) {
-            Some(Value::Array(items)) => items.as_slice(),
+            Some(Value::Array(items)) => items,
             _ => &[],
-        }
-    }
-
-    /// The place in words.
-    pub(crate) fn shown(self, alloc: Global, place: Place) -> Told {
-        match (self.whole, place.part, place.at, place.item) {
-            (Whole::Check, Part::Whole, _, _) => words(alloc, "check"),
-            (_, Part::Whole, _, _) => words(alloc, "the document"),
-            (Whole::Plan, _, Some(at), _) => Ok(format!(in alloc; "plan {at}")?),
-            (Whole::Plan, _, None, _) => words(alloc, "plan"),
-            (Whole::Batch, _, Some(at), Some(item)) => Ok(format!(in alloc; "batch {at} {item}")?),
-            (Whole::Batch, _, Some(at), None) => Ok(format!(in alloc; "batch {at}")?),
-            (Whole::Batch, _, None, _) => words(alloc, "batch"),
-            _ => Ok(format!(in alloc; "{place}")?),
         }
     }
 
@@ -75,52 +85,35 @@ impl<'v> Subject<'v> {
         let Some(value) = self.value_at(place) else {
             return self.missing(alloc, place);
         };
-        let shown = self.shown(alloc, place)?;
-        let told = difference(alloc, self.form_at(place), &shown, value)?;
-        match told {
-            Some(told) => Ok(told),
-            None => {
-                let whole = if let Whole::Check = self.whole {
-                    "check"
-                } else {
-                    "document"
-                };
-                Ok(format!(in alloc;
-                    "{shown} tells a length, which is read only where the {whole} has \"version\":2"
-                )?)
-            }
+        let spot = self.spot(place);
+        if let Some(told) = difference(alloc, self.form_at(place), spot, value)? {
+            return Ok(told);
         }
+        let whole = match self.whole {
+            Whole::Check => "check",
+            _ => "document",
+        };
+        format!(in alloc;
+            "{spot} tells a length, which is read only where the {whole} has \"version\":2"
+        )
     }
 
     /// A part that isn't there.
     fn missing(self, alloc: Global, place: Place) -> Told {
-        let (name, job) = (member_name(place.part), place.at.unwrap_or(0));
-        let Some(Value::Object(holder)) = self.holder_of(place) else {
-            return words(alloc, "the part that the refusal names isn't there");
+        let (name, holder) = (member_name(place.part), holder_of(place));
+        let object = self.value_at(holder).unwrap_or(self.value);
+        let told = missing(alloc, self.form_at(holder), self.spot(holder), object, name)?;
+        let (Whole::Document(asked), Part::Whole) = (self.whole, holder.part) else {
+            return Ok(told);
         };
-        match (place.part, self.whole) {
-            (Part::JobList | Part::JobPlan, _) => {
-                let job = format!(in alloc; "jobs {job}")?;
-                missing(alloc, Form::Job, &job, holder, name)
-            }
-            (Part::StandingRecords | Part::StandingReplies, _) => {
-                missing(alloc, Form::Standing, "standing", holder, name)
-            }
-            (_, Whole::Document(asked)) => {
-                let told = missing(alloc, Form::Document, "the document", holder, name)?;
-                let other = match name {
-                    "list" if holder.get("lists").is_some() =>
-                        ", but \"lists\", which \"run\" reads",
-                    "lists" if holder.get("list").is_some() =>
-                        ", but \"list\", which \"plan\" reads",
-                    _ => "",
-                };
-                let (command, members, _) = asked.reads();
-                let members = listed(alloc, members, " and ")?;
-                Ok(format!(in alloc; "{told}{other}; \"{command}\" reads {members}")?)
-            }
-            _ => missing(alloc, Form::Check, "check", holder, name),
-        }
+        let other = match name {
+            "list" if object.get("lists").is_some() => ", but \"lists\", which \"run\" reads",
+            "lists" if object.get("list").is_some() => ", but \"list\", which \"plan\" reads",
+            _ => "",
+        };
+        let (command, members, _) = asked.reads();
+        let members = Listed(members);
+        format!(in alloc; "{told}{other}; \"{command}\" reads {members}")
     }
 
     /// The form of what stands at the place.
@@ -132,19 +125,29 @@ impl<'v> Subject<'v> {
             (Part::List, Some(_), _) | (Part::Lists | Part::JobList, _, Some(_)) => Form::Access,
             (Part::Plan, Some(_), _) | (Part::JobPlan, _, Some(_)) => Form::Step,
             (Part::Flow, Some(_), _) => Form::FlowRow,
-            (Part::Lists, None, _) => Form::Lists,
             (Part::Jobs, Some(_), _) => Form::Job,
             (Part::Events, Some(_), _) => Form::Event,
-            (Part::Standing, _, _) => Form::Standing,
             (Part::StandingRecords, Some(_), _) => Form::Signed,
             (Part::StandingReplies, _, Some(_)) => Form::Reply,
+            (part, None, _) => Form::of(member_name(part)),
             _ => Form::Array,
         }
     }
 }
 
+/// The place of what the part is a member of.
+fn holder_of(place: Place) -> Place {
+    let (part, at) = match place.part {
+        Part::JobList | Part::JobPlan => (Part::Jobs, place.at),
+        Part::StandingRecords | Part::StandingReplies => (Part::Standing, None),
+        _ => (Part::Whole, None),
+    };
+    let item = None;
+    Place { part, at, item }
+}
+
 /// The name of the member that the part is.
-fn member_name(part: Part) -> &'static str {
+pub(crate) fn member_name(part: Part) -> &'static str {
     match part {
         Part::Whole => "",
         Part::Nodes => "nodes",
@@ -161,8 +164,5 @@ fn member_name(part: Part) -> &'static str {
 }
 
 fn within(value: &Value, at: Option<u32>) -> Option<&Value> {
-    match at {
-        Some(at) => value.get(at as usize),
-        None => Some(value),
-    }
+    at.map_or(Some(value), |at| value.get(at as usize))
 }

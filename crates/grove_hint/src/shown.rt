@@ -1,91 +1,69 @@
-use grove_base::NoMemory;
+//! The pieces that hints are put together from.
 use serde_json::Value;
-use std::alloc::{AllocError, Global};
+use std::alloc::AllocError;
+use std::fmt;
 
 /// What a person is told.
-pub(crate) type Told = Result<String, NoMemory>;
+pub(crate) type Told = Result<String, AllocError>;
 
 /// What a person is told, if there is something.
-pub(crate) type Found = Result<Option<String>, NoMemory>;
+pub(crate) type Found = Result<Option<String>, AllocError>;
 
 /// How many characters of a text are shown.
 const MOST_SHOWN: usize = 48;
 
-/// The text in quotation marks, as JSON writes it, or its beginning.
-pub(crate) fn quoted(alloc: Global, text: &str) -> Told {
-    let mut shown = String::from_str(alloc, "\"")?;
-    for (count, letter) in text.chars().enumerate() {
-        if count >= MOST_SHOWN {
-            shown.push_str("..")?;
-            break;
-        }
-        push_shown(alloc, &mut shown, letter)?;
-    }
-    shown.push('"')?;
-    Ok(shown)
-}
+/// A text in quotation marks, as JSON writes it, or its beginning.
+#[derive(Clone, Copy)]
+pub(crate) struct Quoted<'t>(pub &'t str);
 
-fn push_shown(alloc: Global, shown: &mut String, letter: char) -> Result<(), AllocError> {
-    match letter {
-        '"' => shown.push_str("\\\""),
-        '\\' => shown.push_str("\\\\"),
-        '\n' => shown.push_str("\\n"),
-        '\r' => shown.push_str("\\r"),
-        '\t' => shown.push_str("\\t"),
-        ' '..='~' => shown.push(letter),
-        _ => {
-            let code = u32::from(letter);
-            let escape = format!(in alloc; "\\u{code:04x}")?;
-            shown.push_str(&escape)
+impl fmt::Display for Quoted<'_> {
+    fn fmt<W: fmt::Write>(&self, f: &mut fmt::Formatter<W>) -> fmt::Result {
+        f.write_str("\"")?;
+        for letter in self.0.chars().take(MOST_SHOWN) {
+            match letter {
+                '"' | '\\' => write!(f, "\\{letter}")?,
+                ' '..='~' => write!(f, "{letter}")?,
+                _ => write!(f, "\\u{:04x}", u32::from(letter))?,
+            }
         }
+        let is_whole = self.0.chars().nth(MOST_SHOWN).is_none();
+        f.write_str(if is_whole { "\"" } else { "..\"" })
     }
 }
 
-/// The names in quotation marks, with a word before the last.
-pub(crate) fn listed(alloc: Global, names: &[&'static str], last: &str) -> Told {
-    let mut listed = String::new(alloc);
-    let mut left = names.len();
-    for name in names {
-        let between = match left {
-            _ if listed.is_empty() => "",
-            1 => last,
-            _ => ", ",
-        };
-        left = left.saturating_sub(1);
-        let item = format!(in alloc; "{between}\"{name}\"")?;
-        listed.push_str(&item)?;
+/// Words in quotation marks.
+#[derive(Clone, Copy)]
+pub(crate) struct Listed(pub &'static [&'static str]);
+
+impl fmt::Display for Listed {
+    fn fmt<W: fmt::Write>(&self, f: &mut fmt::Formatter<W>) -> fmt::Result {
+        let last = self.0.len().saturating_sub(1);
+        for (at, word) in self.0.iter().enumerate() {
+            let between = match at {
+                0 => "",
+                _ if at == last => " and ",
+                _ => ", ",
+            };
+            write!(f, "{between}\"{word}\"")?;
+        }
+        Ok(())
     }
-    Ok(listed)
 }
 
 /// What a value is, in words.
-pub(crate) fn described(alloc: Global, value: &Value) -> Told {
-    match value {
-        Value::Null => words(alloc, "null"),
-        Value::Bool(true) => words(alloc, "true"),
-        Value::Bool(false) => words(alloc, "false"),
-        Value::Number(_) => match (value.as_u64(), value.as_i64()) {
-            (Some(number), _) => Ok(format!(in alloc; "{number}")?),
-            (None, Some(number)) => Ok(format!(in alloc; "{number}")?),
-            (None, None) => {
-                words(
-                    alloc,
-                    "a number with a point or an exponent, or beyond 64 bits",
-                )
-            }
-        },
-        Value::String(text) => {
-            let text = quoted(alloc, text)?;
-            Ok(format!(in alloc; "the text {text}")?)
-        }
-        Value::Array(items) => {
-            let count = items.len();
-            Ok(format!(in alloc; "an array of length {count}")?)
-        }
-        Value::Object(_) => words(alloc, "an object"),
-    }
-}
+#[derive(Clone, Copy)]
+pub(crate) struct Described<'v>(pub &'v Value);
 
-pub(crate) fn words(alloc: Global, words: &str) -> Told {
-    Ok(String::from_str(alloc, words)?)
+impl fmt::Display for Described<'_> {
+    fn fmt<W: fmt::Write>(&self, f: &mut fmt::Formatter<W>) -> fmt::Result {
+        match self.0 {
+            Value::String(text) => write!(f, "the text {}", Quoted(text)),
+            Value::Array(items) => write!(f, "an array of length {}", items.len()),
+            Value::Object(_) => f.write_str("an object"),
+            value if value.is_f64() => {
+                f.write_str("a number with a point or an exponent, or beyond 64 bits")
+            }
+            value => write!(f, "{value}"),
+        }
+    }
 }

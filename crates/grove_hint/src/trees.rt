@@ -1,81 +1,153 @@
-use crate::paths::name_of;
-use crate::shown::{Told, described, quoted, words};
+//! Why rows are no tree, and why a path is that of no node of one.
+use crate::likeness::resembles;
+use crate::places::{Subject, Whole};
+use crate::shown::{Quoted, Told};
 use grove_tree::TreeFault;
+use grove_wire::{Part, Place};
 use serde_json::Value;
 use std::alloc::Global;
 
+/// What names are made of.
+const NAMES: &str = "names are 1 to 32 of a to z, 0 to 9, _ and -";
+
 /// What makes the rows no tree.
 pub(crate) fn tree_amiss(alloc: Global, rows: &[Value], fault: TreeFault) -> Told {
-    let count = rows.len();
-    let (at, why) = match fault {
+    match fault {
         TreeFault::Empty => {
             let first = r#"{"parent":null,"name":"","weight":1}"#;
-            return Ok(format!(in alloc;
-                "\"nodes\" has no rows; the first is the root, as {first}"
-            )?);
+            format!(in alloc; "\"nodes\" has no rows; the first is the root, as {first}")
         }
         TreeFault::TooMany | TreeFault::Memory => {
-            return Ok(format!(in alloc;
-                "\"nodes\" has {count} rows, but a tree has at most 4096"
-            )?);
+            let count = rows.len();
+            format!(in alloc; "\"nodes\" has {count} rows, but a tree has at most 4096")
         }
-        TreeFault::BadParent(at) => (at, parent_amiss(alloc, rows, at)?),
-        TreeFault::TooDeep(at) => (at, words(alloc, "has more than 32 rows above it")?),
-        TreeFault::BadName(at) => (at, name_amiss(alloc, rows, at)?),
-        TreeFault::TwiceNamed(at) => (at, name_taken(alloc, rows, at)?),
-        TreeFault::BadWeight(at) => {
-            let weight = match member(rows, at, "weight") {
-                Some(weight) => described(alloc, weight)?,
-                None => words(alloc, "none")?,
+        TreeFault::BadParent(at) => parent_amiss(alloc, rows, at),
+        TreeFault::TooDeep(at) => format!(in alloc; "nodes {at} has more than 32 rows above it"),
+        TreeFault::BadName(at) => {
+            let names = match at {
+                0 => "the root's name is empty",
+                _ => NAMES,
             };
-            (
-                at,
-                format!(in alloc; "has the weight {weight}, but a weight is 1 to 1000")?,
+            let name = Quoted(name_at(rows, at));
+            format!(in alloc; "nodes {at} has the name {name}, but {names}")
+        }
+        TreeFault::TwiceNamed(at) => {
+            let name = name_at(rows, at);
+            let parent = number_at(rows, at, "parent").unwrap_or(0);
+            let (shown, first) = (Quoted(name), child_named(rows, parent, name).unwrap_or(0));
+            format!(in alloc;
+                "nodes {at} has the name {shown}, which nodes {first} below the same parent has"
             )
         }
-    };
-    Ok(format!(in alloc; "nodes {at} {why}")?)
-}
-
-fn member<'v>(rows: &'v [Value], at: u32, name: &str) -> Option<&'v Value> {
-    rows.get(at as usize)?.get(name)
+        TreeFault::BadWeight(at) => {
+            let weight = number_at(rows, at, "weight").unwrap_or(0);
+            format!(in alloc; "nodes {at} has the weight {weight}, but a weight is 1 to 1000")
+        }
+    }
 }
 
 fn parent_amiss(alloc: Global, rows: &[Value], at: u32) -> Told {
-    match (member(rows, at, "parent").and_then(Value::as_u64), at) {
-        (Some(parent), 0) => Ok(format!(in alloc;
-            "has the parent {parent}, but the first row is the root, whose parent is null"
-        )?),
-        (None, _) => words(alloc, "has the parent null, which only the first row has"),
-        (Some(parent), at) if parent >= u64::from(at) => Ok(format!(in alloc;
-            "has the parent {parent}, but a parent is an earlier row"
-        )?),
-        (Some(parent), _) => Ok(format!(in alloc;
-            "is out of order: it belongs right after nodes {parent}, its parent, and what is below that already; rows are in preorder"
-        )?),
+    match number_at(rows, at, "parent") {
+        Some(parent) if at == 0 => format!(in alloc;
+            "nodes 0 has the parent {parent}, but the first row is the root, whose parent is null"
+        ),
+        Some(parent) if parent >= u64::from(at) => format!(in alloc;
+            "nodes {at} has the parent {parent}, but a parent is an earlier row"
+        ),
+        Some(parent) => format!(in alloc;
+            "nodes {at} is out of order: it belongs right after nodes {parent}, its parent, \
+             and what is below that already; rows are in preorder"
+        ),
+        None => format!(in alloc; "nodes {at} has the parent null, which only the first row has"),
     }
 }
 
-fn name_amiss(alloc: Global, rows: &[Value], at: u32) -> Told {
-    let name = rows.get(at as usize).and_then(name_of).unwrap_or("");
-    let shown = quoted(alloc, name)?;
-    match (at, name.len()) {
-        (0, _) => Ok(format!(in alloc; "has the name {shown}, but the root's name is empty")?),
-        (_, 0) => words(alloc, "has an empty name, which only the root has"),
-        (_, 1..=32) => Ok(format!(in alloc;
-            "has the name {shown}, but names are made of a to z, 0 to 9, _ and -"
-        )?),
-        (_, long) => Ok(format!(in alloc;
-            "has a name of {long} bytes, {shown}, but a name has at most 32"
-        )?),
+/// Why the path at the place is that of no node.
+pub(crate) fn no_path(alloc: Global, subject: Subject<'_>, place: Place) -> Told {
+    let path = subject.value_at(place).and_then(path_in).unwrap_or("");
+    let (spot, shown) = (subject.spot(place), Quoted(path));
+    let ill_named = path.split('/').skip(1).find(|name| !is_name(name));
+    match (subject.whole, ill_named) {
+        _ if !path.starts_with('/') => format!(in alloc;
+            "the path {shown} of {spot} doesn't begin with a slash; the root is \"/\""
+        ),
+        _ if path.ends_with('/') => format!(in alloc;
+            "the path {shown} of {spot} ends with a slash"
+        ),
+        (Whole::Document(_), _) => {
+            let lost = lost_below(alloc, subject.items(Part::Nodes, None), path)?;
+            format!(in alloc; "{spot}: no node has the path {shown}; {lost}")
+        }
+        (_, Some(name)) => {
+            let name = Quoted(name);
+            format!(in alloc; "the path {shown} of {spot} has the name {name}, but {NAMES}")
+        }
+        (_, None) => format!(in alloc; "{spot}: no node has the path {shown}"),
     }
 }
 
-fn name_taken(alloc: Global, rows: &[Value], at: u32) -> Told {
-    let (name, parent) = (member(rows, at, "name"), member(rows, at, "parent"));
-    let shown = quoted(alloc, name.and_then(Value::as_str).unwrap_or(""))?;
-    let first = rows.iter().position(|other| other.get("name") == name
-        && other.get("parent") == parent);
-    let first = first.unwrap_or(0);
-    Ok(format!(in alloc; "has the name {shown}, which nodes {first} below the same parent has")?)
+/// The path in an access, a step or a flow row.
+pub(crate) fn path_in(value: &Value) -> Option<&str> {
+    match value {
+        Value::Array(items) => items.get(1)?.as_str(),
+        value => value.get("node")?.as_str(),
+    }
+}
+
+/// May a node below the root have the name?
+pub(crate) fn is_name(name: &str) -> bool {
+    matches!(name.len(), 1..=32)
+        && name.bytes().all(|byte| matches!(byte, b'a'..=b'z' | b'0'..=b'9' | b'_' | b'-'))
+}
+
+/// The deepest node on the way down a path, and the name that no child of it has.
+fn lost_below(alloc: Global, rows: &[Value], path: &str) -> Told {
+    let (mut above, mut parent) = (String::new(alloc), 0);
+    for name in path.split('/').skip(1) {
+        let Some(child) = child_named(rows, parent, name) else {
+            return no_child(alloc, rows, parent, &above, name);
+        };
+        parent = child as u64;
+        write!(above, "/{name}")?;
+    }
+    Ok(above)
+}
+
+fn no_child(alloc: Global, rows: &[Value], parent: u64, above: &str, missing: &str) -> Told {
+    let (above, shown) = (
+        Quoted(if above.is_empty() { "/" } else { above }),
+        Quoted(missing),
+    );
+    for row in rows.iter().filter(|row| is_child(row, parent)) {
+        let name = name_of(row);
+        if resembles(alloc, missing, name)? {
+            let near = Quoted(name);
+            return format!(in alloc;
+                "{above} has no child {shown}, but {near}, which resembles it"
+            );
+        }
+    }
+    format!(in alloc; "{above} has no child {shown}")
+}
+
+/// The first row below the parent that has the name.
+fn child_named(rows: &[Value], parent: u64, name: &str) -> Option<usize> {
+    rows.iter()
+        .position(|row| is_child(row, parent) && name_of(row) == name)
+}
+
+fn is_child(row: &Value, parent: u64) -> bool {
+    row.get("parent").and_then(Value::as_u64) == Some(parent)
+}
+
+fn number_at(rows: &[Value], at: u32, member: &str) -> Option<u64> {
+    rows.get(at as usize)?.get(member)?.as_u64()
+}
+
+pub(crate) fn name_at(rows: &[Value], at: u32) -> &str {
+    rows.get(at as usize).map_or("", name_of)
+}
+
+fn name_of(row: &Value) -> &str {
+    row.get("name").and_then(Value::as_str).unwrap_or("")
 }

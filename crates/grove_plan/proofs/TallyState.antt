@@ -9,7 +9,7 @@ use Rattle.grove_tree.specs.Trees.{Rows, IsTree, parent_of, weight_of}
 use Rattle.grove_tree.specs.Rules.{IsWithinLimits}
 use Rattle.grove_base.proofs.Counting.{count_hit, count_miss, sum_zero}
 use Rattle.grove_tree.proofs.Above.{parent_lt}
-use Rattle.grove_access.specs.Lists.{AreLengths}
+use Rattle.grove_access.specs.ListFaults.{AreLengths}
 use Rattle.grove_access.proofs.Slots.{few_slots}
 use Rattle.grove_plan.specs.declared.step.Step.{Step}
 use Rattle.grove_plan.specs.declared.step.Step.TheVariants.{Lock, Unlock, Access}

@@ -1,6 +1,7 @@
 ghost use Rattle.std.specs.Prelude.{◌≡◌, ◌≢◌, ◌<◌, ◌^◌, length, IfOk, OnOk, IfErr, Some, None};
 ghost use Rattle.grove_tree.specs.Rules.{IsWithinLimits};
-ghost use Rattle.grove_access.specs.Lists.{nodes_of, lengths_of, AreNodes, AreLengths};
+ghost use Rattle.grove_access.specs.Lists.{nodes_of, lengths_of, AreNodes};
+ghost use Rattle.grove_access.specs.ListFaults.{AreLengths};
 ghost use Rattle.grove_plan.specs.Plans.{IsLegal, cost};
 ghost use Rattle.grove_plan.specs.Faults.{steps_fault, plan_fault_of};
 ghost use Rattle.grove_plan.specs.Tallies.{IsTally};

@@ -1,6 +1,7 @@
 ghost use Rattle.std.specs.Prelude.{◌≡◌, ℕ, List, ◌+◌, ◌<◌, ◌^◌, length, IfOk, None, slice_get, slice_index_or};
 ghost use Rattle.grove_tree.specs.Rules.{IsWithinLimits};
-ghost use Rattle.grove_access.specs.Lists.{nodes_of, lengths_of, AreNodes, AreLengths};
+ghost use Rattle.grove_access.specs.Lists.{nodes_of, lengths_of, AreNodes};
+ghost use Rattle.grove_access.specs.ListFaults.{AreLengths};
 ghost use Rattle.grove_plan.specs.Faults.{step_fault};
 ghost use Rattle.grove_plan.specs.Tallies.{IsTally, is_free, is_holding, holds_node, first_holding};
 ghost use Rattle.grove_tree.specs.Trees.{IsTree, parent_of};

@@ -14,7 +14,7 @@ use Rattle.grove_proof.specs.declared.fault.ProofFault.{ProofFault}
 use Rattle.grove_proof.specs.declared.fault.ProofFault.TheVariants as fault
 use Rattle.grove_proof.specs.Flows.{node_of, is_sign_ok, is_small, is_lock_balanced, is_release_balanced, IsCertificate}
 use Rattle.grove_proof.specs.Faults.{IsFirstDifference, IsFirstStranger, IsFirstBad, IsFault}
-use Rattle.grove_proof.specs.Laws.{FaultIsOne, CertifiedIsFaultless}
+use Rattle.grove_proof.specs.FaultLaws.{FaultIsOne, CertifiedIsFaultless}
 use Rattle.grove_proof.proofs.ForcedList.{forced_lists_same}
 use Rattle.grove_proof.proofs.Verdicts.{bad_refutes, stranger_refutes, fault_refutes}
 

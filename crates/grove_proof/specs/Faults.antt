@@ -3,8 +3,6 @@ use Rattle.std.specs.Prelude.{◌≡◌, ◌≢◌, ℕ, ◌<◌, ℤ, pos, ◌-
 use Rattle.grove_tree.specs.Trees.{Rows}
 use Rattle.grove_plan.specs.declared.step.Step.{Step}
 use Rattle.grove_plan.specs.Plans.{IsLegal, cost}
-use Rattle.grove_plan.specs.declared.fault.PlanFault.{PlanFault}
-use Rattle.grove_plan.specs.declared.fault.PlanFault.TheVariants as plan
 use Rattle.grove_plan.specs.Faults.{plan_fault_of}
 use Rattle.grove_proof.specs.declared.flow.FlowRow.{FlowRow}
 use Rattle.grove_proof.specs.declared.fault.ProofFault.{ProofFault}
@@ -60,15 +58,3 @@ IsFault rows nodes lengths plan flow (fault.ReleaseBalance i) = PassesLocks rows
 IsFault rows nodes lengths plan flow (fault.Value c b) =
     PassesReleases rows nodes plan flow × (c ≡ cost rows lengths plan) × (b ≡ bound nodes lengths flow) × (bound nodes lengths flow ≢ pos (cost rows lengths plan))
 IsFault rows nodes lengths plan flow fault.Memory = Unit {0}
-
--- a plan's fault as the checker's: want of memory is the outer one
-abbrev pub as_proof_fault : PlanFault → ProofFault
-as_proof_fault (plan.Strange s) = fault.Plan (plan.Strange s)
-as_proof_fault (plan.Relock s) = fault.Plan (plan.Relock s)
-as_proof_fault (plan.ParentNotHeld s) = fault.Plan (plan.ParentNotHeld s)
-as_proof_fault (plan.NotHeld s) = fault.Plan (plan.NotHeld s)
-as_proof_fault (plan.WrongAccess s) = fault.Plan (plan.WrongAccess s)
-as_proof_fault (plan.AccessNotHeld s) = fault.Plan (plan.AccessNotHeld s)
-as_proof_fault (plan.AccessMissing i) = fault.Plan (plan.AccessMissing i)
-as_proof_fault (plan.StillHeld v) = fault.Plan (plan.StillHeld v)
-as_proof_fault plan.Memory = fault.Memory

@@ -1,5 +1,5 @@
 -- The laws of the forced nodes and of the certificate.
-use Rattle.std.specs.Prelude.{◌≡◌, ◌≢◌, ℕ, ◌+◌, ◌≤◌, ◌↔◌, List}
+use Rattle.std.specs.Prelude.{◌≡◌, ℕ, ◌+◌, ◌≤◌, ◌↔◌, List}
 use Rattle.grove_tree.specs.Trees.{Rows, IsTree}
 use Rattle.grove_access.specs.Lists.{AreNodes}
 use Rattle.grove_access.specs.Forced.{IsForcedByTree, forced_nodes}
@@ -7,13 +7,10 @@ use Rattle.grove_plan.specs.declared.step.Step.{Step}
 use Rattle.grove_plan.specs.Plans.{IsLegal, IsLeast, IsForced, cost}
 use Rattle.grove_plan.specs.Slots.{LocksAtSlot, UnlocksAtSlot, first_lock_slot, first_release_slot}
 use Rattle.grove_proof.specs.declared.flow.FlowRow.{FlowRow}
-use Rattle.grove_proof.specs.declared.fault.ProofFault.{ProofFault}
-use Rattle.grove_proof.specs.declared.fault.ProofFault.TheVariants.{Memory}
 use Rattle.grove_proof.specs.Forced.{IsForcedList}
 use Rattle.grove_proof.specs.Five.{MeetsFive}
 use Rattle.grove_proof.specs.Changes.{IsChangedOnce}
 use Rattle.grove_proof.specs.Flows.{gains, losses, Balances, IsCertificate}
-use Rattle.grove_proof.specs.Faults.{IsFault}
 
 -- the nodes that every legal plan locks are those that the tree tells
 abbrev pub ForcedIsByTree : Type 0
@@ -42,13 +39,3 @@ CertifiedIsLeast = (rows : Rows) (nodes lengths : List ℕ) (flow : List FlowRow
 abbrev pub OneChangeIsRefused : Type 0
 OneChangeIsRefused = (rows : Rows) (nodes lengths : List ℕ) (flow other : List FlowRow) (cost claim : ℕ) → IsTree rows
     → IsCertificate rows nodes lengths flow cost → IsChangedOnce flow other → ¬ IsCertificate rows nodes lengths other claim
-
--- a plan with a flow has one first fault alone
-abbrev pub FaultIsOne : Type 0
-FaultIsOne = (rows : Rows) (nodes lengths : List ℕ) (plan : List Step) (flow : List FlowRow) (one other : ProofFault) → one ≢ Memory → other ≢ Memory
-    → IsFault rows nodes lengths plan flow one → IsFault rows nodes lengths plan flow other → one ≡ other
-
--- a legal plan with a certificate of its cost has no fault, and want of memory alone can keep it from being accepted
-abbrev pub CertifiedIsFaultless : Type 0
-CertifiedIsFaultless = (rows : Rows) (nodes lengths : List ℕ) (plan : List Step) (flow : List FlowRow) (fault : ProofFault) → IsLegal rows nodes plan
-    → IsCertificate rows nodes lengths flow (cost rows lengths plan) → IsFault rows nodes lengths plan flow fault → fault ≡ Memory

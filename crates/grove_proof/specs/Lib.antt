@@ -7,3 +7,5 @@ pub mod Laws
 pub mod Tables
 pub mod RowSums
 pub mod Checks
+pub mod PlanFaults
+pub mod FaultLaws

@@ -33,7 +33,7 @@ pub enum ProofFault {
 
 impl From<PlanFault> for ProofFault {
     ghost use Rattle.std.specs.Prelude.{◌≡◌};
-    ghost use Rattle.grove_proof.specs.Faults.{as_proof_fault};
+    ghost use Rattle.grove_proof.specs.PlanFaults.{as_proof_fault};
 
     ghost from_gives = { λ fault proof. proof ≡ as_proof_fault fault };
 

@@ -1,4 +1,4 @@
--- A core and its claims, under which records travel with locks.
+-- For the proofs alone: a core and its claims, under which records travel with locks.
 use Rattle.std.specs.Prelude.{◌≡◌, ℕ, ◌+◌, [], ◌∷◌, ◌++◌, length, slice_get, Option, Some, if◌then◌else◌}
 use Rattle.grove_access.specs.Effects.{record_at}
 use Rattle.grove_access.specs.Carries.{Carried, without}

@@ -12,7 +12,7 @@ pub struct Log {
     connections: AtomicU64,
     lines: AtomicU64,
     refused: AtomicU64,
-    /// It was told that a connection waits for a descriptor, and none was taken since.
+    /// It was told that no descriptor is left, and no connection was taken since.
     is_wanting: AtomicBool,
     /// No more connections are taken.
     is_closed: Mutex<bool>,
@@ -65,10 +65,10 @@ impl Log {
         self.refused.swap(0, Ordering::SeqCst)
     }
 
-    /// Tells that a connection waits for a descriptor, once until one is taken.
+    /// Tells that no descriptor is left for the next connection, once until one is taken.
     pub fn want_descriptor<R: Wait + Eprint>(&self, rt: &R) {
         if !self.is_wanting.swap(true, Ordering::SeqCst) {
-            self.tell(rt, "a connection waits for a descriptor");
+            self.tell(rt, "no descriptor is left for the next connection");
         }
     }
 

@@ -1,4 +1,4 @@
--- What the rows of a list's nodes tell of each node.
+-- For the proofs alone: what the rows of a list's nodes tell of each node.
 use Rattle.std.specs.Prelude.{◌≡◌, ℕ, suc, ◌-◌, ◌==◌, List, [], ◌∷◌, slice_get, Option, Some, None, option_map, option_and_then, if◌then◌else◌}
 use Rattle.grove_tree.specs.Trees.{Rows, parent_of, weight_of}
 use Rattle.grove_access.specs.Slots.{slots_before}

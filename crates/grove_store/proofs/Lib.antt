@@ -9,3 +9,5 @@ pub mod Lawful
 pub mod RoundsKeep
 pub mod Longest
 pub mod Feedless
+pub mod Taking
+pub mod Accepted

@@ -1,26 +1,21 @@
 -- The texts of replies, and those of a round one after the other.
-use Rattle.std.proofs.Common.{◌≡◌, ℕ, ◌+◌, ◌-◌, ◌<◌, List, [], ◌∷◌, ◌++◌, false, length, get_or, take, drop, map, sum, refl, sym, ◌∙◌, ap, arith, append_assoc}
+use Rattle.std.proofs.Common.{◌≡◌, ℕ, ◌+◌, ◌-◌, ◌<◌, List, [], ◌∷◌, ◌++◌, length, get_or, take, drop, map, sum, refl, sym, ◌∙◌, ap, arith, append_assoc}
 use Rattle.std.specs.Prelude.{Result, Ok, Err, IfOk, MatchResult}
 use Rattle.std.specs.Borrow.{Bor}
 use Rattle.std.proofs.lemmas.List.{at_drop_more, drop-drop, take-map, drop-map, length-map}
 use Rattle.std.proofs.lemmas.List.Sums.{sum_by-cons}
-use Rattle.serde_json.specs.Data.{Data}
-use Rattle.serde_json.specs.Written.{compact_text, has_float}
+use Rattle.serde_json.specs.Written.{compact_text}
 use Rattle.grove_base.specs.Numbers.{numbers_below}
 use Rattle.grove_base.proofs.Counting.{numbers_length}
 use Rattle.grove_access.specs.declared.reply.Reply.{Reply}
 use Rattle.grove_wire.specs.Replies.{round_data}
 use Rattle.grove_store.specs.Rounds.{round_texts}
 
--- what is written of a value without a float is its text
-pub text_is : (text : List ℕ) (view known : Data) → (has_float view ≡ false → text ≡ compact_text view) → view ≡ known → has_float known ≡ false → text ≡ compact_text known
-text_is text view known written is none = written (ap has_float is ∙ none) ∙ ap compact_text is
-
 -- a reply that was made is that of a text that was made
-pub text_made : {T E : Type 0} {P : T → Type 0} (items : T → List ℕ) (text : Result T E) (replies : List (List ℕ)) → IfOk text P → MatchResult text (λ t. replies ≡ items t ∷ []) (λ _. ⊥)
-    → (t : T) × P t × (replies ≡ items t ∷ [])
-text_made items (Ok t) replies tells one = (t, tells, one)
-text_made items (Err e) replies tells one = absurd one
+pub text_made : {E : Type 0} {P : List ℕ → Type 0} (text : Result (List ℕ) E) (replies : List (List ℕ)) → IfOk text P → MatchResult text (λ t. replies ≡ t ∷ []) (λ _. ⊥)
+    → (t : List ℕ) × P t × (replies ≡ t ∷ [])
+text_made (Ok t) replies tells one = (t, tells, one)
+text_made (Err e) replies tells one = absurd one
 
 -- one more text, of the next places and replies
 pub texts_more : (round : ℕ) (counts places : List ℕ) (replies : List (List Reply)) (texts all : List (List ℕ)) (i at count : ℕ) (text : List ℕ) → i < length counts → count ≡ get_or counts i 0

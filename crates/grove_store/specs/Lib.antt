@@ -1,4 +1,5 @@
 pub mod StoreStates
+pub mod Refusals
 pub mod Alone
 pub mod Rounds
 pub mod Parts

@@ -1,4 +1,4 @@
--- A round is as long as may be: what a count of fitting lines means.
+-- For the proofs alone: a round is as long as may be: what a count of fitting lines means.
 use Rattle.std.specs.Prelude.{◌≡◌, ℕ, ◌<◌, ◌≤◌, List, length, take, Some}
 use Rattle.grove_tree.specs.Trees.{Rows}
 use Rattle.grove_access.specs.declared.access.Access.{Access}

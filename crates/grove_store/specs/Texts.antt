@@ -1,4 +1,4 @@
--- What holds of the replies of every lawful round.
+-- For the proofs alone: what holds of the replies of every lawful round.
 use Rattle.std.specs.Prelude.{◌≢◌, ℕ, List, All}
 use Rattle.grove_store.specs.StoreStates.{StoreState}
 use Rattle.grove_store.specs.Rounds.{IsLawfulRound}

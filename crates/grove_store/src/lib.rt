@@ -2,10 +2,14 @@
 #![tactic(auto)]
 
 pub use laws::round_laws;
+pub use line_reply::LineReply;
+pub use refusal::Refusal;
 pub use refused::NoStore;
 pub use store::Store;
 
 mod laws;
+mod line_reply;
+mod refusal;
 mod refused;
 mod round;
 mod running;

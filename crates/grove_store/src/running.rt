@@ -1,10 +1,11 @@
 //! What a finished run of a round leaves.
-ghost use Rattle.std.specs.Prelude.{◌≡◌, ◌≤◌, length, map, sum, All, IfOk};
+ghost use Rattle.std.specs.Prelude.{◌≡◌, ◌≤◌, length, sum, All, IfOk};
 ghost use Rattle.grove_core.specs.Kept.{past_of};
 ghost use Rattle.grove_core.specs.Runs.{replies_of, run_records};
 ghost use Rattle.grove_run.specs.Runs.{places_of};
 ghost use Rattle.grove_store.specs.Rounds.{round_texts, waits_after};
 
+use crate::LineReply;
 use crate::texts::round_texts;
 use crate::waiting::waits_after;
 use grove_access::Records;
@@ -16,7 +17,7 @@ use std::alloc::Global;
 /// What a finished round leaves: the reply of each line, and what the store then has.
 #[derive(Drop)]
 pub struct RoundOutcome {
-    pub replies: Vec<Vec<u8>>,
+    pub replies: Vec<LineReply>,
     pub records: Records,
     pub waits: Vec<u32>,
 }
@@ -32,7 +33,7 @@ pub fn outcome_of(
     requires jobs { sum counts.now ≡ length finished.core.jobs }
     requires waits { length waits.now ≡ length finished.core.tree }
     requires few { All (λ waits. waits ≤ 1000) waits.now }
-    ensures replies { IfOk result (λ outcome. map (λ reply. reply.items) outcome.replies.items ≡ round_texts round counts.now
+    ensures replies { IfOk result (λ outcome. outcome.replies.items ≡ round_texts round counts.now
         (places_of finished.entry.order (length finished.entry.core.jobs)) (replies_of finished.entry.core.jobs finished.entry.core.opening (past_of finished.entry.core))) }
     ensures records { IfOk result (λ outcome. outcome.records ≡ run_records finished.entry.core.jobs finished.entry.core.opening (past_of finished.entry.core)) }
     ensures waits { IfOk result (λ outcome. outcome.waits.items ≡ waits_after finished.entry.core.jobs (past_of finished.entry.core) waits.now) }

@@ -1,4 +1,4 @@
-//! The texts of replies.
+//! The replies to lines.
 ghost use Rattle.std.specs.Prelude.{◌≡◌, ◌≢◌, ◌≤◌, [], ◌∷◌, length, map, replicate, sum, IfOk, MatchResult};
 ghost use Rattle.serde_json.specs.Written.{compact_text};
 ghost use Rattle.grove_access.specs.Lists.{nodes_of, AreNodes};
@@ -7,8 +7,10 @@ ghost use Rattle.grove_wire.specs.Names.{wire_name, proof_name, run_name};
 ghost use Rattle.grove_wire.specs.Replies.{error_text, round_data, weights_of, weights_data, changed_data};
 ghost use Rattle.grove_store.specs.Alone.{TellsPlan, TellsCheck};
 ghost use Rattle.grove_store.specs.Parts.{IsTextOf};
+ghost use Rattle.grove_store.specs.Refusals.{refusal_name};
 ghost use Rattle.grove_store.specs.Rounds.{round_texts};
 
+use crate::{LineReply, Refusal};
 use grove_access::{AccessList, Reply};
 use grove_build::KeptPlans;
 use grove_plan::Plan;
@@ -16,37 +18,29 @@ use grove_proof::{Flow, ProofFault, check};
 use grove_run::RunFault;
 use grove_tree::{NoMemory, Tree};
 use grove_wire::{
-    WireFault, changed_value, cost_value, error_value, planned_value, proof_fault_name,
-    round_value, run_fault_name, weights_value, wire_fault_name,
+    Fault, WireFault, changed_value, cost_value, planned_value, round_value, weights_value,
 };
 use std::alloc::Global;
 
-/// The refusal of a line, by the name of what is amiss.
-fn error_text(alloc: Global, name: &str) -> Result<Vec<u8>, NoMemory>
-    ensures { IfOk result (λ text. text.items ≡ error_text name.now) }
+/// The reply of a line that is answered alone, where there was memory for it.
+pub fn alone(alloc: Global, reply: Result<LineReply, NoMemory>) -> Result<Vec<LineReply>, NoMemory>
+    ensures { IfOk result (λ replies. MatchResult reply (λ reply. replies.items ≡ reply ∷ []) (λ _. ⊥)) }
 {
-    Ok(error_value(alloc, name)?.to_vec(alloc)?)
-}
-
-/// The reply of a line that is answered alone, where there was memory for its text.
-pub fn alone(alloc: Global, text: Result<Vec<u8>, NoMemory>) -> Result<Vec<Vec<u8>>, NoMemory>
-    ensures { IfOk result (λ texts. MatchResult text (λ text. map (λ text. text.items) texts.items ≡ text.items ∷ []) (λ _. ⊥)) }
-{
-    let text = text?;
-    let mut texts = Vec::with_capacity(alloc, 1)?;
-    texts.push(text)?;
-    Ok(texts)
+    let reply = reply?;
+    let mut replies = Vec::with_capacity(alloc, 1)?;
+    replies.push(reply)?;
+    Ok(replies)
 }
 
 /// The same refusal for each of so many lines.
-pub fn refusals(alloc: Global, name: &str, lines: usize) -> Result<Vec<Vec<u8>>, NoMemory>
-    ensures { IfOk result (λ texts. map (λ text. text.items) texts.items ≡ replicate lines (error_text name.now)) }
+pub fn refusals(alloc: Global, refusal: Refusal, lines: usize) -> Result<Vec<LineReply>, NoMemory>
+    ensures { IfOk result (λ replies. replies.items ≡ replicate lines (error_text (refusal_name refusal))) }
 {
-    let mut texts = Vec::new(alloc);
+    let mut replies = Vec::new(alloc);
     for _line in 0..lines {
-        texts.push(error_text(alloc, name)?)?;
+        replies.push(LineReply::refused(alloc, refusal)?)?;
     }
-    Ok(texts)
+    Ok(replies)
 }
 
 /// The settled plan of the list, with its cost and its flow, from what is kept.
@@ -55,15 +49,15 @@ pub fn plan_text(
     tree: &Tree,
     plans: &mut KeptPlans,
     list: &AccessList,
-) -> Result<Vec<u8>, NoMemory>
+) -> Result<LineReply, NoMemory>
     requires fits { AreNodes tree.now (nodes_of list.now) }
     requires kept { AreSettledFor tree.now plans.old }
-    ensures text { IfOk result (λ text. IsTextOf (TellsPlan tree.now list.now) text.items) }
+    ensures text { IfOk result (IsTextOf (TellsPlan tree.now list.now)) }
     ensures kept { AreSettledFor tree.now plans.new }
 {
     let planned = plans.plan(alloc, tree, list)?;
     let value = planned_value(alloc, tree, planned.cost, &planned.plan, &planned.flow)?;
-    Ok(value.to_vec(alloc)?)
+    LineReply::new(alloc, &value)
 }
 
 /// The cost of a plan that the flow certifies, else the first fault.
@@ -73,58 +67,62 @@ pub fn check_text(
     list: &AccessList,
     plan: &Plan,
     flow: &Flow,
-) -> Result<Vec<u8>, NoMemory>
+) -> Result<LineReply, NoMemory>
     requires { AreNodes tree.now (nodes_of list.now) }
-    ensures { IfOk result (λ text. IsTextOf (TellsCheck tree.now list.now plan.now flow.now) text.items) }
+    ensures { IfOk result (IsTextOf (TellsCheck tree.now list.now plan.now flow.now)) }
 {
     match check(alloc, tree, list, plan, flow) {
-        Ok(cost) => Ok(cost_value(alloc, cost)?.to_vec(alloc)?),
+        Ok(cost) => LineReply::new(alloc, &cost_value(alloc, cost)?),
         Err(fault) => proof_refusal(alloc, fault),
     }
 }
 
 /// The refusal by the fault of a proof, want of memory aside.
-fn proof_refusal(alloc: Global, fault: ProofFault) -> Result<Vec<u8>, NoMemory>
-    ensures { IfOk result (λ text. (fault ≢ ProofFault.Memory) × (text.items ≡ error_text (proof_name fault))) }
+fn proof_refusal(alloc: Global, fault: ProofFault) -> Result<LineReply, NoMemory>
+    ensures { IfOk result (λ reply. (fault ≢ ProofFault.Memory) × (reply ≡ error_text (proof_name fault))) }
 {
     match fault {
         ProofFault::Memory => Err(NoMemory),
-        other => error_text(alloc, proof_fault_name(&other)),
+        other => LineReply::refused(alloc, Refusal::Fault(Fault::Proof(other))),
     }
 }
 
 /// The refusal of a line by the fault of its reading, want of memory aside.
-pub fn wire_refusal(alloc: Global, fault: WireFault) -> Result<Vec<u8>, NoMemory>
-    ensures { IfOk result (λ text. (fault ≢ WireFault.Memory) × (text.items ≡ error_text (wire_name fault))) }
+pub fn wire_refusal(alloc: Global, fault: WireFault) -> Result<LineReply, NoMemory>
+    ensures { IfOk result (λ reply. (fault ≢ WireFault.Memory) × (reply ≡ error_text (wire_name fault))) }
 {
     match fault {
         WireFault::Memory => Err(NoMemory),
-        other => error_text(alloc, wire_fault_name(&other)),
+        other => LineReply::refused(alloc, Refusal::Fault(Fault::Wire(other))),
     }
 }
 
 /// The refusal of each of so many lines by the fault of their run, want of memory aside.
-pub fn run_refusals(alloc: Global, fault: RunFault, lines: usize) -> Result<Vec<Vec<u8>>, NoMemory>
-    ensures { IfOk result (λ texts. (fault ≢ RunFault.Memory) × (map (λ text. text.items) texts.items ≡ replicate lines (error_text (run_name fault)))) }
+pub fn run_refusals(
+    alloc: Global,
+    fault: RunFault,
+    lines: usize,
+) -> Result<Vec<LineReply>, NoMemory>
+    ensures { IfOk result (λ replies. (fault ≢ RunFault.Memory) × (replies.items ≡ replicate lines (error_text (run_name fault)))) }
 {
     match fault {
         RunFault::Memory => Err(NoMemory),
-        other => refusals(alloc, run_fault_name(&other), lines),
+        other => refusals(alloc, Refusal::Fault(Fault::Run(other)), lines),
     }
 }
 
 /// The waits and the weights.
-pub fn weights_text(alloc: Global, tree: &Tree, waits: &[u32]) -> Result<Vec<u8>, NoMemory>
-    ensures { IfOk result (λ text. text.items ≡ compact_text (weights_data waits.now (weights_of tree.now))) }
+pub fn weights_text(alloc: Global, tree: &Tree, waits: &[u32]) -> Result<LineReply, NoMemory>
+    ensures { IfOk result (λ reply. reply ≡ compact_text (weights_data waits.now (weights_of tree.now))) }
 {
-    Ok(weights_value(alloc, tree, waits)?.to_vec(alloc)?)
+    LineReply::new(alloc, &weights_value(alloc, tree, waits)?)
 }
 
 /// The number of weights that were changed.
-pub fn changed_text(alloc: Global, changed: u32) -> Result<Vec<u8>, NoMemory>
-    ensures { IfOk result (λ text. text.items ≡ compact_text (changed_data changed)) }
+pub fn changed_text(alloc: Global, changed: u32) -> Result<LineReply, NoMemory>
+    ensures { IfOk result (λ reply. reply ≡ compact_text (changed_data changed)) }
 {
-    Ok(changed_value(alloc, changed)?.to_vec(alloc)?)
+    LineReply::new(alloc, &changed_value(alloc, changed)?)
 }
 
 fn round_text(
@@ -132,10 +130,10 @@ fn round_text(
     round: u64,
     places: &[u32],
     replies: &[&[Reply]],
-) -> Result<Vec<u8>, NoMemory>
-    ensures { IfOk result (λ text. text.items ≡ compact_text (round_data round places.now (map (λ list. list.now) replies.now))) }
+) -> Result<LineReply, NoMemory>
+    ensures { IfOk result (λ reply. reply ≡ compact_text (round_data round places.now (map (λ list. list.now) replies.now))) }
 {
-    Ok(round_value(alloc, round, places, replies)?.to_vec(alloc)?)
+    LineReply::new(alloc, &round_value(alloc, round, places, replies)?)
 }
 
 /// What the lines of a round are answered: each has the next places and replies, as many as are its own.
@@ -145,10 +143,10 @@ pub fn round_texts(
     counts: &[usize],
     places: &[u32],
     replies: &[&[Reply]],
-) -> Result<Vec<Vec<u8>>, NoMemory>
+) -> Result<Vec<LineReply>, NoMemory>
     requires places { sum counts.now ≤ length places.now }
     requires replies { sum counts.now ≤ length replies.now }
-    ensures { IfOk result (λ texts. map (λ text. text.items) texts.items ≡ round_texts round counts.now places.now (map (λ list. list.now) replies.now)) }
+    ensures { IfOk result (λ texts. texts.items ≡ round_texts round counts.now places.now (map (λ list. list.now) replies.now)) }
 {
     let mut texts = Vec::new(alloc);
     let mut at = 0;

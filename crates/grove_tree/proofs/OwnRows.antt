@@ -5,7 +5,7 @@ use Rattle.std.specs.Option.{option_map, option_and_then, unwrap_or}
 use Rattle.std.proofs.lemmas.Option.{slice_get-map, slice_get_read}
 use Rattle.grove_tree.specs.Trees.{NodeRow, parent_of, name_of}
 use Rattle.grove_tree.specs.declared.row.Row.{Row}
-use Rattle.grove_tree.specs.Rules.{row_of, rows_of}
+use Rattle.grove_tree.specs.BuiltRows.{row_of, rows_of}
 
 -- a row of the list stands in the tree at its number
 pub own_row : (rows : List Row) (node : ℕ) (row : Row) → row ≡ get_or rows node row → node < length rows → slice_get (rows_of rows) node ≡ Some (row_of row)

@@ -5,7 +5,8 @@ use Rattle.std.proofs.lemmas.Bool.{cases_lt}
 use Rattle.std.specs.Option.{is_none}
 use Rattle.grove_tree.specs.Trees.{Rows, parent_of, up, IsAbove, is_at, is_above}
 use Rattle.grove_tree.specs.declared.row.Row.{Row}
-use Rattle.grove_tree.specs.Rules.{rows_of, is_well_placed, is_on_the_way, share_parent, is_twin}
+use Rattle.grove_tree.specs.Rules.{is_well_placed, is_on_the_way, share_parent, is_twin}
+use Rattle.grove_tree.specs.BuiltRows.{rows_of}
 use Rattle.grove_tree.proofs.Above.{up_le_from}
 use Rattle.grove_base.proofs.Counting.{any_from, same_tests}
 use Rattle.grove_tree.proofs.Tests.{is_at_from, is_above_true}

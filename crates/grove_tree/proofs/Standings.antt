@@ -1,7 +1,5 @@
 -- Where the nodes of a tree stand, one by one.
-use Rattle.std.proofs.Common.{◌≡◌, ℕ, suc, ◌+◌, ◌<◌, List, [], ◌∷◌, ◌++◌, length, Option, Some, get_or, refl, sym, ◌∙◌, ap, inl, inr, arith, length-append}
-use Rattle.std.proofs.lemmas.Bool.{cases_lt}
-use Rattle.std.proofs.lemmas.List.{get_or_push, get_or_append_left}
+use Rattle.std.proofs.Common.{◌≡◌, ℕ, suc, ◌+◌, ◌<◌, List, length, Option, Some, get_or, refl, sym, ◌∙◌, ap, arith}
 use Rattle.grove_tree.specs.Trees.{Rows, IsTree, parent_of, depth_of}
 use Rattle.grove_tree.specs.declared.standing.Standing.{Standing}
 use Rattle.grove_tree.specs.Standings.{standing_of, AreStandings}
@@ -27,19 +25,6 @@ pub parent_stands : (rows : Rows) → IsTree rows → (node : ℕ) (before : Lis
 parent_stands rows tree node before (long, each) parent own =
     let less : parent < node = parent_lt rows tree node parent own in
     (omega arith, (λ other. ap (λ (s : Standing). s.depth) (each parent other less)))
-
--- the standing of one more node goes to the end
-pub standings_more : (rows : Rows) (count : ℕ) (standings : List Standing) (standing : Standing) → AreStandings rows count standings → standing ≡ standing_of rows count
-    → AreStandings rows (suc count) (standings ++ standing ∷ [])
-standings_more rows count standings standing (long, each) is = (
-  omega (arith, length-append standings (standing ∷ [])),
-  (λ node other lt. elim (cases_lt node count) [
-    | inl before ↦ get_or_append_left standings (standing ∷ []) other node (omega arith) ∙ each node other before
-    | inr last ↦
-        let here : node ≡ count = omega arith in
-        rw here (get_or_push standings standing other count long ∙ is)
-  ]),
-)
 
 -- nodes stand where they stood when weights are others
 pub standings_kept : (rows others : Rows) (standings : List Standing) → AreAlike rows others → AreStandings rows (length rows) standings → AreStandings others (length others) standings

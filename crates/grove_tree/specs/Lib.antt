@@ -9,3 +9,4 @@ pub mod OutlinesInTrees
 pub mod PathRests
 pub mod Ways
 pub mod Standings
+pub mod BuiltRows

@@ -1,4 +1,4 @@
--- An outline has more rows than each of its children.
+-- For the proofs alone: an outline has more rows than each of its children.
 use Rattle.std.proofs.Common.{◌≡◌, ℕ, ◌+◌, ◌≤◌, List, [], ◌∷◌, length, Option, Some, refl, arith, length-append}
 use denote.Param.Weighed.{most}
 use Rattle.grove_tree.specs.Trees.{Rows}

@@ -1,19 +1,11 @@
 -- What is asked of the rows that a tree is built from, and the first rule that they break.
-use Rattle.std.specs.Prelude.{◌≡◌, ℕ, zero, suc, ◌≤◌, ◌<◌, ◌==◌, nat_lt, nat_le, Bool, false, not, ◌&&◌, ◌||◌, List, [], length, map, Option, Some, None, is_none, string_bytes, bytes_eq, IsTrue, if◌then◌else◌}
+use Rattle.std.specs.Prelude.{◌≡◌, ℕ, zero, suc, ◌≤◌, ◌<◌, ◌==◌, nat_lt, nat_le, Bool, false, not, ◌&&◌, ◌||◌, List, [], length, Option, Some, None, is_none, bytes_eq, IsTrue, if◌then◌else◌}
 use Rattle.std.specs.List.{list_all}
 use Rattle.std.specs.Option.{option_or}
 use Rattle.grove_base.specs.Numbers.{any_below}
-use Rattle.grove_tree.specs.Trees.{Rows, NodeRow, IsTree, parent_of, name_of, weight_of, depth_of, is_at, is_above}
-use Rattle.grove_tree.specs.declared.row.Row.{Row}
+use Rattle.grove_tree.specs.Trees.{Rows, IsTree, parent_of, name_of, weight_of, depth_of, is_at, is_above}
 use Rattle.grove_tree.specs.declared.fault.TreeFault.{TreeFault}
 use Rattle.grove_tree.specs.declared.fault.TreeFault.TheVariants.{Empty, TooMany, BadParent, TooDeep, BadName, TwiceNamed, BadWeight}
-
--- the rows as a tree sees them
-abbrev pub row_of : Row → NodeRow
-row_of row = record { parent = row.parent; name = string_bytes row.name; weight = row.weight }
-
-abbrev pub rows_of : List Row → Rows
-rows_of rows = map row_of rows
 
 -- a letter from a to z, a digit, an underscore or a dash
 abbrev pub is_name_byte : ℕ → Bool

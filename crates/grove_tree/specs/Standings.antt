@@ -1,4 +1,4 @@
--- Where the nodes of a tree stand in it.
+-- For the proofs alone: where the nodes of a tree stand in it.
 use Rattle.std.specs.Prelude.{◌≡◌, ℕ, ◌<◌, List, length, get_or}
 use Rattle.grove_tree.specs.Trees.{Rows, parent_of, depth_of}
 use Rattle.grove_tree.specs.declared.standing.Standing.{Standing}

@@ -1,4 +1,4 @@
--- The way from the root down to a node.
+-- For the proofs alone: the way from the root down to a node.
 use Rattle.std.specs.Prelude.{◌≡◌, ℕ, suc, List}
 use Rattle.grove_base.specs.Numbers.{passing_below}
 use Rattle.grove_tree.specs.Trees.{Rows, parent_of, weight_of, is_above}

@@ -1,6 +1,6 @@
 ghost use Rattle.std.specs.Prelude.{◌≡◌, ◌<◌, ◌≤◌, ◌↔◌, length, IsTrue, IfOk, Some};
 ghost use Rattle.grove_tree.specs.Trees.{IsTree, parent_of};
-ghost use Rattle.grove_tree.specs.Rules.{rows_of};
+ghost use Rattle.grove_tree.specs.BuiltRows.{rows_of};
 ghost use Rattle.grove_tree.specs.OutlinesInTrees.{IsGrown};
 
 use crate::child_mark::marks_of;

@@ -2,19 +2,8 @@ ghost use Rattle.std.specs.Prelude.{◌≡◌, ℕ, ◌<◌, ◌≤◌, ◌↔�
 ghost use Rattle.std.specs.List.{list_all};
 ghost use Rattle.grove_base.specs.Numbers.{any_below};
 ghost use Rattle.grove_tree.specs.Trees.{IsAbove, parent_of, weight_of, depth_of};
-ghost use Rattle.grove_tree.specs.Rules.{
-  rows_of,
-  is_name_byte,
-  is_name,
-  is_well_placed,
-  is_well_named,
-  share_parent,
-  is_twin,
-  is_weight,
-  row_fault,
-  rows_fault,
-  tree_fault_of,
-};
+ghost use Rattle.grove_tree.specs.Rules.{is_name_byte, is_name, is_well_placed, is_well_named, share_parent, is_twin, is_weight, row_fault, rows_fault, tree_fault_of};
+ghost use Rattle.grove_tree.specs.BuiltRows.{rows_of};
 
 use crate::{Row, TreeFault};
 

@@ -1,5 +1,6 @@
 ghost use Rattle.std.specs.Prelude.{◌≡◌, ◌<◌, length, IfOk};
-ghost use Rattle.grove_tree.specs.Rules.{rows_of, AreTreeRows};
+ghost use Rattle.grove_tree.specs.Rules.{AreTreeRows};
+ghost use Rattle.grove_tree.specs.BuiltRows.{rows_of};
 ghost use Rattle.grove_tree.specs.Standings.{standing_of, AreStandings};
 
 use crate::rules::parent_of_row;

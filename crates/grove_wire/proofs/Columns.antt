@@ -1,13 +1,19 @@
 -- Rows read in turn into two lists, one of rows and one of records.
 use Rattle.std.proofs.Common.{◌≡◌, ℕ, ◌+◌, ◌<◌, ◌≤◌, List, [], ◌∷◌, ◌++◌, length, get_or, refl, append_assoc, append-nil}
-use Rattle.std.specs.Prelude.{Result, Ok, Err, ℤ}
+use Rattle.std.specs.Prelude.{Result, Ok, Err, ℤ, map}
 use Rattle.serde_json.specs.View.{view}
 use Rattle.serde_json.specs.declared.value.Value.{Value}
 use Rattle.grove_tree.specs.Trees.{Rows, NodeRow}
 use Rattle.grove_wire.specs.declared.fault.WireFault.{WireFault}
 use Rattle.grove_wire.specs.Outcomes.{◌>>=◌}
-use Rattle.grove_wire.specs.Reading.{rows_in, records_in, row_at}
+use Rattle.grove_wire.specs.Reading.{row_at}
 use Rattle.grove_wire.proofs.Each.{rest_read, rest_stops, rest_ends, rest_goes}
+
+abbrev pub rows_in : List (NodeRow × ℤ) → Rows
+rows_in rows = map (λ row. row.0) rows
+
+abbrev pub records_in : List (NodeRow × ℤ) → List ℤ
+records_in rows = map (λ row. row.1) rows
 
 -- rows and records that were read before, and then those of the rest
 abbrev pub with_columns : Rows → List ℤ → Result (List (NodeRow × ℤ)) WireFault → Result (Rows × List ℤ) WireFault

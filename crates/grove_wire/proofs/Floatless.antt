@@ -10,8 +10,8 @@ use Rattle.grove_access.specs.declared.reply.Reply.TheVariants.{Value, Done, Ran
 use Rattle.grove_plan.specs.declared.step.Step.{Step}
 use Rattle.grove_plan.specs.declared.step.Step.TheVariants.{Lock, Unlock, Access}
 use Rattle.grove_proof.specs.declared.flow.FlowRow.{FlowRow}
-use Rattle.grove_wire.specs.Writing.{number_data, reply_data, replies_data, numbers_data, count_data, step_data, plan_data, flow_row_data, flow_data}
-use Rattle.grove_wire.specs.Replies.{counts_data, planned_data, lists_data, round_data, weights_data}
+use Rattle.grove_wire.specs.Writing.{number_data, reply_data, count_data, step_data, plan_data, flow_row_data, flow_data, array_of}
+use Rattle.grove_wire.specs.Replies.{planned_data, round_data, weights_data}
 
 -- an array has none where no item has one
 pub array_has_no_float : {A : Type 0} (data_of : A → Data) → ((x : A) → has_float (data_of x) ≡ false) → (xs : List A) → has_float (array (items_of (map data_of xs))) ≡ false
@@ -33,10 +33,10 @@ step_is_no_float tree (Lock node) = refl
 step_is_no_float tree (Unlock node) = refl
 step_is_no_float tree (Access access) = refl
 
-pub numbers_have_no_float : (numbers : List ℤ) → has_float (numbers_data numbers) ≡ false
+pub numbers_have_no_float : (numbers : List ℤ) → has_float (array_of number_data numbers) ≡ false
 numbers_have_no_float numbers = array_has_no_float number_data number_is_no_float numbers
 
-pub replies_have_no_float : (replies : List Reply) → has_float (replies_data replies) ≡ false
+pub replies_have_no_float : (replies : List Reply) → has_float (array_of reply_data replies) ≡ false
 replies_have_no_float replies = array_has_no_float reply_data reply_is_no_float replies
 
 pub plan_has_no_float : (tree : Rows) (plan : List Step) → has_float (plan_data tree plan) ≡ false
@@ -45,11 +45,11 @@ plan_has_no_float tree plan = array_has_no_float (step_data tree) (step_is_no_fl
 pub flow_has_no_float : (tree : Rows) (flow : List FlowRow) → has_float (flow_data tree flow) ≡ false
 flow_has_no_float tree flow = array_has_no_float (flow_row_data tree) (λ row. refl) flow
 
-pub counts_have_no_float : (counts : List ℕ) → has_float (counts_data counts) ≡ false
+pub counts_have_no_float : (counts : List ℕ) → has_float (array_of count_data counts) ≡ false
 counts_have_no_float counts = array_has_no_float count_data (λ count. refl) counts
 
-pub lists_have_no_float : (replies : List (List Reply)) → has_float (lists_data replies) ≡ false
-lists_have_no_float replies = array_has_no_float replies_data replies_have_no_float replies
+pub lists_have_no_float : (replies : List (List Reply)) → has_float (array_of (array_of reply_data) replies) ≡ false
+lists_have_no_float replies = array_has_no_float (array_of reply_data) replies_have_no_float replies
 
 -- replies to lines
 

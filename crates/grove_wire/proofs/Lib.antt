@@ -1,6 +1,7 @@
 pub mod Items
 pub mod Documents
 pub mod Each
+pub mod Turns
 pub mod Columns
 pub mod Shorts
 pub mod Written
@@ -15,6 +16,7 @@ pub mod Slashes
 pub mod Stored
 pub mod DocumentTexts
 pub mod Sketching
+pub mod SketchedItems
 pub mod Sketches
 pub mod LeastFits
 pub mod Feedless

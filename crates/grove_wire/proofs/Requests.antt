@@ -5,16 +5,17 @@ use Rattle.std.specs.List.{All}
 use Rattle.serde_json.specs.Data.{Data}
 use Rattle.serde_json.specs.Find.{as_object}
 use Rattle.grove_tree.specs.Trees.{Rows}
-use Rattle.grove_access.specs.Lists.{AreListed}
+use Rattle.grove_access.specs.ListFaults.{AreListed}
 use Rattle.grove_wire.specs.declared.fault.WireFault.TheVariants.{BadJson, Shape}
 use Rattle.grove_wire.specs.declared.place.Part.TheVariants as part
 use Rattle.grove_wire.specs.declared.versions.Version.TheVariants.{Second}
 use Rattle.grove_wire.specs.Outcomes.{or_fault}
 use Rattle.grove_wire.specs.Places.{whole_of}
 use Rattle.grove_wire.specs.Forms.{as_list}
-use Rattle.grove_wire.specs.Reading.{value_of, object_of, list_on, lists_of, list_in, plan_in, flow_in}
+use Rattle.grove_wire.specs.Reading.{value_of, object_at, list_on, lists_of, list_in, plan_in, flow_in}
 use Rattle.grove_wire.specs.Writing.{PlanFits, FlowFits}
-use Rattle.grove_wire.specs.Requests.{RequestsFit, ReadingNeedsNoRoom, Plan, Check, Batch, AskedFits, only_member, plan_of, check_of, batch_of, named_of, request_of}
+use Rattle.grove_wire.specs.RequestLaws.{AskedFits, RequestsFit, ReadingNeedsNoRoom}
+use Rattle.grove_wire.specs.Requests.{Plan, Check, Batch, only_member, plan_of, check_of, batch_of, named_of, request_of}
 use Rattle.grove_wire.proofs.Fitting.{Reads, then_reads, any_reads, either_reads, list_on_reads, lists_read, list_in_reads, plan_reads, flow_reads}
 
 plan_asks : (rows : Rows) (d : Data) → Reads (AskedFits rows) (plan_of rows d)
@@ -22,13 +23,13 @@ unfolding plan_of
 plan_asks rows d =
     then_reads (AreListed rows) (AskedFits rows) (list_on rows Second (whole_of part.List) d) (λ list. Ok (Plan list)) (list_on_reads rows Second (whole_of part.List) d) (λ list listed. listed)
 
-object_reads : (d : Data) → Reads (λ object. Unit {0}) (object_of d)
+object_reads : (d : Data) → Reads (λ object. Unit {0}) (object_at (whole_of part.Whole) d)
 object_reads d = either_reads (λ object. Unit {0}) (is_some (as_object d)) (Ok d) (Err (Shape (whole_of part.Whole))) tt tt
 
 check_asks : (rows : Rows) (d : Data) → Reads (AskedFits rows) (check_of rows d)
 unfolding check_of
 check_asks rows d =
-    then_reads (λ object. Unit {0}) (AskedFits rows) (object_of d) _ (object_reads d) (λ object told.
+    then_reads (λ object. Unit {0}) (AskedFits rows) (object_at (whole_of part.Whole) d) _ (object_reads d) (λ object told.
     then_reads (AreListed rows) (AskedFits rows) (list_in rows object) _ (list_in_reads rows object) (λ list listed.
     then_reads (PlanFits rows) (AskedFits rows) (plan_in rows object) _ (plan_reads rows object) (λ plan plan_fits.
     then_reads (FlowFits rows) (AskedFits rows) (flow_in rows object) (λ flow. Ok (Check list plan flow)) (flow_reads rows object) (λ flow flow_fits. (listed, plan_fits, flow_fits)))))

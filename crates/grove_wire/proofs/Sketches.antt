@@ -1,265 +1,34 @@
--- What a line asks for is read of a sketch of its value as it is read of the value.
-use Rattle.std.proofs.Common.{◌≡◌, ℕ, suc, ◌<◌, ◌≤◌, Bool, true, false, cond, List, [], ◌∷◌, length, take, Option, Some, None, option_map, option_and_then, Ordering, Less, Equal, Greater, refl, ap, ap₂, sym, subst, ◌∙◌, arith, bytes_eq, codes, is_eq, true≢false}
-use Rattle.std.specs.Prelude.{Result, Ok, Err, map, nat_lt, ℤ, is_some}
+-- What a line asks for is read of a sketch of its value as it is read of the value: members, flows, checks, the line.
+use Rattle.std.proofs.Common.{◌≡◌, ℕ, Bool, true, false, cond, List, [], ◌∷◌, Option, Some, None, option_map, option_and_then, Ordering, Less, Equal, Greater, refl, ap, ap₂, sym, subst, ◌∙◌, bytes_eq, codes, is_eq, true≢false}
+use Rattle.std.specs.Prelude.{Result, Ok, Err, is_some, ◌==◌}
 use Rattle.std.specs.Ordering.{nat_cmp, match_ordering}
 use Rattle.std.specs.Cmp.Lexicographic.{slice_cmp}
-use Rattle.std.proofs.lemmas.Bool.{lt-ltb, ltb-true, ltb-false}
-use Rattle.std.proofs.lemmas.List.{take_all, length-take-le}
 use Rattle.std.proofs.lemmas.Option.{same_Some}
 use Rattle.std.proofs.lemmas.Map.Text.{is_eq-slice_cmp}
 use Rattle.std.proofs.lemmas.Slice.Eq.{bytes_eq-Decides}
 use Rattle.json.specs.Json as json
-use Rattle.serde_json.specs.Data.{Num, Data, null, boolean, number, string, array, object, Items, no_items, item, Members, no_members, member, put}
+use Rattle.serde_json.specs.Data.{Num, Data, null, boolean, number, string, array, object, Items, Members, no_members, member, put}
 use Rattle.serde_json.specs.Find.{get, get_member, as_number, as_str, as_object, as_u64}
 use Rattle.serde_json.specs.Read.{number_of, of_json, of_items, of_members}
-use Rattle.serde_json.specs.View.{items_of}
 use Rattle.serde_json.proofs.Views.{get_member-put, get_member-put_other}
-use Rattle.grove_base.proofs.Lists.{map_length}
 use Rattle.grove_tree.specs.Trees.{Rows}
-use Rattle.grove_access.specs.declared.access.Op.{Op}
-use Rattle.grove_access.specs.declared.access.Op.TheVariants.{Get}
-use Rattle.grove_plan.specs.declared.step.Step.TheVariants as step
+use Rattle.grove_proof.specs.declared.flow.FlowRow.{FlowRow}
 use Rattle.grove_wire.specs.declared.fault.WireFault.{WireFault}
 use Rattle.grove_wire.specs.declared.fault.WireFault.TheVariants.{BadJson, Shape, Limit}
 use Rattle.grove_wire.specs.declared.place.Part.{Part}
 use Rattle.grove_wire.specs.declared.place.Part.TheVariants as part
-use Rattle.grove_wire.specs.declared.place.Place.{Place}
-use Rattle.grove_wire.specs.declared.versions.Version.{Version}
-use Rattle.grove_wire.specs.declared.versions.Version.TheVariants.{Second}
+use Rattle.grove_wire.specs.declared.versions.Version.TheVariants.{First, Second}
 use Rattle.grove_wire.specs.declared.sketch.Form.{Form}
 use Rattle.grove_wire.specs.declared.sketch.Form.TheVariants as form
-use Rattle.grove_wire.specs.Outcomes.{◌>>=◌, or_fault, each_from}
-use Rattle.grove_wire.specs.Places.{whole_of, item_of, item_on, part_word}
+use Rattle.grove_wire.specs.Outcomes.{◌>>=◌, or_fault, each_from, each_on}
+use Rattle.grove_wire.specs.Places.{whole_of, item_of, part_word}
 use Rattle.grove_wire.specs.Forms as forms
 use Rattle.grove_wire.specs.Reading as reading
 use Rattle.grove_wire.specs.Requests as requests
-use Rattle.grove_wire.specs.Sketches.{item_form, most_items, member_form, line_member, leaf, number_data, cut, put_kept, drawn, drawn_items, drawn_members, Draft}
-
--- ---- a value with its text
-
-pub record Row : Type 0 where
-  pub text : json.Json
-  pub whole : Data
-  pub reads : of_json text ≡ Some whole
-
-abbrev pub wholes : List Row → List Data
-wholes rows = map (λ row. row.whole) rows
-
-abbrev pub sketches : Form → List Row → List Data
-sketches f rows = map (λ row. drawn f row.text) rows
-
--- the items of an array that is read, each with its text
-pub record ItemRows (js : json.Items) (ds : Items) : Type 0 where
-  pub rows : List Row
-  pub whole : forms.list_items ds ≡ wholes rows
-  pub drawn_so : (f : Form) → drawn_items f js ≡ sketches f rows
-
-item_rows : (js : json.Items) (ds : Items) → of_items js ≡ Some ds → ItemRows js ds
-item_rows json.no_items ds is = record {
-  rows = [];
-  whole = ap forms.list_items (sym (same_Some no_items ds is));
-  drawn_so = λ f. refl;
-}
-item_rows (json.item j js) ds is = with_item (of_json j) (of_items js) refl refl (item_rows js) is
-  where
-    with_item : (o : Option Data) (p : Option Items) → of_json j ≡ o → of_items js ≡ p → ((es : Items) → of_items js ≡ Some es → ItemRows js es) → option_and_then (λ d. option_map (item d) p) o ≡ Some ds → ItemRows (json.item j js) ds
-    with_item None p here there again is = absurd (cc)
-    with_item (Some d) None here there again is = absurd (cc)
-    with_item (Some d) (Some es) here there again is =
-        let rest = again es there in
-        let row : Row = record { text = j; whole = d; reads = here } in
-        record {
-          rows = row ∷ rest.rows;
-          whole = ap forms.list_items (sym (same_Some (item d es) ds is)) ∙ ap (λ xs. d ∷ xs) rest.whole;
-          drawn_so = λ f. ap (λ xs. drawn f j ∷ xs) (rest.drawn_so f);
-        }
-
-list_of_items : (ds : List Data) → forms.list_items (items_of ds) ≡ ds
-list_of_items [] = refl
-list_of_items (d ∷ ds) = ap (λ xs. d ∷ xs) (list_of_items ds)
-
--- ---- what looks at a scalar alone, or at an array alone
-
-leaf_same : {A : Type 0} (look : Data → A) (f : Form) (d : Data) → look null ≡ look d → look (leaf f d) ≡ look d
-leaf_same look form.Nothing d same = same
-leaf_same look form.Scalar d same = refl
-leaf_same look form.Access d same = same
-leaf_same look form.List d same = same
-leaf_same look form.Batch d same = same
-leaf_same look form.Step d same = same
-leaf_same look form.Plan d same = same
-leaf_same look form.Row d same = same
-leaf_same look form.Flow d same = same
-leaf_same look form.Check d same = same
-leaf_same look form.Line d same = same
-
-module _ {A : Type 0} (look : Data → A) where
-  number_same : (f : Form) (o : Option Num) (d : Data) → option_map number o ≡ Some d → ((n : Num) → look (leaf f (number n)) ≡ look (number n)) → look (leaf f (number_data o)) ≡ look d
-  number_same f None d is same = absurd (cc)
-  number_same f (Some n) d is same = same n ∙ ap look (same_Some (number n) d is)
-
-  array_same : (e : Data) (o : Option Items) (d : Data) → option_map array o ≡ Some d → ((ds : Items) → o ≡ Some ds → look e ≡ look (array ds)) → look e ≡ look d
-  array_same e None d is same = absurd (cc)
-  array_same e (Some ds) d is same = same ds refl ∙ ap look (same_Some (array ds) d is)
-
-  object_same : (e : Data) (o : Option Members) (d : Data) → option_map object o ≡ Some d → ((ms : Members) → o ≡ Some ms → look e ≡ look (object ms)) → look e ≡ look d
-  object_same e None d is same = absurd (cc)
-  object_same e (Some ms) d is same = same ms refl ∙ ap look (same_Some (object ms) d is)
-
-  -- of a scalar
-  pub scalar_same : (no_boolean : (b : Bool) → look null ≡ look (boolean b)) (arrays : (ds es : Items) → look (array ds) ≡ look (array es)) (objects : (ms ns : Members) → look (object ms) ≡ look (object ns))
-      → (row : Row) → look (drawn form.Scalar row.text) ≡ look row.whole
-  scalar_same no_boolean arrays objects row = by_text row.text row.whole row.reads
-    where
-      by_text : (j : json.Json) (d : Data) → of_json j ≡ Some d → look (drawn form.Scalar j) ≡ look d
-      by_text json.null d is = ap look (same_Some null d is)
-      by_text (json.boolean b) d is = no_boolean b ∙ ap look (same_Some (boolean b) d is)
-      by_text (json.number s) d is = number_same form.Scalar (number_of s) d is (λ n. refl)
-      by_text (json.string s) d is = ap look (same_Some (string s) d is)
-      by_text (json.array js) d is = array_same (drawn form.Scalar (json.array js)) (of_items js) d is (λ ds at. arrays _ ds)
-      by_text (json.object ms) d is = object_same (drawn form.Scalar (json.object ms)) (of_members ms no_members) d is (λ ns at. objects _ ns)
-
--- of an array
-pub list_same : {A : Type 0} (f : Form) (look : Option (List Data) → A) → ((rows : List Row) → look (Some (cut (most_items f) (sketches (item_form f) rows))) ≡ look (Some (wholes rows)))
-    → (row : Row) → look (forms.as_list (drawn f row.text)) ≡ look (forms.as_list row.whole)
-list_same {A} f look same row = by_text row.text row.whole row.reads
-  where
-    seen : Data → A
-    seen d = look (forms.as_list d)
-
-    by_text : (j : json.Json) (d : Data) → of_json j ≡ Some d → seen (drawn f j) ≡ seen d
-    by_text json.null d is = ap seen (same_Some null d is)
-    by_text (json.boolean b) d is = ap seen (same_Some (boolean b) d is)
-    by_text (json.number s) d is = number_same seen f (number_of s) d is (λ n. leaf_same seen f (number n) refl)
-    by_text (json.string s) d is = leaf_same seen f (string s) refl ∙ ap seen (same_Some (string s) d is)
-    by_text (json.array js) d is = array_same seen (drawn f (json.array js)) (of_items js) d is (λ ds at.
-        let items = item_rows js ds at in
-        ap (λ xs. look (Some xs)) (list_of_items (cut (most_items f) (drawn_items (item_form f) js)) ∙ ap (cut (most_items f)) (items.drawn_so (item_form f)))
-        ∙ same items.rows ∙ ap (λ xs. look (Some xs)) (sym items.whole))
-    by_text (json.object ms) d is = object_same seen (drawn f (json.object ms)) (of_members ms no_members) d is (λ ns at. refl)
-
--- ---- items that read the same
-
-module _ {A : Type 0} (f : Form) (read : ℕ → Data → Result A WireFault) (same : (at : ℕ) (row : Row) → read at (drawn f row.text) ≡ read at row.whole) where
-  pub each_same : (at : ℕ) (rows : List Row) → each_from read at (sketches f rows) ≡ each_from read at (wholes rows)
-  each_same at [] = refl
-  each_same at (row ∷ rows) = ap₂ (λ first others. first >>= λ x. others >>= λ xs. Ok (x ∷ xs)) (same at row) (each_same (suc at) rows)
-
-  abbrev pub limited : ℕ → WireFault → List Data → Result (List A) WireFault
-  limited limit fault ds = cond (nat_lt limit (length ds)) (Err fault) (each_from read 0 ds)
-
-  -- of more than may be it only matters that they are
-  pub limited_same : (limit : ℕ) (fault : WireFault) (rows : List Row) → limited limit fault (take (suc limit) (sketches f rows)) ≡ limited limit fault (wholes rows)
-  limited_same limit fault rows = by_test (nat_lt limit (length rows)) refl
-    where
-      by_test : (test : Bool) → nat_lt limit (length rows) ≡ test → limited limit fault (take (suc limit) (sketches f rows)) ≡ limited limit fault (wholes rows)
-      by_test true beyond =
-          let many : limit < length rows = ltb-true limit (length rows) beyond in
-          let kept : length (take (suc limit) (sketches f rows)) ≡ suc limit = length-take-le (suc limit) (sketches f rows) (omega (arith, many, map_length (λ row. drawn f row.text) rows)) in
-          let here : nat_lt limit (length (take (suc limit) (sketches f rows))) ≡ true = lt-ltb limit _ (omega (arith, kept)) in
-          let there : nat_lt limit (length (wholes rows)) ≡ true = ap (nat_lt limit) (map_length (λ row. row.whole) rows) ∙ beyond in
-          ap (λ test. cond test (Err fault) (each_from read 0 (take (suc limit) (sketches f rows)))) here ∙ sym (ap (λ test. cond test (Err fault) (each_from read 0 (wholes rows))) there)
-      by_test false within =
-          let few : length rows ≤ limit = ltb-false limit (length rows) within in
-          let all : take (suc limit) (sketches f rows) ≡ sketches f rows = take_all (suc limit) (sketches f rows) (omega (arith, few, map_length (λ row. drawn f row.text) rows)) in
-          ap (limited limit fault) all
-          ∙ ap₂ (λ n rest. cond (nat_lt limit n) (Err fault) rest) (map_length (λ row. drawn f row.text) rows ∙ sym (map_length (λ row. row.whole) rows)) (each_same 0 rows)
-
--- ---- scalars
-
-module _ (row : Row) where
-  word_same : (word : List ℕ) → forms.is_word word (drawn form.Scalar row.text) ≡ forms.is_word word row.whole
-  word_same word = scalar_same (forms.is_word word) (λ b. refl) (λ ds es. refl) (λ ms ns. refl) row
-
-  text_same : as_str (drawn form.Scalar row.text) ≡ as_str row.whole
-  text_same = scalar_same as_str (λ b. refl) (λ ds es. refl) (λ ms ns. refl) row
-
-  signed_same : forms.as_signed (drawn form.Scalar row.text) ≡ forms.as_signed row.whole
-  signed_same = scalar_same forms.as_signed (λ b. refl) (λ ds es. refl) (λ ms ns. refl) row
-
-  unsigned_same : option_and_then as_u64 (as_number (drawn form.Scalar row.text)) ≡ option_and_then as_u64 (as_number row.whole)
-  unsigned_same = scalar_same (λ d. option_and_then as_u64 (as_number d)) (λ b. refl) (λ ds es. refl) (λ ms ns. refl) row
-
-  short_same : forms.as_short (drawn form.Scalar row.text) ≡ forms.as_short row.whole
-  unfolding forms.as_short
-  short_same = ap (option_and_then forms.if_short) unsigned_same
-
--- ---- the same of the same
-
-three : {A B C D : Type 0} (f : A → B → C → D) {a b : A} {c d : B} {x y : C} → a ≡ b → c ≡ d → x ≡ y → f a c x ≡ f b d y
-three f p q r = ap₂ (λ g z. g z) (ap₂ f p q) r
-
-applied : {A B : Type 0} {f g : A → B} {a b : A} → f ≡ g → a ≡ b → f a ≡ g b
-applied p q = ap₂ (λ h z. h z) p q
-
-if_same : {A : Type 0} {s t : Bool} {a b c d : A} → s ≡ t → a ≡ b → c ≡ d → cond s a c ≡ cond t b d
-if_same p q r = three (λ test here there. cond test here there) p q r
-
--- ---- accesses and lists
-
-get_same : (a : Row) → forms.get_of (drawn form.Scalar a.text) ≡ forms.get_of a.whole
-get_same a = if_same (word_same a (codes "get")) refl refl
-
-op_same : (a : Row) (value : ℤ) → forms.op_of (drawn form.Scalar a.text) value ≡ forms.op_of a.whole value
-op_same a value = if_same (word_same a (codes "set")) refl (if_same (word_same a (codes "add")) refl (if_same (word_same a (codes "take")) refl refl))
-
-numbered_same : (a b : Row) → forms.numbered_op (drawn form.Scalar a.text) (drawn form.Scalar b.text) ≡ forms.numbered_op a.whole b.whole
-numbered_same a b = ap (option_and_then (forms.op_of (drawn form.Scalar a.text))) (signed_same b) ∙ by_value (forms.as_signed b.whole)
-  where
-    by_value : (o : Option ℤ) → option_and_then (forms.op_of (drawn form.Scalar a.text)) o ≡ option_and_then (forms.op_of a.whole) o
-    by_value None = refl
-    by_value (Some value) = op_same a value
-
-length_same : (path length : Row) (op p : Option Op) → op ≡ p → forms.with_length (drawn form.Scalar path.text) op (drawn form.Scalar length.text) ≡ forms.with_length path.whole p length.whole
-length_same path length op p same =
-    three (λ text o told. option_and_then (λ slots. option_and_then (λ t. option_map (λ found. forms.access_with t found (Some slots)) o) text) told) (text_same path) same (unsigned_same length)
-
-no_length_same : (path : Row) (op p : Option Op) → op ≡ p → forms.form_with (drawn form.Scalar path.text) op None ≡ forms.form_with path.whole p None
-no_length_same path op p same = ap₂ (λ text o. option_and_then (λ t. option_map (λ found. forms.access_with t found None) o) text) (text_same path) same
-
-form_same : (rows : List Row) → forms.form_of (take 5 (sketches form.Scalar rows)) ≡ forms.form_of (wholes rows)
-form_same [] = refl
-form_same (a ∷ []) = refl
-form_same (a ∷ b ∷ []) = no_length_same b _ _ (get_same a)
-form_same (a ∷ b ∷ c ∷ []) = if_same (word_same a (codes "get")) (length_same b c (Some Get) (Some Get) refl) (no_length_same b _ _ (numbered_same a c))
-form_same (a ∷ b ∷ c ∷ d ∷ []) = length_same b d _ _ (numbered_same a c)
-form_same (a ∷ b ∷ c ∷ d ∷ e ∷ rows) = refl
-
-access_same : (version : Version) (row : Row) → forms.access_form version (drawn form.Access row.text) ≡ forms.access_form version row.whole
-unfolding forms.access_form
-access_same version row = list_same form.Access (λ o. option_and_then (forms.allowed version) (option_and_then forms.form_of o)) (λ rows. ap (option_and_then (forms.allowed version)) (form_same rows)) row
-
-access_in_same : (tree : Rows) (version : Version) (place : Place) (at : ℕ) (row : Row) → reading.access_in tree version place at (drawn form.Access row.text) ≡ reading.access_in tree version place at row.whole
-unfolding reading.access_at
-access_in_same tree version place at row =
-    ap (λ o. or_fault (Shape (item_on place at)) o >>= λ form. reading.node_on tree (item_on place at) form.path >>= λ node. reading.length_on (item_on place at) form.length >>= λ slots. Ok (record { node = node; op = form.op; length = slots }))
-    (access_same version row)
-
-list_of_same : (tree : Rows) (version : Version) (place : Place) (rows : List Row) → reading.list_of tree version place (take 65 (sketches form.Access rows)) ≡ reading.list_of tree version place (wholes rows)
-list_of_same tree version place rows = limited_same form.Access (reading.access_in tree version place) (access_in_same tree version place) 64 (Limit place) rows
-
-list_on_same : (tree : Rows) (version : Version) (place : Place) (row : Row) → reading.list_on tree version place (drawn form.List row.text) ≡ reading.list_on tree version place row.whole
-unfolding reading.list_on
-list_on_same tree version place row = list_same form.List (λ o. or_fault (Shape place) o >>= reading.list_of tree version place) (list_of_same tree version place) row
-
--- ---- steps and plans
-
-step_of_same : (tree : Rows) (place : Place) (a b : Row) → reading.step_of tree place (drawn form.Scalar a.text) (drawn form.Scalar b.text) ≡ reading.step_of tree place a.whole b.whole
-unfolding reading.step_of
-step_of_same tree place a b =
-    if_same (word_same a (codes "lock")) (ap (λ text. (or_fault (Shape place) text >>= reading.node_on tree place) >>= λ node. Ok (step.Lock node)) (text_same b))
-    (if_same (word_same a (codes "unlock")) (ap (λ text. (or_fault (Shape place) text >>= reading.node_on tree place) >>= λ node. Ok (step.Unlock node)) (text_same b))
-    (if_same (word_same a (codes "access")) (ap (λ short. or_fault (Shape place) short >>= λ access. Ok (step.Access access)) (short_same b)) refl))
-
-step_on_same : (tree : Rows) (place : Place) (rows : List Row) → reading.step_on tree place (take 3 (sketches form.Scalar rows)) ≡ reading.step_on tree place (wholes rows)
-step_on_same tree place [] = refl
-step_on_same tree place (a ∷ []) = refl
-step_on_same tree place (a ∷ b ∷ []) = step_of_same tree place a b
-step_on_same tree place (a ∷ b ∷ c ∷ rows) = refl
-
-step_in_same : (tree : Rows) (place : Place) (at : ℕ) (row : Row) → reading.step_in tree place at (drawn form.Step row.text) ≡ reading.step_in tree place at row.whole
-unfolding reading.step_at
-step_in_same tree place at row = list_same form.Step (λ o. or_fault (Shape (item_on place at)) o >>= reading.step_on tree (item_on place at)) (step_on_same tree (item_on place at)) row
+use Rattle.grove_wire.specs.Sketches.{item_form, most_items, member_form, line_member, leaf, number_data, cut, put_kept, drawn, drawn_members, Draft}
+use Rattle.grove_wire.specs.RowParts.{flow_with}
+use Rattle.grove_wire.proofs.Turns.{nth_list, step_in, flow_row_in}
+use Rattle.grove_wire.proofs.SketchedItems.{Row, wholes, sketches, leaf_same, number_same, array_same, object_same, list_same, each_same, limited_same, text_same, unsigned_same, three, applied, list_of_same, list_on_same, step_in_same}
 
 -- ---- members
 
@@ -380,14 +149,14 @@ flow_form_same row =
     let first_two = ap₂ rows_of (node_same row) (amount_same (codes "above") refl row) in
     applied (applied (applied (applied first_two (amount_same (codes "held") refl row)) (amount_same (codes "first") refl row)) (amount_same (codes "last") refl row)) (amount_same (codes "own") refl row)
   where
-    rows_of : Option (List ℕ) → Option ℕ → Option ℕ → Option ℕ → Option ℕ → Option ℕ → Option forms.FlowForm
+    rows_of : Option (List ℕ) → Option ℕ → Option ℕ → Option ℕ → Option ℕ → Option ℕ → Option (List ℕ × FlowRow)
     rows_of p a h f l o =
-        option_and_then (λ path. option_and_then (λ above. option_and_then (λ held. option_and_then (λ first. option_and_then (λ last. option_and_then (λ own. Some (forms.flow_with path above held first last own)) o) l) f) h) a) p
+        option_and_then (λ path. option_and_then (λ above. option_and_then (λ held. option_and_then (λ first. option_and_then (λ last. option_and_then (λ own. Some (flow_with path above held first last own)) o) l) f) h) a) p
 
-flow_row_in_same : (tree : Rows) (at : ℕ) (row : Row) → reading.flow_row_in tree at (drawn form.Row row.text) ≡ reading.flow_row_in tree at row.whole
+flow_row_in_same : (tree : Rows) (at : ℕ) (row : Row) → flow_row_in tree at (drawn form.Row row.text) ≡ flow_row_in tree at row.whole
 unfolding reading.flow_row_at
 flow_row_in_same tree at row =
-    ap (λ o. or_fault (Shape (item_of part.Flow at)) o >>= λ form. reading.node_on tree (item_of part.Flow at) form.path >>= λ node. Ok (reading.flow_row node form)) (flow_form_same row)
+    ap (λ o. or_fault (Shape (item_of part.Flow at)) o >>= λ form. reading.node_on tree (item_of part.Flow at) form.0 >>= λ node. Ok (record form.1 { node = node })) (flow_form_same row)
 
 -- ---- a check
 
@@ -410,7 +179,7 @@ module _ (tree : Rows) (row : Row) where
   version_same : reading.version_in (drawn form.Check row.text) ≡ reading.version_in row.whole
   unfolding reading.version_in
   version_same = member_same form.Check form.Scalar (codes "version") refl (check_others (codes "version")) (λ o. or_fault (Shape (whole_of part.Whole)) (forms.version_of o))
-      (λ r. ap (λ o. or_fault (Shape (whole_of part.Whole)) (option_and_then forms.version_numbered o)) (unsigned_same r)) row
+      (λ r. ap (λ o. or_fault (Shape (whole_of part.Whole)) (option_and_then (λ n. cond (n == 1) (Some First) (cond (n == 2) (Some Second) None)) o)) (unsigned_same r)) row
 
   list_in_same : reading.list_in tree (drawn form.Check row.text) ≡ reading.list_in tree row.whole
   unfolding reading.list_in
@@ -418,12 +187,12 @@ module _ (tree : Rows) (row : Row) where
 
   plan_in_same : reading.plan_in tree (drawn form.Check row.text) ≡ reading.plan_in tree row.whole
   unfolding reading.plan_in
-  plan_in_same = part_same part.Plan form.Plan refl (reading.steps_of tree (whole_of part.Plan))
-      (λ rows. each_same form.Step (reading.step_in tree (whole_of part.Plan)) (step_in_same tree (whole_of part.Plan)) 0 rows) row
+  plan_in_same = part_same part.Plan form.Plan refl (each_on (reading.step_at tree) (whole_of part.Plan))
+      (λ rows. each_same form.Step (step_in tree (whole_of part.Plan)) (step_in_same tree (whole_of part.Plan)) 0 rows) row
 
   flow_in_same : reading.flow_in tree (drawn form.Check row.text) ≡ reading.flow_in tree row.whole
   unfolding reading.flow_in
-  flow_in_same = part_same part.Flow form.Flow refl (each_from (reading.flow_row_in tree) 0) (λ rows. each_same form.Row (reading.flow_row_in tree) (flow_row_in_same tree) 0 rows) row
+  flow_in_same = part_same part.Flow form.Flow refl (each_from (flow_row_in tree) 0) (λ rows. each_same form.Row (flow_row_in tree) (flow_row_in_same tree) 0 rows) row
 
   kind_same : is_some (as_object (drawn form.Check row.text)) ≡ is_some (as_object row.whole)
   kind_same = by_text row.text row.whole row.reads
@@ -464,7 +233,7 @@ module _ (tree : Rows) (row : Row) where
   unfolding requests.batch_of
   batch_same = list_same form.Batch (λ o. or_fault (Shape (whole_of part.Lists)) o >>= λ ds. (reading.lists_of tree Second ds >>= λ lists. Ok (requests.Batch lists)))
       (λ rows. ap (λ read. read >>= λ lists. Ok (requests.Batch lists))
-      (limited_same form.List (reading.nth_list tree Second) (λ at r. list_on_same tree Second _ r) 256 (Limit (whole_of part.Lists)) rows)) row
+      (limited_same form.List (nth_list tree Second) (λ at r. list_on_same tree Second _ r) 256 (Limit (whole_of part.Lists)) rows)) row
 
 -- ---- a line
 

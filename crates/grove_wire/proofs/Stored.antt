@@ -16,11 +16,13 @@ use Rattle.grove_tree.proofs.Above.{parent_lt}
 use Rattle.grove_tree.proofs.FaultlessRows.{faulty_refused}
 use Rattle.grove_access.specs.Effects.{record_at}
 use Rattle.grove_wire.specs.Forms as form
-use Rattle.grove_wire.specs.Forms.{row_with, row_form, as_short}
+use Rattle.grove_wire.specs.Forms.{row_form, as_short}
+use Rattle.grove_wire.specs.RowParts.{row_with}
 use Rattle.grove_wire.specs.Writing.{number_data, count_data}
 use Rattle.grove_wire.specs.Documents.{parent_data, row_data}
 use Rattle.grove_wire.specs.Outcomes.{each_from}
-use Rattle.grove_wire.specs.Reading.{row_at, rows_in, records_in, items_in, tree_in}
+use Rattle.grove_wire.specs.Reading.{row_at, items_in, tree_in}
+use Rattle.grove_wire.proofs.Columns.{rows_in, records_in}
 use Rattle.grove_wire.proofs.Each.{each_pushed}
 use Rattle.grove_wire.proofs.Shorts.{short_is_read}
 

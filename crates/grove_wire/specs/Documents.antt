@@ -1,17 +1,16 @@
 -- The JSON values of a tree with its records and of a store's nodes, with members in the order of their names.
-use Rattle.std.specs.Prelude.{ℕ, codes, ℤ, List, length, map, slice_index, Option, Some, None}
-use Rattle.serde_json.specs.Data.{Data, null, string, array, object, no_members, member}
-use Rattle.serde_json.specs.View.{items_of}
+use Rattle.std.specs.Prelude.{ℕ, codes, ℤ, List, length, slice_index, Option, Some, None}
+use Rattle.serde_json.specs.Data.{Data, null, string, object, no_members, member}
 use Rattle.serde_json.specs.Written.{compact_text}
 use Rattle.grove_base.specs.Numbers.{numbers_below}
 use Rattle.grove_tree.specs.Trees.{Rows, parent_of, name_of, weight_of}
 use Rattle.grove_tree.specs.Paths.{path_of}
 use Rattle.grove_access.specs.Effects.{record_at}
-use Rattle.grove_wire.specs.Writing.{number_data, count_data}
+use Rattle.grove_wire.specs.Writing.{array_of, number_data, count_data}
 
 -- for each node of a tree its value, in preorder
 abbrev pub each_node : Rows → (ℕ → Data) → Data
-each_node rows data_of = array (items_of (map data_of (numbers_below (length rows))))
+each_node rows data_of = array_of data_of (numbers_below (length rows))
 
 -- ---- a document of a tree with its records
 
@@ -46,4 +45,5 @@ node_data rows records waits node = object
     (member (codes "weight") (count_data (weight_of rows node)) no_members))))
 
 abbrev pub nodes_data : Rows → List ℤ → List ℕ → Data
-nodes_data rows records waits = object (member (codes "nodes") (each_node rows (node_data rows records waits)) no_members)
+nodes_data rows records waits =
+    object (member (codes "nodes") (each_node rows (node_data rows records waits)) no_members)

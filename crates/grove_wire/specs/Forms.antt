@@ -6,6 +6,7 @@ use Rattle.grove_tree.specs.Trees.{NodeRow}
 use Rattle.grove_access.specs.declared.access.Op.{Op}
 use Rattle.grove_access.specs.declared.reply.Reply.{Reply}
 use Rattle.grove_access.specs.declared.reply.Reply.TheVariants.{Value, Done, Range, Short}
+use Rattle.grove_proof.specs.declared.flow.FlowRow.{FlowRow}
 use Rattle.grove_core.specs.declared.event.Event.{Event}
 use Rattle.grove_core.specs.declared.event.Event.TheVariants as event
 use Rattle.grove_wire.specs.declared.versions.Version.{Version}
@@ -59,13 +60,9 @@ AreArraysShort d = AllArraysWithin 67108864 d
 abbrev pub as_signed : Data → Option ℤ
 as_signed d = as_number d >>= as_i64
 
--- a number that has 32 bits
-abbrev pub if_short : ℕ → Option ℕ
-if_short n = if nat_lt n (2 ^ 32) then Some n else None
-
 -- an unsigned number of 32 bits
 unfoldable pub as_short : Data → Option ℕ
-as_short d = as_number d >>= as_u64 >>= if_short
+as_short d = as_number d >>= as_u64 >>= λ n. if nat_lt n (2 ^ 32) then Some n else None
 
 -- a text is just this word
 abbrev pub is_word : List ℕ → Data → Bool
@@ -83,91 +80,65 @@ as_record None = Some (pos 0)
 as_record (Some d) = as_signed d
 
 -- a row of a tree, and the record of its node
-abbrev pub row_with : Option ℕ → List ℕ → ℕ → ℤ → NodeRow × ℤ
-row_with parent name weight value = (record { parent = parent; name = name; weight = weight }, value)
-
 unfoldable pub row_form : Data → Option (NodeRow × ℤ)
 row_form d = do
   parent ← get (codes "parent") d >>= as_parent
   name ← get (codes "name") d >>= as_str
   weight ← get (codes "weight") d >>= as_short
   value ← as_record (get (codes "value") d)
-  Some (row_with parent name weight value)
+  Some (record { parent = parent; name = name; weight = weight }, value)
 
 -- ---- versions
-
--- the version with a number
-abbrev pub version_numbered : ℕ → Option Version
-version_numbered n = if n == 1 then Some First else if n == 2 then Some Second else None
 
 -- 1 where nothing is told; the first has no lengths, the second may have
 abbrev pub version_of : Option Data → Option Version
 version_of None = Some First
-version_of (Some d) = as_number d >>= as_u64 >>= version_numbered
+version_of (Some d) = as_number d >>= as_u64 >>= λ n.
+    if n == 1 then Some First else if n == 2 then Some Second else None
 
 -- ---- accesses: a path, an operation and, where one is told, a length
 
-pub record AccessForm : Type 0 where
-  pub path : List ℕ
-  pub op : Op
-  pub length : Option ℕ
+abbrev pub AccessForm : Type 0
+AccessForm = List ℕ × Op × Option ℕ
 
-abbrev pub access_with : List ℕ → Op → Option ℕ → AccessForm
-access_with path op length = record { path = path; op = op; length = length }
-
--- the operation that a word names alone, and that it names with a number
-abbrev pub get_of : Data → Option Op
-get_of word = if is_word (codes "get") word then Some Get else None
-
-abbrev pub op_of : Data → ℤ → Option Op
-op_of word value =
-    if is_word (codes "set") word then Some (Set value)
-    else if is_word (codes "add") word then Some (Add value)
-    else if is_word (codes "take") word then Some (Take value)
+-- an operation with a number
+abbrev pub numbered_op : Data → Data → Option Op
+numbered_op word value = as_signed value >>= λ n.
+    if is_word (codes "set") word then Some (Set n)
+    else if is_word (codes "add") word then Some (Add n)
+    else if is_word (codes "take") word then Some (Take n)
     else None
 
-abbrev pub numbered_op : Data → Data → Option Op
-numbered_op word value = as_signed value >>= op_of word
-
--- a path with an operation, which tells no length or tells one
 abbrev pub form_with : Data → Option Op → Option ℕ → Option AccessForm
-form_with path op length = as_str path >>= λ text. option_map (λ found. access_with text found length) op
+form_with path op length = as_str path >>= λ text. option_map (λ found. (text, found, length)) op
 
 abbrev pub with_length : Data → Option Op → Data → Option AccessForm
 with_length path op length = as_number length >>= as_u64 >>= λ slots. form_with path op (Some slots)
 
 abbrev pub form_of : List Data → Option AccessForm
-form_of (word ∷ path ∷ []) = form_with path (get_of word) None
-form_of (word ∷ path ∷ third ∷ []) = if is_word (codes "get") word then with_length path (Some Get) third else form_with path (numbered_op word third) None
+form_of (word ∷ path ∷ []) = form_with path (if is_word (codes "get") word then Some Get else None) None
+form_of (word ∷ path ∷ third ∷ []) =
+    if is_word (codes "get") word then with_length path (Some Get) third
+    else form_with path (numbered_op word third) None
 form_of (word ∷ path ∷ value ∷ length ∷ []) = with_length path (numbered_op word value) length
 form_of _ = None
 
 -- no access tells a length in the first version
 abbrev pub allowed : Version → AccessForm → Option AccessForm
-allowed First form = if is_none form.length then Some form else None
+allowed First form = if is_none form.2 then Some form else None
 allowed Second form = Some form
 
 unfoldable pub access_form : Version → Data → Option AccessForm
 access_form version d = as_list d >>= form_of >>= allowed version
 
--- ---- flow rows: a path and the amounts
-
-pub record FlowForm : Type 0 where
-  pub path : List ℕ
-  pub above : ℕ
-  pub held : ℕ
-  pub first : ℕ
-  pub last : ℕ
-  pub own : ℕ
-
-abbrev pub flow_with : List ℕ → ℕ → ℕ → ℕ → ℕ → ℕ → FlowForm
-flow_with path above held first last own = record { path = path; above = above; held = held; first = first; last = last; own = own }
+-- ---- flow rows
 
 -- the amount of a name
 unfoldable pub amount_of : List ℕ → Data → Option ℕ
 amount_of name d = get name d >>= as_number >>= as_u64
 
-unfoldable pub flow_form : Data → Option FlowForm
+-- a path, and a row with the amounts, whose node isn't known yet
+unfoldable pub flow_form : Data → Option (List ℕ × FlowRow)
 flow_form d = do
   path ← get (codes "node") d >>= as_str
   above ← amount_of (codes "above") d
@@ -175,18 +146,15 @@ flow_form d = do
   first ← amount_of (codes "first") d
   last ← amount_of (codes "last") d
   own ← amount_of (codes "own") d
-  Some (flow_with path above held first last own)
+  Some (path, record { node = 0; above = above; held = held; first = first; last = last; own = own })
 
 -- ---- events: a word and the number of a job
 
-abbrev pub event_named : Data → ℕ → Option Event
-event_named word job =
+abbrev pub event_of : List Data → Option Event
+event_of (word ∷ which ∷ []) = as_short which >>= λ job.
     if is_word (codes "take") word then Some (event.Take job)
     else if is_word (codes "mark") word then Some (event.Mark job)
     else None
-
-abbrev pub event_of : List Data → Option Event
-event_of (word ∷ job ∷ []) = as_short job >>= event_named word
 event_of _ = None
 
 unfoldable pub event_form : Data → Option Event

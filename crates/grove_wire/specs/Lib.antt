@@ -1,10 +1,12 @@
 pub mod Outcomes
 pub mod Places
 pub mod Forms
+pub mod RowParts
 pub mod Reading
 pub mod Histories
 pub mod Writing
 pub mod Texts
+pub mod RequestLaws
 pub mod Requests
 pub mod Replies
 pub mod Documents

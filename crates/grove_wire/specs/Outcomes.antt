@@ -1,8 +1,10 @@
 -- What a reader answers, want of memory aside.
-use Rattle.std.specs.Prelude.{◌≡◌, ℕ, suc, List, [], ◌∷◌, Option, Some, None, Result, Ok, Err}
+use Rattle.std.specs.Prelude.{◌≡◌, ℕ, suc, List, [], ◌∷◌, length, nat_lt, Option, Some, None, Result, Ok, Err, if◌then◌else◌}
 use Rattle.serde_json.specs.Data.{Data}
 use Rattle.grove_wire.specs.declared.fault.WireFault.{WireFault}
-use Rattle.grove_wire.specs.declared.fault.WireFault.TheVariants.{Memory}
+use Rattle.grove_wire.specs.declared.fault.WireFault.TheVariants.{Shape, Limit, Memory}
+use Rattle.grove_wire.specs.declared.place.Place.{Place}
+use Rattle.grove_wire.specs.Places.{item_on}
 
 -- one reading after another, up to the first fault
 infixl 10 ◌>>=◌
@@ -15,6 +17,15 @@ abbrev pub or_fault : {A : Type 0} → WireFault → Option A → Result A WireF
 or_fault fault None = Err fault
 or_fault fault (Some x) = Ok x
 
+-- what stands at a place, of some form
+abbrev pub of_form : {A : Type 0} → (Data → Option A) → Place → Data → Result A WireFault
+of_form form place d = or_fault (Shape place) (form d)
+
+-- what is read of a member, where there is one
+abbrev pub if_there : {A : Type 0} → (Data → Result A WireFault) → Option Data → Result (Option A) WireFault
+if_there read None = Ok None
+if_there read (Some d) = read d >>= λ x. Ok (Some x)
+
 -- the items of a list, each read at its number, up to the first fault
 abbrev pub each_from : {A : Type 0} → (ℕ → Data → Result A WireFault) → ℕ → List Data → Result (List A) WireFault
 each_from read at [] = Ok []
@@ -22,6 +33,14 @@ each_from read at (d ∷ ds) = do
   first ← read at d
   others ← each_from read (suc at) ds
   Ok (first ∷ others)
+
+-- and each at its place within the list's
+abbrev pub each_on : {A : Type 0} → (Place → Data → Result A WireFault) → Place → List Data → Result (List A) WireFault
+each_on read place ds = each_from (λ at. read (item_on place at)) 0 ds
+
+-- of which there are at most so many
+abbrev pub few_on : {A : Type 0} → ℕ → (Place → Data → Result A WireFault) → Place → List Data → Result (List A) WireFault
+few_on most read place ds = if nat_lt most (length ds) then Err (Limit place) else each_on read place ds
 
 -- a call fails as a definition says, or for want of memory
 abbrev pub Fails : {A : Type 0} → WireFault → Result A WireFault → Type 0

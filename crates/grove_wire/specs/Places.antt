@@ -1,5 +1,5 @@
 -- Where in a document something is amiss.
-use Rattle.std.specs.Prelude.{ℕ, codes, List, Option, Some, None}
+use Rattle.std.specs.Prelude.{ℕ, codes, List, Some, None, option_map, unwrap_or}
 use Rattle.grove_wire.specs.declared.place.Part.{Part}
 use Rattle.grove_wire.specs.declared.place.Part.TheVariants as part
 use Rattle.grove_wire.specs.declared.place.Place.{Place}
@@ -12,14 +12,9 @@ whole_of part = record { part = part; at = None; item = None }
 abbrev pub item_of : Part → ℕ → Place
 item_of part at = record { part = part; at = Some at; item = None }
 
--- an item of a part, or an item of an item
-abbrev pub item_within : Part → Option ℕ → ℕ → Place
-item_within part None at = item_of part at
-item_within part (Some list) at = record { part = part; at = Some list; item = Some at }
-
--- an item of what stands at a place
+-- an item of a part that is the place, or an item of the item that is
 abbrev pub item_on : Place → ℕ → Place
-item_on place at = item_within place.part place.at at
+item_on place n = record { part = place.part; at = Some (unwrap_or place.at n); item = option_map (λ k. n) place.at }
 
 -- the word of a part; for a part that is a member of the document it is the name of that member
 abbrev pub part_word : Part → List ℕ

@@ -19,29 +19,28 @@ use Rattle.grove_wire.specs.declared.fault.WireFault.TheVariants.{BadJson, Shape
 use Rattle.grove_wire.specs.declared.place.Part.{Part}
 use Rattle.grove_wire.specs.declared.place.Part.TheVariants as part
 use Rattle.grove_wire.specs.declared.place.Place.{Place}
-use Rattle.grove_wire.specs.Outcomes.{◌>>=◌, or_fault, each_from}
-use Rattle.grove_wire.specs.Places.{whole_of, item_of, item_on, part_word}
-use Rattle.grove_wire.specs.Forms.{version_of, items_of, as_list, as_short, is_word, row_form, access_form, FlowForm, flow_form}
+use Rattle.grove_wire.specs.Outcomes.{◌>>=◌, or_fault, of_form, each_from, each_on, few_on}
+use Rattle.grove_wire.specs.Places.{whole_of, item_of, part_word}
+use Rattle.grove_wire.specs.Forms.{version_of, items_of, as_list, as_short, is_word, row_form, access_form, flow_form}
 
 -- ---- the document: an object in UTF-8, of few bytes and of a version that there is
 
 abbrev pub value_of : List ℕ → Option Data
 value_of bytes = if is_utf8 bytes then read bytes else None
 
-abbrev pub object_of : Data → Result Data WireFault
-object_of d = if is_some (as_object d) then Ok d else Err (Shape (whole_of part.Whole))
+-- an object that stands at a place
+abbrev pub object_at : Place → Data → Result Data WireFault
+object_at place d = if is_some (as_object d) then Ok d else Err (Shape place)
 
 unfoldable pub version_in : Data → Result Version WireFault
 version_in d = or_fault (Shape (whole_of part.Whole)) (version_of (get (codes "version") d))
-
-abbrev pub versioned : Data → Result Data WireFault
-versioned d = version_in d >>= λ version. Ok d
 
 -- of at most so many bytes
 abbrev pub document_within : ℕ → List ℕ → Result Data WireFault
 document_within most bytes =
     if nat_lt most (length bytes) then Err (Limit (whole_of part.Whole))
-    else ((or_fault BadJson (value_of bytes) >>= object_of) >>= versioned)
+    else ((or_fault BadJson (value_of bytes) >>= object_at (whole_of part.Whole))
+    >>= λ d. (version_in d >>= λ version. Ok d))
 
 unfoldable pub document_of : List ℕ → Result Data WireFault
 document_of bytes = document_within 4194304 bytes
@@ -61,13 +60,7 @@ items_in part d = items_at (whole_of part) (part_word part) d
 -- ---- the tree: each row's form, then the rules of trees
 
 unfoldable pub row_at : ℕ → Data → Result (NodeRow × ℤ) WireFault
-row_at at d = or_fault (Shape (item_of part.Nodes at)) (row_form d)
-
-abbrev pub rows_in : List (NodeRow × ℤ) → Rows
-rows_in rows = map (λ row. row.0) rows
-
-abbrev pub records_in : List (NodeRow × ℤ) → List ℤ
-records_in rows = map (λ row. row.1) rows
+row_at at d = of_form row_form (item_of part.Nodes at) d
 
 abbrev pub unless_fault : {A : Type 0} → Option TreeFault → A → Result A WireFault
 unless_fault None x = Ok x
@@ -75,16 +68,13 @@ unless_fault (Some fault) x = Err (Tree fault)
 
 -- the rows and the records of values, apart
 abbrev pub columns_of : List Data → Result (Rows × List ℤ) WireFault
-columns_of ds = each_from row_at 0 ds >>= λ rows. Ok (rows_in rows, records_in rows)
-
-abbrev pub tree_of : Rows × List ℤ → Result (Rows × List ℤ) WireFault
-tree_of columns = unless_fault (tree_fault_of columns.0) columns
+columns_of ds = each_from row_at 0 ds >>= λ rows. Ok (map (λ row. row.0) rows, map (λ row. row.1) rows)
 
 unfoldable pub tree_in : Data → Result (Rows × List ℤ) WireFault
 tree_in d = do
   ds ← items_in part.Nodes d
   columns ← columns_of ds
-  tree_of columns
+  unless_fault (tree_fault_of columns.0) columns
 
 -- ---- a list: few accesses, each of its form, then with a path of the tree, and then of a length that there is
 
@@ -98,16 +88,13 @@ length_on place (Some slots) = if is_length slots then Ok slots else Err (BadLen
 
 unfoldable pub access_at : Rows → Version → Place → Data → Result Access WireFault
 access_at tree version place d = do
-  form ← or_fault (Shape place) (access_form version d)
-  node ← node_on tree place form.path
-  slots ← length_on place form.length
-  Ok (record { node = node; op = form.op; length = slots })
-
-abbrev pub access_in : Rows → Version → Place → ℕ → Data → Result Access WireFault
-access_in tree version place at d = access_at tree version (item_on place at) d
+  form ← of_form (access_form version) place d
+  node ← node_on tree place form.0
+  slots ← length_on place form.2
+  Ok (record { node = node; op = form.1; length = slots })
 
 abbrev pub list_of : Rows → Version → Place → List Data → Result (List Access) WireFault
-list_of tree version place ds = if nat_lt 64 (length ds) then Err (Limit place) else each_from (access_in tree version place) 0 ds
+list_of tree version place ds = few_on 64 (access_at tree version) place ds
 
 unfoldable pub list_in : Rows → Data → Result (List Access) WireFault
 list_in tree d = do
@@ -119,13 +106,10 @@ list_in tree d = do
 
 -- a value by itself, read as a list
 unfoldable pub list_on : Rows → Version → Place → Data → Result (List Access) WireFault
-list_on tree version place d = or_fault (Shape place) (as_list d) >>= list_of tree version place
-
-abbrev pub nth_list : Rows → Version → ℕ → Data → Result (List Access) WireFault
-nth_list tree version at d = list_on tree version (item_of part.Lists at) d
+list_on tree version place d = of_form as_list place d >>= list_of tree version place
 
 abbrev pub lists_of : Rows → Version → List Data → Result (List (List Access)) WireFault
-lists_of tree version ds = if nat_lt 256 (length ds) then Err (Limit (whole_of part.Lists)) else each_from (nth_list tree version) 0 ds
+lists_of tree version ds = few_on 256 (list_on tree version) (whole_of part.Lists) ds
 
 unfoldable pub lists_in : Rows → Data → Result (List (List Access)) WireFault
 lists_in tree d = do
@@ -136,13 +120,13 @@ lists_in tree d = do
 -- ---- a plan: its steps, each of its form and then with a path of the tree
 
 abbrev pub path_at : Rows → Place → Data → Result ℕ WireFault
-path_at tree place d = or_fault (Shape place) (as_str d) >>= node_on tree place
+path_at tree place d = of_form as_str place d >>= node_on tree place
 
 unfoldable pub step_of : Rows → Place → Data → Data → Result Step WireFault
 step_of tree place word operand =
     if is_word (codes "lock") word then (path_at tree place operand >>= λ node. Ok (step.Lock node))
     else if is_word (codes "unlock") word then (path_at tree place operand >>= λ node. Ok (step.Unlock node))
-    else if is_word (codes "access") word then (or_fault (Shape place) (as_short operand) >>= λ access. Ok (step.Access access))
+    else if is_word (codes "access") word then (of_form as_short place operand >>= λ access. Ok (step.Access access))
     else Err (Shape place)
 
 -- a step has a word and what it is done to, and no further items
@@ -151,30 +135,18 @@ step_on tree place (word ∷ operand ∷ []) = step_of tree place word operand
 step_on tree place _ = Err (Shape place)
 
 unfoldable pub step_at : Rows → Place → Data → Result Step WireFault
-step_at tree place d = or_fault (Shape place) (as_list d) >>= step_on tree place
-
-abbrev pub step_in : Rows → Place → ℕ → Data → Result Step WireFault
-step_in tree place at d = step_at tree (item_on place at) d
-
-abbrev pub steps_of : Rows → Place → List Data → Result (List Step) WireFault
-steps_of tree place ds = each_from (step_in tree place) 0 ds
+step_at tree place d = of_form as_list place d >>= step_on tree place
 
 unfoldable pub plan_in : Rows → Data → Result (List Step) WireFault
-plan_in tree d = items_in part.Plan d >>= steps_of tree (whole_of part.Plan)
+plan_in tree d = items_in part.Plan d >>= each_on (step_at tree) (whole_of part.Plan)
 
 -- ---- a flow: its rows, each of its form and then with a path of the tree
 
-abbrev pub flow_row : ℕ → FlowForm → FlowRow
-flow_row node form = record { node = node; above = form.above; held = form.held; first = form.first; last = form.last; own = form.own }
-
 unfoldable pub flow_row_at : Rows → Place → Data → Result FlowRow WireFault
 flow_row_at tree place d = do
-  form ← or_fault (Shape place) (flow_form d)
-  node ← node_on tree place form.path
-  Ok (flow_row node form)
-
-abbrev pub flow_row_in : Rows → ℕ → Data → Result FlowRow WireFault
-flow_row_in tree at d = flow_row_at tree (item_of part.Flow at) d
+  form ← of_form flow_form place d
+  node ← node_on tree place form.0
+  Ok (record form.1 { node = node })
 
 unfoldable pub flow_in : Rows → Data → Result (List FlowRow) WireFault
-flow_in tree d = items_in part.Flow d >>= each_from (flow_row_in tree) 0
+flow_in tree d = items_in part.Flow d >>= each_on (flow_row_at tree) (whole_of part.Flow)

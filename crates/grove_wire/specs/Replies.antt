@@ -1,16 +1,12 @@
 -- The JSON values of replies to session lines, with members in the order of their names.
 use Rattle.std.specs.Prelude.{ℕ, codes, List, map}
-use Rattle.serde_json.specs.Data.{Data, string, array, object, no_members, member}
-use Rattle.serde_json.specs.View.{items_of}
+use Rattle.serde_json.specs.Data.{Data, string, object, no_members, member}
 use Rattle.serde_json.specs.Written.{compact_text}
 use Rattle.grove_tree.specs.Trees.{Rows}
 use Rattle.grove_access.specs.declared.reply.Reply.{Reply}
 use Rattle.grove_plan.specs.declared.step.Step.{Step}
 use Rattle.grove_proof.specs.declared.flow.FlowRow.{FlowRow}
-use Rattle.grove_wire.specs.Writing.{count_data, replies_data, plan_data, flow_data}
-
-abbrev pub counts_data : List ℕ → Data
-counts_data counts = array (items_of (map count_data counts))
+use Rattle.grove_wire.specs.Writing.{count_data, plan_data, flow_data, array_of, reply_data}
 
 -- a refusal, by the name of its fault
 abbrev pub error_data : List ℕ → Data
@@ -29,15 +25,11 @@ planned_data rows cost plan flow = object
 abbrev pub cost_data : ℕ → Data
 cost_data cost = object (member (codes "cost") (count_data cost) no_members)
 
--- the replies of each list, in the order of the lists
-abbrev pub lists_data : List (List Reply) → Data
-lists_data replies = array (items_of (map replies_data replies))
-
 -- what a round did for the lists of a batch: the place of each in the round's serial order, and its replies
 abbrev pub round_data : ℕ → List ℕ → List (List Reply) → Data
 round_data round places replies = object
-    (member (codes "places") (counts_data places)
-    (member (codes "replies") (lists_data replies)
+    (member (codes "places") (array_of count_data places)
+    (member (codes "replies") (array_of (array_of reply_data) replies)
     (member (codes "round") (count_data round) no_members)))
 
 -- the weights of the nodes
@@ -45,7 +37,8 @@ abbrev pub weights_of : Rows → List ℕ
 weights_of rows = map (λ row. row.weight) rows
 
 abbrev pub weights_data : List ℕ → List ℕ → Data
-weights_data waits weights = object (member (codes "waits") (counts_data waits) (member (codes "weights") (counts_data weights) no_members))
+weights_data waits weights = object
+    (member (codes "waits") (array_of count_data waits) (member (codes "weights") (array_of count_data weights) no_members))
 
 -- how many weights were changed
 abbrev pub changed_data : ℕ → Data

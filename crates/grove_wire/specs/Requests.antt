@@ -1,24 +1,21 @@
 -- What a session line asks for: the one member of an object, and what that reads as.
-use Rattle.std.specs.Prelude.{◌≡◌, ◌≢◌, ℕ, ◌≤◌, length, codes, bytes_eq, List, Option, Some, None, option_and_then, Result, Ok, Err, if◌then◌else◌}
-use Rattle.std.specs.List.{All}
+use Rattle.std.specs.Prelude.{ℕ, codes, bytes_eq, List, Option, Some, None, option_and_then, Result, Ok, Err, if◌then◌else◌}
 use Rattle.serde_json.specs.Data.{Data, Members, no_members, member}
 use Rattle.serde_json.specs.Find.{as_object}
 use Rattle.grove_tree.specs.Trees.{Rows}
 use Rattle.grove_access.specs.declared.access.Access.{Access}
-use Rattle.grove_access.specs.Lists.{AreListed}
 use Rattle.grove_plan.specs.declared.step.Step.{Step}
 use Rattle.grove_proof.specs.declared.flow.FlowRow.{FlowRow}
 use Rattle.grove_wire.specs.declared.fault.WireFault.{WireFault}
-use Rattle.grove_wire.specs.declared.fault.WireFault.TheVariants.{BadJson, Shape, Memory}
+use Rattle.grove_wire.specs.declared.fault.WireFault.TheVariants.{BadJson, Shape}
 use Rattle.grove_wire.specs.declared.place.Part.TheVariants as part
 use Rattle.grove_wire.specs.declared.request.Request.{Request}
 use Rattle.grove_wire.specs.declared.request.Request.TheVariants as request
 use Rattle.grove_wire.specs.declared.versions.Version.TheVariants.{Second}
-use Rattle.grove_wire.specs.Outcomes.{◌>>=◌, or_fault}
+use Rattle.grove_wire.specs.Outcomes.{◌>>=◌, or_fault, of_form}
 use Rattle.grove_wire.specs.Places.{whole_of}
 use Rattle.grove_wire.specs.Forms.{as_list}
-use Rattle.grove_wire.specs.Reading.{value_of, object_of, list_on, lists_of, list_in, plan_in, flow_in}
-use Rattle.grove_wire.specs.Writing.{PlanFits, FlowFits}
+use Rattle.grove_wire.specs.Reading.{value_of, object_at, list_on, lists_of, list_in, plan_in, flow_in}
 
 -- what is asked for, with lists in place of what keeps them
 pub data Asked : Type 0 where
@@ -35,13 +32,6 @@ asked_of (request.Batch lists) = Batch lists.items
 asked_of request.Weights = Weights
 asked_of request.Reweigh = Reweigh
 
--- what is asked for is within its limits, and its nodes are nodes of the tree
-abbrev pub AskedFits : Rows → Asked → Type 0
-AskedFits rows (Plan list) = AreListed rows list
-AskedFits rows (Check list plan flow) = AreListed rows list × PlanFits rows plan × FlowFits rows flow
-AskedFits rows (Batch lists) = (length lists ≤ 256) × All (AreListed rows) lists
-AskedFits rows _ = Unit {0}
-
 -- the one member of an object that has just one, with its name
 abbrev pub only_of : Members → Option (List ℕ × Data)
 only_of (member name d no_members) = Some (name, d)
@@ -57,7 +47,7 @@ plan_of tree d = list_on tree Second (whole_of part.List) d >>= λ list. Ok (Pla
 -- a check is asked for as a document is read: its version, its list, its plan and its flow
 unfoldable pub check_of : Rows → Data → Result Asked WireFault
 check_of tree d = do
-  object ← object_of d
+  object ← object_at (whole_of part.Whole) d
   list ← list_in tree object
   plan ← plan_in tree object
   flow ← flow_in tree object
@@ -66,7 +56,7 @@ check_of tree d = do
 -- a batch is asked for lists whose accesses may have lengths
 unfoldable pub batch_of : Rows → Data → Result Asked WireFault
 batch_of tree d = do
-  ds ← or_fault (Shape (whole_of part.Lists)) (as_list d)
+  ds ← of_form as_list (whole_of part.Lists) d
   lists ← lists_of tree Second ds
   Ok (Batch lists)
 
@@ -83,13 +73,5 @@ named_of tree name d =
 unfoldable pub request_of : Rows → List ℕ → Result Asked WireFault
 request_of tree line = do
   d ← or_fault BadJson (value_of line)
-  only ← or_fault (Shape (whole_of part.Whole)) (only_member d)
+  only ← of_form only_member (whole_of part.Whole) d
   named_of tree only.0 only.1
-
--- laws: what is asked for fits, and what a line says never is want of memory
-
-abbrev pub RequestsFit : Type 0
-RequestsFit = (rows : Rows) (line : List ℕ) (asked : Asked) → request_of rows line ≡ Ok asked → AskedFits rows asked
-
-abbrev pub ReadingNeedsNoRoom : Type 0
-ReadingNeedsNoRoom = (rows : Rows) (line : List ℕ) → request_of rows line ≢ Err Memory

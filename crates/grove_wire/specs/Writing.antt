@@ -23,11 +23,9 @@ reply_data Done = string (codes "ok")
 reply_data Range = string (codes "range")
 reply_data Short = string (codes "short")
 
-abbrev pub numbers_data : List ℤ → Data
-numbers_data numbers = array (items_of (map number_data numbers))
-
-abbrev pub replies_data : List Reply → Data
-replies_data replies = array (items_of (map reply_data replies))
+-- an array of what is made of each item
+abbrev pub array_of : {A : Type 0} → (A → Data) → List A → Data
+array_of data_of xs = array (items_of (map data_of xs))
 
 -- ---- plans
 
@@ -43,16 +41,13 @@ PlanFits rows plan = (place : ℕ) (step : Step) → slice_get plan place ≡ So
 abbrev pub pair_data : List ℕ → Data → Data
 pair_data word operand = array (item (string word) (item operand no_items))
 
-abbrev pub access_data : ℕ → Data
-access_data access = pair_data (codes "access") (count_data access)
-
 abbrev pub step_data : Rows → Step → Data
 step_data rows (Lock node) = pair_data (codes "lock") (string (path_of rows node))
 step_data rows (Unlock node) = pair_data (codes "unlock") (string (path_of rows node))
-step_data rows (Access access) = access_data access
+step_data rows (Access access) = pair_data (codes "access") (count_data access)
 
 abbrev pub plan_data : Rows → List Step → Data
-plan_data rows plan = array (items_of (map (step_data rows) plan))
+plan_data rows plan = array_of (step_data rows) plan
 
 -- ---- flows, with members in the order of their names
 
@@ -69,4 +64,4 @@ flow_row_data rows row = object
     (member (codes "own") (count_data row.own) no_members))))))
 
 abbrev pub flow_data : Rows → List FlowRow → Data
-flow_data rows flow = array (items_of (map (flow_row_data rows) flow))
+flow_data rows flow = array_of (flow_row_data rows) flow

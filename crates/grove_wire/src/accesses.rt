@@ -1,6 +1,6 @@
-ghost use Rattle.std.specs.Prelude.{◌≡◌, ◌∷◌, [], map, option_map};
+ghost use Rattle.std.specs.Prelude.{◌≡◌, ◌∷◌, [], Some, None, codes, if◌then◌else◌, map, option_map};
 ghost use Rattle.serde_json.specs.View.{view};
-ghost use Rattle.grove_wire.specs.Forms.{access_with, get_of, op_of, numbered_op, form_with, with_length, form_of, access_form};
+ghost use Rattle.grove_wire.specs.Forms.{is_word, numbered_op, form_with, with_length, form_of, access_form};
 ghost use Rattle.grove_wire.specs.Reading.{length_on, access_at};
 
 use crate::forms::{is_word, list_items};
@@ -59,7 +59,7 @@ struct AccessForm<'v> {
 /// What stands in a value that is an access of this version.
 #[tactic(auto, unfolding(crate::specs::Forms::access_form))]
 fn access_form(version: Version, value: &Value) -> Option<AccessForm<'_>>
-    ensures { option_map (λ form. access_with form.path.now form.op form.length) result ≡ access_form version (view value.now) }
+    ensures { option_map (λ form. (form.path.now, form.op, form.length)) result ≡ access_form version (view value.now) }
 {
     let items = list_items(value)?;
     let form = form_of(items)?;
@@ -71,7 +71,7 @@ fn access_form(version: Version, value: &Value) -> Option<AccessForm<'_>>
 
 /// What stands in the items of an access of either version.
 fn form_of(items: &[Value]) -> Option<AccessForm<'_>>
-    ensures { option_map (λ form. access_with form.path.now form.op form.length) result ≡ form_of (map view items.now) }
+    ensures { option_map (λ form. (form.path.now, form.op, form.length)) result ≡ form_of (map view items.now) }
 {
     match items {
         [word, path] => form_with(path, get_of(word), None),
@@ -83,7 +83,7 @@ fn form_of(items: &[Value]) -> Option<AccessForm<'_>>
 
 /// What stands in an access of three items: after `get` the third is a length, else a number.
 fn third_form<'v>(word: &Value, path: &'v Value, third: &Value) -> Option<AccessForm<'v>>
-    ensures { option_map (λ form. access_with form.path.now form.op form.length) result
+    ensures { option_map (λ form. (form.path.now, form.op, form.length)) result
         ≡ form_of (view word.now ∷ view path.now ∷ view third.now ∷ []) }
 {
     if is_word(word, "get") {
@@ -94,7 +94,7 @@ fn third_form<'v>(word: &Value, path: &'v Value, third: &Value) -> Option<Access
 }
 
 fn with_length<'v>(path: &'v Value, op: Option<Op>, length: &Value) -> Option<AccessForm<'v>>
-    ensures { option_map (λ form. access_with form.path.now form.op form.length) result
+    ensures { option_map (λ form. (form.path.now, form.op, form.length)) result
         ≡ with_length (view path.now) op (view length.now) }
 {
     let slots = length.as_u64()?;
@@ -102,7 +102,7 @@ fn with_length<'v>(path: &'v Value, op: Option<Op>, length: &Value) -> Option<Ac
 }
 
 fn form_with<'v>(path: &'v Value, op: Option<Op>, length: Option<u64>) -> Option<AccessForm<'v>>
-    ensures { option_map (λ form. access_with form.path.now form.op form.length) result
+    ensures { option_map (λ form. (form.path.now, form.op, form.length)) result
         ≡ form_with (view path.now) op length }
 {
     let path = path.as_str()?;
@@ -112,7 +112,7 @@ fn form_with<'v>(path: &'v Value, op: Option<Op>, length: Option<u64>) -> Option
 
 /// The operation that a word names alone.
 fn get_of(word: &Value) -> Option<Op>
-    ensures { result ≡ get_of (view word.now) }
+    ensures { result ≡ (if is_word (codes "get") (view word.now) then Some Op.Get else None) }
 {
     if is_word(word, "get") {
         Some(Op::Get)
@@ -130,7 +130,9 @@ fn numbered_op(word: &Value, number: &Value) -> Option<Op>
 }
 
 fn op_of(word: &Value, number: i64) -> Option<Op>
-    ensures { result ≡ op_of (view word.now) number }
+    ensures { result ≡ (if is_word (codes "set") (view word.now) then Some (Op.Set number)
+        else if is_word (codes "add") (view word.now) then Some (Op.Add number)
+        else if is_word (codes "take") (view word.now) then Some (Op.Take number) else None) }
 {
     if is_word(word, "set") {
         Some(Op::Set(number))

@@ -1,8 +1,9 @@
-ghost use Rattle.std.specs.Prelude.{◌≡◌, ◌≤◌, map, IfOk, length};
+ghost use Rattle.std.specs.Prelude.{◌≡◌, ◌≤◌, Some, None, codes, if◌then◌else◌, map, IfOk, length};
 ghost use Rattle.serde_json.specs.View.{view};
-ghost use Rattle.grove_wire.specs.Forms.{event_named, event_form};
-ghost use Rattle.grove_wire.specs.Outcomes.{Gives, each_from};
-ghost use Rattle.grove_wire.specs.Histories.{event_at, events_in};
+ghost use Rattle.grove_wire.specs.Forms.{is_word, event_form};
+ghost use Rattle.grove_wire.specs.Outcomes.{Gives, of_form, each_on};
+ghost use Rattle.grove_wire.specs.Places.{whole_of, item_of};
+ghost use Rattle.grove_wire.specs.Histories.{events_in};
 
 use crate::document::items_in;
 use crate::forms::{is_word, list_items, short_number};
@@ -30,7 +31,7 @@ pub fn read_events(alloc: Global, document: &Value) -> Result<Vec<Event>, WireFa
 /// The events, of which there are few enough.
 fn read_each_event(alloc: Global, items: &[Value]) -> Result<Vec<Event>, WireFault>
     requires { length items.now ≤ 1048576 }
-    ensures read { Gives (λ events. events.items) result (each_from event_at 0 (map view items.now)) }
+    ensures read { Gives (λ events. events.items) result (each_on (of_form event_form) (whole_of Part.Events) (map view items.now)) }
     ensures few { IfOk result (λ events. length events.items ≤ 1048576) }
 {
     let mut events = Vec::new(alloc);
@@ -42,7 +43,7 @@ fn read_each_event(alloc: Global, items: &[Value]) -> Result<Vec<Event>, WireFau
 }
 
 fn event_at(at: u32, value: &Value) -> Result<Event, WireFault>
-    ensures { result ≡ event_at at (view value.now) }
+    ensures { result ≡ of_form event_form (item_of Part.Events at) (view value.now) }
 {
     event_form(value).ok_or(WireFault::Shape(Place::item(Part::Events, at)))
 }
@@ -60,7 +61,8 @@ fn event_form(value: &Value) -> Option<Event>
 
 /// What a word says of the job.
 fn event_named(word: &Value, job: u32) -> Option<Event>
-    ensures { result ≡ event_named (view word.now) job }
+    ensures { result ≡ (if is_word (codes "take") (view word.now) then Some (Event.Take job)
+        else if is_word (codes "mark") (view word.now) then Some (Event.Mark job) else None) }
 {
     if is_word(word, "take") {
         Some(Event::Take(job))

@@ -1,8 +1,9 @@
 ghost use Rattle.std.specs.Prelude.{◌≡◌};
-ghost use Rattle.grove_wire.specs.Names.{tree_name, wire_name, plan_name, proof_name, run_name};
+ghost use Rattle.grove_wire.specs.Names.{wire_name, plan_name, proof_name, run_name, event_name, replay_name, standing_name};
+ghost use Rattle.grove_wire.specs.Texts.{tree_said};
 
-use crate::WireFault;
-use grove_core::RunFault;
+use crate::{StandingFault, WireFault};
+use grove_core::{ReplayFault, RunFault, StepFault};
 use grove_plan::PlanFault;
 use grove_proof::ProofFault;
 use grove_tree::TreeFault;
@@ -22,8 +23,8 @@ pub fn wire_fault_name(fault: &WireFault) -> &'static str
     }
 }
 
-fn tree_fault_name(fault: TreeFault) -> &'static str
-    ensures { result.now ≡ tree_name fault }
+pub(crate) fn tree_fault_name(fault: TreeFault) -> &'static str
+    ensures { result.now ≡ (tree_said fault).0 }
 {
     match fault {
         TreeFault::Empty => "empty",
@@ -79,5 +80,39 @@ pub fn run_fault_name(fault: &RunFault) -> &'static str
         RunFault::Memory => "memory",
         RunFault::Foreign => "foreign",
         RunFault::Unfinished => "unfinished",
+    }
+}
+
+/// The name of a history's fault, as `blocked`; a bad plan has the name of its fault.
+pub(crate) fn replay_fault_name(fault: ReplayFault) -> &'static str
+    ensures { result.now ≡ replay_name fault }
+{
+    match fault {
+        ReplayFault::BadPlan(_, fault) => plan_fault_name(&fault),
+        ReplayFault::BadEvent(_, fault) => event_fault_name(fault),
+        ReplayFault::Unfinished(_) => "unfinished",
+        ReplayFault::Memory => "memory",
+    }
+}
+
+fn event_fault_name(fault: StepFault) -> &'static str
+    ensures { result.now ≡ event_name fault }
+{
+    match fault {
+        StepFault::NoTxn => "no-job",
+        StepFault::Ended => "ended",
+        StepFault::Blocked(_) => "blocked",
+        StepFault::NotBlocked => "not-blocked",
+        StepFault::Marked => "marked",
+    }
+}
+
+/// The name of what differs from what a run left: `records` or `replies`.
+pub(crate) fn standing_fault_name(fault: StandingFault) -> &'static str
+    ensures { result.now ≡ standing_name fault }
+{
+    match fault {
+        StandingFault::Record(_) => "records",
+        StandingFault::Replies(_) => "replies",
     }
 }

@@ -1,7 +1,9 @@
 ghost use Rattle.std.specs.Prelude.{◌≡◌, ◌<◌, IfOk, ◌++◌, codes, decimal, length, string_bytes};
+ghost use Rattle.std.specs.Fmt.{signed_decimal};
 ghost use Rattle.grove_tree.specs.Paths.{path_of};
-ghost use Rattle.grove_wire.specs.Texts.{place_text, tree_text, wire_text, plan_text, FaultFits, value_text, proof_text, ProofFaultFits, run_text, RunFaultFits};
+ghost use Rattle.grove_wire.specs.Texts.{place_text, tree_said, wire_text, plan_text, FaultFits, proof_text, ProofFaultFits, run_text, RunFaultFits};
 
+use crate::fault_names::{plan_fault_name, proof_fault_name, tree_fault_name, wire_fault_name};
 use crate::{Place, WireFault};
 use grove_core::RunFault;
 use grove_plan::PlanFault;
@@ -14,29 +16,30 @@ use std::alloc::Global;
 pub fn wire_fault_text(alloc: Global, fault: &WireFault) -> Result<String, NoMemory>
     ensures { IfOk result (λ text. string_bytes text ≡ wire_text fault.now) }
 {
+    let name = wire_fault_name(fault);
     match *fault {
-        WireFault::BadJson => word_text(alloc, "bad-json"),
-        WireFault::Shape(place) => placed_text(alloc, "shape", place),
-        WireFault::NoPath(place) => placed_text(alloc, "no-path", place),
-        WireFault::BadLength(place) => placed_text(alloc, "bad-length", place),
-        WireFault::Limit(place) => placed_text(alloc, "limit", place),
+        WireFault::Shape(place)
+        | WireFault::NoPath(place)
+        | WireFault::BadLength(place)
+        | WireFault::Limit(place) => placed_text(alloc, name, place),
         WireFault::Tree(fault) => tree_text(alloc, fault),
-        WireFault::Memory => word_text(alloc, "memory"),
+        WireFault::BadJson | WireFault::Memory => word_text(alloc, name),
     }
 }
 
 fn tree_text(alloc: Global, fault: TreeFault) -> Result<String, NoMemory>
-    ensures { IfOk result (λ text. string_bytes text ≡ tree_text fault) }
+    ensures { IfOk result (λ text. string_bytes text ≡ (tree_said fault).1) }
 {
+    let name = tree_fault_name(fault);
     match fault {
         TreeFault::Empty => word_text(alloc, "tree empty"),
         TreeFault::TooMany => word_text(alloc, "tree too-many"),
-        TreeFault::BadParent(row) => numbered_text(alloc, "row", row, " bad-parent"),
-        TreeFault::TooDeep(row) => numbered_text(alloc, "row", row, " too-deep"),
-        TreeFault::BadName(row) => numbered_text(alloc, "row", row, " bad-name"),
-        TreeFault::TwiceNamed(row) => numbered_text(alloc, "row", row, " twice-named"),
-        TreeFault::BadWeight(row) => numbered_text(alloc, "row", row, " bad-weight"),
-        TreeFault::Memory => word_text(alloc, "memory"),
+        TreeFault::BadParent(row)
+        | TreeFault::TooDeep(row)
+        | TreeFault::BadName(row)
+        | TreeFault::TwiceNamed(row)
+        | TreeFault::BadWeight(row) => said_text(alloc, "row", row, name),
+        TreeFault::Memory => word_text(alloc, name),
     }
 }
 
@@ -45,16 +48,17 @@ pub fn plan_fault_text(alloc: Global, tree: &Tree, fault: &PlanFault) -> Result<
     requires { FaultFits tree.now fault.now }
     ensures { IfOk result (λ text. string_bytes text ≡ plan_text tree.now fault.now) }
 {
+    let name = plan_fault_name(fault);
     match *fault {
-        PlanFault::Strange(step) => numbered_text(alloc, "step", step, " strange"),
-        PlanFault::Relock(step) => numbered_text(alloc, "step", step, " relock"),
-        PlanFault::ParentNotHeld(step) => numbered_text(alloc, "step", step, " parent-not-held"),
-        PlanFault::NotHeld(step) => numbered_text(alloc, "step", step, " not-held"),
-        PlanFault::WrongAccess(step) => numbered_text(alloc, "step", step, " wrong-access"),
-        PlanFault::AccessNotHeld(step) => numbered_text(alloc, "step", step, " access-not-held"),
-        PlanFault::AccessMissing(access) => numbered_text(alloc, "access", access, " missing"),
+        PlanFault::Strange(step)
+        | PlanFault::Relock(step)
+        | PlanFault::ParentNotHeld(step)
+        | PlanFault::NotHeld(step)
+        | PlanFault::WrongAccess(step)
+        | PlanFault::AccessNotHeld(step) => said_text(alloc, "step", step, name),
+        PlanFault::AccessMissing(access) => said_text(alloc, "access", access, "missing"),
         PlanFault::StillHeld(node) => still_held_text(alloc, tree, node),
-        PlanFault::Memory => word_text(alloc, "memory"),
+        PlanFault::Memory => word_text(alloc, name),
     }
 }
 
@@ -71,20 +75,21 @@ pub fn proof_fault_text(alloc: Global, tree: &Tree, fault: &ProofFault) -> Resul
     requires { ProofFaultFits tree.now fault.now }
     ensures { IfOk result (λ text. string_bytes text ≡ proof_text tree.now fault.now) }
 {
+    let name = proof_fault_name(fault);
     match *fault {
         ProofFault::Plan(fault) => plan_fault_text(alloc, tree, &fault),
-        ProofFault::Rows(row) => numbered_text(alloc, "rows", row, ""),
-        ProofFault::Sign(row) => numbered_text(alloc, "sign", row, ""),
-        ProofFault::TooBig(row) => numbered_text(alloc, "too-big", row, ""),
-        ProofFault::LockBalance(row) => numbered_text(alloc, "lock-balance", row, ""),
-        ProofFault::ReleaseBalance(row) => numbered_text(alloc, "release-balance", row, ""),
+        ProofFault::Rows(row)
+        | ProofFault::Sign(row)
+        | ProofFault::TooBig(row)
+        | ProofFault::LockBalance(row)
+        | ProofFault::ReleaseBalance(row) => numbered_text(alloc, name, row),
         ProofFault::Value { cost, bound } => value_text(alloc, cost, bound),
-        ProofFault::Memory => word_text(alloc, "memory"),
+        ProofFault::Memory => word_text(alloc, name),
     }
 }
 
 fn value_text(alloc: Global, cost: u64, bound: i128) -> Result<String, NoMemory>
-    ensures { IfOk result (λ text. string_bytes text ≡ value_text cost bound) }
+    ensures { IfOk result (λ text. string_bytes text ≡ codes "value " ++ decimal cost ++ (codes " " ++ signed_decimal bound)) }
 {
     let bound = format!(in alloc; " {bound}")?;
     Ok(format!(in alloc; "value {cost}{bound}")?)
@@ -115,14 +120,21 @@ fn placed_text(alloc: Global, word: &str, place: Place) -> Result<String, NoMemo
     Ok(format!(in alloc; "{word} {place}")?)
 }
 
-/// A word and a number, and what is said of it.
-pub(crate) fn numbered_text(
+/// A word and a number.
+pub(crate) fn numbered_text(alloc: Global, word: &str, number: u32) -> Result<String, NoMemory>
+    ensures { IfOk result (λ text. string_bytes text ≡ word.now ++ codes " " ++ decimal number) }
+{
+    Ok(format!(in alloc; "{word} {number}")?)
+}
+
+/// A word and a number, and what is said of it after a space.
+pub(crate) fn said_text(
     alloc: Global,
     word: &str,
     number: u32,
     said: &str,
 ) -> Result<String, NoMemory>
-    ensures { IfOk result (λ text. string_bytes text ≡ word.now ++ codes " " ++ decimal number ++ said.now) }
+    ensures { IfOk result (λ text. string_bytes text ≡ word.now ++ codes " " ++ decimal number ++ (codes " " ++ said.now)) }
 {
-    Ok(format!(in alloc; "{word} {number}{said}")?)
+    Ok(format!(in alloc; "{word} {number} {said}")?)
 }

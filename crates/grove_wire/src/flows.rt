@@ -1,8 +1,10 @@
 ghost use Rattle.std.specs.Prelude.{◌≡◌, ◌<◌, ◌^◌, map, option_map, IfOk, length, vec_len};
 ghost use Rattle.serde_json.specs.View.{view};
-ghost use Rattle.grove_wire.specs.Forms.{HasShortArrays, amount_of, flow_with, flow_form};
-ghost use Rattle.grove_wire.specs.Outcomes.{Gives, each_from};
-ghost use Rattle.grove_wire.specs.Reading.{flow_row_at, flow_row_in, flow_in};
+ghost use Rattle.grove_wire.specs.Forms.{HasShortArrays, amount_of, flow_form};
+ghost use Rattle.grove_wire.specs.Outcomes.{Gives, each_on};
+ghost use Rattle.grove_wire.specs.Places.{whole_of};
+ghost use Rattle.grove_wire.specs.Reading.{flow_row_at, flow_in};
+ghost use Rattle.grove_wire.specs.RowParts.{flow_with};
 
 use crate::document::items_in;
 use crate::paths::node_on;
@@ -26,7 +28,7 @@ pub fn read_flow(alloc: Global, tree: &Tree, document: &Value) -> Result<Flow, W
 
 fn read_flow_rows(alloc: Global, tree: &Tree, items: &[Value]) -> Result<Vec<FlowRow>, WireFault>
     requires { length items.now < 2 ^ 32 }
-    ensures read { Gives (λ rows. rows.items) result (each_from (flow_row_in tree.now) 0 (map view items.now)) }
+    ensures read { Gives (λ rows. rows.items) result (each_on (flow_row_at tree.now) (whole_of Part.Flow) (map view items.now)) }
     ensures few { IfOk result (λ rows. vec_len rows < 2 ^ 32) }
 {
     let mut rows = Vec::new(alloc);

@@ -2,8 +2,9 @@ ghost use Rattle.std.specs.Prelude.{map, IfOk, length, ◌≤◌};
 ghost use Rattle.std.specs.List.{All};
 ghost use Rattle.serde_json.specs.View.{view};
 ghost use Rattle.grove_access.specs.Lists.{nodes_of, AreNodes};
-ghost use Rattle.grove_wire.specs.Outcomes.{Gives, each_from};
-ghost use Rattle.grove_wire.specs.Reading.{access_in, list_of, list_in, list_on, nth_list, lists_of, lists_in};
+ghost use Rattle.grove_wire.specs.Outcomes.{Gives, each_on};
+ghost use Rattle.grove_wire.specs.Places.{whole_of};
+ghost use Rattle.grove_wire.specs.Reading.{access_at, list_of, list_in, list_on, lists_of, lists_in};
 
 use crate::accesses::access_at;
 use crate::document::items_in;
@@ -78,7 +79,7 @@ fn read_accesses(
     items: &[Value],
 ) -> Result<Vec<Access>, WireFault>
     requires { length items.now ≤ 64 }
-    ensures { Gives (λ accesses. accesses.items) result (each_from (access_in tree.now version place) 0 (map view items.now)) }
+    ensures { Gives (λ accesses. accesses.items) result (each_on (access_at tree.now version) place (map view items.now)) }
 {
     let mut accesses = Vec::new(alloc);
     for (at, item) in items.iter().enumerate() {
@@ -129,7 +130,7 @@ fn read_each_list(
     items: &[Value],
 ) -> Result<Vec<AccessList>, WireFault>
     requires { length items.now ≤ 256 }
-    ensures { Gives (λ lists. lists.items) result (each_from (nth_list tree.now version) 0 (map view items.now)) }
+    ensures { Gives (λ lists. lists.items) result (each_on (list_on tree.now version) (whole_of Part.Lists) (map view items.now)) }
 {
     let mut lists = Vec::new(alloc);
     for (at, item) in items.iter().enumerate() {

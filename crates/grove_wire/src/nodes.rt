@@ -1,9 +1,12 @@
-ghost use Rattle.std.specs.Prelude.{◌≡◌, ◌<◌, ◌^◌, map, option_map, IfOk, length};
+ghost use Rattle.std.specs.Prelude.{◌≡◌, ◌<◌, ◌^◌, ℤ, List, map, option_map, IfOk, length};
 ghost use Rattle.serde_json.specs.View.{view};
-ghost use Rattle.grove_tree.specs.Rules.{row_of, rows_of, tree_fault_of};
-ghost use Rattle.grove_wire.specs.Forms.{HasShortArrays, as_parent, as_record, row_with, row_form};
+ghost use Rattle.grove_tree.specs.Trees.{Rows};
+ghost use Rattle.grove_tree.specs.Rules.{tree_fault_of};
+ghost use Rattle.grove_tree.specs.BuiltRows.{row_of, rows_of};
+ghost use Rattle.grove_wire.specs.Forms.{HasShortArrays, as_parent, as_record, row_form};
 ghost use Rattle.grove_wire.specs.Outcomes.{Gives};
-ghost use Rattle.grove_wire.specs.Reading.{row_at, columns_of, unless_fault, tree_of, tree_in};
+ghost use Rattle.grove_wire.specs.RowParts.{row_with};
+ghost use Rattle.grove_wire.specs.Reading.{row_at, columns_of, unless_fault, tree_in};
 
 use crate::document::items_in;
 use crate::forms::short_number;
@@ -29,7 +32,7 @@ pub fn read_tree(alloc: Global, document: &Value) -> Result<(Tree, Records), Wir
 /// The tree of the rows, beside the records of its nodes.
 fn tree_of(alloc: Global, rows: &[Row], values: &[i64]) -> Result<(Tree, Records), WireFault>
     requires { length values.now ≡ length rows.now }
-    ensures read { Gives (λ read. (read.0, read.1)) result (tree_of (rows_of rows.now, values.now)) }
+    ensures read { Gives {A = Rows × List ℤ} (λ read. (read.0, read.1)) result (unless_fault (tree_fault_of (rows_of rows.now)) (rows_of rows.now, values.now)) }
     ensures fits { IfOk result (λ read. length read.1 ≡ length read.0) }
 {
     let tree = build_tree(alloc, rows)?;

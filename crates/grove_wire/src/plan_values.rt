@@ -4,7 +4,7 @@ ghost use Rattle.serde_json.specs.Find.{get};
 ghost use Rattle.serde_json.specs.View.{view, members_view};
 ghost use Rattle.grove_tree.specs.Trees.{Rows};
 ghost use Rattle.grove_wire.specs.Reading.{step_at, flow_row_at, plan_in, flow_in};
-ghost use Rattle.grove_wire.specs.Writing.{StepFits, PlanFits, pair_data, step_data, access_data, plan_data, FlowFits, count_data, flow_row_data, flow_data};
+ghost use Rattle.grove_wire.specs.Writing.{StepFits, PlanFits, pair_data, step_data, plan_data, FlowFits, count_data, flow_row_data, flow_data};
 ghost use Rattle.grove_wire.specs.declared.place.Place.{Place};
 
 use grove_plan::{Plan, Step};
@@ -61,7 +61,7 @@ fn unlock_value(alloc: Global, tree: &Tree, node: Node) -> Result<Value, NoMemor
 
 #[tactic(auto, using(crate::proofs::Shorts::short_is_read), unfolding(crate::specs::Reading::step_at, crate::specs::Reading::step_of, crate::specs::Forms::as_short))]
 fn access_value(alloc: Global, access: u32) -> Result<Value, NoMemory>
-    ensures value { IfOk result (λ value. view value ≡ access_data access) }
+    ensures value { IfOk result (λ value. view value ≡ pair_data (codes "access") (count_data access)) }
     ensures reads_back { IfOk result (λ value. (tree : Rows) (place : Place) → step_at tree place (view value) ≡ Ok (Step.Access access)) }
 {
     pair_value(alloc, "access", Value::from(access))

@@ -1,8 +1,8 @@
 ghost use Rattle.std.specs.Prelude.{◌≡◌, ◌<◌, ◌^◌, map, IfOk, length, vec_len};
 ghost use Rattle.serde_json.specs.View.{view};
 ghost use Rattle.grove_wire.specs.Forms.{HasShortArrays};
-ghost use Rattle.grove_wire.specs.Outcomes.{Gives};
-ghost use Rattle.grove_wire.specs.Reading.{path_at, step_of, step_at, steps_of, plan_in};
+ghost use Rattle.grove_wire.specs.Outcomes.{Gives, each_on};
+ghost use Rattle.grove_wire.specs.Reading.{path_at, step_of, step_at, plan_in};
 
 use crate::document::items_in;
 use crate::forms::{is_word, list_items, short_number};
@@ -32,7 +32,7 @@ pub(crate) fn plan_of(
     items: &[Value],
 ) -> Result<Plan, WireFault>
     requires { length items.now < 2 ^ 32 }
-    ensures { Gives (λ plan. plan) result (steps_of tree.now place (map view items.now)) }
+    ensures { Gives (λ plan. plan) result (each_on (step_at tree.now) place (map view items.now)) }
 {
     let steps = read_steps(alloc, tree, place, items)?;
     Ok(Plan::new(steps))
@@ -45,7 +45,7 @@ fn read_steps(
     items: &[Value],
 ) -> Result<Vec<Step>, WireFault>
     requires { length items.now < 2 ^ 32 }
-    ensures read { Gives (λ steps. steps.items) result (steps_of tree.now place (map view items.now)) }
+    ensures read { Gives (λ steps. steps.items) result (each_on (step_at tree.now) place (map view items.now)) }
     ensures few { IfOk result (λ steps. vec_len steps < 2 ^ 32) }
 {
     let mut steps = Vec::new(alloc);

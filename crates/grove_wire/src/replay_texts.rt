@@ -1,7 +1,7 @@
-ghost use Rattle.std.specs.Prelude.{◌≡◌, IfOk, ◌++◌, codes, decimal, string_bytes};
+ghost use Rattle.std.specs.Prelude.{◌≡◌, IfOk, string_bytes};
 ghost use Rattle.grove_wire.specs.Texts.{event_text, replay_text, ReplayFaultFits};
 
-use crate::fault_texts::{numbered_text, plan_fault_text, word_text};
+use crate::fault_texts::{numbered_text, plan_fault_text, said_text, word_text};
 use grove_core::{ReplayFault, StepFault};
 use grove_tree::{NoMemory, Tree};
 use std::alloc::Global;
@@ -24,7 +24,7 @@ pub fn replay_fault_text(
             let said = event_fault_text(alloc, fault)?;
             said_text(alloc, "event", at, &said)
         }
-        ReplayFault::Unfinished(job) => numbered_text(alloc, "unfinished", job, ""),
+        ReplayFault::Unfinished(job) => numbered_text(alloc, "unfinished", job),
         ReplayFault::Memory => word_text(alloc, "memory"),
     }
 }
@@ -35,16 +35,8 @@ fn event_fault_text(alloc: Global, fault: StepFault) -> Result<String, NoMemory>
     match fault {
         StepFault::NoTxn => word_text(alloc, "no-job"),
         StepFault::Ended => word_text(alloc, "ended"),
-        StepFault::Blocked(holder) => numbered_text(alloc, "blocked", holder, ""),
+        StepFault::Blocked(holder) => numbered_text(alloc, "blocked", holder),
         StepFault::NotBlocked => word_text(alloc, "not-blocked"),
         StepFault::Marked => word_text(alloc, "marked"),
     }
-}
-
-/// A word and a number, and what is said of it after a space.
-fn said_text(alloc: Global, word: &str, number: u32, said: &str) -> Result<String, NoMemory>
-    ensures { IfOk result (λ text. string_bytes text ≡ word.now ++ codes " " ++ decimal number ++ codes " " ++ said.now) }
-{
-    let number = format!(in alloc; "{word} {number}")?;
-    Ok(format!(in alloc; "{number} {said}")?)
 }

@@ -1,6 +1,6 @@
 ghost use Rattle.std.specs.Prelude.{◌≡◌, IfOk};
 ghost use Rattle.serde_json.specs.View.{view};
-ghost use Rattle.grove_wire.specs.Writing.{reply_data, replies_data, numbers_data};
+ghost use Rattle.grove_wire.specs.Writing.{reply_data, array_of, number_data};
 
 use grove_access::Reply;
 use grove_tree::NoMemory;
@@ -9,7 +9,7 @@ use std::alloc::Global;
 
 /// The array of the replies: each a number, `"ok"`, `"range"` or `"short"`.
 pub fn replies_value(alloc: Global, replies: &[Reply]) -> Result<Value, NoMemory>
-    ensures { IfOk result (λ value. view value ≡ replies_data replies.now) }
+    ensures { IfOk result (λ value. view value ≡ array_of reply_data replies.now) }
 {
     let mut items = Vec::new(alloc);
     for reply in replies {
@@ -31,7 +31,7 @@ fn reply_value(alloc: Global, reply: Reply) -> Result<Value, NoMemory>
 
 /// The array of the numbers.
 pub fn numbers_value(alloc: Global, numbers: &[i64]) -> Result<Value, NoMemory>
-    ensures { IfOk result (λ value. view value ≡ numbers_data numbers.now) }
+    ensures { IfOk result (λ value. view value ≡ array_of number_data numbers.now) }
 {
     let mut items = Vec::new(alloc);
     for number in numbers {

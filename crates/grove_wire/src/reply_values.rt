@@ -1,7 +1,7 @@
 ghost use Rattle.std.specs.Prelude.{◌≡◌, IfOk, map};
 ghost use Rattle.serde_json.specs.View.{view};
-ghost use Rattle.grove_wire.specs.Writing.{PlanFits, FlowFits};
-ghost use Rattle.grove_wire.specs.Replies.{counts_data, error_data, planned_data, cost_data, lists_data, round_data, weights_of, weights_data, changed_data};
+ghost use Rattle.grove_wire.specs.Writing.{PlanFits, FlowFits, array_of, count_data, reply_data};
+ghost use Rattle.grove_wire.specs.Replies.{error_data, planned_data, cost_data, round_data, weights_of, weights_data, changed_data};
 
 use crate::plan_values::{flow_value, plan_value};
 use crate::replies::replies_value;
@@ -86,7 +86,7 @@ pub fn changed_value(alloc: Global, changed: u32) -> Result<Value, NoMemory>
 
 /// The array of the counts.
 pub fn counts_value(alloc: Global, counts: &[u32]) -> Result<Value, NoMemory>
-    ensures { IfOk result (λ value. view value ≡ counts_data counts.now) }
+    ensures { IfOk result (λ value. view value ≡ array_of count_data counts.now) }
 {
     let mut items = Vec::new(alloc);
     for count in counts {
@@ -97,7 +97,7 @@ pub fn counts_value(alloc: Global, counts: &[u32]) -> Result<Value, NoMemory>
 
 /// The array of each list's replies.
 pub fn lists_value(alloc: Global, replies: &[&[Reply]]) -> Result<Value, NoMemory>
-    ensures { IfOk result (λ value. view value ≡ lists_data (map (λ list. list.now) replies.now)) }
+    ensures { IfOk result (λ value. view value ≡ array_of (array_of reply_data) (map (λ list. list.now) replies.now)) }
 {
     let mut items = Vec::new(alloc);
     for list in replies {
@@ -107,7 +107,7 @@ pub fn lists_value(alloc: Global, replies: &[&[Reply]]) -> Result<Value, NoMemor
 }
 
 fn tree_weights_value(alloc: Global, tree: &Tree) -> Result<Value, NoMemory>
-    ensures { IfOk result (λ value. view value ≡ counts_data (weights_of tree.now)) }
+    ensures { IfOk result (λ value. view value ≡ array_of count_data (weights_of tree.now)) }
 {
     let mut items = Vec::new(alloc);
     for number in 0..tree.len() {

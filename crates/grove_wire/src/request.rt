@@ -3,7 +3,8 @@ ghost use Rattle.serde_json.specs.Find.{get};
 ghost use Rattle.serde_json.specs.View.{view};
 ghost use Rattle.grove_wire.specs.Forms.{HasShortArrays};
 ghost use Rattle.grove_wire.specs.Outcomes.{Gives};
-ghost use Rattle.grove_wire.specs.Requests.{asked_of, AskedFits, RequestsFit, ReadingNeedsNoRoom, only_member, plan_of, check_of, batch_of, named_of, request_of};
+ghost use Rattle.grove_wire.specs.RequestLaws.{AskedFits, RequestsFit, ReadingNeedsNoRoom};
+ghost use Rattle.grove_wire.specs.Requests.{asked_of, only_member, plan_of, check_of, batch_of, named_of, request_of};
 
 use crate::flows::read_flow;
 use crate::forms::list_items;

@@ -1,9 +1,10 @@
 ghost use Rattle.std.specs.Prelude.{◌≡◌, ◌<◌, ◌^◌, map, option_map, length};
 ghost use Rattle.std.specs.List.{All};
 ghost use Rattle.serde_json.specs.View.{view};
-ghost use Rattle.grove_wire.specs.Forms.{reply_form, AreArraysShort};
-ghost use Rattle.grove_wire.specs.Outcomes.{Gives, each_from};
-ghost use Rattle.grove_wire.specs.Histories.{record_at, reply_at, reply_in, replies_at, replies_on, standing_at, standing_of, standing_in};
+ghost use Rattle.grove_wire.specs.Forms.{as_signed, reply_form, AreArraysShort};
+ghost use Rattle.grove_wire.specs.Outcomes.{Gives, of_form, each_on};
+ghost use Rattle.grove_wire.specs.Places.{whole_of, item_of};
+ghost use Rattle.grove_wire.specs.Histories.{replies_on, standing_at, standing_of, standing_in};
 
 use crate::document::items_at;
 use crate::forms::{is_word, list_items};
@@ -50,7 +51,7 @@ fn standing_at(alloc: Global, value: &Value) -> Result<Standing, WireFault>
 
 fn read_records(alloc: Global, items: &[Value]) -> Result<Vec<i64>, WireFault>
     requires { length items.now < 2 ^ 32 }
-    ensures { Gives (λ records. records.items) result (each_from record_at 0 (map view items.now)) }
+    ensures { Gives (λ records. records.items) result (each_on (of_form as_signed) (whole_of Part.StandingRecords) (map view items.now)) }
 {
     let mut records = Vec::new(alloc);
     for (at, item) in items.iter().enumerate() {
@@ -61,7 +62,7 @@ fn read_records(alloc: Global, items: &[Value]) -> Result<Vec<i64>, WireFault>
 }
 
 fn record_at(at: u32, value: &Value) -> Result<i64, WireFault>
-    ensures { result ≡ record_at at (view value.now) }
+    ensures { result ≡ of_form as_signed (item_of Part.StandingRecords at) (view value.now) }
 {
     let place = Place::item(Part::StandingRecords, at);
     value.as_i64().ok_or(WireFault::Shape(place))
@@ -71,7 +72,7 @@ fn record_at(at: u32, value: &Value) -> Result<i64, WireFault>
 fn read_each_replies(alloc: Global, items: &[Value]) -> Result<Vec<Vec<Reply>>, WireFault>
     requires few { length items.now < 2 ^ 32 }
     requires short { All AreArraysShort (map view items.now) }
-    ensures { Gives (λ all. map (λ replies. replies.items) all.items) result (each_from replies_at 0 (map view items.now)) }
+    ensures { Gives (λ all. map (λ replies. replies.items) all.items) result (each_on replies_on (whole_of Part.StandingReplies) (map view items.now)) }
 {
     let mut all = Vec::new(alloc);
     for (at, item) in items.iter().enumerate() {
@@ -95,7 +96,7 @@ fn replies_on(alloc: Global, place: Place, value: &Value) -> Result<Vec<Reply>, 
 
 fn read_replies(alloc: Global, place: Place, items: &[Value]) -> Result<Vec<Reply>, WireFault>
     requires { length items.now < 2 ^ 32 }
-    ensures { Gives (λ replies. replies.items) result (each_from (reply_in place) 0 (map view items.now)) }
+    ensures { Gives (λ replies. replies.items) result (each_on (of_form reply_form) place (map view items.now)) }
 {
     let mut replies = Vec::new(alloc);
     for (at, item) in items.iter().enumerate() {
@@ -106,7 +107,7 @@ fn read_replies(alloc: Global, place: Place, items: &[Value]) -> Result<Vec<Repl
 }
 
 fn reply_at(place: Place, value: &Value) -> Result<Reply, WireFault>
-    ensures { result ≡ reply_at place (view value.now) }
+    ensures { result ≡ of_form reply_form place (view value.now) }
 {
     reply_form(value).ok_or(WireFault::Shape(place))
 }

@@ -1,5 +1,5 @@
 -- Clap takes the words that are an order, and no others.
-use Rattle.std.proofs.Common.{◌≡◌, ◌≢◌, ◌∙◌, ap, refl, sym, subst, Bool, true, false, List, [], ◌∷◌, Option, Some, None, inl, inr, codes, length, fold}
+use Rattle.std.proofs.Common.{◌≡◌, ◌≢◌, ◌∙◌, ap, refl, sym, subst, Bool, true, false, List, [], ◌∷◌, Option, Some, None, inl, inr, codes, length, fold, option_map}
 use Rattle.std.specs.Str.{bytes_eq}
 use Rattle.clap.specs.Words.{is_simple, is_simple_and_free, subcommand_of, Row, Rule, Shape, Text, fault_of, built}
 use Rattle.std.proofs.lemmas.Slice.Eq.{bytes_eq-Decides}
@@ -9,13 +9,12 @@ use Rattle.clap.specs.Walk.{subcommand_met, Names, walk, rows_after, Walk, idle,
 use Rattle.clap.specs.Faults.{word_fault, step_fault, entered_fault, level_fault, turn_fault, walk_fault}
 use Rattle.clap.specs.Kinds.{Kinds}
 use Rattle.clap.proofs.OnLiterals.{clap_on_literals}
-use Rattle.grove_words.specs.CommandLines.{grove_command, has_place, shape_for, is_option, AreDocument, AreFor, AreTakenFor, AskFor, GivePlace}
+use Rattle.grove_words.specs.CommandLines.{grove_command, shape_for}
+use Rattle.grove_words.specs.PlainWords.{is_option}
 use Rattle.grove_words.specs.Steps.{verb_named}
 use Rattle.grove_words.proofs.Words.{IsFaulty, or_faulty, or_later, not_none, hyphens, top_rules, top_long, top_short, IsOption, option_refused, HasNoFlag, no_flag, no_bundle, differs, Kind, hyphens_kind, option_kind, plain_kind, kind_of}
-use Rattle.grove_words.proofs.Documents.{document_in}
 use Rattle.grove_words.specs.CommandLines.{Verb}
 use Rattle.grove_words.specs.CommandLines.{Judge, Check, Plan, Draw, Run, Audit, Serve, Page, Ask}
-use Rattle.grove_words.specs.declared.order.Place.{Place}
 
 -- clap's statements hold of this command line
 
@@ -38,13 +37,6 @@ top = (built grove_command).top
 -- the walk stands at a command
 abbrev pub at_command : Text → Walk
 at_command command = record { held = nothing_held; waiting = idle; position = 1; is_trailing = false; stopped = Some (command, []) }
-
--- what is made of what clap found in the words
-pub record IsRead (words : List Text) (found : Verb) (called : Option Text) : Type 0 where
-  pub bare : subcommand_of grove_command words ≡ None → (found ≡ Judge) × (called ≡ None)
-  pub verb : (word : Text) (below : List Row) → subcommand_of grove_command words ≡ Some (word, below) → found ≡ verb_named word
-  pub name : (word : Text) (below : List Row) → subcommand_of grove_command words ≡ Some (word, below) → called ≡ document_in below
-  pub place : has_place found ≡ true → (place : Place) × GivePlace words place
 
 abbrev pub word_of : Verb → Text
 word_of verb = (shape_for verb).name
@@ -87,19 +79,6 @@ module _ (verb : Verb) (rest : List Text) where
 
   pub rows_are : subcommand_of grove_command (word_of verb ∷ rest) ≡ Some (word_of verb, rows_after (rules_of verb) [] rest)
   rows_are = ap (entered (built grove_command)) stop_is ∙ (is_one_of verb).enters rest
-
-  fault_below : IsFaulty (below_fault verb rest) → IsFaulty (fault_of grove_command (word_of verb ∷ rest))
-  fault_below faulty =
-      let stop = (walk top_rules names nothing_held (word_of verb ∷ rest)).stopped in
-      let below : IsFaulty (entered_fault (built grove_command) stop) = rw stop_is (rw ((is_one_of verb).fails rest) faulty) in
-      or_later (walk_fault (built grove_command).top names (walk_from nothing_held) (word_of verb ∷ rest)) _ (or_faulty (entered_fault (built grove_command) stop) _ below)
-
-  none_below : fault_of grove_command (word_of verb ∷ rest) ≡ [] → below_fault verb rest ≡ []
-  none_below taken = by_kinds (below_fault verb rest) refl
-    where
-      by_kinds : (kinds : Kinds) → below_fault verb rest ≡ kinds → below_fault verb rest ≡ []
-      by_kinds [] none = none
-      by_kinds (k ∷ ks) some = absurd (not_none (fault_of grove_command (word_of verb ∷ rest)) (fault_below (subst IsFaulty (sym some) tt)) taken)
 
 -- what a word is at the top: a command's, `help`, or neither
 data Which (word : Text) : Type 0 where
@@ -168,45 +147,59 @@ hyphens_found = refl
 
 -- ---- the whole line
 
--- it is what the words ask for
-abbrev IsReadLine : List Text → Type 0
-IsReadLine words = (verb : Verb) (name : Option Text) → IsRead words verb name → AskFor words verb name
+-- what clap finds in words is one command with its rows, or none
 
-bare_reads : (words : List Text) → AreDocument words None → subcommand_of grove_command words ≡ None → IsReadLine words
-bare_reads words are none verb name is = inr (are, (is.bare none).0, (is.bare none).1)
+pub none_found : (found : Option (Text × List Row)) (word : Text) (rows : List Row) → found ≡ None → found ≡ Some (word, rows) → ⊥
+none_found found word rows none some = cc
 
--- the words after a command that are taken name the command's document, and its place
-names_document : (verb : Verb) (rest : List Text) → fault_of grove_command (word_of verb ∷ rest) ≡ []
-    → (found : Verb) (name : Option Text) → IsRead (word_of verb ∷ rest) found name → found ≡ verb → AreFor verb (word_of verb ∷ rest) name
-names_document verb rest taken found name is same =
-    let rows = rows_after (rules_of verb) [] rest in
-    let taken_for : AreTakenFor verb (word_of verb ∷ rest) name = (taken, rows, rows_are verb rest, sym (is.name (word_of verb) rows (rows_are verb rest))) in
-    (inr taken_for, λ placed. is.place (ap has_place same ∙ placed))
+one_word : (found : Option (Text × List Row)) (v w : Text) (rows others : List Row) → found ≡ Some (v, rows) → found ≡ Some (w, others) → v ≡ w
+one_word found v w rows others at be =
+    let both : Some (v, rows) ≡ Some (w, others) = sym at ∙ be in
+    let pair : (v, rows) ≡ (w, others) = cc in
+    ap (λ (p : Text × List Row). p.0) pair
 
-command_reads : (verb : Verb) (rest : List Text) → fault_of grove_command (word_of verb ∷ rest) ≡ [] → IsReadLine (word_of verb ∷ rest)
-command_reads verb rest taken found name is =
-    let same : found ≡ verb = is.verb (word_of verb) (rows_after (rules_of verb) [] rest) (rows_are verb rest) ∙ (is_one_of verb).named in
-    inl (subst (λ v. AreFor v (word_of verb ∷ rest) name) (sym same) (names_document verb rest taken found name is same))
+-- it finds a command's word with its rows
+pub found_is : {A B : Type 0} (name : A → Text) (below : A → B) (found : Option A) (word : Text) (rows : B) → Some word ≡ option_map name found
+    → Some rows ≡ option_map {T = Text × B} (λ both. both.1) (option_map {U = Text × B} (λ a. (name a, below a)) found)
+    → ◌≡◌ {A = Option (Text × B)} (Some (word, rows)) (option_map {U = Text × B} (λ a. (name a, below a)) found)
+found_is name below None word rows is at = absurd (cc)
+found_is {A} {B} name below (Some a) word rows is at =
+    let one : word ≡ name a = cc in
+    let two : rows ≡ below a = cc in
+    let P : Text → Type 0 = λ w. ◌≡◌ {A = Option (Text × B)} (Some (w, rows)) (Some (name a, below a)) in
+    let Q : B → Type 0 = λ r. ◌≡◌ {A = Option (Text × B)} (Some (name a, r)) (Some (name a, below a)) in
+    subst P (sym one) (subst Q (sym two) refl)
 
-pub line_reads : (words : List Text) → fault_of grove_command words ≡ [] → IsReadLine words
-line_reads [] taken = bare_reads [] (inl refl) no_command_found
-line_reads (word ∷ rest) taken = by_which (which word)
+-- a word that it finds is a command's
+abbrev FindsCommand : List Text → Type 0
+FindsCommand words = (word : Text) (rows : List Row) → subcommand_of grove_command words ≡ Some (word, rows) → word ≡ word_of (verb_named word)
+
+bare_finds : (words : List Text) → subcommand_of grove_command words ≡ None → FindsCommand words
+bare_finds words none word rows some = absurd (none_found (subcommand_of grove_command words) word rows none some)
+
+command_finds : (verb : Verb) (rest : List Text) → FindsCommand (word_of verb ∷ rest)
+command_finds verb rest word rows some =
+    let same : word ≡ word_of verb = one_word (subcommand_of grove_command (word_of verb ∷ rest)) word (word_of verb) rows (rows_after (rules_of verb) [] rest) some (rows_are verb rest) in
+    same ∙ ap word_of (sym (is_one_of verb).named ∙ ap verb_named (sym same))
+
+pub finds_command : (words : List Text) → fault_of grove_command words ≡ [] → FindsCommand words
+finds_command [] taken = bare_finds [] no_command_found
+finds_command (word ∷ rest) taken = by_which (which word)
   where
-    refused : IsFaulty (fault_of grove_command (word ∷ rest)) → IsReadLine (word ∷ rest)
+    refused : IsFaulty (fault_of grove_command (word ∷ rest)) → FindsCommand (word ∷ rest)
     refused faulty = absurd (not_none (fault_of grove_command (word ∷ rest)) faulty taken)
 
-    by_hyphens : (others : List Text) → rest ≡ others → word ≡ hyphens → IsReadLine (word ∷ rest)
-    by_hyphens [] none is = subst IsReadLine (ap (λ xs. word ∷ xs) (sym none)) (subst (λ w. IsReadLine (w ∷ [])) (sym is) (bare_reads (hyphens ∷ []) (inr refl) hyphens_found))
+    by_hyphens : (others : List Text) → rest ≡ others → word ≡ hyphens → FindsCommand (word ∷ rest)
+    by_hyphens [] none is = subst FindsCommand (ap (λ xs. word ∷ xs) (sym none)) (subst (λ w. FindsCommand (w ∷ [])) (sym is) (bare_finds (hyphens ∷ []) hyphens_found))
     by_hyphens (next ∷ more) some is =
         refused (subst (λ xs. IsFaulty (fault_of grove_command (word ∷ xs))) (sym some) (subst (λ w. IsFaulty (fault_of grove_command (w ∷ next ∷ more))) (sym is) (hyphens_more next more)))
 
-    by_kind : subcommand_met names idle word ≡ None → Kind word → IsReadLine (word ∷ rest)
+    by_kind : subcommand_met names idle word ≡ None → Kind word → FindsCommand (word ∷ rest)
     by_kind none (hyphens_kind is) = by_hyphens rest refl is
     by_kind none (option_kind other is) = refused (top_option word rest none other is)
     by_kind none (plain_kind other is) = refused (top_plain word rest none other is)
 
-    by_which : Which word → IsReadLine (word ∷ rest)
-    by_which (a_command verb is) =
-        subst (λ w. IsReadLine (w ∷ rest)) (sym is) (command_reads verb rest (subst (λ w. fault_of grove_command (w ∷ rest) ≡ []) is taken))
+    by_which : Which word → FindsCommand (word ∷ rest)
+    by_which (a_command verb is) = subst (λ w. FindsCommand (w ∷ rest)) (sym is) (command_finds verb rest)
     by_which (a_help is) = refused (subst (λ w. IsFaulty (fault_of grove_command (w ∷ rest))) (sym is) (help_then rest))
     by_which (neither none) = by_kind none (kind_of word)

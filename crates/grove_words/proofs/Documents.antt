@@ -6,7 +6,8 @@ use Rattle.clap.specs.Walk.{rows_after, Walk, idle, nothing_held, walked, walk_f
 use Rattle.clap.specs.Faults.{level_fault}
 use Rattle.clap.specs.Kinds.{Kinds}
 use Rattle.clap.proofs.OnLiterals.{clap_on_literals}
-use Rattle.grove_words.specs.CommandLines.{command_with, grove_command, reading, is_option, AreDocument}
+use Rattle.grove_words.specs.CommandLines.{command_with, grove_command, reading}
+use Rattle.grove_words.specs.PlainWords.{is_option, AreDocument}
 use Rattle.grove_words.proofs.Words.{leaf_rules, held_with, hyphens, HasNoFlag, no_flag, met_plain}
 
 -- the document that rows name

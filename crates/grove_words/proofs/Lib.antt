@@ -2,5 +2,4 @@ pub mod Asking
 pub mod Documents
 pub mod Words
 pub mod Orders
-pub mod Ports
 pub mod Rules

@@ -13,18 +13,22 @@ use Rattle.clap.specs.declared.error.kind.ErrorKind.TheVariants.{OutOfMemory, Di
 use Rattle.clap.proofs.OnLiterals.{clap_on_literals}
 use Rattle.clap.proofs.WalkLemmas.{walk_stopped}
 use Rattle.clap.proofs.FaultLemmas.{fault_ends, stopped_fault}
+use Rattle.grove_words.specs.declared.order.Command.{Command}
 use Rattle.grove_words.specs.declared.order.Command.TheVariants as command
 use Rattle.grove_words.specs.declared.order.Document.TheVariants.{StandardInput}
 use Rattle.grove_words.specs.declared.order.Invocation.{Invocation}
 use Rattle.grove_words.specs.declared.order.Order.{Order}
 use Rattle.grove_words.specs.declared.order.Order.TheVariants as order
 use Rattle.grove_words.specs.declared.order.Place.{Place}
-use Rattle.grove_words.specs.CommandLines.{command_with, grove_command, has_place, serves, shape_for, text_given, Verb, Judge, Check, Plan, Draw, Run, Audit, Serve, Page, Ask, IsPlain, AreCommand, AreDocument, AreFor, AreTakenFor, AskFor, AskToShow, AreWrong, Chooses, GivePlace, IsPlace}
-use Rattle.grove_words.specs.Orders.{lines_given, lines_in, name_in, verb_for, verb_of, AskForOrder, IsAskedBy, Says}
-use Rattle.grove_words.specs.Steps.{verb_named, HasName, IsFound, IsFoundIn, IsNowhere, IsPlaceless, IsTold}
+use Rattle.std.specs.declared.net.socket_addr.SocketAddr.{SocketAddr}
+use Rattle.grove_words.specs.CommandLines.{command_with, grove_command, reading, serves, shape_for, text_given, Verb, Judge, Check, Plan, Draw, Run, Audit, Serve, Page, Ask, AskFor, AskToShow, AreWrong, Chooses, IsFor, IsPlace, IsServer}
+use Rattle.grove_words.specs.Invocations.{lines_given, lines_in, name_in, verb_of, AskForOrder, IsAskedBy, Says}
+use Rattle.grove_words.specs.Orders.{verb_for, SaysCommand}
+use Rattle.grove_words.specs.PlainWords.{AreDocument, CommandsAreOrders, IsPlain, NoCommandJudges}
+use Rattle.grove_words.specs.Steps.{verb_named, HasName, IsFound, IsFoundIn, IsPlaceless, IsRefused, IsTold}
 use Rattle.grove_words.proofs.Words.{hyphens, top_rules, leaf_rules, HasNoFlag, no_flag, differs, met_plain}
 use Rattle.grove_words.proofs.Documents.{document_in, leaf, leaf_fault, leaf_reads, walked_plain, hyphens_after}
-use Rattle.grove_words.proofs.Asking.{names, top, at_command, is_one_of, shape_of, rules_of, word_of, below_fault, rows_are, line_reads, no_command_found, hyphens_found, IsRead}
+use Rattle.grove_words.proofs.Asking.{names, top, at_command, is_one_of, shape_of, rules_of, word_of, below_fault, rows_are, finds_command, no_command_found, hyphens_found}
 
 or_nil : (a b : Kinds) → a ≡ [] → b ≡ [] → or_else a b ≡ []
 or_nil a b none nothing = ap (λ (k : Kinds). or_else k b) none ∙ nothing
@@ -117,90 +121,67 @@ command_is Serve = refl
 command_is Page = refl
 command_is Ask = refl
 
--- words of a command and its document alone are taken for it
-alone_taken : (verb : Verb) (words : List Text) (document : Option Text) → AreCommand verb words document → AreTakenFor verb words document
-alone_taken verb words document (alone, rest, is, are) =
+-- a command of a document alone has no place
+no_place : (verb : Verb) → (shape_for verb).rules ≡ reading → serves verb ≡ true → ⊥
+no_place Serve alone serving = cc
+no_place Page alone serving = cc
+no_place Judge alone serving = cc
+no_place Check alone serving = cc
+no_place Plan alone serving = cc
+no_place Draw alone serving = cc
+no_place Run alone serving = cc
+no_place Audit alone serving = cc
+no_place Ask alone serving = cc
+
+no_server : (verb : Verb) → (shape_for verb).rules ≡ reading → verb ≡ Ask → ⊥
+no_server verb alone asks = let same : (shape_for Ask).rules ≡ reading = subst (λ v. (shape_for v).rules ≡ reading) asks alone in cc
+
+-- words of a command and its document alone ask for it
+pub commands_are_orders : CommandsAreOrders
+commands_are_orders verb words document (alone, rest, is, are) =
     let shape : shape_of verb ≡ leaf (word_of verb) =
-    ap (λ (s : Shape). built_leaf (inherited grove_command.top s)) (command_is verb ∙ ap (command_with (word_of verb)) alone) in (
-      ap (fault_of grove_command) is
-          ∙ command_taken verb rest (ap (λ (s : Shape). level_fault s [] nothing_held rest false []) shape ∙ leaf_taken (word_of verb) rest document are),
-      rows_after (rules_of verb) [] rest,
-      ap (subcommand_of grove_command) is ∙ rows_are verb rest,
-      ap (λ (s : Shape). first_of (codes "DOC") (rows_after s.rules [] rest)) shape ∙ leaf_reads rest document are,
-    )
+    ap (λ (s : Shape). built_leaf (inherited grove_command.top s)) (command_is verb ∙ ap (command_with (word_of verb)) alone) in
+    let found : subcommand_of grove_command words ≡ Some (word_of verb, rows_after (rules_of verb) [] rest) = ap (subcommand_of grove_command) is ∙ rows_are verb rest in
+    let named : first_of (codes "DOC") (rows_after (rules_of verb) [] rest) ≡ document =
+    ap (λ (s : Shape). first_of (codes "DOC") (rows_after s.rules [] rest)) shape ∙ leaf_reads rest document are in
+    record {
+      taken = ap (fault_of grove_command) is
+          ∙ command_taken verb rest (ap (λ (s : Shape). level_fault s [] nothing_held rest false []) shape ∙ leaf_taken (word_of verb) rest document are);
+      found = subst (IsFor verb document) (sym found) (refl, named);
+      placed = λ serving. absurd (no_place verb alone serving);
+      addressed = λ asks. absurd (no_server verb alone asks);
+    }
 
--- and so are those with its options
-taken_as : (verb : Verb) (words : List Text) (document : Option Text) → AreFor verb words document → AreTakenFor verb words document
-taken_as verb words document (inl alone, placed) = alone_taken verb words document alone
-taken_as verb words document (inr taken, placed) = taken
+-- and no words, or two hyphens alone, ask to judge standard input
+judges_bare : (words : List Text) → fault_of grove_command words ≡ [] → subcommand_of grove_command words ≡ None → AskFor words Judge None
+judges_bare words taken none = record {
+  taken = taken;
+  found = subst (IsFor Judge None) (sym none) (refl, refl);
+  placed = λ serving. absurd (cc);
+  addressed = λ asks. absurd (cc);
+}
 
--- the words have this command's rows
-abbrev HasRows : Verb → List Text → Type 0
-HasRows verb words = (rows : List Row) × (subcommand_of grove_command words ≡ Some (word_of verb, rows))
-
--- clap finds each command in its words
-found_for : (verb : Verb) (words : List Text) (document : Option Text) → AreFor verb words document → HasRows verb words
-found_for verb words document are = let taken = taken_as verb words document are in (taken.1, taken.2)
-
--- in a document's words alone it finds none
-nothing_found : (words : List Text) → AreDocument words None → subcommand_of grove_command words ≡ None
-nothing_found words (inl none) = ap (subcommand_of grove_command) none ∙ no_command_found
-nothing_found words (inr two) = ap (subcommand_of grove_command) two ∙ hyphens_found
-
-pub order_taken : (words : List Text) (verb : Verb) (name : Option Text) → AskFor words verb name → fault_of grove_command words ≡ []
-order_taken words verb name (inl are) = (taken_as verb words name are).0
-order_taken words verb name (inr (inl is, judge, nameless)) = ap (fault_of grove_command) is ∙ no_words_taken
-order_taken words verb name (inr (inr is, judge, nameless)) = ap (fault_of grove_command) is ∙ two_hyphens_taken
+pub no_command_judges : NoCommandJudges
+no_command_judges words (inl none) = judges_bare words (ap (fault_of grove_command) none ∙ no_words_taken) (ap (subcommand_of grove_command) none ∙ no_command_found)
+no_command_judges words (inr two) = judges_bare words (ap (fault_of grove_command) two ∙ two_hyphens_taken) (ap (subcommand_of grove_command) two ∙ hyphens_found)
 
 -- ---- words are one order only
 
--- what clap finds in words is one command with its rows, or none
+one_verb : (found : Option (Text × List Row)) (v w : Verb) (name other : Option Text) → IsFor v name found → IsFor w other found → v ≡ w
+one_verb None v w name other (judge, none) (too, plain) = judge ∙ sym too
+one_verb (Some (word, rows)) v w name other (is, named) (be, called) = sym (is_one_of v).named ∙ ap verb_named (sym is ∙ be) ∙ (is_one_of w).named
 
-none_found : (found : Option (Text × List Row)) (word : Text) (rows : List Row) → found ≡ None → found ≡ Some (word, rows) → ⊥
-none_found found word rows none some = cc
-
-one_word : (found : Option (Text × List Row)) (v w : Text) (rows others : List Row) → found ≡ Some (v, rows) → found ≡ Some (w, others) → v ≡ w
-one_word found v w rows others at be =
-    let both : Some (v, rows) ≡ Some (w, others) = sym at ∙ be in
-    let pair : (v, rows) ≡ (w, others) = cc in
-    ap (λ (p : Text × List Row). p.0) pair
-
-one_rows : (found : Option (Text × List Row)) (v w : Text) (rows others : List Row) → found ≡ Some (v, rows) → found ≡ Some (w, others) → rows ≡ others
-one_rows found v w rows others at be =
-    let both : Some (v, rows) ≡ Some (w, others) = sym at ∙ be in
-    let pair : (v, rows) ≡ (w, others) = cc in
-    ap (λ (p : Text × List Row). p.1) pair
-
--- words for a command aren't a document's alone
-not_bare : (words : List Text) (verb : Verb) (name : Option Text) → AreFor verb words name → AreDocument words None → ⊥
-not_bare words verb name are none =
-    let rows : HasRows verb words = found_for verb words name are in
-    none_found (subcommand_of grove_command words) (word_of verb) rows.0 (nothing_found words none) rows.1
+one_name : (found : Option (Text × List Row)) (v w : Verb) (name other : Option Text) → IsFor v name found → IsFor w other found → name ≡ other
+one_name None v w name other (judge, none) (too, plain) = none ∙ sym plain
+one_name (Some (word, rows)) v w name other (is, named) (be, called) = sym named ∙ called
 
 -- what the same words ask for has one verb
 pub same_verb : (words : List Text) (v w : Verb) (name other : Option Text) → AskFor words v name → AskFor words w other → v ≡ w
-same_verb words v w name other (inl are) (inl be) =
-    let one : HasRows v words = found_for v words name are in
-    let two : HasRows w words = found_for w words other be in
-    let same : word_of v ≡ word_of w = one_word (subcommand_of grove_command words) (word_of v) (word_of w) one.0 two.0 one.1 two.1 in
-    sym (is_one_of v).named ∙ ap verb_named same ∙ (is_one_of w).named
-same_verb words v w name other (inl are) (inr (none, judge, nameless)) = absurd (not_bare words v name are none)
-same_verb words v w name other (inr (none, judge, nameless)) (inl be) = absurd (not_bare words w other be none)
-same_verb words v w name other (inr (none, judge, nameless)) (inr (nothing, too, plain)) = judge ∙ sym too
-
-one_taken : (verb : Verb) (words : List Text) (name other : Option Text) → AreTakenFor verb words name → AreTakenFor verb words other → name ≡ other
-one_taken verb words name other (taken, rows, at, is) (again, others, be, as_well) =
-    let same : rows ≡ others = one_rows (subcommand_of grove_command words) (word_of verb) (word_of verb) rows others at be in
-    sym is ∙ ap (first_of (codes "DOC")) same ∙ as_well
+same_verb words v w name other are be = one_verb (subcommand_of grove_command words) v w name other are.found be.found
 
 -- and one name
 pub same_name : (words : List Text) (v w : Verb) (name other : Option Text) → AskFor words v name → AskFor words w other → name ≡ other
-same_name words v w name other (inl are) (inl be) =
-    let again : AreFor v words other = subst (λ u. AreFor u words other) (sym (same_verb words v w name other (inl are) (inl be))) be in
-    one_taken v words name other (taken_as v words name are) (taken_as v words other again)
-same_name words v w name other (inl are) (inr (none, judge, nameless)) = absurd (not_bare words v name are none)
-same_name words v w name other (inr (none, judge, nameless)) (inl be) = absurd (not_bare words w other be none)
-same_name words v w name other (inr (none, judge, nameless)) (inr (nothing, too, plain)) = nameless ∙ sym plain
+same_name words v w name other are be = one_name (subcommand_of grove_command words) v w name other are.found be.found
 
 -- words that are an order are refused for memory alone, and don't ask for help or the version
 
@@ -213,58 +194,57 @@ not_both : (kinds : Kinds) (k : ErrorKind) → kinds ≡ [] → kinds ≡ k ∷ 
 not_both kinds k none one = cc
 
 pub not_shown : (words : List Text) (verb : Verb) (name : Option Text) → AskFor words verb name → AskToShow words → ⊥
-not_shown words verb name asks (inl help) = not_both (fault_of grove_command words) DisplayHelp (order_taken words verb name asks) help
-not_shown words verb name asks (inr version) = not_both (fault_of grove_command words) DisplayVersion (order_taken words verb name asks) version
+not_shown words verb name asks (inl help) = not_both (fault_of grove_command words) DisplayHelp asks.taken help
+not_shown words verb name asks (inr version) = not_both (fault_of grove_command words) DisplayVersion asks.taken version
 
--- a command that serves has a place
-pub serves_placed : (verb : Verb) → serves verb ≡ true → has_place verb ≡ true
-serves_placed Serve serving = refl
-serves_placed Page serving = refl
-serves_placed Ask serving = refl
-serves_placed Judge serving = absurd (cc)
-serves_placed Check serving = absurd (cc)
-serves_placed Plan serving = absurd (cc)
-serves_placed Draw serving = absurd (cc)
-serves_placed Run serving = absurd (cc)
-serves_placed Audit serving = absurd (cc)
+-- words for a command that lacks its place, or its server, are no order
 
--- words for such a command without a place are no order
-placeless : (words : List Text) (word : Text) (rows : List Row) → subcommand_of grove_command words ≡ Some (word, rows) → has_place (verb_named word) ≡ true
-    → ((place : Place) → GivePlace words place → ⊥) → (verb : Verb) (name : Option Text) → AskFor words verb name → ⊥
-placeless words word rows at placed nowhere verb name (inr (none, judge, nameless)) =
-    none_found (subcommand_of grove_command words) word rows (nothing_found words none) at
-placeless words word rows at placed nowhere verb name (inl are) =
-    let found : HasRows verb words = found_for verb words name are in
-    let same : word ≡ word_of verb = one_word (subcommand_of grove_command words) word (word_of verb) rows found.0 at found.1 in
-    let is : has_place verb ≡ true = ap has_place (sym (is_one_of verb).named ∙ ap verb_named (sym same)) ∙ placed in
-    let given = are.1 is in
+wants_place : (words : List Text) (word : Text) (rows : List Row) → subcommand_of grove_command words ≡ Some (word, rows) → serves (verb_named word) ≡ true
+    → ((place : Place) → IsPlace (text_given words) place → ⊥) → (verb : Verb) (name : Option Text) → AskFor words verb name → ⊥
+wants_place words word rows at serving nowhere verb name asks =
+    let is : IsFor verb name (Some (word, rows)) = subst (IsFor verb name) at asks.found in
+    let same : verb_named word ≡ verb = ap verb_named is.0 ∙ (is_one_of verb).named in
+    let given = asks.placed (ap serves (sym same) ∙ serving) in
+    nowhere given.0 given.1
+
+wants_server : (words : List Text) (word : Text) (rows : List Row) → subcommand_of grove_command words ≡ Some (word, rows) → verb_named word ≡ Ask
+    → ((server : SocketAddr) → IsServer (text_given words) server → ⊥) → (verb : Verb) (name : Option Text) → AskFor words verb name → ⊥
+wants_server words word rows at asking nowhere verb name asks =
+    let is : IsFor verb name (Some (word, rows)) = subst (IsFor verb name) at asks.found in
+    let same : verb_named word ≡ verb = ap verb_named is.0 ∙ (is_one_of verb).named in
+    let given = asks.addressed (sym same ∙ asking) in
     nowhere given.0 given.1
 
 -- what was found is what the words ask for
 
--- an order with a place says which
-placed_by : (texts : Text → Option Text) (lines : List Text) (it : Order) → Says texts lines it → has_place (verb_of it) ≡ true
-    → (place : Place) × IsPlace (texts (codes "address")) (texts (codes "port")) place
-placed_by texts lines (order.Do (command.Serve serving) document) says placed = (serving.place, says.place)
-placed_by texts lines (order.Do (command.Page serving) document) says placed = (serving.place, says.place)
-placed_by texts lines (order.Ask place asked) says placed = (place, says.0)
-placed_by texts lines (order.Do command.Judge document) says placed = absurd (cc)
-placed_by texts lines (order.Do command.Check document) says placed = absurd (cc)
-placed_by texts lines (order.Do (command.Plan in_document) document) says placed = absurd (cc)
-placed_by texts lines (order.Do (command.Draw form) document) says placed = absurd (cc)
-placed_by texts lines (order.Do (command.Run workers) document) says placed = absurd (cc)
-placed_by texts lines (order.Do command.Audit document) says placed = absurd (cc)
+-- a command that serves says where
+placed_by : (texts : Text → Option Text) (it : Command) → SaysCommand texts it → serves (verb_for it) ≡ true → (place : Place) × IsPlace texts place
+placed_by texts (command.Serve serving) says placed = (serving.place, says.place)
+placed_by texts (command.Page serving) says placed = (serving.place, says.place)
+placed_by texts command.Judge says placed = absurd (cc)
+placed_by texts command.Check says placed = absurd (cc)
+placed_by texts (command.Plan in_document) says placed = absurd (cc)
+placed_by texts (command.Draw form) says placed = absurd (cc)
+placed_by texts (command.Run workers) says placed = absurd (cc)
+placed_by texts command.Audit says placed = absurd (cc)
+
+no_asking : (it : Command) → verb_for it ≡ Ask → ⊥
+no_asking command.Judge asks = cc
+no_asking command.Check asks = cc
+no_asking (command.Plan in_document) asks = cc
+no_asking (command.Draw form) asks = cc
+no_asking (command.Run workers) asks = cc
+no_asking command.Audit asks = cc
+no_asking (command.Serve serving) asks = cc
+no_asking (command.Page serving) asks = cc
 
 -- with a command
 module _ (words : List Text) (word : Text) (rows : List Row) (at : subcommand_of grove_command words ≡ Some (word, rows)) where
-  read_in : (verb : Verb) (name : Option Text) → verb ≡ verb_named word → name ≡ document_in rows → (has_place verb ≡ true → (place : Place) × GivePlace words place)
-      → IsRead words verb name
-  read_in verb name is named place = record {
-    bare = λ none. absurd (none_found (subcommand_of grove_command words) word rows none at);
-    verb = λ other below be. is ∙ ap verb_named (one_word (subcommand_of grove_command words) word other rows below at be);
-    name = λ other below be. named ∙ ap document_in (one_rows (subcommand_of grove_command words) word other rows below at be);
-    place = place;
-  }
+  -- what is found is the verb of its word, with the document's name that is among its rows
+  for_word : fault_of grove_command words ≡ [] → (verb : Verb) (name : Option Text) → verb ≡ verb_named word → name ≡ document_in rows
+      → IsFor verb name (subcommand_of grove_command words)
+  for_word taken verb name is named =
+      subst (IsFor verb name) (sym at) (finds_command words taken word rows at ∙ ap word_of (sym is), sym named)
 
   -- the texts among its rows are those that the words give
   texts_are : text_given words ≡ (λ name. one_of name rows)
@@ -279,13 +259,20 @@ module _ (words : List Text) (word : Text) (rows : List Row) (at : subcommand_of
 
   asked_in : fault_of grove_command words ≡ [] → (it : Order) → verb_of it ≡ verb_named word → HasName (document_in rows) it
       → Says (text_given words) (lines_given words) it → AskForOrder words it
-  asked_in taken (order.Do command document) verb name says =
-      line_reads words taken (verb_for command) (name_in document)
-      (read_in (verb_for command) (name_in document) verb name (placed_by (text_given words) (lines_given words) (order.Do command document) says))
-  asked_in taken (order.Ask place lines) verb name says = (
+  asked_in taken (order.Do command document) verb name says = record {
+    taken = taken;
+    found = for_word taken (verb_for command) (name_in document) verb name;
+    placed = placed_by (text_given words) command says;
+    addressed = λ asks. absurd (no_asking command asks);
+  }
+  asked_in taken (order.Ask server lines) verb name says = (
     document_in rows,
-    line_reads words taken Ask (document_in rows)
-        (read_in Ask (document_in rows) verb refl (placed_by (text_given words) (lines_given words) (order.Ask place lines) says)),
+    record {
+      taken = taken;
+      found = for_word taken Ask (document_in rows) verb refl;
+      placed = λ serving. absurd (cc);
+      addressed = λ asks. (server, says.0);
+    },
   )
 
   pub found_asked : fault_of grove_command words ≡ [] → (invocation : Invocation) → IsFoundIn word rows invocation → IsAskedBy words invocation
@@ -301,12 +288,7 @@ module _ (words : List Text) (word : Text) (rows : List Row) (at : subcommand_of
 bare_asked : (words : List Text) → subcommand_of grove_command words ≡ None → fault_of grove_command words ≡ []
     → (invocation : Invocation) → invocation.order ≡ order.Do command.Judge StandardInput → invocation.explain ≡ false → IsAskedBy words invocation
 bare_asked words at taken invocation is plain =
-    let judges : AskFor words Judge None = line_reads words taken Judge None (record {
-      bare = λ none. (refl, refl);
-      verb = λ word below some. absurd (none_found (subcommand_of grove_command words) word below at some);
-      name = λ word below some. absurd (none_found (subcommand_of grove_command words) word below at some);
-      place = λ placed. absurd (cc);
-    }) in
+    let judges : AskFor words Judge None = judges_bare words taken at in
     let none : text_given words (codes "explain") ≡ None = ap (option_and_then (λ (f : Text × List Row). one_of (codes "explain") f.1)) at in
     record {
       asked = subst (AskForOrder words) (sym is) judges;
@@ -322,17 +304,25 @@ asked_for words (Some (word, rows)) invocation taken at is = found_asked words w
 -- ---- what words are told that aren't an order
 
 -- they have no place where one is asked for, or there is no memory
+
+refused_told : {A : Type 0} (words : List Text) (IsWanted IsGiven : A → Type 0) (error : Error) → fault_of grove_command words ≡ [] → IsWanted ≡ IsGiven
+    → (((a : A) → IsGiven a → ⊥) → (verb : Verb) (name : Option Text) → AskFor words verb name → ⊥) → IsRefused IsWanted error → IsTold words error
+refused_told words IsWanted IsGiven error taken same none (inl memory) = inl (inl memory)
+refused_told {A} words IsWanted IsGiven error taken same none (inr (invalid, nothing)) =
+    inr (invalid, taken, none (subst (λ (Is : A → Type 0). (a : A) → Is a → ⊥) same nothing))
+
 pub told_placeless : (words : List Text) (found : Option (Text × List Row)) (error : Error) → fault_of grove_command words ≡ []
     → found ≡ subcommand_of grove_command words → IsPlaceless found error → IsTold words error
 told_placeless words None error taken at memory = inl (inl memory)
-told_placeless words (Some (word, rows)) error taken at (inl memory) = inl (inl memory)
-told_placeless words (Some (word, rows)) error taken at (inr (invalid, placed, nowhere)) =
-    let none : (place : Place) → GivePlace words place → ⊥ = λ place is.
-    nowhere place (subst (λ (texts : Text → Option Text). IsPlace (texts (codes "address")) (texts (codes "port")) place) (texts_are words word rows (sym at)) is) in
-    inr (invalid, taken, placeless words word rows (sym at) placed none)
+told_placeless words (Some (word, rows)) error taken at (inl (serving, refused)) =
+    refused_told words (IsPlace (λ name. one_of name rows)) (IsPlace (text_given words)) error taken (ap IsPlace (sym (texts_are words word rows (sym at))))
+    (wants_place words word rows (sym at) serving) refused
+told_placeless words (Some (word, rows)) error taken at (inr (asking, refused)) =
+    refused_told words (IsServer (λ name. one_of name rows)) (IsServer (text_given words)) error taken (ap IsServer (sym (texts_are words word rows (sym at))))
+    (wants_server words word rows (sym at) asking) refused
 
 pub certain : (words : List Text) (verb : Verb) (name : Option Text) (error : Error) → AskFor words verb name → IsTold words error → kind_of error ≡ OutOfMemory
-certain words verb name error asks (inl has) = only_memory (fault_of grove_command words) error (order_taken words verb name asks) has
+certain words verb name error asks (inl has) = only_memory (fault_of grove_command words) error asks.taken has
 certain words verb name error asks (inr nowhere) = absurd (nowhere.2 verb name asks)
 
 -- wrong words are told no help and no version
@@ -365,8 +355,8 @@ shown_told words error (inr version) (inr nowhere) = absurd (not_both (fault_of 
 -- words that are an order aren't wrong, and ask for no help
 pub not_wrong : (words : List Text) (it : Order) → AskForOrder words it → AreWrong words → ⊥
 not_wrong words (order.Do command document) asks wrong = wrong.no_order (verb_for command) (name_in document) asks
-not_wrong words (order.Ask place lines) (name, asks) wrong = wrong.no_order Ask name asks
+not_wrong words (order.Ask server lines) (name, asks) wrong = wrong.no_order Ask name asks
 
 pub not_help : (words : List Text) (it : Order) → AskForOrder words it → AskToShow words → ⊥
 not_help words (order.Do command document) asks = not_shown words (verb_for command) (name_in document) asks
-not_help words (order.Ask place lines) (name, asks) = not_shown words Ask name asks
+not_help words (order.Ask server lines) (name, asks) = not_shown words Ask name asks

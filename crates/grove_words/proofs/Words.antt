@@ -9,7 +9,8 @@ use Rattle.clap.specs.Simple.{help_rule, version_rule, filled, with_index}
 use Rattle.clap.specs.Walk.{Held, idle, word_met, bundle_met, plain, value, arg_by_long, arg_by_short, settled, reacted}
 use Rattle.clap.specs.Faults.{flag_word_fault, long_fault, short_fault, flags_fault, settle_fault, use_fault, react_fault}
 use Rattle.clap.specs.Kinds.{or_else, Kinds}
-use Rattle.grove_words.specs.CommandLines.{flag, is_option}
+use Rattle.grove_words.specs.CommandLines.{flag}
+use Rattle.grove_words.specs.PlainWords.{is_option}
 
 abbrev pub hyphens : Text
 hyphens = codes "--"

@@ -1,28 +1,21 @@
 -- The words of a command line: which order they are, and how clap is to read them.
-use Rattle.std.specs.Prelude.{◌≡◌, ◌≢◌, ◌<◌, ◌≤◌, ℕ, pos, codes, Bool, true, false, ◌||◌, List, [], ◌∷◌, ◌++◌, map, Option, None, Some, is_some, option_and_then, slice_get, IsSomeAnd, ◌⊎◌}
-use Rattle.std.specs.Str.{chars}
+use Rattle.std.specs.Prelude.{◌≡◌, ◌≢◌, ◌≤◌, ℕ, pos, codes, Bool, true, false, List, [], ◌∷◌, ◌++◌, map, Option, None, Some, option_and_then, IsSomeAnd, ◌⊎◌}
 use Rattle.std.specs.Str.Parse.{IsNumeral, digits_value, without_leading_plus}
 use Rattle.std.specs.Net.Grammar.{IsIpText}
-use Rattle.clap.specs.Lexer.{long_of, short_of}
+use Rattle.std.specs.Net.Socket.{socket_ip, socket_port}
+use Rattle.std.specs.declared.net.ip_addr.IpAddr.{IpAddr}
+use Rattle.std.specs.declared.net.socket_addr.SocketAddr.{SocketAddr}
 use Rattle.clap.specs.Words.{App, IsAmong, Row, Rule, Shape, fault_of, first_of, new_app, new_rule, one_of, subcommand_of}
 use Rattle.clap.specs.declared.builder.action.ArgAction.TheVariants.{Append, SetTrue}
 use Rattle.clap.specs.declared.builder.value_parser.ValueParser.TheVariants.{Signed}
 use Rattle.clap.specs.declared.error.kind.ErrorKind.TheVariants.{DisplayHelp, DisplayVersion}
-use Rattle.grove_words.specs.declared.order.Form.{Form}
-use Rattle.grove_words.specs.declared.order.Form.TheVariants.{Svg, Text}
 use Rattle.grove_words.specs.declared.order.Place.{Place}
+use Rattle.grove_words.specs.declared.order.Port.{Port}
+use Rattle.grove_words.specs.declared.order.Port.TheVariants.{Any, Named}
 
 -- the commands by their words
 pub data Verb : Type 0 where
-  Judge : Verb
-  Check : Verb
-  Plan : Verb
-  Draw : Verb
-  Run : Verb
-  Audit : Verb
-  Serve : Verb
-  Page : Verb
-  Ask : Verb
+  Judge Check Plan Draw Run Audit Serve Page Ask : Verb
 
 -- ---- the command line that clap reads
 
@@ -42,25 +35,28 @@ numbered word least most = record (valued word word) { parser = Some (Signed (po
 abbrev pub workers_option : Rule
 workers_option = record (numbered (codes "workers") 1 16) { defaults = codes "4" ∷ [] }
 
+-- a port from 1 to 65535, and an IP address, which is this machine's own where nothing is said
+abbrev pub port_option : Rule
+port_option = numbered (codes "port") 1 65535
+
+abbrev pub address_option : List ℕ → Rule
+address_option word = record (valued (codes "address") word) { defaults = codes "127.0.0.1" ∷ [] }
+
 -- what each command takes that reads a document: its name, and whether the system's reasons are told
 abbrev pub reading : List Rule
 reading = new_rule (codes "DOC") ∷ flag (codes "explain") ∷ []
 
--- what a command takes that serves a document's tree at a port
+-- what a command takes that serves a document's tree at a port, and what the one takes that asks a server there lines
 abbrev pub serving : List Rule
 serving =
-    record (valued (codes "DOC") (codes "tree")) { required = true }
-    ∷ record (numbered (codes "port") 0 65535) { required = true }
-    ∷ record (valued (codes "address") (codes "bind")) { defaults = codes "127.0.0.1" ∷ [] }
-    ∷ flag (codes "explain") ∷ workers_option ∷ numbered (codes "idle") 1 86400
-    ∷ flag (codes "busy") ∷ flag (codes "verbose") ∷ []
+    record (valued (codes "DOC") (codes "tree")) { required = true } ∷ port_option ∷ flag (codes "any-port")
+    ∷ address_option (codes "bind") ∷ flag (codes "explain") ∷ workers_option
+    ∷ numbered (codes "idle") 1 86400 ∷ flag (codes "busy") ∷ flag (codes "verbose") ∷ []
 
--- what the command takes that asks a server at a port: also lines, as many words as there are
 abbrev pub asking : List Rule
 asking =
-    record (numbered (codes "port") 1 65535) { required = true }
-    ∷ record (valued (codes "address") (codes "address")) { defaults = codes "127.0.0.1" ∷ [] }
-    ∷ flag (codes "explain") ∷ record (new_rule (codes "LINE")) { action = Some Append } ∷ []
+    record port_option { required = true } ∷ address_option (codes "address") ∷ flag (codes "explain")
+    ∷ record (new_rule (codes "LINE")) { action = Some Append } ∷ []
 
 -- a command of this word that takes options and arguments by these rules
 abbrev pub command_with : List ℕ → List Rule → Shape
@@ -89,7 +85,7 @@ grove_command = record {
 abbrev pub text_given : List (List ℕ) → List ℕ → Option (List ℕ)
 text_given words name = option_and_then (λ found. one_of name found.1) (subcommand_of grove_command words)
 
--- ---- commands, documents and places
+-- ---- commands and places
 
 -- the commands that serve a store at a place
 abbrev pub serves : Verb → Bool
@@ -102,64 +98,57 @@ abbrev pub has_place : Verb → Bool
 has_place Ask = true
 has_place verb = serves verb
 
--- a word is an option where two hyphens and more begin it, or one and a character
-abbrev pub is_option : List ℕ → Bool
-is_option word = is_some (long_of word) || is_some (option_and_then (λ flags. slice_get (chars flags) 0) (short_of word))
-
--- any other word is plain, but for two hyphens
-abbrev pub IsPlain : List ℕ → Type 0
-IsPlain word = (is_option word ≡ false) × (word ≢ codes "--")
-
--- the words name a document, or none; after two hyphens no word is an option
-abbrev pub AreDocument : List (List ℕ) → Option (List ℕ) → Type 0
-AreDocument words None = (words ≡ []) ⊎ (words ≡ codes "--" ∷ [])
-AreDocument words (Some name) = ((words ≡ name ∷ []) × IsPlain name)
-    ⊎ ((words ≡ codes "--" ∷ name ∷ []) ⊎ ((words ≡ name ∷ codes "--" ∷ []) × IsPlain name))
-
--- the words are a command that has no option of its own, and then its document
-abbrev pub AreCommand : Verb → List (List ℕ) → Option (List ℕ) → Type 0
-AreCommand verb words name = ((shape_for verb).rules ≡ reading)
-    × (rest : List (List ℕ)) × (words ≡ (shape_for verb).name ∷ rest) × AreDocument rest name
-
--- clap takes the words for a command, options and all, and this names the document among them
-abbrev pub AreTakenFor : Verb → List (List ℕ) → Option (List ℕ) → Type 0
-AreTakenFor verb words name = (fault_of grove_command words ≡ [])
-    × (rows : List Row) × (subcommand_of grove_command words ≡ Some ((shape_for verb).name, rows)) × (first_of (codes "DOC") rows ≡ name)
-
 -- the text writes this number
 abbrev pub Writes : List ℕ → ℕ → Type 0
 Writes text number = IsNumeral 10 (without_leading_plus text) × (digits_value 10 (without_leading_plus text) ≡ number)
 
--- this is the place that two texts give: one writes its address, the other its port
-abbrev pub IsPlace : Option (List ℕ) → Option (List ℕ) → Place → Type 0
-IsPlace address port place = IsSomeAnd address (λ text. IsIpText text place.address) × IsSomeAnd port (λ text. Writes text place.port × (place.port < 65536))
+-- the texts under the names of options write this address, and name this port
+abbrev pub IsAddress : (List ℕ → Option (List ℕ)) → IpAddr → Type 0
+IsAddress texts address = IsSomeAnd (texts (codes "address")) (λ text. IsIpText text address)
 
--- the words give this place
-abbrev pub GivePlace : List (List ℕ) → Place → Type 0
-GivePlace words place = IsPlace (text_given words (codes "address")) (text_given words (codes "port")) place
+abbrev pub IsNamed : (List ℕ → Option (List ℕ)) → ℕ → Type 0
+IsNamed texts port = IsSomeAnd (texts (codes "port")) (λ text. Writes text port) × (1 ≤ port) × (port ≤ 65535)
+
+-- a server listens on the port that is named, or, if none is, on any where a flag asks for that; not for both
+abbrev pub IsPort : (List ℕ → Option (List ℕ)) → Port → Type 0
+IsPort texts Any = (texts (codes "any-port") ≡ Some (codes "true")) × ((port : ℕ) → ¬ IsNamed texts port)
+IsPort texts (Named port) = (texts (codes "any-port") ≢ Some (codes "true")) × IsNamed texts port
+
+-- the place to serve at, and the server to ask
+abbrev pub IsPlace : (List ℕ → Option (List ℕ)) → Place → Type 0
+IsPlace texts place = IsAddress texts place.address × IsPort texts place.port
+
+abbrev pub IsServer : (List ℕ → Option (List ℕ)) → SocketAddr → Type 0
+IsServer texts server = IsAddress texts (socket_ip server) × IsNamed texts (socket_port server)
 
 -- ---- the words that are an order
 
--- the words are a command with its document, if that has a name, and with its place, if it has one
-abbrev pub AreFor : Verb → List (List ℕ) → Option (List ℕ) → Type 0
-AreFor verb words name = (AreCommand verb words name ⊎ AreTakenFor verb words name)
-    × (has_place verb ≡ true → (place : Place) × GivePlace words place)
+-- what clap finds, a command's word with rows or neither, is this command with the document of a name, or without one
+abbrev pub IsFor : Verb → Option (List ℕ) → Option (List ℕ × List Row) → Type 0
+IsFor verb name None = (verb ≡ Judge) × (name ≡ None)
+IsFor verb name (Some (word, rows)) = (word ≡ (shape_for verb).name) × (first_of (codes "DOC") rows ≡ name)
 
--- the words ask for a command and the document of a name, or with no name standard input; with no command, that is to be judged
-abbrev pub AskFor : List (List ℕ) → Verb → Option (List ℕ) → Type 0
-AskFor words verb name = AreFor verb words name ⊎ (AreDocument words None × (verb ≡ Judge) × (name ≡ None))
+-- the words ask for it; with no name, or no command, standard input is its document
+pub record AskFor (words : List (List ℕ)) (verb : Verb) (name : Option (List ℕ)) : Type 0 where
+  pub taken : fault_of grove_command words ≡ []
+  pub found : IsFor verb name (subcommand_of grove_command words)
+  pub placed : serves verb ≡ true → (place : Place) × IsPlace (text_given words) place
+  pub addressed : verb ≡ Ask → (server : SocketAddr) × IsServer (text_given words) server
 
 -- they ask for an order with a device of its own: a document with a name, or a place
 abbrev pub NameDevice : List (List ℕ) → Type 0
-NameDevice words = (verb : Verb) × (name : Option (List ℕ)) × AskFor words verb name × ((name ≢ None) ⊎ (has_place verb ≡ true))
+NameDevice words = (verb : Verb) × (name : Option (List ℕ)) × AskFor words verb name
+    × ((name ≢ None) ⊎ (has_place verb ≡ true))
 
 -- they ask to serve at this place
 abbrev pub AskToServe : List (List ℕ) → Place → Type 0
-AskToServe words place = (verb : Verb) × (name : Option (List ℕ)) × AskFor words verb name × (serves verb ≡ true) × GivePlace words place
+AskToServe words place = (verb : Verb) × (name : Option (List ℕ)) × AskFor words verb name
+    × (serves verb ≡ true) × IsPlace (text_given words) place
 
 -- they ask for help or the version
 abbrev pub AskToShow : List (List ℕ) → Type 0
-AskToShow words = (fault_of grove_command words ≡ DisplayHelp ∷ []) ⊎ (fault_of grove_command words ≡ DisplayVersion ∷ [])
+AskToShow words = (fault_of grove_command words ≡ DisplayHelp ∷ [])
+    ⊎ (fault_of grove_command words ≡ DisplayVersion ∷ [])
 
 -- they ask for no order, and not for help or the version
 pub record AreWrong (words : List (List ℕ)) : Type 0 where

@@ -1,4 +1,6 @@
 pub mod CommandLines
+pub mod Invocations
 pub mod NoOrders
 pub mod Orders
+pub mod PlainWords
 pub mod Steps

@@ -1,4 +1,4 @@
--- What words that are no order are told.
+-- For the proofs alone: what words that are no order are told.
 use Rattle.std.specs.Prelude.{◌≢◌, [], string_bytes}
 use Rattle.grove_words.specs.declared.no_order.NoOrder.{NoOrder}
 use Rattle.grove_words.specs.declared.no_order.NoOrder.TheVariants.{Shown, Wrong, Memory}

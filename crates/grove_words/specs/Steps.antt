@@ -12,9 +12,8 @@ use Rattle.grove_words.specs.declared.order.Document.TheVariants.{StandardInput}
 use Rattle.grove_words.specs.declared.order.Invocation.{Invocation}
 use Rattle.grove_words.specs.declared.order.Order.{Order}
 use Rattle.grove_words.specs.declared.order.Order.TheVariants as order
-use Rattle.grove_words.specs.declared.order.Place.{Place}
-use Rattle.grove_words.specs.CommandLines.{grove_command, has_place, Verb, Judge, Check, Plan, Draw, Run, Audit, Serve, Page, Ask, AskFor, Chooses, IsPlace}
-use Rattle.grove_words.specs.Orders.{lines_in, name_in, verb_of, Says}
+use Rattle.grove_words.specs.CommandLines.{grove_command, serves, Verb, Judge, Check, Plan, Draw, Run, Audit, Serve, Page, Ask, AskFor, Chooses, IsPlace, IsServer}
+use Rattle.grove_words.specs.Invocations.{lines_in, name_in, verb_of, Says}
 
 -- an argument has this rule, and is its command's alone
 abbrev pub HasRule : Rule → Arg → Type 0
@@ -26,7 +25,10 @@ HasShape shape command = (shape_of command ≡ shape) × ((out-Command command).
 
 -- the program before it has a command
 abbrev pub no_command : App
-no_command = record { top = record (new_app (codes "grove")).top { no_binary_name = true; has_version = true }; subs = (new_app (codes "grove")).subs }
+no_command = record {
+  top = record (new_app (codes "grove")).top { no_binary_name = true; has_version = true };
+  subs = (new_app (codes "grove")).subs;
+}
 
 -- the verb that a word is; any other word is taken for `judge`
 abbrev pub verb_named : List ℕ → Verb
@@ -44,7 +46,7 @@ verb_named word =
 -- an order's document has this name, if it has one
 abbrev pub HasName : Option (List ℕ) → Order → Type 0
 HasName name (order.Do command document) = name_in document ≡ name
-HasName name (order.Ask place lines) = Unit {0}
+HasName name (order.Ask server lines) = Unit {0}
 
 -- this was found under a command's word
 pub record IsFoundIn (word : List ℕ) (rows : List Row) (invocation : Invocation) : Type 0 where
@@ -58,15 +60,15 @@ abbrev pub IsFound : Option (List ℕ × List Row) → Invocation → Type 0
 IsFound None invocation = (invocation.order ≡ order.Do command.Judge StandardInput) × (invocation.explain ≡ false)
 IsFound (Some (word, rows)) invocation = IsFoundIn word rows invocation
 
--- there is no memory, or the texts give no place
-abbrev pub IsNoPlace : (List ℕ → Option (List ℕ)) → Error → Type 0
-IsNoPlace texts error = (kind_of error ≡ OutOfMemory)
-    ⊎ ((kind_of error ≡ InvalidValue) × ((place : Place) → ¬ IsPlace (texts (codes "address")) (texts (codes "port")) place))
+-- there is no memory, or nothing is such as is wanted
+abbrev pub IsRefused : {A : Type 0} → (A → Type 0) → Error → Type 0
+IsRefused {A} IsWanted error =
+    (kind_of error ≡ OutOfMemory) ⊎ ((kind_of error ≡ InvalidValue) × ((a : A) → ¬ IsWanted a))
 
--- and the word is that of a command with a place
+-- and the word is that of a command for which the texts give no place, or no server
 abbrev pub IsUnplaced : List ℕ → (List ℕ → Option (List ℕ)) → Error → Type 0
-IsUnplaced word texts error = (kind_of error ≡ OutOfMemory)
-    ⊎ ((kind_of error ≡ InvalidValue) × (has_place (verb_named word) ≡ true) × ((place : Place) → ¬ IsPlace (texts (codes "address")) (texts (codes "port")) place))
+IsUnplaced word texts error = ((serves (verb_named word) ≡ true) × IsRefused (IsPlace texts) error)
+    ⊎ ((verb_named word ≡ Ask) × IsRefused (IsServer texts) error)
 
 abbrev pub IsPlaceless : Option (List ℕ × List Row) → Error → Type 0
 IsPlaceless None error = kind_of error ≡ OutOfMemory
@@ -74,7 +76,8 @@ IsPlaceless (Some (word, rows)) error = IsUnplaced word (λ name. one_of name ro
 
 -- words that clap takes, and that are no order all the same: they have no place where one is asked for
 abbrev pub IsNowhere : List (List ℕ) → Error → Type 0
-IsNowhere words error = (kind_of error ≡ InvalidValue) × (fault_of grove_command words ≡ []) × ((verb : Verb) (name : Option (List ℕ)) → ¬ AskFor words verb name)
+IsNowhere words error = (kind_of error ≡ InvalidValue) × (fault_of grove_command words ≡ [])
+    × ((verb : Verb) (name : Option (List ℕ)) → ¬ AskFor words verb name)
 
 -- what words are told that are no order
 abbrev pub IsTold : List (List ℕ) → Error → Type 0

@@ -1,17 +1,20 @@
-ghost use Rattle.std.specs.Prelude.{◌≡◌, ◌≢◌, ◌≤◌, ◌⊎◌, ℕ, List, Option, [], true, false, codes, map, Some, None, IfOk, IfErr, IfSome, IsErrAnd, IsSomeAnd, string_bytes};
-ghost use Rattle.clap.specs.Words.{all_of, rows_of, fault_of, first_value, found_of, kind_of, one_text, subcommand_of, subcommand_rows_of};
-ghost use Rattle.grove_words.specs.CommandLines.{Verb, AreWorkers, AreWrong, AskFor, AskToShow, Chooses, IsIdle, IsPlace};
+ghost use Rattle.std.specs.Prelude.{◌≡◌, ◌≢◌, ◌≤◌, ℕ, List, Option, [], true, false, codes, map, Some, None, IfOk, IfErr, IfSome, IsErrAnd, string_bytes};
+ghost use Rattle.clap.specs.Words.{rows_of, fault_of, first_value, found_of, kind_of, one_text, subcommand_of, subcommand_rows_of};
+ghost use Rattle.grove_words.specs.CommandLines.{Verb, AreWorkers, AreWrong, AskFor, AskToShow, Chooses, IsAddress, IsIdle, IsNamed, IsPlace, IsPort, IsServer};
+ghost use Rattle.grove_words.specs.Invocations.{lines_in, name_in, verb_of, IsAskedBy, Says};
 ghost use Rattle.grove_words.specs.NoOrders.{HasText, TellsShown, TellsWrong};
-ghost use Rattle.grove_words.specs.Orders.{lines_in, name_in, verb_of, IsAskedBy, Says, SaysServing};
-ghost use Rattle.grove_words.specs.Steps.{verb_named, HasName, IsNoPlace, IsFound, IsPlaceless, IsTold, IsUnplaced};
+ghost use Rattle.grove_words.specs.Orders.{SaysServing};
+ghost use Rattle.grove_words.specs.Steps.{verb_named, HasName, IsFound, IsPlaceless, IsRefused, IsTold, IsUnplaced};
 
 use crate::definitions::command_line;
 use crate::no_order::{NoOrder, no_order};
-use crate::order::{Command, Document, Form, Invocation, Order, Patience, Place, Serving, Workers};
+use crate::order::{
+    Command, Document, Form, Invocation, Order, Patience, Place, Port, Serving, Workers,
+};
 use clap::error::ErrorKind;
 use clap::{ArgMatches, Error};
 use std::alloc::{AllocError, Global};
-use std::net::IpAddr;
+use std::net::{IpAddr, SocketAddr};
 
 /// The number of workers where the words don't say it, and the greatest.
 const FEW_WORKERS: u32 = 4;
@@ -21,18 +24,35 @@ const MOST_WORKERS: u32 = 16;
 /// For how many seconds a connection may be let idle at most, where there is a limit: a day.
 const LONGEST_IDLE: u32 = 86_400;
 
+/// What whoever names a file without a command is told.
+const FILE_TIP: &str = "\n  tip: a file comes after its command, as in 'grove judge FILE'\n";
+
 /// What the words after the program's name ask for, or what they are told. No words ask to judge standard input.
 pub fn order_of<'a>(alloc: Global, words: &'a [String]) -> Result<Invocation<'a>, NoOrder>
     ensures asked { IfOk result (IsAskedBy (map string_bytes words.now)) }
-    ensures taken { (verb : Verb) (name : Option (List ℕ)) → AskFor (map string_bytes words.now) verb name → IfErr result (λ why. why ≡ NoOrder.Memory) }
+    ensures taken { (verb : Verb) (name : Option (List ℕ)) → AskFor (map string_bytes words.now) verb name
+        → IfErr result (λ why. why ≡ NoOrder.Memory) }
     ensures wrong { AreWrong (map string_bytes words.now) → IsErrAnd result TellsWrong }
     ensures shown { AskToShow (map string_bytes words.now) → IsErrAnd result TellsShown }
     ensures text { IfErr result HasText }
 {
     match invocation_among(alloc, words) {
         Ok(invocation) => Ok(invocation),
-        Err(error) => Err(no_order(alloc, &error)),
+        Err(error) => Err(no_order(alloc, &error, tip_for(words))),
     }
+}
+
+/// What wrong words are told beside clap's text: where a file goes, if one stands in a command's place.
+fn tip_for(words: &[String]) -> &'static str {
+    match words.first() {
+        Some(word) if is_file_name(word) => FILE_TIP,
+        _ => "",
+    }
+}
+
+/// Whether a word that is no command is a file's name by its form.
+fn is_file_name(word: &str) -> bool {
+    !word.starts_with('-') && (word.contains('/') || word.contains('.'))
 }
 
 /// What clap finds in the words, or what they are told.
@@ -90,7 +110,7 @@ fn order_with<'a>(alloc: Global, word: &str, given: &ArgMatches<'a>) -> Result<O
         "page" => Command::Page(serving_in(alloc, given)?),
         "ask" => {
             return Ok(Order::Ask {
-                place: place_in(alloc, given)?,
+                server: server_in(alloc, given)?,
                 lines: lines_given(alloc, given)?,
             });
         }
@@ -115,7 +135,7 @@ fn document_in<'a>(given: &ArgMatches<'a>) -> Document<'a>
 /// Where and how a command serves.
 fn serving_in(alloc: Global, given: &ArgMatches<'_>) -> Result<Serving, Error>
     ensures said { IfOk result (SaysServing (one_text (found_of given.now))) }
-    ensures refused { IfErr result (IsNoPlace (one_text (found_of given.now))) }
+    ensures refused { IfErr result (IsRefused (IsPlace (one_text (found_of given.now)))) }
 {
     Ok(Serving {
         place: place_in(alloc, given)?,
@@ -128,42 +148,73 @@ fn serving_in(alloc: Global, given: &ArgMatches<'_>) -> Result<Serving, Error>
     })
 }
 
-/// The place of a command.
+/// The place that a command serves at.
 fn place_in(alloc: Global, given: &ArgMatches<'_>) -> Result<Place, Error>
-    ensures given { IfOk result (IsPlace (one_text (found_of given.now) (codes "address")) (one_text (found_of given.now) (codes "port"))) }
-    ensures refused { IfErr result (IsNoPlace (one_text (found_of given.now))) }
+    ensures given { IfOk result (IsPlace (one_text (found_of given.now))) }
+    ensures refused { IfErr result (IsRefused (IsPlace (one_text (found_of given.now)))) }
 {
-    match place_given(given) {
-        Some(place) => Ok(place),
-        None => Err(nowhere(alloc)?),
+    let address = address_in(alloc, given)?;
+    let port = port_in(alloc, given)?;
+    Ok(Place { address, port })
+}
+
+/// The server that a command asks.
+fn server_in(alloc: Global, given: &ArgMatches<'_>) -> Result<SocketAddr, Error>
+    ensures given { IfOk result (IsServer (one_text (found_of given.now))) }
+    ensures refused { IfErr result (IsRefused (IsServer (one_text (found_of given.now)))) }
+{
+    let address = address_in(alloc, given)?;
+    match named_port(given) {
+        Some(port) => Ok(SocketAddr::new(address, port)),
+        None => Err(wrong(alloc, "the value of '<P>' is no port")?),
     }
 }
 
-fn place_given(given: &ArgMatches<'_>) -> Option<Place>
-    ensures some { IfSome result (IsPlace (one_text (found_of given.now) (codes "address")) (one_text (found_of given.now) (codes "port"))) }
-    ensures none { result ≡ None → (place : Place) → ¬ IsPlace (one_text (found_of given.now) (codes "address")) (one_text (found_of given.now) (codes "port")) place }
+fn address_in(alloc: Global, given: &ArgMatches<'_>) -> Result<IpAddr, Error>
+    ensures given { IfOk result (IsAddress (one_text (found_of given.now))) }
+    ensures refused { IfErr result (IsRefused (IsAddress (one_text (found_of given.now)))) }
 {
-    place_of(
-        given.get_one::<IpAddr>("address"),
-        given.get_one::<u16>("port"),
-    )
+    match given.get_one::<IpAddr>("address") {
+        Some(address) => Ok(address),
+        None => Err(wrong(alloc, "the value of '<ADDRESS>' is no IP address")?),
+    }
 }
 
-fn place_of(address: Option<IpAddr>, port: Option<u16>) -> Option<Place>
-    ensures some { IfSome result (λ place. (address ≡ Some place.address) × (port ≡ Some place.port)) }
-    ensures none { result ≡ None → (address ≡ None) ⊎ (port ≡ None) }
+/// The port to listen on. No clause of clap's speaks of options that stand in each other's place, so this is told here.
+fn port_in(alloc: Global, given: &ArgMatches<'_>) -> Result<Port, Error>
+    ensures given { IfOk result (IsPort (one_text (found_of given.now))) }
+    ensures refused { IfErr result (IsRefused (IsPort (one_text (found_of given.now)))) }
 {
-    Some(Place {
-        address: address?,
-        port: port?,
-    })
+    match (named_port(given), takes_any_port(given)) {
+        (Some(port), false) => Ok(Port::Named(port)),
+        (None, true) => Ok(Port::Any),
+        (Some(_), true) => Err(wrong(alloc, "'--any-port' stands in place of '--port <P>'")?),
+        (None, false) => Err(wrong(alloc, "'--port <P>' or '--any-port' has to be provided")?),
+    }
 }
 
-/// What words are told whose address is none.
-fn nowhere(alloc: Global) -> Result<Error, AllocError>
+/// The port that is named. Clap lets none but those from 1 to 65535 through.
+fn named_port(given: &ArgMatches<'_>) -> Option<u16>
+    ensures some { IfSome result (IsNamed (one_text (found_of given.now))) }
+    ensures none { result ≡ None → (port : ℕ) → ¬ IsNamed (one_text (found_of given.now)) port }
+{
+    match given.get_one::<u16>("port") {
+        Some(port) if port >= 1 => Some(port),
+        _ => None,
+    }
+}
+
+fn takes_any_port(given: &ArgMatches<'_>) -> bool
+    ensures set { result ≡ true → one_text (found_of given.now) (codes "any-port") ≡ Some (codes "true") }
+    ensures unset { result ≡ false → one_text (found_of given.now) (codes "any-port") ≢ Some (codes "true") }
+{
+    given.get_one::<bool>("any-port").unwrap_or(false)
+}
+
+/// What words are told that clap takes, and that are no order all the same.
+fn wrong(alloc: Global, message: &str) -> Result<Error, AllocError>
     ensures { IfOk result (λ error. kind_of error ≡ ErrorKind.InvalidValue) }
 {
-    let message = "the value of '<ADDRESS>' is no IP address";
     command_line(alloc)?.error(ErrorKind::InvalidValue, message)
 }
 

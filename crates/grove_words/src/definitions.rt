@@ -1,7 +1,7 @@
-ghost use Rattle.std.specs.Prelude.{◌≡◌, ◌∷◌, [], true, codes, IfOk};
+ghost use Rattle.std.specs.Prelude.{◌≡◌, codes, true, IfOk};
 ghost use Rattle.clap.specs.Words.{App, Shape, app_of, with_subcommand};
 ghost use Rattle.grove_words.specs.CommandLines.{Plan, Draw, Run, Ask};
-ghost use Rattle.grove_words.specs.CommandLines.{command_with, flag, grove_command, numbered, reading, serving, shape_for, valued, workers_option};
+ghost use Rattle.grove_words.specs.CommandLines.{address_option, command_with, flag, grove_command, numbered, port_option, reading, serving, shape_for, valued, workers_option};
 ghost use Rattle.grove_words.specs.Steps.{no_command, HasRule, HasShape};
 
 use clap::{Arg, ArgAction, value_parser};
@@ -102,13 +102,14 @@ fn serving<'a>(
 ) -> Result<clap::Command<'a>, AllocError>
     ensures { IfOk result (HasShape (command_with name.now serving)) }
 {
-    let tree = "The file of the document with the tree and its records";
+    let any_port = "Listen on a port that is free, in place of --port";
     let busy = "Tell a connection that finds no seat so, and close it; by default it waits";
     let verbose = "Tell on standard error of each connection, and each minute of what was done";
     clap::Command::new(alloc, name)
         .about(about)
-        .arg(valued(alloc, "DOC", "tree", "DOC", tree).required(true))?
-        .arg(port(alloc))?
+        .arg(tree(alloc))?
+        .arg(port(alloc, "The port to listen on"))?
+        .arg(flag(alloc, "any-port", any_port))?
         .arg(address(alloc, "bind", "The IP address to listen at"))?
         .arg(explain(alloc))?
         .arg(workers(alloc))?
@@ -124,7 +125,7 @@ fn ask<'a>(alloc: Global) -> Result<clap::Command<'a>, AllocError>
     let lines = "The lines to send; without them, they are those of standard input";
     clap::Command::new(alloc, "ask")
         .about("Ask a server: send it lines, and print its replies")
-        .arg(server_port(alloc))?
+        .arg(port(alloc, "The server's port").required(true))?
         .arg(address(alloc, "address", "The server's IP address"))?
         .arg(explain(alloc))?
         .arg(
@@ -132,6 +133,13 @@ fn ask<'a>(alloc: Global) -> Result<clap::Command<'a>, AllocError>
                 .action(ArgAction::Append)
                 .help(lines),
         )
+}
+
+fn tree<'a>(alloc: Global) -> Arg<'a>
+    ensures { HasRule (record (valued (codes "DOC") (codes "tree")) { required = true }) result }
+{
+    let help = "The file of the document with the tree and its records";
+    valued(alloc, "DOC", "tree", "DOC", help).required(true)
 }
 
 fn explain<'a>(alloc: Global) -> Arg<'a>
@@ -157,25 +165,14 @@ fn idle<'a>(alloc: Global) -> Arg<'a>
     valued(alloc, "idle", "idle", "SECONDS", help).value_parser(value_parser!(u32).range(1..=86400))
 }
 
-fn port<'a>(alloc: Global) -> Arg<'a>
-    ensures { HasRule (record (numbered (codes "port") 0 65535) { required = true }) result }
+fn port<'a>(alloc: Global, help: &'static str) -> Arg<'a>
+    ensures { HasRule port_option result }
 {
-    let help = "The port to listen on; 0 takes one that is free";
-    valued(alloc, "port", "port", "P", help)
-        .value_parser(value_parser!(u16))
-        .required(true)
-}
-
-fn server_port<'a>(alloc: Global) -> Arg<'a>
-    ensures { HasRule (record (numbered (codes "port") 1 65535) { required = true }) result }
-{
-    valued(alloc, "port", "port", "P", "The server's port")
-        .value_parser(value_parser!(u16).range(1..=65535))
-        .required(true)
+    valued(alloc, "port", "port", "P", help).value_parser(value_parser!(u16).range(1..=65535))
 }
 
 fn address<'a>(alloc: Global, word: &'static str, help: &'static str) -> Arg<'a>
-    ensures { HasRule (record (valued (codes "address") word.now) { defaults = codes "127.0.0.1" ∷ [] }) result }
+    ensures { HasRule (address_option word.now) result }
 {
     valued(alloc, "address", word, "ADDRESS", help).default_value("127.0.0.1")
 }

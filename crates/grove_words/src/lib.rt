@@ -2,10 +2,14 @@
 #![tactic(auto)]
 
 pub use command_line::order_of;
+pub use laws::word_laws;
 pub use no_order::{NoOrder, not_text};
-pub use order::{Command, Document, Form, Invocation, Order, Patience, Place, Serving, Workers};
+pub use order::{
+    Command, Document, Form, Invocation, Order, Patience, Place, Port, Serving, Workers,
+};
 
 mod command_line;
 mod definitions;
+mod laws;
 mod no_order;
 mod order;

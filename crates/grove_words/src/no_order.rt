@@ -24,7 +24,7 @@ pub fn not_text(alloc: Global) -> NoOrder
     ensures text { HasText result }
 {
     match not_text_error(alloc) {
-        Ok(error) => no_order(alloc, &error),
+        Ok(error) => no_order(alloc, &error, ""),
         Err(AllocError) => NoOrder::Memory,
     }
 }
@@ -36,8 +36,8 @@ fn not_text_error(alloc: Global) -> Result<Error, AllocError>
     command_line(alloc)?.error(ErrorKind::InvalidValue, message)
 }
 
-/// What clap says to words that are no order: the help that they ask for, or what is wrong with them.
-pub fn no_order(alloc: Global, error: &Error) -> NoOrder
+/// What clap says to words that are no order: the help that they ask for, or what is wrong with them, and then the tip.
+pub fn no_order(alloc: Global, error: &Error, tip: &str) -> NoOrder
     ensures memory { kind_of error.now ≡ ErrorKind.OutOfMemory → result ≡ NoOrder.Memory }
     ensures wrong { kind_of error.now ≢ ErrorKind.DisplayHelp → kind_of error.now ≢ ErrorKind.DisplayVersion → TellsWrong result }
     ensures shown { (kind_of error.now ≡ ErrorKind.DisplayHelp) ⊎ (kind_of error.now ≡ ErrorKind.DisplayVersion) → TellsShown result }
@@ -46,7 +46,7 @@ pub fn no_order(alloc: Global, error: &Error) -> NoOrder
     if error.kind() == ErrorKind::OutOfMemory {
         return NoOrder::Memory;
     }
-    match lines_of(alloc, error) {
+    match lines_of(alloc, error, tip) {
         Ok(lines) => {
             if error.use_stderr() {
                 NoOrder::Wrong(lines)
@@ -58,15 +58,15 @@ pub fn no_order(alloc: Global, error: &Error) -> NoOrder
     }
 }
 
-fn lines_of(alloc: Global, error: &Error) -> Result<String, AllocError>
+fn lines_of(alloc: Global, error: &Error, tip: &str) -> Result<String, AllocError>
     ensures { IfOk result (λ lines. string_bytes lines ≢ []) }
 {
-    whole_lines(alloc, &format!(in alloc; "{error}")?)
+    whole_lines(alloc, &format!(in alloc; "{error}")?, tip)
 }
 
-/// The text with just one line end behind it.
-fn whole_lines(alloc: Global, text: &str) -> Result<String, AllocError>
+/// The text with just one line end behind it, and then the tip.
+fn whole_lines(alloc: Global, text: &str, tip: &str) -> Result<String, AllocError>
     ensures { IfOk result (λ lines. string_bytes lines ≢ []) }
 {
-    format!(in alloc; "{}\n", text.trim_end())
+    format!(in alloc; "{}\n{tip}", text.trim_end())
 }

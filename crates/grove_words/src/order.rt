@@ -1,6 +1,6 @@
 ghost use Rattle.std.specs.Prelude.{◌≤◌};
 
-use std::net::IpAddr;
+use std::net::{IpAddr, SocketAddr};
 
 /// What the words of a command line ask for, and whether the system's reason is told where a file or a port fails.
 #[derive(Drop)]
@@ -19,7 +19,7 @@ pub enum Order<'a> {
     },
     /// A server is asked these lines, or those of standard input if there are none.
     Ask {
-        place: Place,
+        server: SocketAddr,
         lines: Vec<&'a str>,
     },
 }
@@ -66,12 +66,19 @@ pub struct Workers {
     pub ghost few: { number ≤ 16 },
 }
 
-/// An address and a port.
+/// Where a store is served: an address, and a port of it.
 #[derive(Clone, Copy)]
 pub struct Place {
     pub address: IpAddr,
-    /// 0 stands for any port that is free.
-    pub port: u16,
+    pub port: Port,
+}
+
+/// Which port is listened on.
+#[derive(Clone, Copy)]
+pub enum Port {
+    /// One that is free, which the system chooses.
+    Any,
+    Named(u16),
 }
 
 /// What a server does with connections that idle, and with those that find no seat.

@@ -3,7 +3,8 @@ ghost use Rattle.grove_access.specs.Effects.{record_at, reply_to};
 ghost use Rattle.grove_access.specs.Carries.{present_at, carry_settled};
 ghost use Rattle.grove_base.specs.Numbers.{count_below};
 ghost use Rattle.grove_core.specs.Runs.{list_of, plan_of, steps_done, next_step, holds, run_replies};
-ghost use Rattle.grove_core.specs.Kept.{past_of, Owns};
+ghost use Rattle.grove_core.specs.Kept.{past_of};
+ghost use Rattle.grove_core.specs.Cores.{Owns};
 ghost use Rattle.grove_core.specs.Carried.{records_of, IsOf, after_steps, replies_in};
 ghost use Rattle.grove_core.specs.CarriedTests.{Knows, KnowsAll, HasAll, Follows};
 

@@ -1,9 +1,9 @@
 ghost use Rattle.std.specs.Prelude.{◌≡◌, ◌<◌, ◌≤◌, length, map, take, All, IfOk, OnErr};
 ghost use Rattle.grove_store.specs.Rounds.{round_length, IsLawfulRound, IsLawfulAnswer};
 
-use crate::Store;
 use crate::round::round_of;
 use crate::texts::{alone, check_text, plan_text, weights_text, wire_refusal};
+use crate::{LineReply, Store};
 use grove_tree::{Gate, NoMemory, OpenGate};
 use grove_wire::{Request, read_request};
 use std::alloc::Global;
@@ -42,6 +42,28 @@ impl Store {
         requires limit { All (λ line. length line.now ≤ 1048576) lines.now }
         ensures length { IfOk result (λ replies. length replies.items ≡ round_length self.old.rows (map (λ line. line.now) lines.now)) }
         ensures round { IfOk result (λ replies. IsLawfulRound self.old (take (length replies.items) (map (λ line. line.now) lines.now)) (map (λ reply. reply.items) replies.items) self.new) }
+        ensures err { OnErr result (self.new ≡ self.old) }
+    {
+        let mut texts = Vec::with_capacity(alloc, lines.len())?;
+        let replies = self.reply_round(rt, alloc, lines, gate)?;
+        for reply in replies {
+            texts.push_reserved(reply.into_text());
+        }
+        Ok(texts)
+    }
+
+    /// As `answer_round`, and each reply tells why its line is refused, if it is.
+    pub fn reply_round<R: Threads + Wait + Sync, G: Gate + Sync>(
+        &mut self,
+        rt: &R,
+        alloc: Global,
+        lines: &[&[u8]],
+        gate: &G,
+    ) -> Result<Vec<LineReply>, NoMemory>
+        requires count { (0 < length lines.now) × (length lines.now ≤ 16) }
+        requires limit { All (λ line. length line.now ≤ 1048576) lines.now }
+        ensures length { IfOk result (λ replies. length replies.items ≡ round_length self.old.rows (map (λ line. line.now) lines.now)) }
+        ensures round { IfOk result (λ replies. IsLawfulRound self.old (take (length replies.items) (map (λ line. line.now) lines.now)) replies.items self.new) }
         ensures err { OnErr result (self.new ≡ self.old) }
     {
         let first = lines[0];

@@ -1,8 +1,8 @@
-ghost use Rattle.std.specs.Prelude.{◌≡◌, map, IfOk, OnErr};
+ghost use Rattle.std.specs.Prelude.{◌≡◌, IfOk, OnErr};
 ghost use Rattle.grove_store.specs.Parts.{AnswersReweigh};
 
-use crate::Store;
 use crate::texts::{alone, changed_text};
+use crate::{LineReply, Store};
 use grove_meter::reweigh;
 use grove_tree::{NoMemory, OpenGate};
 use std::alloc::Global;
@@ -15,8 +15,8 @@ impl Store {
         &mut self,
         rt: &R,
         alloc: Global,
-    ) -> Result<Vec<Vec<u8>>, NoMemory>
-        ensures reply { IfOk result (λ replies. AnswersReweigh self.old (map (λ reply. reply.items) replies.items) self.new) }
+    ) -> Result<Vec<LineReply>, NoMemory>
+        ensures reply { IfOk result (λ replies. AnswersReweigh self.old replies.items self.new) }
         ensures err { OnErr result (self.new ≡ self.old) }
     {
         let mut tree = self.tree.copy(alloc)?;

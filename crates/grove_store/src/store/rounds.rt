@@ -1,11 +1,11 @@
-ghost use Rattle.std.specs.Prelude.{◌≡◌, ◌≤◌, length, map, sum, All, IfOk, OnErr};
+ghost use Rattle.std.specs.Prelude.{◌≡◌, ◌≤◌, length, sum, All, IfOk, OnErr};
 ghost use Rattle.grove_access.specs.Lists.{nodes_of, AreNodes};
 ghost use Rattle.grove_store.specs.Parts.{AnswersRound};
 
-use crate::Store;
 use crate::round::Round;
 use crate::running::{RoundOutcome, outcome_of};
 use crate::texts::{refusals, run_refusals};
+use crate::{LineReply, Refusal, Store};
 use grove_build::kept_jobs;
 use grove_run::run_legal;
 use grove_tree::{Gate, NoMemory};
@@ -21,16 +21,16 @@ impl Store {
         alloc: Global,
         round: Round,
         gate: &G,
-    ) -> Result<Vec<Vec<u8>>, NoMemory>
+    ) -> Result<Vec<LineReply>, NoMemory>
         requires counts { sum round.counts.items ≡ length round.lists.items }
         requires few { length round.lists.items ≤ 256 }
         requires fit { All (λ list. AreNodes self.old.rows (nodes_of list)) round.lists.items }
-        ensures round { IfOk result (λ replies. AnswersRound self.old round.lists.items round.counts.items (map (λ reply. reply.items) replies.items) self.new) }
+        ensures round { IfOk result (λ replies. AnswersRound self.old round.lists.items round.counts.items replies.items self.new) }
         ensures err { OnErr result (self.new ≡ self.old) }
     {
         let Round { counts, lists } = round;
         if self.rounds == u64::MAX {
-            return refusals(alloc, "rounds", counts.len());
+            return refusals(alloc, Refusal::Rounds, counts.len());
         }
         let workers = self.workers;
         let jobs = kept_jobs(rt, alloc, &self.tree, &mut self.plans, lists, workers)?;

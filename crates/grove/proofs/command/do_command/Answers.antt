@@ -1,7 +1,7 @@
 use Rattle.std.proofs.Common.{refl, subst, sym, inl, inr}
 use Rattle.std.proofs.lemmas.Result.{err_from_is_err_and}
 use Rattle.std.proofs.KnownBytes.{Keeps-refl}
-use Rattle.grove_words.specs.Orders.{name_in}
+use Rattle.grove_words.specs.Invocations.{name_in}
 use Rattle.grove.specs.Answers.{IsAsGoodAs}
 use Rattle.grove.specs.Outcomes.{document_for}
 use Rattle.grove.proofs.Printing.{blames_place, blames_printing, blames_reading, line_said, part_said, served_refused, whole_said}

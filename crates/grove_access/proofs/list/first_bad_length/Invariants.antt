@@ -1,6 +1,6 @@
 use Rattle.std.proofs.Common.{◌≡◌, drop}
 use Rattle.grove_access.specs.Lists.{lengths_of}
-use Rattle.grove_access.specs.Lists.{first_bad_length as first_place_of_no_length}
+use Rattle.grove_access.specs.ListFaults.{first_bad_length as first_place_of_no_length}
 use Rattle.grove_access.proofs.list.first_bad_length.Given as goal
 
 abbrev pub invariant-loop-place : goal.invariant-loop-place

@@ -9,8 +9,7 @@ use Rattle.grove_core.proofs.RunSteps.{deeds_length}
 use Rattle.grove_core.specs.Runs.{replies_of}
 use Rattle.grove_wire.specs.Histories.{standing_of}
 use Rattle.grove_wire.specs.declared.faults.Fault.TheVariants.{Standing}
-use Rattle.grove_answer.specs.Faults.{standing_text}
-use Rattle.grove_answer.specs.Says.{IsTold}
+use Rattle.grove_answer.specs.Faults.{standing_text, IsTold}
 use Rattle.grove_answer.specs.Outcomes.{IsMisstated}
 use Rattle.grove_answer.proofs.Audits.{finished_history, says_misstated}
 use Rattle.grove_answer.proofs.auditing.finished_lines.Goals as goal

@@ -2,7 +2,8 @@ use Rattle.std.proofs.Common.{◌≡◌, List, map, sym, ◌∙◌, subst}
 use Rattle.std.proofs.lemmas.Result.{IfOk-weaker}
 use Rattle.grove_tree.specs.Trees.{Rows, IsTree}
 use Rattle.grove_access.specs.declared.access.Access.{Access}
-use Rattle.grove_access.specs.Lists.{nodes_of, lengths_of, AreNodes, AreLengths}
+use Rattle.grove_access.specs.Lists.{nodes_of, lengths_of, AreNodes}
+use Rattle.grove_access.specs.ListFaults.{AreLengths}
 use Rattle.grove_access.specs.Forced.{forced_nodes}
 use Rattle.grove_access.proofs.Lists.{nodes_length, lengths_length}
 use Rattle.grove_span.specs.declared.row.SpanRow.{SpanRow}

@@ -2,7 +2,8 @@ use Rattle.std.proofs.Common.{◌≡◌, ℕ, ℤ, List, suc, ◌-◌, ◌*◌, 
 use Rattle.std.proofs.lemmas.Int.{ints}
 use Rattle.grove_base.proofs.Lists.{map_length}
 use Rattle.grove_access.specs.declared.access.Access.{Access}
-use Rattle.grove_access.specs.Lists.{nodes_of, lengths_of, AreLengths}
+use Rattle.grove_access.specs.Lists.{nodes_of, lengths_of}
+use Rattle.grove_access.specs.ListFaults.{AreLengths}
 use Rattle.grove_access.specs.Slots.{slots_before}
 use Rattle.grove_access.proofs.Slots.{slots_few}
 use Rattle.grove_build.specs.Networks.{needs_from, lowered, AreRowsOf, AreSlots}

@@ -1,5 +1,5 @@
 use Rattle.std.proofs.Common.{◌≡◌, drop}
-use Rattle.grove_core.specs.Kept.{time_in}
+use Rattle.grove_core.specs.Cores.{time_in}
 use Rattle.grove_core.proofs.locking.time_in.Given as goal
 
 abbrev pub invariant-loop-lock : goal.invariant-loop-lock

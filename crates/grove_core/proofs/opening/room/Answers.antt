@@ -2,7 +2,8 @@ use Rattle.std.proofs.Common.{◌≡◌, ◌*◌, ◌^◌, ◌<◌, ◌≤◌, L
 use Rattle.std.specs.List.{slice_get, slice_index_or}
 use Rattle.grove_plan.specs.declared.step.Step.{Step}
 use Rattle.grove_core.specs.declared.job.Job.{Job}
-use Rattle.grove_core.specs.Runs.{plan_of, lock_steps}
+use Rattle.grove_core.specs.Runs.{plan_of}
+use Rattle.grove_core.specs.RunBounds.{lock_steps}
 use Rattle.grove_base.proofs.Lists.{read_at}
 use Rattle.grove_core.proofs.RunSteps.{plan_of_at}
 use Rattle.grove_core.proofs.CoreOpens.{room_more}

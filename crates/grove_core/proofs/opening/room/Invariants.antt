@@ -1,6 +1,7 @@
 use Rattle.std.proofs.Common.{ℕ, ◌+◌, ◌*◌, ◌^◌, ◌<◌, ◌≤◌, length}
 use Rattle.grove_base.specs.Numbers.{sum_below}
-use Rattle.grove_core.specs.Runs.{plan_of, lock_steps}
+use Rattle.grove_core.specs.Runs.{plan_of}
+use Rattle.grove_core.specs.RunBounds.{lock_steps}
 use Rattle.grove_core.proofs.opening.room.Given as goal
 
 abbrev pub invariant-loop-txn : goal.invariant-loop-txn

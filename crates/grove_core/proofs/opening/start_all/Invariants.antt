@@ -1,7 +1,8 @@
 use Rattle.std.proofs.Common.{◌≡◌, ℕ, length, Some}
 use Rattle.std.specs.List.{slice_get}
 use Rattle.grove_core.specs.declared.progress.Progress.{Progress}
-use Rattle.grove_core.specs.Runs.{list_of, plan_of, lock_steps}
+use Rattle.grove_core.specs.Runs.{list_of, plan_of}
+use Rattle.grove_core.specs.RunBounds.{lock_steps}
 use Rattle.grove_core.specs.Starts.{HasStarted}
 use Rattle.grove_core.proofs.opening.start_all.Given as goal
 

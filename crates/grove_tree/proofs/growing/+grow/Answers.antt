@@ -7,7 +7,7 @@ use Rattle.std.specs.List.{slice_get}
 use Rattle.std.specs.Option.{option_map}
 use Rattle.std.proofs.lemmas.Option.{slice_get-map, slice_get_read}
 use Rattle.grove_base.proofs.Lists.{map_length}
-use Rattle.grove_tree.specs.Rules.{row_of, rows_of}
+use Rattle.grove_tree.specs.BuiltRows.{row_of, rows_of}
 use Rattle.grove_tree.proofs.growing.+grow.Goals as goal
 
 pub loop-alloc-init : goal.loop-alloc-init

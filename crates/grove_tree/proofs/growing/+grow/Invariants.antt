@@ -1,5 +1,5 @@
 use Rattle.std.proofs.Common.{◌-◌, length}
-use Rattle.grove_tree.specs.Rules.{rows_of}
+use Rattle.grove_tree.specs.BuiltRows.{rows_of}
 use Rattle.grove_tree.proofs.OutlineGrowth.{IsGrowing}
 use Rattle.grove_tree.proofs.growing.+grow.Given as goal
 

@@ -1,6 +1,6 @@
 use Rattle.std.proofs.Common.{◌≡◌, ◌+◌, ◌≤◌}
 use Rattle.grove_tree.specs.Trees.{depth_of}
-use Rattle.grove_tree.specs.Rules.{rows_of}
+use Rattle.grove_tree.specs.BuiltRows.{rows_of}
 use Rattle.grove_tree.proofs.rules.depth_of_row.Given as goal
 
 abbrev pub invariant-loop-parent : goal.invariant-loop-parent

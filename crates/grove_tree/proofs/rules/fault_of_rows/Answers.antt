@@ -1,5 +1,5 @@
 use Rattle.std.proofs.Common.{sym, add-one}
-use Rattle.grove_tree.specs.Rules.{rows_of}
+use Rattle.grove_tree.specs.BuiltRows.{rows_of}
 use Rattle.grove_tree.proofs.FaultlessRows.{rows_less, fault_found, fault_not_found}
 use Rattle.grove_tree.proofs.rules.fault_of_rows.Goals as goal
 

@@ -1,5 +1,6 @@
 use Rattle.std.proofs.Common.{◌≡◌, None}
-use Rattle.grove_tree.specs.Rules.{rows_of, rows_fault}
+use Rattle.grove_tree.specs.Rules.{rows_fault}
+use Rattle.grove_tree.specs.BuiltRows.{rows_of}
 use Rattle.grove_tree.proofs.rules.fault_of_rows.Given as goal
 
 abbrev pub invariant-loop-row : goal.invariant-loop-row

@@ -1,5 +1,6 @@
 use Rattle.std.proofs.Common.{sym, ◌∙◌, add-one, arith}
-use Rattle.grove_tree.specs.Rules.{rows_of, is_twin}
+use Rattle.grove_tree.specs.Rules.{is_twin}
+use Rattle.grove_tree.specs.BuiltRows.{rows_of}
 use Rattle.grove_base.proofs.Counting.{any_from, any_miss}
 use Rattle.grove_tree.proofs.RowTests.{twin_test}
 use Rattle.grove_tree.proofs.rules.has_twin.Goals as goal

@@ -1,6 +1,7 @@
 use Rattle.std.proofs.Common.{◌≡◌, false}
 use Rattle.grove_base.specs.Numbers.{any_below}
-use Rattle.grove_tree.specs.Rules.{rows_of, is_twin}
+use Rattle.grove_tree.specs.Rules.{is_twin}
+use Rattle.grove_tree.specs.BuiltRows.{rows_of}
 use Rattle.grove_tree.proofs.rules.has_twin.Given as goal
 
 abbrev pub invariant-loop-other : goal.invariant-loop-other

@@ -1,6 +1,6 @@
 use Rattle.std.proofs.Common.{◌≡◌, ℕ, suc, ◌+◌, ◌<◌, ◌≤◌, sym, subst, arith, eq-eqb, eqb-true}
 use Rattle.grove_tree.specs.Trees.{IsAbove}
-use Rattle.grove_tree.specs.Rules.{rows_of}
+use Rattle.grove_tree.specs.BuiltRows.{rows_of}
 use Rattle.grove_tree.proofs.Above.{up_le_from, above_child, above_self, above_parent, above_top}
 use Rattle.grove_tree.proofs.rules.is_on_way.Goals as goal
 

@@ -1,6 +1,6 @@
 use Rattle.std.proofs.Common.{◌-◌, ◌≤◌, ◌↔◌}
 use Rattle.grove_tree.specs.Trees.{IsAbove}
-use Rattle.grove_tree.specs.Rules.{rows_of}
+use Rattle.grove_tree.specs.BuiltRows.{rows_of}
 use Rattle.grove_tree.proofs.rules.is_on_way.Given as goal
 
 abbrev pub invariant-loop-at : goal.invariant-loop-at

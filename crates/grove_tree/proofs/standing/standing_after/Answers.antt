@@ -1,6 +1,6 @@
 use Rattle.std.proofs.Common.{◌≡◌, ◌≤◌, get_or, sym, arith}
 use Rattle.grove_tree.specs.Trees.{depth_of}
-use Rattle.grove_tree.specs.Rules.{rows_of}
+use Rattle.grove_tree.specs.BuiltRows.{rows_of}
 use Rattle.grove_tree.proofs.Standings.{parent_stands, standing_below}
 use Rattle.grove_tree.proofs.standing.standing_after.Goals as goal
 

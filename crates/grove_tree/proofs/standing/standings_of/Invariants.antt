@@ -1,4 +1,4 @@
-use Rattle.grove_tree.specs.Rules.{rows_of}
+use Rattle.grove_tree.specs.BuiltRows.{rows_of}
 use Rattle.grove_tree.specs.Standings.{AreStandings}
 use Rattle.grove_tree.proofs.standing.standings_of.Given as goal
 

@@ -1,5 +1,5 @@
 use Rattle.std.proofs.Common.{◌∙◌, ◌+◌, sym, ap}
-use Rattle.grove_wire.specs.Histories.{event_at}
+use Rattle.grove_wire.proofs.Turns.{event_at}
 use Rattle.grove_wire.proofs.Each.{with_front-none, each_goes, each_stops, each_ends, fails_so, passes_on}
 use Rattle.grove_wire.proofs.events.read_each_event.Goals as goal
 

@@ -1,5 +1,5 @@
 use Rattle.std.proofs.Common.{◌∙◌, sym}
-use Rattle.grove_wire.specs.Reading.{nth_list}
+use Rattle.grove_wire.proofs.Turns.{nth_list}
 use Rattle.grove_wire.proofs.Each.{with_front-none, each_goes, each_stops, each_ends, fails_as, passes_on}
 use Rattle.grove_wire.proofs.lists.read_each_list.Goals as goal
 

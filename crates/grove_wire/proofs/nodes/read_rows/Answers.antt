@@ -2,7 +2,7 @@ use Rattle.std.proofs.Common.{◌≡◌, [], ◌∷◌, ◌++◌, w64, SFits, ap
 use Rattle.std.proofs.lemmas.Int.{to_z-of_z}
 use Rattle.std.proofs.lemmas.List.{map_push, length_push}
 use Rattle.serde_json.specs.View.{view}
-use Rattle.grove_tree.specs.Rules.{row_of, rows_of}
+use Rattle.grove_tree.specs.BuiltRows.{row_of, rows_of}
 use Rattle.grove_wire.specs.Reading.{row_at}
 use Rattle.grove_wire.proofs.Each.{fails_as, passes_on}
 use Rattle.grove_wire.proofs.Columns.{columns_stop, columns_end, columns_go}

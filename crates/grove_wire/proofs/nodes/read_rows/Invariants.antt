@@ -1,7 +1,7 @@
 use Rattle.std.proofs.Common.{◌≡◌}
 use Rattle.std.specs.Prelude.{map, length}
 use Rattle.serde_json.specs.View.{view}
-use Rattle.grove_tree.specs.Rules.{rows_of}
+use Rattle.grove_tree.specs.BuiltRows.{rows_of}
 use Rattle.grove_wire.specs.Reading.{row_at, columns_of}
 use Rattle.grove_wire.proofs.Each.{rest_read}
 use Rattle.grove_wire.proofs.Columns.{with_columns}

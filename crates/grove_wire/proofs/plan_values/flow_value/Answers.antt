@@ -1,4 +1,5 @@
-use Rattle.grove_wire.specs.Reading.{flow_row_in, flow_in, items_in}
+use Rattle.grove_wire.specs.Reading.{flow_in, items_in}
+use Rattle.grove_wire.proofs.Turns.{flow_row_in}
 use Rattle.grove_wire.specs.Writing.{flow_row_data}
 use Rattle.grove_wire.proofs.Written.{written_more, reads_more, written_all, reads_all, member_items}
 use Rattle.grove_wire.proofs.plan_values.flow_value.Goals as goal

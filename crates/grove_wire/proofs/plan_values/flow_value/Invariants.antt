@@ -2,7 +2,7 @@ use Rattle.std.proofs.Common.{◌≡◌, take}
 use Rattle.std.specs.Prelude.{map, Ok}
 use Rattle.serde_json.specs.View.{view}
 use Rattle.grove_wire.specs.Outcomes.{each_from}
-use Rattle.grove_wire.specs.Reading.{flow_row_in}
+use Rattle.grove_wire.proofs.Turns.{flow_row_in}
 use Rattle.grove_wire.specs.Writing.{flow_row_data}
 use Rattle.grove_wire.proofs.plan_values.flow_value.Given as goal
 

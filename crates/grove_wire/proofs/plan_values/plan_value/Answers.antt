@@ -1,6 +1,7 @@
 use Rattle.grove_wire.specs.declared.place.Part.TheVariants.{Plan}
 use Rattle.grove_wire.specs.Places.{whole_of}
-use Rattle.grove_wire.specs.Reading.{step_in, plan_in, items_in}
+use Rattle.grove_wire.specs.Reading.{plan_in, items_in}
+use Rattle.grove_wire.proofs.Turns.{step_in}
 use Rattle.grove_wire.specs.Writing.{step_data}
 use Rattle.grove_wire.proofs.Written.{written_more, reads_more, written_all, reads_all, member_items}
 use Rattle.grove_wire.proofs.plan_values.plan_value.Goals as goal

@@ -4,7 +4,7 @@ use Rattle.serde_json.specs.View.{view}
 use Rattle.grove_wire.specs.Outcomes.{each_from}
 use Rattle.grove_wire.specs.declared.place.Part.TheVariants.{Plan}
 use Rattle.grove_wire.specs.Places.{whole_of}
-use Rattle.grove_wire.specs.Reading.{step_in}
+use Rattle.grove_wire.proofs.Turns.{step_in}
 use Rattle.grove_wire.specs.Writing.{step_data}
 use Rattle.grove_wire.proofs.plan_values.plan_value.Given as goal
 

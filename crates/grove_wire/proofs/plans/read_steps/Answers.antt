@@ -1,5 +1,5 @@
 use Rattle.std.proofs.Common.{◌∙◌, ◌+◌, sym, ap}
-use Rattle.grove_wire.specs.Reading.{step_in}
+use Rattle.grove_wire.proofs.Turns.{step_in}
 use Rattle.grove_wire.proofs.Each.{with_front-none, each_goes, each_stops, each_ends, fails_so, passes_on}
 use Rattle.grove_wire.proofs.plans.read_steps.Goals as goal
 

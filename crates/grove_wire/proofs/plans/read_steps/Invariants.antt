@@ -2,7 +2,7 @@ use Rattle.std.proofs.Common.{◌≡◌}
 use Rattle.std.specs.Prelude.{map, vec_len}
 use Rattle.serde_json.specs.View.{view}
 use Rattle.grove_wire.specs.Outcomes.{each_from}
-use Rattle.grove_wire.specs.Reading.{step_in}
+use Rattle.grove_wire.proofs.Turns.{step_in}
 use Rattle.grove_wire.proofs.Each.{with_front, rest_read}
 use Rattle.grove_wire.proofs.plans.read_steps.Given as goal
 

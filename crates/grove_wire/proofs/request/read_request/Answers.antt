@@ -1,7 +1,8 @@
 use Rattle.std.proofs.Common.{◌∙◌, length, sym, ap, Err, arith}
 use Rattle.serde_json.specs.View.{view}
 use Rattle.grove_wire.specs.declared.fault.WireFault.TheVariants.{Shape}
-use Rattle.grove_wire.specs.Requests.{asked_of, AskedFits}
+use Rattle.grove_wire.specs.RequestLaws.{AskedFits}
+use Rattle.grove_wire.specs.Requests.{asked_of}
 use Rattle.grove_wire.proofs.Each.{fails_as, passes_on}
 use Rattle.grove_wire.proofs.Fitting.{given_reads}
 use Rattle.grove_wire.proofs.Lengths.{member_arrays}

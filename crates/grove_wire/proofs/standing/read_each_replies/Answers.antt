@@ -2,7 +2,7 @@ use Rattle.std.proofs.Common.{◌∙◌, sym}
 use Rattle.std.specs.Prelude.{map}
 use Rattle.std.proofs.lemmas.List.{map_push}
 use Rattle.grove_wire.specs.Forms.{AreArraysShort}
-use Rattle.grove_wire.specs.Histories.{replies_at}
+use Rattle.grove_wire.proofs.Turns.{replies_at}
 use Rattle.grove_wire.proofs.Each.{all_turn, with_front-none, each_goes, each_stops, each_ends, fails_as, passes_on}
 use Rattle.grove_wire.proofs.standing.read_each_replies.Goals as goal
 

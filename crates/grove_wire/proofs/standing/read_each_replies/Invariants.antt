@@ -2,7 +2,7 @@ use Rattle.std.proofs.Common.{◌≡◌}
 use Rattle.std.specs.Prelude.{map}
 use Rattle.serde_json.specs.View.{view}
 use Rattle.grove_wire.specs.Outcomes.{each_from}
-use Rattle.grove_wire.specs.Histories.{replies_at}
+use Rattle.grove_wire.proofs.Turns.{replies_at}
 use Rattle.grove_wire.proofs.Each.{with_front, rest_read}
 use Rattle.grove_wire.proofs.standing.read_each_replies.Given as goal
 

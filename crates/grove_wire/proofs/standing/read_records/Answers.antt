@@ -1,6 +1,6 @@
 use Rattle.std.proofs.Common.{◌≡◌, [], ◌∷◌, ◌++◌, w64, SFits, ap, ◌∙◌, sym, rules}
 use Rattle.std.proofs.lemmas.Int.{to_z-of_z}
-use Rattle.grove_wire.specs.Histories.{record_at}
+use Rattle.grove_wire.proofs.Turns.{record_at}
 use Rattle.grove_wire.proofs.Each.{with_front-none, each_goes, each_stops, each_ends, fails_so, passes_on}
 use Rattle.grove_wire.proofs.standing.read_records.Goals as goal
 

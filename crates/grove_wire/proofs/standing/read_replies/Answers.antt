@@ -1,5 +1,5 @@
 use Rattle.std.proofs.Common.{◌∙◌, sym}
-use Rattle.grove_wire.specs.Histories.{reply_in}
+use Rattle.grove_wire.proofs.Turns.{reply_in}
 use Rattle.grove_wire.proofs.Each.{with_front-none, each_goes, each_stops, each_ends, fails_so, passes_on}
 use Rattle.grove_wire.proofs.standing.read_replies.Goals as goal
 

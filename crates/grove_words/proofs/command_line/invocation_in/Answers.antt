@@ -1,11 +1,11 @@
-use Rattle.std.proofs.Common.{◌≡◌, ap, codes, subst, sym, true, false, List, Option}
-use Rattle.clap.specs.Words.{Row, Text, found_of, one_of, one_text, rows_of, subcommand_rows_of}
+use Rattle.std.proofs.Common.{◌≡◌, codes, subst, true, false, List, Option}
+use Rattle.clap.specs.Words.{Row, Text, found_of, one_of, one_text, rows_of}
 use Rattle.clap.specs.declared.parser.matches.ArgMatches.TheViews.{out-ArgMatches}
 use Rattle.clap.proofs.WalkLemmas.{first_value-rows, one_text-rows}
 use Rattle.grove_words.specs.CommandLines.{Chooses}
-use Rattle.grove_words.specs.Orders.{lines_in, Says}
+use Rattle.grove_words.specs.Invocations.{lines_in, Says}
 use Rattle.grove_words.specs.Steps.{HasName, IsFound, IsPlaceless, IsUnplaced}
-use Rattle.grove_words.proofs.Ports.{found_is}
+use Rattle.grove_words.proofs.Asking.{found_is}
 use Rattle.grove_words.proofs.command_line.invocation_in.Goals as goal
 
 pub returns-in-Ok-clause-found : goal.returns-in-Ok-clause-found

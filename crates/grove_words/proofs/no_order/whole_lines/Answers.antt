@@ -2,9 +2,9 @@ use Rattle.std.proofs.Common.{◌≡◌, ◌≢◌, ℕ, List, [], ◌∷◌, �
 use Rattle.std.proofs.lemmas.Result.{IfOk-weaker}
 use Rattle.grove_words.proofs.no_order.whole_lines.Goals as goal
 
-has_end : (text said : List ℕ) → said ≡ text ++ 10 ∷ [] → said ≢ []
-has_end [] said is none = cc
-has_end (byte ∷ text) said is none = cc
+has_end : (text tip said : List ℕ) → said ≡ text ++ (10 ∷ tip) → said ≢ []
+has_end [] tip said is none = cc
+has_end (byte ∷ text) tip said is none = cc
 
 pub returns : goal.returns
-returns c = IfOk-weaker c.format.result _ _ (λ lines is. has_end _ _ is) c.format.ensures.ok
+returns c = IfOk-weaker c.format.result _ _ (λ lines is. has_end _ _ _ is) c.format.ensures.ok

@@ -1,6 +1,7 @@
 use Rattle.std.proofs.Common.{◌≡◌, ◌≤◌, ◌*◌, add-one, arith}
 use Rattle.std.specs.Prelude.{slice_index}
-use Rattle.grove_access.specs.Lists.{lengths_of, AreLengths}
+use Rattle.grove_access.specs.Lists.{lengths_of}
+use Rattle.grove_access.specs.ListFaults.{AreLengths}
 use Rattle.grove_access.specs.Slots.{slots_before}
 use Rattle.grove_access.proofs.Slots.{length_read, few_slots, slots_few}
 use Rattle.grove_access.proofs.list.AccessList.slots_before.Goals as goal

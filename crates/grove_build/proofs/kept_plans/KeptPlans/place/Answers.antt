@@ -1,5 +1,5 @@
 use Rattle.std.proofs.lemmas.Result.{IfOk-weaker}
-use Rattle.grove_build.specs.KeptPlans.{kept_of}
+use Rattle.grove_build.specs.Keeping.{kept_of}
 use Rattle.grove_build.specs.Keeping.{AreTargetsOf}
 use Rattle.grove_build.proofs.Keeping.{kept_planned, settled_added}
 use Rattle.grove_build.proofs.kept_plans.KeptPlans.place.Goals as goal

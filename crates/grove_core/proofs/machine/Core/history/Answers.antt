@@ -1,6 +1,6 @@
 use Rattle.std.proofs.Common.{ℕ, ◌≤◌, reverse, subst}
 use Rattle.std.proofs.lemmas.List.{length-reverse}
-use Rattle.grove_core.specs.Runs.{most_events}
+use Rattle.grove_core.specs.RunBounds.{most_events}
 use Rattle.grove_core.proofs.RunBounds.{history_bound}
 use Rattle.grove_core.proofs.machine.Core.history.Goals as goal
 

@@ -2,7 +2,7 @@ use Rattle.std.proofs.Common.{◌≡◌, ◌<◌, ◌≤◌, ℕ, List, Option, 
 use Rattle.std.specs.List.{slice_get}
 use Rattle.std.proofs.lemmas.Bool.{ltb-true, ltb-false}
 use Rattle.grove_core.specs.declared.owner.Owner.{Owner}
-use Rattle.grove_core.specs.Kept.{Owns}
+use Rattle.grove_core.specs.Cores.{Owns}
 use Rattle.grove_core.proofs.CarriedEntries.{owner_past}
 use Rattle.grove_base.proofs.Lists.{read_at}
 use Rattle.grove_core.proofs.machine.Core.holder.Goals as goal

@@ -3,7 +3,7 @@ use Rattle.std.specs.List.{slice_get}
 use Rattle.std.proofs.lemmas.Bool.{ltb-false}
 use Rattle.grove_core.specs.declared.progress.Progress.{Progress}
 use Rattle.grove_core.specs.Orders.{lock_time}
-use Rattle.grove_core.specs.Kept.{time_in}
+use Rattle.grove_core.specs.Cores.{time_in}
 use Rattle.grove_core.proofs.CoreReads.{time_read, progress_seen}
 use Rattle.grove_core.proofs.OrderByLevels.{no_lock_time}
 use Rattle.grove_core.proofs.machine.Core.lock_time.Goals as goal

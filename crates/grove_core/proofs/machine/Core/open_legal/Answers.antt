@@ -1,7 +1,7 @@
 use Rattle.std.proofs.Common.{rules, ◌≡◌, ℕ, ◌<◌, ◌≤◌, length, sym, ◌∙◌, ap, subst, arith}
 use Rattle.std.specs.Prelude.{vec_capacity}
-use Rattle.grove_core.specs.Runs.{most_events}
-use Rattle.grove_core.specs.Kept.{TellsFirsts}
+use Rattle.grove_core.specs.RunBounds.{most_events}
+use Rattle.grove_core.specs.Cores.{TellsFirsts}
 use Rattle.grove_core.proofs.CoreOpens.{opened, firsts_within}
 use Rattle.grove_core.proofs.machine.Core.open_legal.Goals as goal
 

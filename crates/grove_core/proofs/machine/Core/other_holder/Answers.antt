@@ -1,6 +1,6 @@
 use Rattle.std.proofs.Common.{◌≡◌, ◌<◌, length, reverse, Some, None, sym, ◌∙◌, arith}
 use Rattle.std.specs.Vec.{vec_len}
-use Rattle.grove_core.specs.Kept.{Owns}
+use Rattle.grove_core.specs.Cores.{Owns}
 use Rattle.grove_core.proofs.CoreSteps.{locked_within}
 use Rattle.grove_core.proofs.CoreReads.{owner_there, owner_seen}
 use Rattle.grove_core.proofs.machine.Core.other_holder.Goals as goal

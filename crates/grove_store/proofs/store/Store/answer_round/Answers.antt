@@ -1,126 +1,52 @@
-use Rattle.std.proofs.Common.{◌<◌, refl, length, map, take, sym, ap, subst}
-use Rattle.std.specs.Prelude.{Ok, Err}
-use Rattle.std.proofs.lemmas.List.{length-map, take_rest}
-use Rattle.std.proofs.lemmas.Result.{IfOk-weaker}
-use Rattle.grove_meter.specs.Waits.{reweighed}
-use Rattle.grove_wire.specs.Names.{wire_name}
-use Rattle.grove_wire.specs.Replies.{error_data, weights_data, weights_of, changed_data}
-use Rattle.grove_wire.specs.Requests.{Plan, Check, Weights, Reweigh}
-use Rattle.grove_store.specs.StoreStates.{StoreState, IsStore, changes}
-use Rattle.grove_store.specs.Rounds.{IsLawfulRound}
-use Rattle.grove_store.proofs.Together.{counts_all}
-use Rattle.grove_store.proofs.Telling.{text_made}
-use Rattle.grove_store.proofs.Lawful.{first_alone, first_kept, first_round, fails_so}
+use Rattle.std.proofs.Common.{◌≡◌, ℕ, ◌+◌, ◌≤◌, List, ◌∷◌, [], ◌++◌, length, map, refl, sym, ap, ◌∙◌, arith, append_assoc, length-append}
+use Rattle.std.proofs.lemmas.List.{length-map, map_push}
+use Rattle.grove_store.proofs.Longest.{rounds_are_within}
+use Rattle.grove_store.proofs.Taking.{taken_all}
 use Rattle.grove_store.proofs.store.Store.answer_round.Goals as goal
 
-pub run_round-requires-clause-counts : goal.run_round-requires-clause-counts
-run_round-requires-clause-counts g c κs within = counts_all _ _ _ _ _ c.in_ok-round-in-Ok-Batch.ensures
+pub loop-reply-init : goal.loop-reply-init
+loop-reply-init g c =
+    let given = c.into_iter-reply-iterator.ensures.into_iter_gives.0 in
+    let all : length (map (λ line. line.now) c.args.lines.now) ≡ length c.args.lines.now = length-map c.args.lines.now (λ line. line.now) in
+    let within = rounds_are_within c.args.self.now.rows (map (λ line. line.now) c.args.lines.now) (omega (arith, c.requires.count.0)) in
+    let long : length c.into_iter-reply-iterator.result.rest.items ≡ length c.in_ok-replies.replies.items = ap length given in
+    rw c.in_ok-texts.ensures.items record {
+      next = tt;
+      ends = tt;
+      all = refl;
+      few = omega (arith, within.1, c.in_ok-replies.ensures.length, c.in_ok-texts.ensures.capacity);
+      room = refl;
+    }
 
-pub returns-in_ok-round-in-Ok-Batch-clause-length : goal.returns-in_ok-round-in-Ok-Batch-clause-length
-returns-in_ok-round-in-Ok-Batch-clause-length g c =
-    let fits = rw c.in-Ok-Batch.field-0-is at c.in-Ok-Batch.ensures.fits in
-    let read = rw c.in-Ok-Batch.field-0-is at c.in-Ok-Batch.ensures.read in
-    let some : 0 < length c.args.lines.now = c.requires.count.0 in
-    IfOk-weaker c.run_round.result _ _ (λ replies answers. (first_round c.args.self.now c.run_round.new.self c.self.inside.tree c.args.lines.now _ _ c.in-Ok-Batch.lists.items _ _
-    (map (λ reply. reply.items) replies.items) (length replies.items) (subst IsStore c.self.view_is c.self.invariant.0) (ap (λ (s : StoreState). s.rows) c.self.view_is) some (take_rest c.args.lines.now 1)
-    read fits.0 c.in_ok-round-in-Ok-Batch.ensures answers (sym (length-map replies.items (λ reply. reply.items)))).0) c.run_round.ensures.round
+pub push_reserved-requires : goal.push_reserved-requires
+push_reserved-requires g c =
+    let parts : length (map (λ text. text.items) c.loop-reply.texts.items ++ c.loop-reply.reply-iterator.rest.items) ≡ length (map (λ text. text.items) c.loop-reply.texts.items) + length c.loop-reply.reply-iterator.rest.items = length-append _ _ in
+    let texts : length (map (λ text. text.items) c.loop-reply.texts.items) ≡ length c.loop-reply.texts.items = length-map c.loop-reply.texts.items (λ text. text.items) in
+    let left : length c.loop-reply.reply-iterator.rest.items ≡ length (c.in-Some.reply ∷ c.next.new.self.rest.items) = ap length c.in-Some.ensures.steps.0 in
+    omega (arith, ap length c.loop-reply.invariant.all, c.loop-reply.invariant.few, c.loop-reply.invariant.room, c.loop-reply.texts.ok.0)
 
-pub returns-in_ok-round-in-Ok-Batch-clause-round : goal.returns-in_ok-round-in-Ok-Batch-clause-round
-returns-in_ok-round-in-Ok-Batch-clause-round g c =
-    let fits = rw c.in-Ok-Batch.field-0-is at c.in-Ok-Batch.ensures.fits in
-    let read = rw c.in-Ok-Batch.field-0-is at c.in-Ok-Batch.ensures.read in
-    let some : 0 < length c.args.lines.now = c.requires.count.0 in
-    IfOk-weaker c.run_round.result _ _ (λ replies answers. (first_round c.args.self.now c.run_round.new.self c.self.inside.tree c.args.lines.now _ _ c.in-Ok-Batch.lists.items _ _
-    (map (λ reply. reply.items) replies.items) (length replies.items) (subst IsStore c.self.view_is c.self.invariant.0) (ap (λ (s : StoreState). s.rows) c.self.view_is) some (take_rest c.args.lines.now 1)
-    read fits.0 c.in_ok-round-in-Ok-Batch.ensures answers (sym (length-map replies.items (λ reply. reply.items)))).1) c.run_round.ensures.round
+pub loop-reply-preserved : goal.loop-reply-preserved
+loop-reply-preserved g c = record {
+  next = tt;
+  ends = tt;
+  all = ap (λ texts. map (λ text. text.items) texts ++ c.next.new.self.rest.items) c.push_reserved.ensures.items
+      ∙ ap (λ (texts : List (List ℕ)). texts ++ c.next.new.self.rest.items) (map_push (λ text. text.items) c.loop-reply.texts.items c.into_text.result)
+      ∙ append_assoc (map (λ text. text.items) c.loop-reply.texts.items) (c.into_text.result.items ∷ []) c.next.new.self.rest.items
+      ∙ ap (λ (text : List ℕ). map (λ text. text.items) c.loop-reply.texts.items ++ (text ∷ c.next.new.self.rest.items)) c.into_text.ensures
+      ∙ ap (λ (rest : List (List ℕ)). map (λ text. text.items) c.loop-reply.texts.items ++ rest) (sym c.in-Some.ensures.steps.0)
+      ∙ c.loop-reply.invariant.all;
+  few = c.loop-reply.invariant.few;
+  room = c.push_reserved.ensures.capacity ∙ c.loop-reply.invariant.room;
+}
 
-pub returns-in-Ok-Plan-clause-length : goal.returns-in-Ok-Plan-clause-length
-returns-in-Ok-Plan-clause-length g c =
-    let read = rw c.in-Ok-Plan.field-0-is at c.in-Ok-Plan.ensures.read in
-    let some : 0 < length c.args.lines.now = c.requires.count.0 in
-    IfOk-weaker c.alone.result _ _ (λ replies one. let made = text_made (λ text. text.items) c.plan_text.result (map (λ reply. reply.items) replies.items) c.plan_text.ensures.text one in
-    (first_kept _ c.args.self.now c.args.lines.now _ (Ok (Plan c.in-Ok-Plan.list)) made.1.0 made.0.items
-    (map (λ reply. reply.items) replies.items) (length replies.items) c.self.view_is c.self.invariant.0 some read refl (made.1.1, refl) made.1.2 made.2
-    (sym (length-map replies.items (λ reply. reply.items)))).0) c.alone.ensures
+pub returns-clause-length : goal.returns-clause-length
+returns-clause-length g c =
+    (taken_all (λ text. text.items) c.loop-reply.texts.items c.loop-reply.reply-iterator.rest.items c.into_iter-reply-iterator.result.rest.items c.in_ok-replies.replies.items (map (λ line. line.now) c.args.lines.now)
+    c.args.self.now c.reply_round.new.self (omega (arith, c.in-None.ensures.steps.0, c.loop-reply.reply-iterator.rest.ok.0)) c.loop-reply.invariant.all c.into_iter-reply-iterator.ensures.into_iter_gives.0
+    c.in_ok-replies.ensures.round).0 ∙ c.in_ok-replies.ensures.length
 
-pub returns-in-Ok-Plan-clause-round : goal.returns-in-Ok-Plan-clause-round
-returns-in-Ok-Plan-clause-round g c =
-    let read = rw c.in-Ok-Plan.field-0-is at c.in-Ok-Plan.ensures.read in
-    let some : 0 < length c.args.lines.now = c.requires.count.0 in
-    IfOk-weaker c.alone.result _ _ (λ replies one. let made = text_made (λ text. text.items) c.plan_text.result (map (λ reply. reply.items) replies.items) c.plan_text.ensures.text one in
-    subst (λ (after : StoreState). IsLawfulRound c.args.self.now (take (length replies.items) (map (λ line. line.now) c.args.lines.now)) (map (λ reply. reply.items) replies.items) after) (sym c.self.view_is)
-    (first_kept _ c.args.self.now c.args.lines.now _ (Ok (Plan c.in-Ok-Plan.list)) made.1.0 made.0.items
-    (map (λ reply. reply.items) replies.items) (length replies.items) c.self.view_is c.self.invariant.0 some read refl (made.1.1, refl) made.1.2 made.2
-    (sym (length-map replies.items (λ reply. reply.items)))).1) c.alone.ensures
-
-pub returns-in-Ok-Check-clause-length : goal.returns-in-Ok-Check-clause-length
-returns-in-Ok-Check-clause-length g c =
-    let read = rw c.in-Ok-Check.field-0-is at c.in-Ok-Check.ensures.read in
-    let some : 0 < length c.args.lines.now = c.requires.count.0 in
-    IfOk-weaker c.alone-in-Ok-Check.result _ _ (λ replies one. let made = text_made (λ text. text.items) c.check_text.result (map (λ reply. reply.items) replies.items) c.check_text.ensures one in
-    (first_kept _ c.args.self.now c.args.lines.now _ (Ok (Check c.in-Ok-Check.list c.in-Ok-Check.plan c.in-Ok-Check.flow)) made.1.0 made.0.items
-    (map (λ reply. reply.items) replies.items) (length replies.items) c.self.view_is c.self.invariant.0 some read refl (made.1.1, refl) made.1.2 made.2
-    (sym (length-map replies.items (λ reply. reply.items)))).0) c.alone-in-Ok-Check.ensures
-
-pub returns-in-Ok-Check-clause-round : goal.returns-in-Ok-Check-clause-round
-returns-in-Ok-Check-clause-round g c =
-    let read = rw c.in-Ok-Check.field-0-is at c.in-Ok-Check.ensures.read in
-    let some : 0 < length c.args.lines.now = c.requires.count.0 in
-    IfOk-weaker c.alone-in-Ok-Check.result _ _ (λ replies one. let made = text_made (λ text. text.items) c.check_text.result (map (λ reply. reply.items) replies.items) c.check_text.ensures one in
-    (first_kept _ c.args.self.now c.args.lines.now _ (Ok (Check c.in-Ok-Check.list c.in-Ok-Check.plan c.in-Ok-Check.flow)) made.1.0 made.0.items
-    (map (λ reply. reply.items) replies.items) (length replies.items) c.self.view_is c.self.invariant.0 some read refl (made.1.1, refl) made.1.2 made.2
-    (sym (length-map replies.items (λ reply. reply.items)))).1) c.alone-in-Ok-Check.ensures
-
-pub returns-in-Ok-Weights-clause-length : goal.returns-in-Ok-Weights-clause-length
-returns-in-Ok-Weights-clause-length g c =
-    let read = rw c.in-Ok-Weights.field-0-is at c.in-Ok-Weights.ensures.read in
-    let some : 0 < length c.args.lines.now = c.requires.count.0 in
-    IfOk-weaker c.alone-in-Ok-Weights.result _ _ (λ replies one. let made = text_made (λ text. text.items) c.weights_text.result (map (λ reply. reply.items) replies.items) c.weights_text.ensures one in
-    (first_kept _ c.args.self.now c.args.lines.now _ (Ok Weights) (weights_data c.deref.result.now (weights_of c.self.inside.tree)) made.0.items
-    (map (λ reply. reply.items) replies.items) (length replies.items) c.self.view_is c.self.invariant.0 some read refl (ap (λ waits. weights_data waits (weights_of c.self.inside.tree)) c.deref.ensures.value, refl) made.1 made.2
-    (sym (length-map replies.items (λ reply. reply.items)))).0) c.alone-in-Ok-Weights.ensures
-
-pub returns-in-Ok-Weights-clause-round : goal.returns-in-Ok-Weights-clause-round
-returns-in-Ok-Weights-clause-round g c =
-    let read = rw c.in-Ok-Weights.field-0-is at c.in-Ok-Weights.ensures.read in
-    let some : 0 < length c.args.lines.now = c.requires.count.0 in
-    IfOk-weaker c.alone-in-Ok-Weights.result _ _ (λ replies one. let made = text_made (λ text. text.items) c.weights_text.result (map (λ reply. reply.items) replies.items) c.weights_text.ensures one in
-    (first_kept _ c.args.self.now c.args.lines.now _ (Ok Weights) (weights_data c.deref.result.now (weights_of c.self.inside.tree)) made.0.items
-    (map (λ reply. reply.items) replies.items) (length replies.items) c.self.view_is c.self.invariant.0 some read refl (ap (λ waits. weights_data waits (weights_of c.self.inside.tree)) c.deref.ensures.value, refl) made.1 made.2
-    (sym (length-map replies.items (λ reply. reply.items)))).1) c.alone-in-Ok-Weights.ensures
-
-pub returns-in-Err-clause-length : goal.returns-in-Err-clause-length
-returns-in-Err-clause-length g c =
-    let some : 0 < length c.args.lines.now = c.requires.count.0 in
-    IfOk-weaker c.alone-in-Err.result _ _ (λ replies one. let made = text_made (λ text. text.items) c.wire_refusal.result (map (λ reply. reply.items) replies.items) c.wire_refusal.ensures one in
-    (first_kept _ c.args.self.now c.args.lines.now _ (Err c.in-Err.fault) (error_data (wire_name c.in-Err.fault)) made.0.items
-    (map (λ reply. reply.items) replies.items) (length replies.items) c.self.view_is c.self.invariant.0 some (fails_so c.in-Err.fault _ made.1.0 c.in-Err.ensures.read) refl (refl, refl) made.1.1 made.2
-    (sym (length-map replies.items (λ reply. reply.items)))).0) c.alone-in-Err.ensures
-
-pub returns-in-Err-clause-round : goal.returns-in-Err-clause-round
-returns-in-Err-clause-round g c =
-    let some : 0 < length c.args.lines.now = c.requires.count.0 in
-    IfOk-weaker c.alone-in-Err.result _ _ (λ replies one. let made = text_made (λ text. text.items) c.wire_refusal.result (map (λ reply. reply.items) replies.items) c.wire_refusal.ensures one in
-    (first_kept _ c.args.self.now c.args.lines.now _ (Err c.in-Err.fault) (error_data (wire_name c.in-Err.fault)) made.0.items
-    (map (λ reply. reply.items) replies.items) (length replies.items) c.self.view_is c.self.invariant.0 some (fails_so c.in-Err.fault _ made.1.0 c.in-Err.ensures.read) refl (refl, refl) made.1.1 made.2
-    (sym (length-map replies.items (λ reply. reply.items)))).1) c.alone-in-Err.ensures
-
-pub returns-in-Ok-Reweigh-clause-length : goal.returns-in-Ok-Reweigh-clause-length
-returns-in-Ok-Reweigh-clause-length g c =
-    let read = rw c.in-Ok-Reweigh.field-0-is at c.in-Ok-Reweigh.ensures.read in
-    let now = c.args.self.now in
-    let some : 0 < length c.args.lines.now = c.requires.count.0 in
-    IfOk-weaker c.reweigh.result _ _ (λ replies answers. (first_alone now c.reweigh.new.self c.self.inside.tree c.args.lines.now _ (Ok Reweigh) (changed_data (changes now.rows (reweighed now.waits now.rows))) _
-    (map (λ reply. reply.items) replies.items) (length replies.items) (subst IsStore c.self.view_is c.self.invariant.0)
-    (ap (λ (s : StoreState). s.rows) c.self.view_is) some read refl (refl, answers.1) refl answers.0
-    (sym (length-map replies.items (λ reply. reply.items)))).0) c.reweigh.ensures.reply
-
-pub returns-in-Ok-Reweigh-clause-round : goal.returns-in-Ok-Reweigh-clause-round
-returns-in-Ok-Reweigh-clause-round g c =
-    let read = rw c.in-Ok-Reweigh.field-0-is at c.in-Ok-Reweigh.ensures.read in
-    let now = c.args.self.now in
-    let some : 0 < length c.args.lines.now = c.requires.count.0 in
-    IfOk-weaker c.reweigh.result _ _ (λ replies answers. (first_alone now c.reweigh.new.self c.self.inside.tree c.args.lines.now _ (Ok Reweigh) (changed_data (changes now.rows (reweighed now.waits now.rows))) _
-    (map (λ reply. reply.items) replies.items) (length replies.items) (subst IsStore c.self.view_is c.self.invariant.0)
-    (ap (λ (s : StoreState). s.rows) c.self.view_is) some read refl (refl, answers.1) refl answers.0
-    (sym (length-map replies.items (λ reply. reply.items)))).1) c.reweigh.ensures.reply
+pub returns-clause-round : goal.returns-clause-round
+returns-clause-round g c =
+    (taken_all (λ text. text.items) c.loop-reply.texts.items c.loop-reply.reply-iterator.rest.items c.into_iter-reply-iterator.result.rest.items c.in_ok-replies.replies.items (map (λ line. line.now) c.args.lines.now)
+    c.args.self.now c.reply_round.new.self (omega (arith, c.in-None.ensures.steps.0, c.loop-reply.reply-iterator.rest.ok.0)) c.loop-reply.invariant.all c.into_iter-reply-iterator.ensures.into_iter_gives.0
+    c.in_ok-replies.ensures.round).1

@@ -1,4 +1,4 @@
-use Rattle.std.proofs.Common.{◌≡◌, ℕ, List, ◌+◌, ◌-◌, ◌^◌, ◌<◌, length, map, replicate, refl, sym, ◌∙◌, ap, subst, arith}
+use Rattle.std.proofs.Common.{◌≡◌, ℕ, List, ◌+◌, ◌-◌, ◌^◌, ◌<◌, length, replicate, refl, sym, ◌∙◌, ap, subst, arith}
 use Rattle.std.specs.Prelude.{codes}
 use Rattle.std.proofs.lemmas.Result.{IfOk-weaker}
 use Rattle.grove_tree.specs.Trees.{Rows}
@@ -37,7 +37,7 @@ returns-clause-round g c =
     let before : StoreState = record { rows = inside.tree; records = inside.records; waits = inside.waits.items; workers = inside.workers; rounds = inside.rounds } in
     let after : StoreState = record before { records = c.in_ok-outcome.outcome.records; waits = c.in_ok-outcome.outcome.waits.items; rounds = before.rounds + 1 } in
     let lists = c.args.round.lists.items in
-    let texts = map (λ reply. reply.items) c.in_ok-outcome.outcome.replies.items in
+    let texts = c.in_ok-outcome.outcome.replies.items in
     let left = leaves_round before c.deref.result.now c.deref-2.result.now c.in-Ok.finished _ _ _ _ c.in-Ok.ensures.run
     c.in_ok-outcome.ensures.replies c.in_ok-outcome.ensures.records c.in_ok-outcome.ensures.waits c.deref-3.ensures.value in
     let runs : AnswersRound before lists c.deref-2.result.now texts after = runs_round before after lists c.deref.result.now c.deref-2.result.now _ _ _
@@ -52,8 +52,8 @@ returns-in-Err-clause-round g c =
     let room : before.rounds < 2 ^ 64 - 1 = omega (arith, c.self.invariant.0.counted) in
     let number : c.len-in-Err.result ≡ length c.args.round.counts.items = omega (arith, c.args.round.counts.ok.0) in
     IfOk-weaker c.run_refusals.result _ _ (λ texts told.
-    subst (λ (store : StoreState). AnswersRound store c.args.round.lists.items c.args.round.counts.items (map (λ reply. reply.items) texts.items) before) c.self.view_is
-    (fails_run before c.args.round.lists.items c.args.round.counts.items (map (λ reply. reply.items) texts.items) c.in-Err.fault
+    subst (λ (store : StoreState). AnswersRound store c.args.round.lists.items c.args.round.counts.items texts.items before) c.self.view_is
+    (fails_run before c.args.round.lists.items c.args.round.counts.items texts.items c.in-Err.fault
     room c.in-Err.ensures.fault told.0
     (told.1 ∙ ap (λ (n : ℕ). replicate n (error_text (run_name c.in-Err.fault))) number))) c.run_refusals.ensures
 
@@ -63,5 +63,5 @@ returns-then-self-clause-round g c =
     let same : before.rounds ≡ c.self.inside.rounds = sym (ap (λ (s : StoreState). s.rounds) c.self.view_is) in
     let full : before.rounds ≡ 2 ^ 64 - 1 = omega (arith, c.if-self.true) in
     let number : c.len.result ≡ length c.args.round.counts.items = omega (arith, c.args.round.counts.ok.0) in
-    IfOk-weaker c.refusals.result _ _ (λ texts told. fails_full before c.args.round.lists.items c.args.round.counts.items (map (λ reply. reply.items) texts.items) full
+    IfOk-weaker c.refusals.result _ _ (λ texts told. fails_full before c.args.round.lists.items c.args.round.counts.items texts.items full
     (told ∙ ap (λ (n : ℕ). replicate n (error_text (codes "rounds"))) number)) c.refusals.ensures

@@ -2,7 +2,8 @@ use Rattle.std.proofs.Common.{◌≡◌, ℕ, Some, sym, ◌∙◌, ap, subst, l
 use Rattle.grove_tree.specs.declared.fault.TreeFault.{TreeFault}
 use Rattle.grove_tree.specs.declared.fault.TreeFault.TheVariants.{Memory}
 use Rattle.grove_tree.specs.Trees.{Rows, IsTree}
-use Rattle.grove_tree.specs.Rules.{row_of, rows_of, IsWithinLimits}
+use Rattle.grove_tree.specs.Rules.{IsWithinLimits}
+use Rattle.grove_tree.specs.BuiltRows.{row_of, rows_of}
 use Rattle.grove_tree.specs.Standings.{AreStandings}
 use Rattle.grove_base.proofs.Lists.{map_length}
 use Rattle.grove_tree.proofs.FaultlessRows.{faultless_tree, faultless_within, faulty_refused, fault_not_memory}
