@@ -29,7 +29,8 @@ past_object : (x d : Data) (test : Bool) → ((if test then Ok x else Err (Shape
 past_object x d true is = past_version x d (version_in x) is
 past_object x d false is = absurd (cc)
 
-past_value : (value : Option Data) (d : Data) → ((or_fault BadJson value >>= object_at (whole_of Whole)) >>= versioned) ≡ Ok d → value ≡ Some d
+past_value : (value : Option Data) (d : Data)
+    → ((or_fault BadJson value >>= object_at (whole_of Whole)) >>= versioned) ≡ Ok d → value ≡ Some d
 past_value None d is = absurd (cc)
 past_value (Some x) d is = ap Some (past_object x d (is_some (as_object x)) is)
 
@@ -43,7 +44,10 @@ past_text false value d is = absurd (cc)
 
 level_within : (most : ℕ) (bytes : List ℕ) (d : Data) → document_within most bytes ≡ Ok d → depth d ≤ 127
 level_within most bytes d is =
-    depth-read bytes d (past_text (is_utf8 bytes) (read bytes) d (past_value (value_of bytes) d (past_limit (nat_lt most (length bytes)) d ((or_fault BadJson (value_of bytes) >>= object_at (whole_of Whole)) >>= versioned) is)))
+    depth-read bytes d (past_text (is_utf8 bytes) (read bytes) d
+    (past_value (value_of bytes) d
+    (past_limit (nat_lt most (length bytes)) d
+    ((or_fault BadJson (value_of bytes) >>= object_at (whole_of Whole)) >>= versioned) is)))
 
 -- so for each command
 pub shallow_for : (command : Command) (bytes : List ℕ) (d : Data) → document_for command bytes ≡ Ok d → depth d ≤ 127

@@ -1,3 +1,4 @@
+pub mod NoOrders
 pub mod Orders
 pub mod Printing
 pub mod Saying

@@ -1,41 +1,36 @@
 -- What comes of the order that was found is what the words ask for.
 use Rattle.std.proofs.Common.{◌≡◌, ◌≢◌, ◌≤◌, ◌∙◌, ℕ, Bool, ap, refl, sym, subst, true, false, List, [], Option, Some, None, IfSome, IfOk, IfErr, OnOk, Result, Ok, Err, inl, inr, ◌⊎◌, arith, ◌++◌, take}
-use Rattle.std.proofs.lemmas.Option.{IfSome_then}
 use Rattle.std.specs.Io.KnownBytes.{Appends, Keeps}
-use Rattle.std.proofs.KnownBytes.{Keeps-refl}
-use Rattle.grove_words.specs.declared.no_order.NoOrder.{NoOrder}
-use Rattle.grove_words.specs.declared.no_order.NoOrder.TheVariants as no
 use Rattle.grove_words.specs.declared.order.Command.{Command}
 use Rattle.grove_words.specs.declared.order.Command.TheVariants as command
 use Rattle.grove_words.specs.declared.order.Document.{Document}
-use Rattle.grove_words.specs.declared.order.Invocation.{Invocation}
 use Rattle.grove_words.specs.declared.order.Order.{Order}
 use Rattle.grove_words.specs.declared.order.Order.TheVariants as order
-use Rattle.grove_words.specs.declared.order.Place.{Place}
 use Rattle.grove_words.specs.declared.order.Serving.{Serving}
-use Rattle.grove_words.specs.CommandLines.{has_place, serves, text_given, Verb, Ask, Serve, Page, AreWrong, AskFor, AskToExplain, AskToServe, AskToShow, IsPlace, NameDevice}
-use Rattle.grove_words.specs.NoOrders.{TellsShown, TellsWrong}
-use Rattle.grove_words.specs.Invocations.{lines_given, name_in, AskForOrder, IsAskedBy, Says}
+use Rattle.grove_words.specs.CommandLines.{has_place, serves, text_given, Verb, Ask, Serve, Page, AskFor, AskToExplain, AskToServe, IsPlace, NameDevice}
+use Rattle.grove_words.specs.Invocations.{lines_given, name_in, AskForOrder, SaysOrder}
 use Rattle.grove_words.specs.Orders.{verb_for, SaysCommand}
 use Rattle.grove_words.proofs.Orders.{not_shown, same_name, same_verb}
 use Rattle.grove_answer.specs.Outcomes.{Outcome, ThenSays}
 use Rattle.grove.specs.declared.answer.Stop.{Stop}
 use Rattle.grove.specs.declared.answer.Stop.TheVariants as stop
-use Rattle.grove.specs.Answers.{serving_of, HasFile, IsAsGoodAs, IsAsked, IsDone, IsGivenUp, IsLost, IsObeyed, IsStopped, IsTold}
-use Rattle.grove.specs.Endings.{stop_line, Blames, MayHint, NamesPlace, SaysListening, SaysRefusal, SaysSomething, SaysStop, SaysWhy}
+use Rattle.grove.specs.Answers.{serving_of, HasFile, IsAsGoodAs, IsAsked, IsCommandDone, IsGivenUp, IsLost, IsObeyed, IsStopped}
+use Rattle.grove.specs.Endings.{stop_line, Blames, MayHint, NamesPlace, SaysListening, SaysRefusal, SaysStop, SaysWhy}
 use Rattle.grove.specs.Outcomes.{document_for, outcome_status, outcome_text, IsOutcome, IsOutcomeFor, MaySay, Prints}
 use Rattle.grove.specs.Runs.{streams, Answers, AskToAsk, Does, DoesAt, Invites, Spares, Stops, Streams, Tells}
 use Rattle.grove.proofs.Printing.{all_written, no_hint}
 
 -- ---- what is printed
 
-prints_whole : (IsSaid : Outcome → Type 0) (status : ℕ) (old new : Option (List ℕ)) (outcome : Outcome) → IsSaid outcome → status ≡ outcome_status outcome
+prints_whole : (IsSaid : Outcome → Type 0) (status : ℕ) (old new : Option (List ℕ)) (outcome : Outcome) → IsSaid outcome
+    → status ≡ outcome_status outcome
     → Appends old new (outcome_text outcome) → Prints IsSaid status old new
 prints_whole IsSaid status old new outcome may is out =
     let part = all_written (outcome_text outcome) old new out in
     record { whole = λ few. (outcome, may, is, out); part = inr (outcome, may, part.0, part.1) }
 
-prints_part : (IsSaid : Outcome → Type 0) (old new : Option (List ℕ)) → Keeps old new ⊎ ((outcome : Outcome) × IsSaid outcome × (count : ℕ) × Appends old new (take count (outcome_text outcome)))
+pub prints_part : (IsSaid : Outcome → Type 0) (old new : Option (List ℕ)) → Keeps old new
+    ⊎ ((outcome : Outcome) × IsSaid outcome × (count : ℕ) × Appends old new (take count (outcome_text outcome)))
     → Prints IsSaid 3 old new
 prints_part IsSaid old new part = record { whole = λ few. absurd (omega arith); part = part }
 
@@ -44,15 +39,19 @@ few_statuses : (outcome : Outcome) → outcome_status outcome ≤ 1
 few_statuses (Ok lines) = omega arith
 few_statuses (Err fault) = omega arith
 
-refusal_printed : (outcome : Outcome) (status : ℕ) (old new : Option (List ℕ)) → status ≡ outcome_status outcome → Appends old new (outcome_text outcome) → status ≡ 1 → SaysRefusal old new
+refusal_printed : (outcome : Outcome) (status : ℕ) (old new : Option (List ℕ)) → status ≡ outcome_status outcome
+    → Appends old new (outcome_text outcome) → status ≡ 1 → SaysRefusal old new
 refusal_printed (Ok lines) status old new is out one = let none : ◌≡◌ {A = ℕ} 0 1 = sym is ∙ one in absurd (cc)
 refusal_printed (Err fault) status old new is out one = (fault, out)
 
 -- a place that a command serves at is given by the words
-place_given : (words : List (List ℕ)) (it : Command) (serving : Serving) → SaysCommand (text_given words) it → serving_of it ≡ Some serving
+place_given : (words : List (List ℕ)) (it : Command) (serving : Serving) → SaysCommand (text_given words) it
+    → serving_of it ≡ Some serving
     → (serves (verb_for it) ≡ true) × IsPlace (text_given words) serving.place
-place_given words (command.Serve given) serving said at = let same : given ≡ serving = cc in (refl, subst (λ (s : Serving). IsPlace (text_given words) s.place) same said.place)
-place_given words (command.Page given) serving said at = let same : given ≡ serving = cc in (refl, subst (λ (s : Serving). IsPlace (text_given words) s.place) same said.place)
+place_given words (command.Serve given) serving said at = let same : given ≡ serving =
+    cc in (refl, subst (λ (s : Serving). IsPlace (text_given words) s.place) same said.place)
+place_given words (command.Page given) serving said at = let same : given ≡ serving =
+    cc in (refl, subst (λ (s : Serving). IsPlace (text_given words) s.place) same said.place)
 place_given words command.Judge serving said at = absurd (cc)
 place_given words command.Check serving said at = absurd (cc)
 place_given words (command.Plan in_document) serving said at = absurd (cc)
@@ -61,17 +60,29 @@ place_given words (command.Run workers) serving said at = absurd (cc)
 place_given words command.Audit serving said at = absurd (cc)
 
 -- a reason is said only where it is asked for
-says_why : (words : List (List ℕ)) (explain : Bool) (HasFailed IsSound : Type 0) (why : Stop) (old middle new : Option (List ℕ)) → AskToExplain words explain → middle ≡ old
-    → SaysStop (explain ≡ true) why middle new → Blames HasFailed IsSound why → SaysWhy (AskToExplain words true) HasFailed IsSound old new
+says_why : (words : List (List ℕ)) (explain : Bool) (HasFailed IsSound : Type 0) (why : Stop)
+    (old middle new : Option (List ℕ)) → AskToExplain words explain → middle ≡ old
+    → SaysStop (explain ≡ true) why middle new → Blames HasFailed IsSound why
+    → SaysWhy (AskToExplain words true) HasFailed IsSound old new
 says_why words explain HasFailed IsSound why old middle new asked same (inl said) blames =
     (why, inl (subst (λ xs. Appends xs new (stop_line why)) same said), blames)
-says_why words explain HasFailed IsSound why old middle new asked same (inr (wanted, line, is, said)) blames =
-    (why, inr (subst (AskToExplain words) wanted asked, line, is, subst (λ xs. Appends xs new (line ++ stop_line why)) same said), blames)
+says_why words explain HasFailed IsSound why old middle new asked same (inr (wanted, line, is, said)) blames = (
+  why,
+  inr (
+    subst (AskToExplain words) wanted asked,
+    line,
+    is,
+    subst
+        (λ xs. Appends xs new (line ++ stop_line why)) same said,
+  ),
+  blames,
+)
 
 -- ---- what is plain by the status alone
 
 -- words that are an order are told nothing
-tells_nothing : (words : List (List ℕ)) (verb : Verb) (name : Option (List ℕ)) (before after : Streams) (status : ℕ) → AskFor words verb name → status ≢ 2 → Tells words before after status
+tells_nothing : (words : List (List ℕ)) (verb : Verb) (name : Option (List ℕ)) (before after : Streams) (status : ℕ)
+    → AskFor words verb name → status ≢ 2 → Tells words before after status
 tells_nothing words verb name before after status asked other = record {
   wrong = λ wrong. absurd (wrong.no_order verb name asked);
   shown = λ shown. absurd (not_shown words verb name asked shown);
@@ -81,7 +92,8 @@ tells_nothing words verb name before after status asked other = record {
 }
 
 -- words that are none aren't answered
-answers_nothing : (words : List (List ℕ)) (before after : Streams) (status : ℕ) → ((verb : Verb) (name : Option (List ℕ)) → AskFor words verb name → ⊥) → status ≢ 1
+pub answers_nothing : (words : List (List ℕ)) (before after : Streams) (status : ℕ)
+    → ((verb : Verb) (name : Option (List ℕ)) → AskFor words verb name → ⊥) → status ≢ 1
     → Answers words before after status
 answers_nothing words before after status none other = record {
   answered = λ verb asks differs. absurd (none verb None asks);
@@ -91,10 +103,12 @@ answers_nothing words before after status none other = record {
   taken = λ verb name asks two. none verb name asks;
 }
 
-goes_on : (words : List (List ℕ)) (before after : Streams) (status : ℕ) → status ≤ 2 → Stops words before after status
-goes_on words before after status few = record { status = omega arith; blamed = λ three. absurd (omega arith); unprinted = λ three. absurd (omega arith) }
+pub goes_on : (words : List (List ℕ)) (before after : Streams) (status : ℕ) → status ≤ 2
+    → Stops words before after status
+goes_on words before after status few =
+    record { status = omega arith; blamed = λ three. absurd (omega arith); unprinted = λ three. absurd (omega arith) }
 
-spares_nothing : (words : List (List ℕ)) (before after : Streams) → Spares words before after 3
+pub spares_nothing : (words : List (List ℕ)) (before after : Streams) → Spares words before after 3
 spares_nothing words before after = record {
   hinted = λ few. absurd (omega arith);
   quiet_errors = λ shown few. absurd (omega arith);
@@ -104,32 +118,45 @@ spares_nothing words before after = record {
 
 -- ---- a command that is done with its document
 
-module _ (words : List (List ℕ)) (it : Command) (document : Document) (asked : AskFor words (verb_for it) (name_in document)) (said : SaysCommand (text_given words) it) where
+module _ (words : List (List ℕ)) (it : Command) (document : Document)
+    (asked : AskFor words (verb_for it) (name_in document)) (said : SaysCommand (text_given words) it) where
   -- what is said of bytes is what the words ask for
-  for_words : (verb : Verb) (name : Option (List ℕ)) (bytes : List ℕ) (outcome : Outcome) → AskFor words verb name → IsOutcome it bytes outcome → IsOutcomeFor words verb bytes outcome
-  for_words verb name bytes outcome asks is = (it, same_verb words (verb_for it) verb (name_in document) name asked asks, said, is)
+  for_words : (verb : Verb) (name : Option (List ℕ)) (bytes : List ℕ) (outcome : Outcome) → AskFor words verb name
+      → IsOutcome it bytes outcome → IsOutcomeFor words verb bytes outcome
+  for_words verb name bytes outcome asks is =
+      (it, same_verb words (verb_for it) verb (name_in document) name asked asks, said, is)
 
   -- and so it is of the input that they are as good as
-  for_input : (verb : Verb) (whole bytes : List ℕ) (outcome : Outcome) → AskFor words verb None → IsAsGoodAs it (name_in document) (Some whole) bytes → IsOutcome it bytes outcome
+  for_input : (verb : Verb) (whole bytes : List ℕ) (outcome : Outcome) → AskFor words verb None
+      → IsAsGoodAs it (name_in document) (Some whole) bytes → IsOutcome it bytes outcome
       → IsOutcomeFor words verb whole outcome
   for_input verb whole bytes outcome asks good is =
       let named : name_in document ≡ None = same_name words (verb_for it) verb (name_in document) None asked asks in
-      let same : document_for it whole ≡ document_for it bytes = subst (λ name. IsAsGoodAs it name (Some whole) bytes) named good in
+      let same : document_for it whole ≡ document_for it bytes =
+      subst (λ name. IsAsGoodAs it name (Some whole) bytes) named good in
       for_words verb None whole outcome asks (subst (λ found. ThenSays found (MaySay it) outcome) (sym same) is)
 
-  done_does : (before after : Streams) (status : ℕ) → IsDone it (name_in document) before after status → Does words before after status
+  done_does : (before after : Streams) (status : ℕ) → IsCommandDone it (name_in document) before after status
+      → Does words before after status
   done_does before after status done = by_said done.said
     where
       by_said : (bytes : List ℕ) × IsAsGoodAs it (name_in document) before.input bytes × (outcome : Outcome)
-          × IsOutcome it bytes outcome × (status ≡ outcome_status outcome) × Appends before.output after.output (outcome_text outcome) → Does words before after status
+          × IsOutcome it bytes outcome × (status ≡ outcome_status outcome)
+          × Appends before.output after.output (outcome_text outcome) → Does words before after status
       by_said (bytes, good, outcome, is, same, out) =
           let few : outcome_status outcome ≤ 1 = few_statuses outcome in
           let most : status ≤ 1 = omega arith in
           record {
             answers = record {
               answered = λ verb asks other. of_input before.input verb asks good;
-              read = λ verb name asks other. (bytes, prints_whole _ status before.output after.output outcome (for_words verb name bytes outcome asks is) same out);
-              served = λ verb name asks serving. inl (done.served (ap serves (same_verb words (verb_for it) verb (name_in document) name asked asks) ∙ serving));
+              read = λ verb name asks other. (
+                bytes,
+                prints_whole _ status before.output after.output outcome
+                    (for_words verb name bytes outcome asks is) same out,
+              );
+              served = λ verb name asks serving. inl
+                  (done.served (ap serves (same_verb words (verb_for it) verb (name_in document) name asked asks)
+                  ∙ serving));
               refused = λ one. inl (refusal_printed outcome status before.output after.output same out one);
               taken = λ verb name asks two. omega arith;
             };
@@ -143,17 +170,21 @@ module _ (words : List (List ℕ)) (it : Command) (document : Document) (asked :
             };
           }
         where
-          of_input : (known : Option (List ℕ)) (verb : Verb) → AskFor words verb None → IsAsGoodAs it (name_in document) known bytes
+          of_input : (known : Option (List ℕ)) (verb : Verb) → AskFor words verb None
+              → IsAsGoodAs it (name_in document) known bytes
               → IfSome known (λ whole. Prints (IsOutcomeFor words verb whole) status before.output after.output)
           of_input None verb asks good = tt
-          of_input (Some whole) verb asks good = prints_whole _ status before.output after.output outcome (for_input verb whole bytes outcome asks good is) same out
+          of_input (Some whole) verb asks good = prints_whole _ status before.output after.output outcome
+              (for_input verb whole bytes outcome asks good is) same out
 
   -- a part of what is said of bytes
   abbrev Part : Option (List ℕ) → Option (List ℕ) → Option (List ℕ) → Type 0
-  Part known old new = Keeps old new ⊎ ((bytes : List ℕ) × IsAsGoodAs it (name_in document) known bytes × (outcome : Outcome)
+  Part known old new =
+      Keeps old new ⊎ ((bytes : List ℕ) × IsAsGoodAs it (name_in document) known bytes × (outcome : Outcome)
       × IsOutcome it bytes outcome × (count : ℕ) × Appends old new (take count (outcome_text outcome)))
 
-  some_part : (known old new : Option (List ℕ)) (verb : Verb) (name : Option (List ℕ)) → AskFor words verb name → Part known old new
+  some_part : (known old new : Option (List ℕ)) (verb : Verb) (name : Option (List ℕ)) → AskFor words verb name
+      → Part known old new
       → (bytes : List ℕ) × Prints (IsOutcomeFor words verb bytes) 3 old new
   some_part known old new verb name asks (inl kept) = ([], prints_part _ old new (inl kept))
   some_part known old new verb name asks (inr (bytes, good, outcome, is, count, out)) =
@@ -171,19 +202,23 @@ module _ (words : List (List ℕ)) (it : Command) (document : Document) (asked :
       → Blames (InFailed ⊎ (OutFailed ⊎ NameDevice words)) IsSound why
   blames_words InFailed OutFailed IsSound (stop.Device failure) (inl failed) = inl failed
   blames_words InFailed OutFailed IsSound (stop.Device failure) (inr (inl failed)) = inr (inl failed)
-  blames_words InFailed OutFailed IsSound (stop.Device failure) (inr (inr either)) = inr (inr (verb_for it, name_in document, asked, either))
+  blames_words InFailed OutFailed IsSound (stop.Device failure) (inr (inr either)) =
+      inr (inr (verb_for it, name_in document, asked, either))
   blames_words InFailed OutFailed IsSound stop.Memory sound = sound
 
   listens : (old new : Option (List ℕ))
-      → Keeps old new ⊎ ((serving : Serving) × (serving_of it ≡ Some serving) × (line : List ℕ) × NamesPlace serving.place line × Appends old new line)
+      → Keeps old new ⊎ ((serving : Serving) × (serving_of it ≡ Some serving) × (line : List ℕ)
+      × NamesPlace serving.place line × Appends old new line)
       → Keeps old new ⊎ (SaysListening (AskToServe words) old new ⊎ AskToAsk words)
   listens old new (inl kept) = inl kept
   listens old new (inr (serving, at, line, names, out)) =
-      let given : (serves (verb_for it) ≡ true) × IsPlace (text_given words) serving.place = place_given words it serving said at in
+      let given : (serves (verb_for it) ≡ true) × IsPlace (text_given words) serving.place =
+      place_given words it serving said at in
       inr (inl (serving.place, (verb_for it, name_in document, asked, given.0, given.1), line, names, out))
 
   -- or stopped
-  stopped_does : (before middle : Streams) (errors : Option (List ℕ)) (fails : Bool) (why : Stop) (explain : Bool) → IsStopped it (name_in document) before middle why
+  stopped_does : (before middle : Streams) (errors : Option (List ℕ)) (fails : Bool) (why : Stop) (explain : Bool)
+      → IsStopped it (name_in document) before middle why
       → AskToExplain words explain → (fails ≡ false → SaysStop (explain ≡ true) why middle.errors errors)
       → Does words before (record middle { errors = errors; errors_failed = fails }) 3
   stopped_does before middle errors fails why explain stopped explains told = record {
@@ -197,7 +232,8 @@ module _ (words : List (List ℕ)) (it : Command) (document : Document) (asked :
     tells = tells_nothing words (verb_for it) (name_in document) before _ 3 asked (λ two. cc);
     stops = record {
       status = omega arith;
-      blamed = λ three sound. says_why words explain _ _ why before.errors middle.errors errors explains stopped.errors.0 (told sound) (blames_words _ _ _ why stopped.blamed);
+      blamed = λ three sound. says_why words explain _ _ why before.errors middle.errors errors explains
+          stopped.errors.0 (told sound) (blames_words _ _ _ why stopped.blamed);
       unprinted = λ three sound. listens before.output middle.output (stopped.unprinted sound);
     };
     spares = spares_nothing words before _;
@@ -205,13 +241,17 @@ module _ (words : List (List ℕ)) (it : Command) (document : Document) (asked :
 
 -- ---- a server that is asked
 
-same_hint : (old new : Option (List ℕ)) (failed fails : Bool) → new ≡ old → fails ≡ failed → MayHint failed fails old new
+pub same_hint : (old new : Option (List ℕ)) (failed fails : Bool) → new ≡ old → fails ≡ failed
+    → MayHint failed fails old new
 same_hint old new failed fails same sound =
-    subst (λ f. MayHint failed f old new) (sym sound) (subst (λ xs. MayHint failed failed old xs) (sym same) (no_hint failed old))
+    subst (λ f. MayHint failed f old new) (sym sound)
+    (subst (λ xs. MayHint failed failed old xs) (sym same) (no_hint failed old))
 
-blames_place : (InFailed OutFailed IsSound : Type 0) (words : List (List ℕ)) (name : Option (List ℕ)) (why : Stop) → AskFor words Ask name → Blames (Unit {0}) IsSound why
+blames_place : (InFailed OutFailed IsSound : Type 0) (words : List (List ℕ)) (name : Option (List ℕ)) (why : Stop)
+    → AskFor words Ask name → Blames (Unit {0}) IsSound why
     → Blames (InFailed ⊎ (OutFailed ⊎ NameDevice words)) IsSound why
-blames_place InFailed OutFailed IsSound words name (stop.Device failure) asked any = inr (inr (Ask, name, asked, inr refl))
+blames_place InFailed OutFailed IsSound words name (stop.Device failure) asked any =
+    inr (inr (Ask, name, asked, inr refl))
 blames_place InFailed OutFailed IsSound words name stop.Memory asked sound = sound
 
 module _ (words : List (List ℕ)) (name : Option (List ℕ)) (asked : AskFor words Ask name) where
@@ -237,14 +277,16 @@ module _ (words : List (List ℕ)) (name : Option (List ℕ)) (asked : AskFor wo
         tells = tells_nothing words Ask name before after status asked (λ two. omega arith);
         stops = goes_on words before after status (omega arith);
         spares = record {
-          hinted = λ few. same_hint before.errors after.errors before.errors_failed after.errors_failed is.errors.0 is.errors.1;
+          hinted = λ few. same_hint before.errors after.errors before.errors_failed after.errors_failed is.errors.0
+              is.errors.1;
           quiet_errors = λ shown few. absurd (not_shown words Ask name asked shown);
           sound_input = λ few. is.sound.0;
           sound_output = λ few. is.sound.1;
         };
       }
 
-  lost_does : (before middle : Streams) (errors : Option (List ℕ)) (fails : Bool) (why : Stop) (explain : Bool) → IsLost before middle why
+  lost_does : (before middle : Streams) (errors : Option (List ℕ)) (fails : Bool) (why : Stop) (explain : Bool)
+      → IsLost before middle why
       → AskToExplain words explain → (fails ≡ false → SaysStop (explain ≡ true) why middle.errors errors)
       → Does words before (record middle { errors = errors; errors_failed = fails }) 3
   lost_does before middle errors fails why explain lost explains told = record {
@@ -258,7 +300,8 @@ module _ (words : List (List ℕ)) (name : Option (List ℕ)) (asked : AskFor wo
     tells = tells_nothing words Ask name before _ 3 asked (λ two. cc);
     stops = record {
       status = omega arith;
-      blamed = λ three sound. says_why words explain _ _ why before.errors middle.errors errors explains lost.errors.0 (told sound) (blames_place _ _ _ words name why asked lost.blamed);
+      blamed = λ three sound. says_why words explain _ _ why before.errors middle.errors errors explains lost.errors.0
+          (told sound) (blames_place _ _ _ words name why asked lost.blamed);
       unprinted = λ three sound. inr (inr (name, asked));
     };
     spares = spares_nothing words before _;
@@ -266,14 +309,20 @@ module _ (words : List (List ℕ)) (name : Option (List ℕ)) (asked : AskFor wo
 
 -- ---- any order
 
-pub obeyed_does : (words : List (List ℕ)) (it : Order) (before after : Streams) (status : ℕ) → AskForOrder words it → Says (text_given words) (lines_given words) it
+pub obeyed_does : (words : List (List ℕ)) (it : Order) (before after : Streams) (status : ℕ) → AskForOrder words it
+    → SaysOrder (text_given words) (lines_given words) it
     → IsObeyed it before after status → Does words before after status
-obeyed_does words (order.Do command document) before after status asked said is = done_does words command document asked said before after status is
-obeyed_does words (order.Ask place lines) before after status (name, asked) said is = asked_does words name asked before after status is
+obeyed_does words (order.Do command document) before after status asked said is =
+    done_does words command document asked said before after status is
+obeyed_does words (order.Ask place lines) before after status (name, asked) said is =
+    asked_does words name asked before after status is
 
-pub given_up_does : (words : List (List ℕ)) (it : Order) (before middle : Streams) (errors : Option (List ℕ)) (fails : Bool) (why : Stop) (explain : Bool)
-    → AskForOrder words it → Says (text_given words) (lines_given words) it → AskToExplain words explain → IsGivenUp it before middle why
-    → (fails ≡ false → SaysStop (explain ≡ true) why middle.errors errors) → Does words before (record middle { errors = errors; errors_failed = fails }) 3
+pub given_up_does : (words : List (List ℕ)) (it : Order) (before middle : Streams) (errors : Option (List ℕ))
+    (fails : Bool) (why : Stop) (explain : Bool)
+    → AskForOrder words it → SaysOrder (text_given words) (lines_given words) it → AskToExplain words explain
+    → IsGivenUp it before middle why
+    → (fails ≡ false → SaysStop (explain ≡ true) why middle.errors errors)
+    → Does words before (record middle { errors = errors; errors_failed = fails }) 3
 given_up_does words (order.Do command document) before middle errors fails why explain asked said explains is told =
     stopped_does words command document asked said before middle errors fails why explain is explains told
 given_up_does words (order.Ask place lines) before middle errors fails why explain (name, asked) said explains is told =
@@ -287,7 +336,8 @@ is_asked before after (Ok status) few sound errors = record { status = few; soun
 is_asked before after (Err why) few sound errors = tt
 
 pub is_lost : (before after : Streams) (result : Result ℕ Stop)
-    → IfErr result (Blames (Unit {0}) ((after.input_failed ≡ before.input_failed) × (after.output_failed ≡ before.output_failed)))
+    → IfErr result (Blames (Unit {0})
+    ((after.input_failed ≡ before.input_failed) × (after.output_failed ≡ before.output_failed)))
     → (after.errors ≡ before.errors) × (after.errors_failed ≡ before.errors_failed) → IfErr result (IsLost before after)
 is_lost before after (Ok status) blamed errors = tt
 is_lost before after (Err why) blamed errors = record { blamed = blamed; errors = errors }
@@ -301,142 +351,34 @@ obeyed_few (order.Do command document) before after status done two =
 obeyed_few (order.Ask place lines) before after status is two = let few : status ≤ 1 = is.status in omega arith
 
 -- words that ask for a file have an order for one
-pub has_file : (words : List (List ℕ)) (it : Order) (verb : Verb) (name : Option (List ℕ)) → AskForOrder words it → AskFor words verb name → verb ≢ Ask → name ≢ None → HasFile it
+pub has_file : (words : List (List ℕ)) (it : Order) (verb : Verb) (name : Option (List ℕ)) → AskForOrder words it
+    → AskFor words verb name → verb ≢ Ask → name ≢ None → HasFile it
 has_file words (order.Do command document) verb name asked asks other named = λ none.
     named (sym (same_name words (verb_for command) verb (name_in document) name asked asks) ∙ none)
-has_file words (order.Ask place lines) verb name (called, asked) asks other named = absurd (other (same_verb words verb Ask name called asks asked))
-
--- ---- words that are no order
-
-kept : (old new : Option (List ℕ)) → new ≡ old → Keeps old new
-kept old new same = subst (Keeps old) (sym same) (Keeps-refl old)
-
-module _ (words : List (List ℕ)) (before after : Streams) (none : (verb : Verb) (name : Option (List ℕ)) → AskFor words verb name → ⊥) (same : after.input_failed ≡ before.input_failed) where
-  shown_does : (AreWrong words → ⊥) → SaysSomething before.output after.output → after.output_failed ≡ before.output_failed → after.errors ≡ before.errors
-      → after.errors_failed ≡ before.errors_failed → Does words before after 0
-  shown_does right said out errors fails = record {
-    answers = answers_nothing words before after 0 none (λ one. cc);
-    tells = record {
-      wrong = λ wrong. absurd (right wrong);
-      shown = λ shown. inl (refl, said);
-      complained = λ two. absurd (cc);
-      quiet_output = λ two. absurd (cc);
-      sound_errors = λ two. absurd (cc);
-    };
-    stops = goes_on words before after 0 (omega arith);
-    spares = record {
-      hinted = λ few. same_hint before.errors after.errors before.errors_failed after.errors_failed errors fails;
-      quiet_errors = λ shown few. kept before.errors after.errors errors;
-      sound_input = λ few. same;
-      sound_output = λ few. out;
-    };
-  }
-
-  wrong_does : (AskToShow words → ⊥) → SaysSomething before.errors after.errors → after.errors_failed ≡ before.errors_failed → after.output ≡ before.output
-      → after.output_failed ≡ before.output_failed → Does words before after 2
-  wrong_does unshown said fails out out_failed = record {
-    answers = answers_nothing words before after 2 none (λ one. cc);
-    tells = record {
-      wrong = λ wrong. inl refl;
-      shown = λ shown. absurd (unshown shown);
-      complained = λ two. said;
-      quiet_output = λ two. kept before.output after.output out;
-      sound_errors = λ two. fails;
-    };
-    stops = goes_on words before after 2 (omega arith);
-    spares = record {
-      hinted = λ few. absurd (omega arith);
-      quiet_errors = λ shown few. absurd (unshown shown);
-      sound_input = λ few. same;
-      sound_output = λ few. out_failed;
-    };
-  }
-
--- what is told can't be printed, or there is no memory for it
-untold_does : (words : List (List ℕ)) (before after : Streams) → Answers words before after 3
-    → (after.errors_failed ≡ false → SaysWhy (AskToExplain words true) ((after.input_failed ≡ true) ⊎ ((after.output_failed ≡ true) ⊎ NameDevice words))
-    ((after.input_failed ≡ before.input_failed) × (after.output_failed ≡ before.output_failed)) before.errors after.errors)
-    → (after.output_failed ≡ false → Keeps before.output after.output) → Does words before after 3
-untold_does words before after answers blamed unprinted = record {
-  answers = answers;
-  tells = record {
-    wrong = λ wrong. inr refl;
-    shown = λ shown. inr refl;
-    complained = λ two. absurd (cc);
-    quiet_output = λ two. absurd (cc);
-    sound_errors = λ two. absurd (cc);
-  };
-  stops = record { status = omega arith; blamed = λ three sound. blamed sound; unprinted = λ three sound. inl (unprinted sound) };
-  spares = spares_nothing words before after;
-}
-
--- nothing is answered of any order either
-answers_stop : (words : List (List ℕ)) (before after : Streams) → Keeps before.output after.output → Answers words before after 3
-answers_stop words before after keeps = record {
-  answered = λ verb asks other. nothing before.input verb;
-  read = λ verb name asks other. ([], prints_part _ before.output after.output (inl keeps));
-  served = λ verb name asks serving. inr refl;
-  refused = λ one. absurd (cc);
-  taken = λ verb name asks two. cc;
-}
-  where
-    nothing : (known : Option (List ℕ)) (verb : Verb) → IfSome known (λ whole. Prints (IsOutcomeFor words verb whole) 3 before.output after.output)
-    nothing None verb = tt
-    nothing (Some whole) verb = prints_part _ before.output after.output (inl keeps)
-
--- streams as they are told of words, which are no matter of standard input
-abbrev apart : Streams → Streams
-apart it = record it { input = None; input_failed = false }
-
-pub told_does : (words : List (List ℕ)) (why : NoOrder) (before after : Streams) (status : ℕ) → ((verb : Verb) (name : Option (List ℕ)) → AskFor words verb name → why ≡ no.Memory)
-    → (AreWrong words → TellsWrong why) → (AskToShow words → TellsShown why) → after.input_failed ≡ before.input_failed
-    → IsTold why (apart before) (apart after) status → Does words before after status
-told_does words (no.Shown lines) before after status taken wrong shown same (inl (zero, said, out, errors, fails)) =
-    subst (Does words before after) (sym zero) (shown_does words before after (λ verb name asks. differs (taken verb name asks)) same wrong said out errors fails)
-  where
-    differs : no.Shown lines ≡ no.Memory → ⊥
-    differs equal = cc
-told_does words (no.Shown lines) before after status taken wrong shown same (inr (three, out, told)) =
-    subst (Does words before after) (sym three)
-    (untold_does words before after (answers_nothing words before after 3 (λ verb name asks. differs (taken verb name asks)) (λ one. cc))
-    (λ sound. (stop.Device None, inl (told sound), inr (inl out))) (λ sound. absurd (not_both out sound)))
-  where
-    differs : no.Shown lines ≡ no.Memory → ⊥
-    differs equal = cc
-
-    not_both : after.output_failed ≡ true → after.output_failed ≡ false → ⊥
-    not_both failed sound = cc
-told_does words (no.Wrong lines) before after status taken wrong shown same (out, inl (two, said, fails)) =
-    subst (Does words before after) (sym two) (wrong_does words before after (λ verb name asks. differs (taken verb name asks)) same shown said fails out.0 out.1)
-  where
-    differs : no.Wrong lines ≡ no.Memory → ⊥
-    differs equal = cc
-told_does words (no.Wrong lines) before after status taken wrong shown same (out, inr (three, failed)) =
-    subst (Does words before after) (sym three)
-    (untold_does words before after (answers_stop words before after (kept before.output after.output out.0)) (λ sound. absurd (not_both failed sound)) (λ sound. kept before.output after.output out.0))
-  where
-    not_both : after.errors_failed ≡ true → after.errors_failed ≡ false → ⊥
-    not_both fails sound = cc
-told_does words no.Memory before after status taken wrong shown same (out, three, told) =
-    subst (Does words before after) (sym three)
-    (untold_does words before after (answers_stop words before after (kept before.output after.output out.0)) (λ sound. (stop.Memory, inl (told sound), (same, out.1)))
-    (λ sound. kept before.output after.output out.0))
+has_file words (order.Ask place lines) verb name (called, asked) asks other named =
+    absurd (other (same_verb words verb Ask name called asks asked))
 
 -- ---- what is awaited
 
 -- a line for whoever types a document goes to standard error alone
-pub invited_by : {E : Type 0} (contents : E → Option (List ℕ)) (failed : E → Bool) (is_typed : Bool) (input : Option (List ℕ)) (input_failed : Bool) (output : Option (List ℕ)) (output_failed : Bool)
+pub invited_by : {E : Type 0} (contents : E → Option (List ℕ)) (failed : E → Bool) (is_typed : Bool)
+    (input : Option (List ℕ)) (input_failed : Bool) (output : Option (List ℕ)) (output_failed : Bool)
     (old new : E) → MayHint (failed old) (failed new) (contents old) (contents new) → (is_typed ≡ false → new ≡ old)
-    → Invites is_typed (streams input input_failed output output_failed (contents old) (failed old)) (streams input input_failed output output_failed (contents new) (failed new))
+    → Invites is_typed (streams input input_failed output output_failed (contents old) (failed old))
+    (streams input input_failed output output_failed (contents new) (failed new))
 invited_by contents failed is_typed input input_failed output output_failed old new hint quiet = record {
   others = refl;
   hint = hint;
-  quiet = λ plain. ap (λ err. streams input input_failed output output_failed (contents err) (failed err)) (quiet plain);
+  quiet = λ plain. ap (λ err. streams input input_failed output output_failed (contents err) (failed err))
+      (quiet plain);
 }
 
 pub not_invited : (is_typed : Bool) (before : Streams) → Invites is_typed before before
-not_invited is_typed before = record { others = refl; hint = no_hint before.errors_failed before.errors; quiet = λ plain. refl }
+not_invited is_typed before =
+    record { others = refl; hint = no_hint before.errors_failed before.errors; quiet = λ plain. refl }
 
 -- where nothing is typed, nobody is told what is awaited
-pub uninvited_does : (words : List (List ℕ)) (before after : Streams) (status : ℕ) → DoesAt false words before after status → Does words before after status
-uninvited_does words before after status (invited, invites, does) = subst (λ (first : Streams). Does words first after status) (invites.quiet refl) does
+pub uninvited_does : (words : List (List ℕ)) (before after : Streams) (status : ℕ)
+    → DoesAt false words before after status → Does words before after status
+uninvited_does words before after status (invited, invites, does) =
+    subst (λ (first : Streams). Does words first after status) (invites.quiet refl) does

@@ -48,7 +48,8 @@ same_document command front rest h =
     over_most command (front ++ rest) (rw more (omega arith)) ∙ sym (over_most command front h)
 
 -- the bytes that were read are as good as the whole input
-pub as_good : (command : Command) (known later : Option (List ℕ)) (bytes : List ℕ) → Consumes known later bytes → (length bytes ≤ most_bytes command → IsAtEnd later)
+pub as_good : (command : Command) (known later : Option (List ℕ)) (bytes : List ℕ) → Consumes known later bytes
+    → (length bytes ≤ most_bytes command → IsAtEnd later)
     → IfSome known (λ whole. document_for command whole ≡ document_for command bytes)
 as_good command None later bytes read end = tt
 as_good command (Some whole) None bytes read end = absurd read
@@ -69,18 +70,25 @@ says_printed : (command : Command) (found : Result Data WireFault) (answer : Ans
     → (outcome : Outcome) × ThenSays found (MaySay command) outcome × (printed answer ≡ outcome_text outcome)
 says_printed command found (Done lines) (plain, says) = (Ok (string_bytes lines), says, refl)
 says_printed command found (Refused line why) (fault, says, is) = (Err fault, says, is)
-says_printed command found (Listen line service) (serving, at, says, names, opened) = (Ok (string_bytes line), says, refl)
+says_printed command found (Listen line service) (serving, at, says, names, opened) =
+    (Ok (string_bytes line), says, refl)
 
 -- whole, and with its status
-pub whole_said : (command : Command) (found : Result Data WireFault) (answer : Answer) (status : ℕ) (old new : Option (List ℕ)) → IsAnswerTo command found answer → HasStatus answer status
-    → Appends old new (printed answer) → (outcome : Outcome) × ThenSays found (MaySay command) outcome × (status ≡ outcome_status outcome) × Appends old new (outcome_text outcome)
+pub whole_said : (command : Command) (found : Result Data WireFault) (answer : Answer) (status : ℕ)
+    (old new : Option (List ℕ)) → IsAnswerTo command found answer → HasStatus answer status
+    → Appends old new (printed answer)
+    → (outcome : Outcome) × ThenSays found (MaySay command) outcome × (status ≡ outcome_status outcome)
+    × Appends old new (outcome_text outcome)
 whole_said command found (Done lines) status old new (plain, says) is out = (Ok (string_bytes lines), says, is, out)
-whole_said command found (Refused line why) status old new (fault, says, same) is out = (Err fault, says, is, subst (Appends old new) same out)
+whole_said command found (Refused line why) status old new (fault, says, same) is out =
+    (Err fault, says, is, subst (Appends old new) same out)
 whole_said command found (Listen line service) status old new says is out = absurd is
 
 -- or in part
-pub part_said : (command : Command) (found : Result Data WireFault) (answer : Answer) (fails : Bool) (old new : Option (List ℕ)) → IsAnswerTo command found answer → IsCutOff answer fails old new
-    → (outcome : Outcome) × ThenSays found (MaySay command) outcome × (count : ℕ) × Appends old new (take count (outcome_text outcome))
+pub part_said : (command : Command) (found : Result Data WireFault) (answer : Answer) (fails : Bool)
+    (old new : Option (List ℕ)) → IsAnswerTo command found answer → IsCutOff answer fails old new
+    → (outcome : Outcome) × ThenSays found (MaySay command) outcome × (count : ℕ)
+    × Appends old new (take count (outcome_text outcome))
 part_said command found answer fails old new says (inl (failed, count, out)) =
     let said = says_printed command found answer says in
     (said.0, said.1, count, subst (λ text. Appends old new (take count text)) said.2 out)
@@ -90,28 +98,36 @@ part_said command found answer fails old new says (inr (listens, out)) =
     (said.0, said.1, part.0, subst (λ text. Appends old new (take part.0 text)) said.2 part.1)
 
 -- a command that serves says no more than a refusal
-pub served_refused : (command : Command) (found : Result Data WireFault) (answer : Answer) (status : ℕ) → IsAnswerTo command found answer → HasStatus answer status
+pub served_refused : (command : Command) (found : Result Data WireFault) (answer : Answer) (status : ℕ)
+    → IsAnswerTo command found answer → HasStatus answer status
     → serves (verb_for command) ≡ true → status ≡ 1
 served_refused command found (Done lines) status (plain, says) is serving = absurd (cc)
 served_refused command found (Refused line why) status says is serving = is
 served_refused command found (Listen line service) status says is serving = absurd is
 
 -- an answer that listens prints the line of its place
-line_of : (command : Command) (found : Result Data WireFault) (answer : Answer) (old new : Option (List ℕ)) → IsAnswerTo command found answer → IsListen answer → Appends old new (printed answer)
-    → (serving : Serving) × (serving_of command ≡ Some serving) × (line : List ℕ) × NamesPlace serving.place line × Appends old new line
+line_of : (command : Command) (found : Result Data WireFault) (answer : Answer) (old new : Option (List ℕ))
+    → IsAnswerTo command found answer → IsListen answer → Appends old new (printed answer)
+    → (serving : Serving) × (serving_of command ≡ Some serving) × (line : List ℕ) × NamesPlace serving.place line
+    × Appends old new line
 line_of command found (Done lines) old new says listens out = absurd listens
 line_of command found (Refused line why) old new says listens out = absurd listens
-line_of command found (Listen line service) old new (serving, at, says, names, opened) listens out = (serving, at, string_bytes line, names, out)
+line_of command found (Listen line service) old new (serving, at, says, names, opened) listens out =
+    (serving, at, string_bytes line, names, out)
 
 -- and nothing else stops the printing where standard output is sound
-pub line_said : (command : Command) (found : Result Data WireFault) (answer : Answer) (fails : Bool) (old new : Option (List ℕ)) → IsAnswerTo command found answer → IsCutOff answer fails old new
+pub line_said : (command : Command) (found : Result Data WireFault) (answer : Answer) (fails : Bool)
+    (old new : Option (List ℕ)) → IsAnswerTo command found answer → IsCutOff answer fails old new
     → fails ≡ false → Keeps old new
-    ⊎ ((serving : Serving) × (serving_of command ≡ Some serving) × (line : List ℕ) × NamesPlace serving.place line × Appends old new line)
+    ⊎ ((serving : Serving) × (serving_of command ≡ Some serving) × (line : List ℕ) × NamesPlace serving.place line
+    × Appends old new line)
 line_said command found answer fails old new says (inl (failed, count, out)) sound = absurd (cc)
-line_said command found answer fails old new says (inr (listens, out)) sound = inr (line_of command found answer old new says listens out)
+line_said command found answer fails old new says (inr (listens, out)) sound =
+    inr (line_of command found answer old new says listens out)
 
 -- a command that is served has a place
-placed : (command : Command) (serving : Serving) → serving_of command ≡ Some serving → has_place (verb_for command) ≡ true
+placed : (command : Command) (serving : Serving) → serving_of command ≡ Some serving
+    → has_place (verb_for command) ≡ true
 placed Judge serving at = absurd (cc)
 placed Check serving at = absurd (cc)
 placed (Plan in_document) serving at = absurd (cc)
@@ -121,7 +137,8 @@ placed Audit serving at = absurd (cc)
 placed (Serve it) serving at = refl
 placed (Page it) serving at = refl
 
-listen_placed : (command : Command) (found : Result Data WireFault) (answer : Answer) → IsAnswerTo command found answer → IsListen answer → has_place (verb_for command) ≡ true
+listen_placed : (command : Command) (found : Result Data WireFault) (answer : Answer) → IsAnswerTo command found answer
+    → IsListen answer → has_place (verb_for command) ≡ true
 listen_placed command found (Done lines) says listens = absurd listens
 listen_placed command found (Refused line why) says listens = absurd listens
 listen_placed command found (Listen line service) (serving, at, says, names, opened) listens = placed command serving at
@@ -137,16 +154,20 @@ module _ (InFailed OutFailed IsNamed IsPlaced IsSound : Type 0) where
   blames_reading IsKept Memory kept sound = sound kept
 
   -- for its port
-  pub blames_place : (Any : Type 0) (why : Stop) → Blames IsPlaced Any why → IsSound → Blames (InFailed ⊎ (OutFailed ⊎ (IsNamed ⊎ IsPlaced))) IsSound why
+  pub blames_place : (Any : Type 0) (why : Stop) → Blames IsPlaced Any why → IsSound
+      → Blames (InFailed ⊎ (OutFailed ⊎ (IsNamed ⊎ IsPlaced))) IsSound why
   blames_place Any (Device failure) at sound = inr (inr (inr at))
   blames_place Any Memory any sound = sound
 
 -- for the printing of its answer
-pub blames_printing : (InFailed IsNamed IsSound : Type 0) (command : Command) (found : Result Data WireFault) (answer : Answer) (fails : Bool) (old new : Option (List ℕ)) (why : Stop)
+pub blames_printing : (InFailed IsNamed IsSound : Type 0) (command : Command) (found : Result Data WireFault)
+    (answer : Answer) (fails : Bool) (old new : Option (List ℕ)) (why : Stop)
     → IsAnswerTo command found answer → IsDevice why → IsCutOff answer fails old new
     → Blames (InFailed ⊎ ((fails ≡ true) ⊎ (IsNamed ⊎ (has_place (verb_for command) ≡ true)))) IsSound why
-blames_printing InFailed IsNamed IsSound command found answer fails old new (Device failure) says device (inl (failed, count, out)) = inr (inl failed)
-blames_printing InFailed IsNamed IsSound command found answer fails old new (Device failure) says device (inr (listens, out)) = inr (inr (inr (listen_placed command found answer says listens)))
+blames_printing InFailed IsNamed IsSound command found answer fails old new (Device failure) says device
+    (inl (failed, count, out)) = inr (inl failed)
+blames_printing InFailed IsNamed IsSound command found answer fails old new (Device failure) says device
+    (inr (listens, out)) = inr (inr (inr (listen_placed command found answer says listens)))
 blames_printing InFailed IsNamed IsSound command found answer fails old new Memory says device cut = absurd device
 
 -- any stop will do

@@ -15,7 +15,8 @@ use Rattle.grove.specs.Endings.{NamesPlace}
 use Rattle.grove.specs.Outcomes.{IsServed, MaySay}
 
 -- what is said of the tree in a document that is served is said of the document
-pub says_tree : (command : Command) (serving : Serving) (document : Data) (outcome : Outcome) → serving_of command ≡ Some serving
+pub says_tree : (command : Command) (serving : Serving) (document : Data) (outcome : Outcome)
+    → serving_of command ≡ Some serving
     → ThenSays (tree_in document) (IsServed serving.place) outcome → MaySay command document outcome
 says_tree (Serve it) serving document outcome at says =
     let same : serving ≡ it = cc in
@@ -30,14 +31,17 @@ says_tree (Draw form) serving document outcome at says = absurd (cc)
 says_tree (Run workers) serving document outcome at says = absurd (cc)
 says_tree Audit serving document outcome at says = absurd (cc)
 
-says_line : (found : Result (Rows × List ℤ) WireFault) (IsStored : Rows × List ℤ → Type 0) (serving : Serving) (line : List ℕ) → IsOkAnd found IsStored
+says_line : (found : Result (Rows × List ℤ) WireFault) (IsStored : Rows × List ℤ → Type 0) (serving : Serving)
+    (line : List ℕ) → IsOkAnd found IsStored
     → NamesPlace serving.place line → ThenSays found (IsServed serving.place) (Ok line)
 says_line (Ok (tree, records)) IsStored serving line stored names = (line, names, refl)
 says_line (Err fault) IsStored serving line stored names = absurd stored
 
 -- the line of its place is said of a document whose store is opened
-pub says_served : (command : Command) (serving : Serving) (document : Data) (store : StoreState) (line : List ℕ) → serving_of command ≡ Some serving
-    → IsOpenedFrom document serving.workers.number store → NamesPlace serving.place line → MaySay command document (Ok line)
+pub says_served : (command : Command) (serving : Serving) (document : Data) (store : StoreState) (line : List ℕ)
+    → serving_of command ≡ Some serving
+    → IsOpenedFrom document serving.workers.number store → NamesPlace serving.place line
+    → MaySay command document (Ok line)
 says_served command serving document store line at opened names =
     says_tree command serving document (Ok line) at (says_line (tree_in document) _ serving line opened names)
 

@@ -49,8 +49,10 @@ IsOpenedFrom document workers store = IsOkAnd (tree_in document) (λ stored. sto
 
 -- a command may give this answer to what its document is read as
 abbrev pub IsAnswerTo : Command → Result Data WireFault → Answer → Type 0
-IsAnswerTo command found (Done lines) = (serves (verb_for command) ≡ false) × ThenSays found (MaySay command) (Ok (string_bytes lines))
-IsAnswerTo command found (Refused line why) = (fault : List ℕ) × ThenSays found (MaySay command) (Err fault) × (string_bytes line ≡ refusal_line fault)
+IsAnswerTo command found (Done lines) =
+    (serves (verb_for command) ≡ false) × ThenSays found (MaySay command) (Ok (string_bytes lines))
+IsAnswerTo command found (Refused line why) =
+    (fault : List ℕ) × ThenSays found (MaySay command) (Err fault) × (string_bytes line ≡ refusal_line fault)
 IsAnswerTo command found (Listen line service) = (serving : Serving) × (serving_of command ≡ Some serving)
     × ThenSays found (MaySay command) (Ok (string_bytes line)) × NamesPlace serving.place (string_bytes line)
     × IsOkAnd found (λ document. IsOpenedFrom document serving.workers.number service.store)
@@ -90,20 +92,26 @@ IsAsGoodAs command None known bytes = IfSome known (λ whole. document_for comma
 IsAsGoodAs command (Some name) known bytes = Unit {0}
 
 -- a command was done with the document of a name
-pub record IsDone (command : Command) (name : Option (List ℕ)) (before after : Streams) (status : ℕ) : Type 0 where
+pub record IsCommandDone (command : Command) (name : Option (List ℕ)) (before after : Streams)
+    (status : ℕ) : Type 0 where
   pub said : (bytes : List ℕ) × IsAsGoodAs command name before.input bytes × (outcome : Outcome)
-      × IsOutcome command bytes outcome × (status ≡ outcome_status outcome) × Appends before.output after.output (outcome_text outcome)
+      × IsOutcome command bytes outcome × (status ≡ outcome_status outcome)
+      × Appends before.output after.output (outcome_text outcome)
   pub served : serves (verb_for command) ≡ true → status ≡ 1
   pub sound : (after.input_failed ≡ before.input_failed) × (after.output_failed ≡ before.output_failed)
   pub hinted : MayHint before.errors_failed after.errors_failed before.errors after.errors
 
 -- it was stopped
 pub record IsStopped (command : Command) (name : Option (List ℕ)) (before after : Streams) (why : Stop) : Type 0 where
-  pub part : Keeps before.output after.output ⊎ ((bytes : List ℕ) × IsAsGoodAs command name before.input bytes × (outcome : Outcome)
-      × IsOutcome command bytes outcome × (count : ℕ) × Appends before.output after.output (take count (outcome_text outcome)))
+  pub part : Keeps before.output after.output
+      ⊎ ((bytes : List ℕ) × IsAsGoodAs command name before.input bytes × (outcome : Outcome)
+      × IsOutcome command bytes outcome × (count : ℕ)
+      × Appends before.output after.output (take count (outcome_text outcome)))
   pub unprinted : after.output_failed ≡ false → Keeps before.output after.output
-      ⊎ ((serving : Serving) × (serving_of command ≡ Some serving) × (line : List ℕ) × NamesPlace serving.place line × Appends before.output after.output line)
-  pub blamed : Blames ((after.input_failed ≡ true) ⊎ ((after.output_failed ≡ true) ⊎ ((name ≢ None) ⊎ (has_place (verb_for command) ≡ true))))
+      ⊎ ((serving : Serving) × (serving_of command ≡ Some serving) × (line : List ℕ) × NamesPlace serving.place line
+      × Appends before.output after.output line)
+  pub blamed : Blames ((after.input_failed ≡ true)
+      ⊎ ((after.output_failed ≡ true) ⊎ ((name ≢ None) ⊎ (has_place (verb_for command) ≡ true))))
       ((after.input_failed ≡ before.input_failed) × (after.output_failed ≡ before.output_failed)) why
   pub errors : (after.errors ≡ before.errors) × (after.errors_failed ≡ before.errors_failed)
 
@@ -115,12 +123,13 @@ pub record IsAsked (before after : Streams) (ended : ℕ) : Type 0 where
 
 -- that was stopped
 pub record IsLost (before after : Streams) (why : Stop) : Type 0 where
-  pub blamed : Blames (Unit {0}) ((after.input_failed ≡ before.input_failed) × (after.output_failed ≡ before.output_failed)) why
+  pub blamed : Blames (Unit {0})
+      ((after.input_failed ≡ before.input_failed) × (after.output_failed ≡ before.output_failed)) why
   pub errors : (after.errors ≡ before.errors) × (after.errors_failed ≡ before.errors_failed)
 
 -- so for each order
 abbrev pub IsObeyed : Order → Streams → Streams → ℕ → Type 0
-IsObeyed (Do command document) = IsDone command (name_in document)
+IsObeyed (Do command document) = IsCommandDone command (name_in document)
 IsObeyed (Ask place lines) = IsAsked
 
 abbrev pub HasFile : Order → Type 0
@@ -136,13 +145,14 @@ IsGivenUp (Ask place lines) = IsLost
 abbrev pub KeepsOutput : Streams → Streams → Type 0
 KeepsOutput before after = (after.output ≡ before.output) × (after.output_failed ≡ before.output_failed)
 
-abbrev pub IsTold : NoOrder → Streams → Streams → ℕ → Type 0
-IsTold (no.Shown lines) before after status =
+abbrev pub IsToldNoOrder : NoOrder → Streams → Streams → ℕ → Type 0
+IsToldNoOrder (no.Shown lines) before after status =
     ((status ≡ 0) × SaysSomething before.output after.output × (after.output_failed ≡ before.output_failed)
     × (after.errors ≡ before.errors) × (after.errors_failed ≡ before.errors_failed))
-    ⊎ ((status ≡ 3) × (after.output_failed ≡ true) × (after.errors_failed ≡ false → Appends before.errors after.errors (stop_line (stop.Device None))))
-IsTold (no.Wrong lines) before after status = KeepsOutput before after
+    ⊎ ((status ≡ 3) × (after.output_failed ≡ true)
+    × (after.errors_failed ≡ false → Appends before.errors after.errors (stop_line (stop.Device None))))
+IsToldNoOrder (no.Wrong lines) before after status = KeepsOutput before after
     × (((status ≡ 2) × SaysSomething before.errors after.errors × (after.errors_failed ≡ before.errors_failed))
     ⊎ ((status ≡ 3) × (after.errors_failed ≡ true)))
-IsTold no.Memory before after status = KeepsOutput before after
+IsToldNoOrder no.Memory before after status = KeepsOutput before after
     × (status ≡ 3) × (after.errors_failed ≡ false → Appends before.errors after.errors (stop_line stop.Memory))

@@ -3,9 +3,9 @@ use Rattle.std.specs.Prelude.{◌≡◌, ◌||◌, nat_eq, Bool, List, ℕ, code
 use Rattle.std.specs.List.{starts_with}
 
 -- a reply says that something couldn't be done
-abbrev pub is_error : List ℕ → Bool
-is_error reply = starts_with nat_eq reply (codes "{\"error\":")
+abbrev pub is_error_reply : List ℕ → Bool
+is_error_reply reply = starts_with nat_eq reply (codes "{\"error\":")
 
 -- any reply may come to a line; it is noted whether one was an error: before, line, reply, after
 abbrev pub NotesErrors : Bool → List ℕ → List ℕ → Bool → Type 0
-NotesErrors before line reply after = after ≡ (before || is_error reply)
+NotesErrors before line reply after = after ≡ (before || is_error_reply reply)

@@ -67,7 +67,8 @@ NamesPlace place text = (port : ℕ) × IsPortFor place.port port × (text ≡ l
 
 -- standard output got the line for such a place
 abbrev pub SaysListening : (Place → Type 0) → Option (List ℕ) → Option (List ℕ) → Type 0
-SaysListening IsAsked old new = (place : Place) × IsAsked place × (line : List ℕ) × NamesPlace place line × Appends old new line
+SaysListening IsAsked old new =
+    (place : Place) × IsAsked place × (line : List ℕ) × NamesPlace place line × Appends old new line
 
 -- the line of a hint
 abbrev pub IsHintLine : List ℕ → Type 0

@@ -10,7 +10,7 @@ use Rattle.grove_words.specs.Orders.{verb_for, SaysCommand}
 use Rattle.grove_words.specs.declared.order.Command.{Command}
 use Rattle.grove_words.specs.declared.order.Command.TheVariants.{Judge, Check, Plan, Draw, Run, Audit, Serve, Page}
 use Rattle.grove_words.specs.declared.order.Place.{Place}
-use Rattle.grove_answer.specs.Outcomes.{Outcome, ThenSays, task_in, trial_in, claim_in, sketch_in, batch_in, history_in, IsJudged, IsChecked, IsPlanned, IsDrawn, IsRunBatch, IsAudited}
+use Rattle.grove_answer.specs.Outcomes.{Outcome, ThenSays, task_in, trial_in, claim_in, sketch_in, batch_in, history_in, IsJudged, IsChecked, IsPlannedTask, IsDrawn, IsRunBatch, IsAudited}
 use Rattle.grove_answer.specs.PlannedDocuments.{IsPlannedDocument}
 use Rattle.grove.specs.Endings.{refusal_line, NamesPlace}
 
@@ -24,7 +24,7 @@ IsServed place (tree, records) outcome = (line : List ℕ) × NamesPlace place l
 abbrev pub MaySay : Command → Data → Outcome → Type 0
 MaySay Judge document = ThenSays (trial_in document) IsJudged
 MaySay Check document = ThenSays (claim_in document) IsChecked
-MaySay (Plan false) document = ThenSays (task_in document) IsPlanned
+MaySay (Plan false) document = ThenSays (task_in document) IsPlannedTask
 MaySay (Plan true) document = ThenSays (task_in document) (IsPlannedDocument document)
 MaySay (Draw form) document = ThenSays (sketch_in document) IsDrawn
 MaySay (Run workers) document = ThenSays (batch_in document) IsRunBatch
@@ -43,7 +43,8 @@ IsOutcome command bytes = ThenSays (document_for command bytes) (MaySay command)
 -- by the words, which ask for the command in a verb and the options that they have
 abbrev pub IsOutcomeFor : List (List ℕ) → Verb → List ℕ → Outcome → Type 0
 IsOutcomeFor words verb bytes outcome =
-    (command : Command) × (verb_for command ≡ verb) × SaysCommand (text_given words) command × IsOutcome command bytes outcome
+    (command : Command) × (verb_for command ≡ verb) × SaysCommand (text_given words) command
+    × IsOutcome command bytes outcome
 
 -- ---- what is printed
 
@@ -58,6 +59,9 @@ outcome_text (Err fault) = refusal_line fault
 -- what is printed of what may be said, and the status
 pub record Prints (MaySay : Outcome → Type 0) (status : ℕ) (old new : Option (List ℕ)) : Type 0 where
   -- unless something stops the program, standard output gets the text of it, and the status is that of it
-  pub whole : status ≤ 2 → (outcome : Outcome) × MaySay outcome × (status ≡ outcome_status outcome) × Appends old new (outcome_text outcome)
+  pub whole : status ≤ 2
+      → (outcome : Outcome) × MaySay outcome × (status ≡ outcome_status outcome)
+      × Appends old new (outcome_text outcome)
   -- even then standard output gets nothing, or the first bytes of such a text
-  pub part : Keeps old new ⊎ ((outcome : Outcome) × MaySay outcome × (count : ℕ) × Appends old new (take count (outcome_text outcome)))
+  pub part : Keeps old new
+      ⊎ ((outcome : Outcome) × MaySay outcome × (count : ℕ) × Appends old new (take count (outcome_text outcome)))

@@ -5,7 +5,8 @@ use Rattle.grove_words.specs.CommandLines.{serves, Verb, Ask, AreWrong, AskFor, 
 use Rattle.grove.specs.Endings.{MayHint, SaysListening, SaysRefusal, SaysSomething, SaysWhy}
 use Rattle.grove.specs.Outcomes.{IsOutcomeFor, Prints}
 
--- what is left of standard input, and what is on standard output and standard error, as far as it is known; and which have failed
+-- what is left of standard input, and what is on standard output and standard error, as far as it is known; and which
+-- have failed
 pub record Streams : Type 0 where
   pub input : Option (List ℕ)
   pub input_failed : Bool
@@ -36,7 +37,8 @@ pub record Answers (words : List (List ℕ)) (before after : Streams) (status : 
   pub read : (verb : Verb) (name : Option (List ℕ)) → AskFor words verb name → verb ≢ Ask
       → (bytes : List ℕ) × Prints (IsOutcomeFor words verb bytes) status before.output after.output
   -- serving ends only by a refusal, or by what stops it
-  pub served : (verb : Verb) (name : Option (List ℕ)) → AskFor words verb name → serves verb ≡ true → (status ≡ 1) ⊎ (status ≡ 3)
+  pub served : (verb : Verb) (name : Option (List ℕ)) → AskFor words verb name → serves verb ≡ true → (status ≡ 1)
+      ⊎ (status ≡ 3)
   pub refused : status ≡ 1 → SaysRefusal before.output after.output ⊎ AskToAsk words
   pub taken : (verb : Verb) (name : Option (List ℕ)) → AskFor words verb name → status ≢ 2
 
@@ -52,10 +54,13 @@ pub record Tells (words : List (List ℕ)) (before after : Streams) (status : �
 pub record Stops (words : List (List ℕ)) (before after : Streams) (ended : ℕ) : Type 0 where
   pub status : ended ≤ 3
   pub blamed : ended ≡ 3 → after.errors_failed ≡ false
-      → SaysWhy (AskToExplain words true) ((after.input_failed ≡ true) ⊎ ((after.output_failed ≡ true) ⊎ NameDevice words))
-      ((after.input_failed ≡ before.input_failed) × (after.output_failed ≡ before.output_failed)) before.errors after.errors
+      → SaysWhy (AskToExplain words true)
+      ((after.input_failed ≡ true) ⊎ ((after.output_failed ≡ true) ⊎ NameDevice words))
+      ((after.input_failed ≡ before.input_failed)
+      × (after.output_failed ≡ before.output_failed)) before.errors after.errors
   pub unprinted : ended ≡ 3 → after.output_failed ≡ false
-      → Keeps before.output after.output ⊎ (SaysListening (AskToServe words) before.output after.output ⊎ AskToAsk words)
+      → Keeps before.output after.output
+      ⊎ (SaysListening (AskToServe words) before.output after.output ⊎ AskToAsk words)
 
 -- what it spares where it doesn't stop
 pub record Spares (words : List (List ℕ)) (before after : Streams) (status : ℕ) : Type 0 where
@@ -78,4 +83,5 @@ pub record Invites (is_typed : Bool) (before after : Streams) : Type 0 where
   pub quiet : is_typed ≡ false → after ≡ before
 
 abbrev pub DoesAt : Bool → List (List ℕ) → Streams → Streams → ℕ → Type 0
-DoesAt is_typed words before after status = (invited : Streams) × Invites is_typed before invited × Does words invited after status
+DoesAt is_typed words before after status =
+    (invited : Streams) × Invites is_typed before invited × Does words invited after status

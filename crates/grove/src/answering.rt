@@ -79,7 +79,8 @@ fn answer_to<R: Host + Net<Listener = TcpListener, Stream = TcpStream>>(
 
 /// The answer that a command's result makes: its lines, or the line that says what is refused.
 fn done(alloc: Global, lines: Result<String, Refusal>) -> Result<Answer, Stop>
-    ensures said { (command : Command) (document : Data) → serves (verb_for command) ≡ false → Says (MaySay command document) lines
+    ensures said { (command : Command) (document : Data) → serves (verb_for command) ≡ false
+        → Says (MaySay command document) lines
         → IfOk result (IsAnswerTo command (Ok document)) }
     ensures memory { IfErr result (λ stop. stop ≡ Stop.Memory) }
 {
@@ -91,7 +92,8 @@ fn done(alloc: Global, lines: Result<String, Refusal>) -> Result<Answer, Stop>
 
 /// The answer that a refusal makes.
 pub fn refused(alloc: Global, refusal: Refusal) -> Result<Answer, Stop>
-    ensures said { (command : Command) (found : Result Data WireFault) → IfSome (refusal_outcome refusal) (ThenSays found (MaySay command))
+    ensures said { (command : Command) (found : Result Data WireFault)
+        → IfSome (refusal_outcome refusal) (ThenSays found (MaySay command))
         → IfOk result (IsAnswerTo command found) }
     ensures memory { IfErr result (λ stop. stop ≡ Stop.Memory) }
 {

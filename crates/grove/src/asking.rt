@@ -22,8 +22,10 @@ pub fn ask<R: Host + Net<Listener = TcpListener, Stream = TcpStream>, I: Source,
     out: &mut O,
 ) -> Result<u8, Stop>
     ensures status { IfOk result (λ status. status ≤ 1) }
-    ensures sound { OnOk result ((I.has_failed input.new ≡ I.has_failed input.old) × (O.has_failed out.new ≡ O.has_failed out.old)) }
-    ensures blamed { IfErr result (Blames ⊤ ((I.has_failed input.new ≡ I.has_failed input.old) × (O.has_failed out.new ≡ O.has_failed out.old))) }
+    ensures sound { OnOk result
+        ((I.has_failed input.new ≡ I.has_failed input.old) × (O.has_failed out.new ≡ O.has_failed out.old)) }
+    ensures blamed { IfErr result
+        (Blames ⊤ ((I.has_failed input.new ≡ I.has_failed input.old) × (O.has_failed out.new ≡ O.has_failed out.old))) }
 {
     let text = text_of(rt.alloc(), lines)?;
     let stream = match TcpStream::connect(rt, address) {
@@ -65,8 +67,11 @@ fn ask_lines<R: AllocGlobal, I: Source, O: Sink>(
     sink: &mut O,
 ) -> Result<u8, Stop>
     ensures status { IfOk result (λ status. status ≤ 1) }
-    ensures sound { OnOk result ((I.has_failed source.new ≡ I.has_failed source.old) × (O.has_failed sink.new ≡ O.has_failed sink.old)) }
-    ensures blamed { IfErr result (Blames ⊤ ((I.has_failed source.new ≡ I.has_failed source.old) × (O.has_failed sink.new ≡ O.has_failed sink.old))) }
+    ensures sound { OnOk result
+        ((I.has_failed source.new ≡ I.has_failed source.old) × (O.has_failed sink.new ≡ O.has_failed sink.old)) }
+    ensures blamed { IfErr result
+        (Blames ⊤ ((I.has_failed source.new ≡ I.has_failed source.old)
+        × (O.has_failed sink.new ≡ O.has_failed sink.old))) }
 {
     if source.failed() || sink.failed() || source.reads() >= MOST_READS {
         return Err(Stop::Device(None));

@@ -2,7 +2,7 @@ ghost use Rattle.std.specs.Prelude.{◌≡◌, ◌≢◌, ℕ, List, Option, Non
 ghost use Rattle.grove_words.specs.CommandLines.{Ask, Verb, AskFor};
 ghost use Rattle.grove_words.specs.NoOrders.{HasText};
 ghost use Rattle.grove_words.specs.Invocations.{name_in};
-ghost use Rattle.grove.specs.Answers.{HasFile, IsDone, IsGivenUp, IsObeyed, IsStopped, IsTold};
+ghost use Rattle.grove.specs.Answers.{HasFile, IsCommandDone, IsGivenUp, IsObeyed, IsStopped, IsToldNoOrder};
 ghost use Rattle.grove.specs.Endings.{MayHint};
 ghost use Rattle.grove.specs.Runs.{streams, Does, DoesAt};
 
@@ -33,10 +33,13 @@ pub fn run_command<
     E: Sink,
 >(rt: &R, words: &[String], input: &mut I, out: &mut O, err: &mut E) -> u8
     ensures done { Does (map string_bytes words.now)
-        (streams (I.remaining input.old) (I.has_failed input.old) (O.contents out.old) (O.has_failed out.old) (E.contents err.old) (E.has_failed err.old))
-        (streams (I.remaining input.new) (I.has_failed input.new) (O.contents out.new) (O.has_failed out.new) (E.contents err.new) (E.has_failed err.new)) result }
+        (streams (I.remaining input.old) (I.has_failed input.old) (O.contents out.old) (O.has_failed out.old)
+        (E.contents err.old) (E.has_failed err.old))
+        (streams (I.remaining input.new) (I.has_failed input.new) (O.contents out.new) (O.has_failed out.new)
+        (E.contents err.new) (E.has_failed err.new)) result }
     ensures unread { result ≡ 2 → input.new ≡ input.old }
-    ensures apart { (verb : Verb) (name : Option (List ℕ)) → AskFor (map string_bytes words.now) verb name → verb ≢ Ask → name ≢ None → input.new ≡ input.old }
+    ensures apart { (verb : Verb) (name : Option (List ℕ)) → AskFor (map string_bytes words.now) verb name → verb ≢ Ask
+        → name ≢ None → input.new ≡ input.old }
 {
     run_at(rt, words, false, input, out, err)
 }
@@ -49,10 +52,13 @@ pub fn run_at<
     E: Sink,
 >(rt: &R, words: &[String], is_typed: bool, input: &mut I, out: &mut O, err: &mut E) -> u8
     ensures done { DoesAt is_typed (map string_bytes words.now)
-        (streams (I.remaining input.old) (I.has_failed input.old) (O.contents out.old) (O.has_failed out.old) (E.contents err.old) (E.has_failed err.old))
-        (streams (I.remaining input.new) (I.has_failed input.new) (O.contents out.new) (O.has_failed out.new) (E.contents err.new) (E.has_failed err.new)) result }
+        (streams (I.remaining input.old) (I.has_failed input.old) (O.contents out.old) (O.has_failed out.old)
+        (E.contents err.old) (E.has_failed err.old))
+        (streams (I.remaining input.new) (I.has_failed input.new) (O.contents out.new) (O.has_failed out.new)
+        (E.contents err.new) (E.has_failed err.new)) result }
     ensures unread { result ≡ 2 → input.new ≡ input.old }
-    ensures apart { (verb : Verb) (name : Option (List ℕ)) → AskFor (map string_bytes words.now) verb name → verb ≢ Ask → name ≢ None → input.new ≡ input.old }
+    ensures apart { (verb : Verb) (name : Option (List ℕ)) → AskFor (map string_bytes words.now) verb name → verb ≢ Ask
+        → name ≢ None → input.new ≡ input.old }
 {
     match order_of(rt.alloc(), words) {
         Ok(invocation) => {
@@ -98,11 +104,15 @@ fn obey<
     E: Sink,
 >(rt: &R, order: &Order<'_>, input: &mut I, out: &mut O, err: &mut E) -> Result<u8, Stop>
     ensures obeyed { IfOk result (IsObeyed order.now
-        (streams (I.remaining input.old) (I.has_failed input.old) (O.contents out.old) (O.has_failed out.old) (E.contents err.old) (E.has_failed err.old))
-        (streams (I.remaining input.new) (I.has_failed input.new) (O.contents out.new) (O.has_failed out.new) (E.contents err.new) (E.has_failed err.new))) }
+        (streams (I.remaining input.old) (I.has_failed input.old) (O.contents out.old) (O.has_failed out.old)
+        (E.contents err.old) (E.has_failed err.old))
+        (streams (I.remaining input.new) (I.has_failed input.new) (O.contents out.new) (O.has_failed out.new)
+        (E.contents err.new) (E.has_failed err.new))) }
     ensures given_up { IfErr result (IsGivenUp order.now
-        (streams (I.remaining input.old) (I.has_failed input.old) (O.contents out.old) (O.has_failed out.old) (E.contents err.old) (E.has_failed err.old))
-        (streams (I.remaining input.new) (I.has_failed input.new) (O.contents out.new) (O.has_failed out.new) (E.contents err.new) (E.has_failed err.new))) }
+        (streams (I.remaining input.old) (I.has_failed input.old) (O.contents out.old) (O.has_failed out.old)
+        (E.contents err.old) (E.has_failed err.old))
+        (streams (I.remaining input.new) (I.has_failed input.new) (O.contents out.new) (O.has_failed out.new)
+        (E.contents err.new) (E.has_failed err.new))) }
     ensures apart { HasFile order.now → input.new ≡ input.old }
 {
     match order {
@@ -125,12 +135,16 @@ fn do_command<
     out: &mut O,
     err: &mut E,
 ) -> Result<u8, Stop>
-    ensures done { IfOk result (IsDone command (name_in document.entry)
-        (streams (I.remaining input.old) (I.has_failed input.old) (O.contents out.old) (O.has_failed out.old) (E.contents err.old) (E.has_failed err.old))
-        (streams (I.remaining input.new) (I.has_failed input.new) (O.contents out.new) (O.has_failed out.new) (E.contents err.new) (E.has_failed err.new))) }
+    ensures done { IfOk result (IsCommandDone command (name_in document.entry)
+        (streams (I.remaining input.old) (I.has_failed input.old) (O.contents out.old) (O.has_failed out.old)
+        (E.contents err.old) (E.has_failed err.old))
+        (streams (I.remaining input.new) (I.has_failed input.new) (O.contents out.new) (O.has_failed out.new)
+        (E.contents err.new) (E.has_failed err.new))) }
     ensures stopped { IfErr result (IsStopped command (name_in document.entry)
-        (streams (I.remaining input.old) (I.has_failed input.old) (O.contents out.old) (O.has_failed out.old) (E.contents err.old) (E.has_failed err.old))
-        (streams (I.remaining input.new) (I.has_failed input.new) (O.contents out.new) (O.has_failed out.new) (E.contents err.new) (E.has_failed err.new))) }
+        (streams (I.remaining input.old) (I.has_failed input.old) (O.contents out.old) (O.has_failed out.old)
+        (E.contents err.old) (E.has_failed err.old))
+        (streams (I.remaining input.new) (I.has_failed input.new) (O.contents out.new) (O.has_failed out.new)
+        (E.contents err.new) (E.has_failed err.new))) }
     ensures apart { name_in document.entry ≢ None → input.new ≡ input.old }
 {
     let bytes = document_bytes(rt, command, document, input)?;
@@ -143,9 +157,10 @@ fn do_command<
 /// Tells what there is to tell to words that are no order, and gives the status of the process.
 pub fn say_no_order<O: Sink, E: Sink>(why: NoOrder, out: &mut O, err: &mut E) -> u8
     requires { HasText why }
-    ensures { IsTold why
+    ensures { IsToldNoOrder why
         (streams None false (O.contents out.old) (O.has_failed out.old) (E.contents err.old) (E.has_failed err.old))
-        (streams None false (O.contents out.new) (O.has_failed out.new) (E.contents err.new) (E.has_failed err.new)) result }
+        (streams None false (O.contents out.new) (O.has_failed out.new) (E.contents err.new)
+        (E.has_failed err.new)) result }
 {
     match why {
         NoOrder::Shown(lines) => match tell(&lines, out) {

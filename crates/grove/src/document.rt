@@ -28,9 +28,12 @@ pub fn document_bytes<R: Host + Files, I: Source>(
     document: Document<'_>,
     input: &mut I,
 ) -> Result<Vec<u8>, Stop>
-    ensures read { IfOk result (λ bytes. IsAsGoodAs command (name_in document.entry) (I.remaining input.old) bytes.items) }
+    ensures read { IfOk result
+        (λ bytes. IsAsGoodAs command (name_in document.entry) (I.remaining input.old) bytes.items) }
     ensures sound { OnOk result (I.has_failed input.new ≡ I.has_failed input.old) }
-    ensures blamed { IfErr result (Blames ((I.has_failed input.new ≡ true) ⊎ (name_in document.entry ≢ None)) (I.has_failed input.new ≡ I.has_failed input.old)) }
+    ensures blamed { IfErr result
+        (Blames ((I.has_failed input.new ≡ true) ⊎ (name_in document.entry ≢ None))
+        (I.has_failed input.new ≡ I.has_failed input.old)) }
     ensures apart { name_in document.entry ≢ None → input.new ≡ input.old }
 {
     let most = most_bytes(command);

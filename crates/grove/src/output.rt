@@ -13,9 +13,11 @@ use std::alloc::Global;
 
 /// Prints the answer, and gives its status. What a port is listened on for ends only where a device fails.
 pub fn print<R: Host, O: Sink>(rt: &R, answer: Answer, out: &mut O) -> Result<u8, Stop>
-    ensures printed { IfOk result (λ status. HasStatus answer status × Appends (O.contents out.old) (O.contents out.new) (printed answer)
+    ensures printed { IfOk result
+        (λ status. HasStatus answer status × Appends (O.contents out.old) (O.contents out.new) (printed answer)
         × (O.has_failed out.new ≡ O.has_failed out.old)) }
-    ensures cut { IfErr result (λ why. IsDevice why × IsCutOff answer (O.has_failed out.new) (O.contents out.old) (O.contents out.new)) }
+    ensures cut { IfErr result
+        (λ why. IsDevice why × IsCutOff answer (O.has_failed out.new) (O.contents out.old) (O.contents out.new)) }
 {
     match answer {
         Answer::Done(lines) => {
@@ -78,7 +80,8 @@ pub fn say_stop<E: Sink>(
     err: &mut E,
 ) -> u8
     ensures status { result ≡ 3 }
-    ensures told { E.has_failed err.new ≡ false → SaysStop (invocation.now.explain ≡ true) why (E.contents err.old) (E.contents err.new) }
+    ensures told { E.has_failed err.new ≡ false
+        → SaysStop (invocation.now.explain ≡ true) why (E.contents err.old) (E.contents err.new) }
 {
     match reason_for(alloc, why, invocation, streams) {
         Some(line) => report_after(&line, why, err),
@@ -89,7 +92,8 @@ pub fn say_stop<E: Sink>(
 /// Says the line and why there is no answer.
 fn report_after<E: Sink>(line: &str, why: Stop, err: &mut E) -> u8
     ensures status { result ≡ 3 }
-    ensures told { E.has_failed err.new ≡ false → Appends (E.contents err.old) (E.contents err.new) (line.now ++ stop_line why) }
+    ensures told { E.has_failed err.new ≡ false
+        → Appends (E.contents err.old) (E.contents err.new) (line.now ++ stop_line why) }
 {
     let _told = write_whole(err, line.as_bytes());
     report(why, err)

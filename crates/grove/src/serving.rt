@@ -30,7 +30,8 @@ pub fn serve_document<R: Host + Net<Listener = TcpListener, Stream = TcpStream>>
     talk: Talk,
 ) -> Result<Answer, Stop>
     requires { HasShortArrays (view document.now) }
-    ensures { (command : Command) → serving_of command ≡ Some serving → IfOk result (IsAnswerTo command (Ok (view document.now))) }
+    ensures { (command : Command) → serving_of command ≡ Some serving
+        → IfOk result (IsAnswerTo command (Ok (view document.now))) }
 {
     let alloc = rt.alloc();
     match open_store(alloc, document, serving.workers) {
@@ -59,7 +60,9 @@ pub fn serve_document<R: Host + Net<Listener = TcpListener, Stream = TcpStream>>
 fn open_store(alloc: Global, document: &Value, workers: Workers) -> Result<Store, Refusal>
     requires { HasShortArrays (view document.now) }
     ensures opened { IfOk result (IsOpenedFrom (view document.now) workers.number) }
-    ensures refused { (place : Place) → IfErr result (λ refusal. IfSome (refusal_outcome refusal) (ThenSays (tree_in (view document.now)) (IsServed place))) }
+    ensures refused { (place : Place)
+        → IfErr result (λ refusal. IfSome (refusal_outcome refusal)
+        (ThenSays (tree_in (view document.now)) (IsServed place))) }
 {
     let (tree, records) = or_refuse(alloc, read_tree(alloc, document))?;
     match Store::open(alloc, tree, records, workers.number) {

@@ -28,8 +28,10 @@ first_bad_length place (slots ∷ lengths) = if is_length slots then first_bad_l
 abbrev pub list_fault_of : Rows → List Access → Option ListFault
 list_fault_of rows accesses =
     if nat_lt most_accesses (length accesses) then Some TooLong
-    else option_or (option_map NoNode (first_beyond (length rows) 0 (nodes_of accesses))) (option_map BadLength (first_bad_length 0 (lengths_of accesses)))
+    else option_or (option_map NoNode (first_beyond (length rows) 0 (nodes_of accesses)))
+    (option_map BadLength (first_bad_length 0 (lengths_of accesses)))
 
 -- accesses that make a list over a tree
 abbrev pub AreListed : Rows → List Access → Type 0
-AreListed rows accesses = (length accesses ≤ most_accesses) × AreNodes rows (nodes_of accesses) × AreLengths (lengths_of accesses)
+AreListed rows accesses =
+    (length accesses ≤ most_accesses) × AreNodes rows (nodes_of accesses) × AreLengths (lengths_of accesses)

@@ -17,7 +17,7 @@ use Rattle.grove_wire.specs.Texts.{ReplayFaultFits}
 use Rattle.grove_answer.specs.declared.refusal.Refusal.{Refusal}
 use Rattle.grove_answer.specs.declared.refusal.Refusal.TheVariants as refusal
 use Rattle.grove_answer.specs.Outcomes.{History, IsAudited, IsFinishedHistory, IsMisstated, past_in}
-use Rattle.grove_answer.specs.Faults.{standing_text, IsTold}
+use Rattle.grove_answer.specs.Faults.{standing_text, IsToldFault}
 use Rattle.grove_answer.specs.Says.{refusal_outcome}
 use Rattle.grove_answer.proofs.Faults.{fault_fits}
 
@@ -38,8 +38,14 @@ finished_history rows records jobs events standing tree legal run finished =
 
 -- a refusal tells what is amiss with what is said to stand
 pub says_misstated : (history : History) (fault : StandingFault) (why : Refusal) → IsFinishedHistory history
-    → IsMisstated history.standing (run_records history.jobs history.records (past_in history)) (replies_of history.jobs history.records (past_in history)) (standing_text fault)
-    → IsTold history.tree (kind.Standing fault) why → IfSome (refusal_outcome why) (IsAudited history)
+    → IsMisstated history.standing (run_records history.jobs history.records (past_in history))
+    (replies_of history.jobs history.records (past_in history)) (standing_text fault)
+    → IsToldFault history.tree (kind.Standing fault) why → IfSome (refusal_outcome why) (IsAudited history)
 says_misstated history fault (refusal.Fault said text) finished misstated told =
-    inr (finished, subst (IsMisstated history.standing (run_records history.jobs history.records (past_in history)) (replies_of history.jobs history.records (past_in history))) (sym told.1) misstated)
+    inr (
+      finished,
+      subst
+          (IsMisstated history.standing (run_records history.jobs history.records (past_in history))
+          (replies_of history.jobs history.records (past_in history))) (sym told.1) misstated,
+    )
 says_misstated history fault refusal.Memory finished misstated told = tt

@@ -14,7 +14,7 @@ use Rattle.grove_wire.specs.Texts.{RunFaultFits}
 use Rattle.grove_answer.specs.declared.refusal.Refusal.{Refusal}
 use Rattle.grove_answer.specs.declared.refusal.Refusal.TheVariants as refusal
 use Rattle.grove_answer.specs.Outcomes.{IsRunBatch, batch_lines}
-use Rattle.grove_answer.specs.Faults.{IsTold}
+use Rattle.grove_answer.specs.Faults.{IsToldFault}
 use Rattle.grove_answer.specs.Says.{refusal_outcome}
 
 -- there are as many jobs as lists
@@ -30,10 +30,12 @@ run_fault_fits tree Unfinished legal = tt
 
 -- a refusal tells such a fault
 pub says_run_fault : (tree : Rows) (records : List ℤ) (lists : List (List Access)) (fault : RunFault) (why : Refusal)
-    → IsLegalRunFault fault → IsTold tree (Run fault) why → IfSome (refusal_outcome why) (IsRunBatch (tree, records, lists))
+    → IsLegalRunFault fault → IsToldFault tree (Run fault) why
+    → IfSome (refusal_outcome why) (IsRunBatch (tree, records, lists))
 says_run_fault tree records lists fault refusal.Memory legal told = tt
 says_run_fault tree records lists (BadPlan t fault) (refusal.Fault said text) legal told = absurd legal
-says_run_fault tree records lists Memory (refusal.Fault said text) legal told = let never : true ≡ false = told.2 in absurd (cc)
+says_run_fault tree records lists Memory (refusal.Fault said text) legal told = let never : true ≡ false =
+    told.2 in absurd (cc)
 says_run_fault tree records lists Foreign (refusal.Fault said text) legal told = inl told.1
 says_run_fault tree records lists Unfinished (refusal.Fault said text) legal told = inr told.1
 

@@ -14,14 +14,15 @@ use Rattle.grove_answer.specs.declared.reading.Task.{Task}
 use Rattle.grove_answer.specs.declared.refusal.Refusal.{Refusal}
 use Rattle.grove_answer.specs.declared.refusal.Refusal.TheVariants as refusal
 use Rattle.grove_answer.specs.Outcomes.{ThenSays, unless_faulty, IsDrawingOf, IsDrawn, PicturesOwn}
-use Rattle.grove_answer.specs.Faults.{wants_memory, IsTold}
+use Rattle.grove_answer.specs.Faults.{wants_memory, IsToldFault}
 use Rattle.grove_answer.specs.Says.{refusal_outcome}
 
 no_memory : (fault : PlanFault) → wants_memory (Plan fault) ≡ false → fault ≢ plan.Memory
 no_memory fault other is = let never : true ≡ false = subst (λ f. wants_memory (Plan f) ≡ false) is other in absurd (cc)
 
 -- an own plan that has a picture has no fault
-own_faultless : (task : Task) (own : Option (List Step)) (picture : Option Picture) → PicturesOwn task own picture → option_and_then (plan_fault_of task.tree (nodes_of task.list)) own ≡ None
+own_faultless : (task : Task) (own : Option (List Step)) (picture : Option Picture) → PicturesOwn task own picture
+    → option_and_then (plan_fault_of task.tree (nodes_of task.list)) own ≡ None
 own_faultless task None picture pictures = refl
 own_faultless task (Some steps) None pictures = absurd pictures
 own_faultless task (Some steps) (Some picture) pictures = legal_faultless task.tree (nodes_of task.list) steps pictures.0
@@ -34,7 +35,8 @@ says_drawn (Ok (task, own)) drawing text is =
 says_drawn (Err fault) drawing text is = absurd is
 
 -- a refusal tells the fault of the own plan
-pub says_own_fault : (task : Task) (steps : List Step) (fault : PlanFault) (why : Refusal) → IsTold task.tree (Plan fault) why
+pub says_own_fault : (task : Task) (steps : List Step) (fault : PlanFault) (why : Refusal)
+    → IsToldFault task.tree (Plan fault) why
     → (fault ≢ plan.Memory → plan_fault_of task.tree (nodes_of task.list) steps ≡ Some fault)
     → IfSome (refusal_outcome why) (IsDrawn (task, Some steps))
 says_own_fault task steps fault refusal.Memory told first = tt

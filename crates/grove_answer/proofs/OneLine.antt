@@ -39,7 +39,7 @@ use Rattle.grove_wire.specs.Histories.{Standing, jobs_in, events_in, standing_in
 use Rattle.grove_wire.specs.Texts.{number_text, place_text, tree_said, wire_text, plan_text, proof_text, event_text, replay_text}
 use Rattle.grove_wire.proofs.Feedless.{none_is, none_found, decimal_feedless, signed_feedless}
 use Rattle.grove_answer.specs.declared.reading.Task.{Task}
-use Rattle.grove_answer.specs.Outcomes.{Outcome, ThenSays, task_in, trial_in, claim_in, sketch_in, batch_in, History, history_in, unless_faulty, IsJudged, IsChecked, IsPlanned, IsDrawn, IsRunBatch, IsMisstated, IsAudited}
+use Rattle.grove_answer.specs.Outcomes.{Outcome, ThenSays, task_in, trial_in, claim_in, sketch_in, batch_in, History, history_in, unless_faulty, IsJudged, IsChecked, IsPlannedTask, IsDrawn, IsRunBatch, IsMisstated, IsAudited}
 use Rattle.grove_answer.specs.PlannedDocuments.{IsPlannedDocument}
 use Rattle.grove_answer.specs.Laws.{IsOneLine, RefusesInOneLine, FaultsAreOneLine, CommandsRefuseInOneLine}
 
@@ -173,9 +173,11 @@ event_is event.NotBlocked = none_found (codes "not-blocked") refl
 event_is event.Marked = none_found (codes "marked") refl
 
 -- words, a number, a space, and a text
-numbered_text : (before : List ℕ) (n : ℕ) (text : List ℕ) → none_is before ≡ true → IsOneLine text → IsOneLine (before ++ decimal n ++ (codes " " ++ text))
+numbered_text : (before : List ℕ) (n : ℕ) (text : List ℕ) → none_is before ≡ true → IsOneLine text
+    → IsOneLine (before ++ decimal n ++ (codes " " ++ text))
 numbered_text before n text one of_text =
-    joined (before ++ decimal n) (codes " " ++ text) (ends_with before n one) (joined (codes " ") text (none_found (codes " ") refl) of_text)
+    joined (before ++ decimal n) (codes " " ++ text) (ends_with before n one)
+    (joined (codes " ") text (none_found (codes " ") refl) of_text)
 
 replay_is : (rows : Rows) → IsFaultless rows → (fault : ReplayFault) → IsOneLine (replay_text rows fault)
 replay_is rows faultless (replay.BadPlan job fault) = numbered_text (codes "job ") job (plan_text rows fault) refl (plan_is rows faultless fault)
@@ -208,7 +210,8 @@ tree_reads : (document : Data) → Reads (λ (stored : Rows × List ℤ). stored
 unfolding tree_in
 tree_reads document =
     after_reads (λ stored. stored.0) (items_in part.Nodes document) _ (λ ds.
-    after_reads (λ stored. stored.0) (columns_of ds) (λ columns. unless_fault (tree_fault_of columns.0) columns) (λ columns. unless_broken columns (tree_fault_of columns.0) refl))
+    after_reads (λ stored. stored.0) (columns_of ds) (λ columns. unless_fault (tree_fault_of columns.0) columns)
+    (λ columns. unless_broken columns (tree_fault_of columns.0) refl))
 
 task_reads : (document : Data) → Reads (λ (task : Task). task.tree) (task_in document)
 unfolding task_in
@@ -232,7 +235,8 @@ sketch_reads : (document : Data) → Reads (λ (sketch : Task × Option (List St
 unfolding sketch_in
 sketch_reads document =
     then_reads (λ task. task.tree) (λ sketch. sketch.0.tree) (task_in document) _ (task_reads document) (λ task faultless.
-    after_reads (λ sketch. sketch.0.tree) (if_there (λ plan. plan_in task.tree document) (get (codes "plan") document)) _ (λ own. faultless))
+    after_reads (λ sketch. sketch.0.tree)
+    (if_there (λ plan. plan_in task.tree document) (get (codes "plan") document)) _ (λ own. faultless))
 
 batch_reads : (document : Data) → Reads (λ (batch : Rows × List ℤ × List (List Access)). batch.0) (batch_in document)
 unfolding batch_in
@@ -271,14 +275,15 @@ checked : (claim : Task × List Step × List FlowRow) → IsFaultless claim.0.tr
 checked (task, steps, flow) faultless text (Ok sum, is, told) = let never : ◌≡◌ {A = Outcome} (Err text) (Ok _) = told in cc
 checked (task, steps, flow) faultless text (Err fault, is, told) = subst IsOneLine (sym (same_text text (proof_text task.tree fault) told)) (proof_is task.tree faultless fault)
 
-planned : (task : Task) → IsFaultless task.tree → RefusesInOneLine (IsPlanned task)
+planned : (task : Task) → IsFaultless task.tree → RefusesInOneLine (IsPlannedTask task)
 planned task faultless text (plan, is, told) = let never : ◌≡◌ {A = Outcome} (Err text) (Ok _) = told in cc
 
 planned_document : (document : Data) (task : Task) → IsFaultless task.tree → RefusesInOneLine (IsPlannedDocument document task)
 planned_document document task faultless text (plan, is, claimed, (line, is_text, told)) = let never : ◌≡◌ {A = Outcome} (Err text) (Ok _) = told in cc
 
 drawn : (sketch : Task × Option (List Step)) → IsFaultless sketch.0.tree → RefusesInOneLine (IsDrawn sketch)
-drawn (task, own) faultless text (lines, says) = unless_legal task.tree faultless (option_and_then (plan_fault_of task.tree (nodes_of task.list)) own) lines text says
+drawn (task, own) faultless text (lines, says) = unless_legal task.tree faultless
+    (option_and_then (plan_fault_of task.tree (nodes_of task.list)) own) lines text says
 
 run_batch : (batch : Rows × List ℤ × List (List Access)) → IsFaultless batch.0 → RefusesInOneLine (IsRunBatch batch)
 run_batch (rows, records, lists) faultless text (inl foreign) = subst IsOneLine (sym foreign) (none_found (codes "foreign") refl)
@@ -297,7 +302,7 @@ pub commands_refuse_in_one_line : CommandsRefuseInOneLine
 commands_refuse_in_one_line = record {
   judge = λ document. then_says (λ trial. trial.0.tree) IsJudged (trial_in document) (trial_reads document) judged;
   check = λ document. then_says (λ claim. claim.0.tree) IsChecked (claim_in document) (claim_reads document) checked;
-  plan = λ document. then_says (λ task. task.tree) IsPlanned (task_in document) (task_reads document) planned;
+  plan = λ document. then_says (λ task. task.tree) IsPlannedTask (task_in document) (task_reads document) planned;
   planned_document = λ document. then_says (λ task. task.tree) (IsPlannedDocument document) (task_in document) (task_reads document) (planned_document document);
   draw = λ document. then_says (λ sketch. sketch.0.tree) IsDrawn (sketch_in document) (sketch_reads document) drawn;
   run = λ document. then_says (λ batch. batch.0) IsRunBatch (batch_in document) (batch_reads document) run_batch;

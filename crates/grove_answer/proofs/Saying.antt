@@ -11,15 +11,18 @@ use Rattle.grove_answer.specs.declared.reading.Task.{Task}
 use Rattle.grove_answer.specs.declared.refusal.Refusal.{Refusal}
 use Rattle.grove_answer.specs.declared.refusal.Refusal.TheVariants.{Fault, Memory}
 use Rattle.grove_answer.specs.Outcomes.{IsChecked}
-use Rattle.grove_answer.specs.Faults.{wants_memory, IsTold}
+use Rattle.grove_answer.specs.Faults.{wants_memory, IsToldFault}
 use Rattle.grove_answer.specs.Says.{Says}
 
 no_memory : (fault : ProofFault) → wants_memory (Proof fault) ≡ false → fault ≢ proof.Memory
-no_memory fault other is = let never : true ≡ false = subst (λ f. wants_memory (Proof f) ≡ false) is other in absurd (cc)
+no_memory fault other is = let never : true ≡ false =
+    subst (λ f. wants_memory (Proof f) ≡ false) is other in absurd (cc)
 
 -- a refusal tells the first fault of a plan with a flow
-pub says_proof : (Z : Type 0) (task : Task) (plan : List Step) (flow : List FlowRow) (fault : ProofFault) (refusal : Refusal) → IsTold task.tree (Proof fault) refusal
+pub says_proof : (Z : Type 0) (task : Task) (plan : List Step) (flow : List FlowRow) (fault : ProofFault)
+    (refusal : Refusal) → IsToldFault task.tree (Proof fault) refusal
     → (fault ≢ proof.Memory → IsFault task.tree (nodes_of task.list) (lengths_of task.list) plan flow fault)
     → Says {Z = Z} (IsChecked (task, plan, flow)) (Err refusal)
-says_proof Z task plan flow fault (Fault said text) told first = let other = no_memory fault told.2 in (Err fault, (other, first other), ap Err told.1)
+says_proof Z task plan flow fault (Fault said text) told first = let other =
+    no_memory fault told.2 in (Err fault, (other, first other), ap Err told.1)
 says_proof Z task plan flow fault Memory told first = tt

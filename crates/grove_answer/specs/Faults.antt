@@ -27,13 +27,13 @@ fault_text rows (Replay fault) = replay_text rows fault
 fault_text rows (Standing fault) = standing_text fault
 
 -- the nodes that it names are nodes of the tree
-abbrev pub FaultFits : Rows → Fault → Type 0
-FaultFits rows (Wire fault) = Unit {0}
-FaultFits rows (Plan fault) = PlanFaultFits rows fault
-FaultFits rows (Proof fault) = ProofFaultFits rows fault
-FaultFits rows (Run fault) = RunFaultFits rows fault
-FaultFits rows (Replay fault) = ReplayFaultFits rows fault
-FaultFits rows (Standing fault) = Unit {0}
+abbrev pub NamesNodes : Rows → Fault → Type 0
+NamesNodes rows (Wire fault) = Unit {0}
+NamesNodes rows (Plan fault) = PlanFaultFits rows fault
+NamesNodes rows (Proof fault) = ProofFaultFits rows fault
+NamesNodes rows (Run fault) = RunFaultFits rows fault
+NamesNodes rows (Replay fault) = ReplayFaultFits rows fault
+NamesNodes rows (Standing fault) = Unit {0}
 
 -- is it want of memory, which no document is refused for?
 abbrev pub wants_memory : Fault → Bool
@@ -45,6 +45,7 @@ wants_memory (Replay replay.Memory) = true
 wants_memory _ = false
 
 -- a refusal is for the fault and has its text, unless memory is wanting
-abbrev pub IsTold : Rows → Fault → Refusal → Type 0
-IsTold rows fault (refusal.Fault told text) = (told ≡ fault) × (string_bytes text ≡ fault_text rows fault) × (wants_memory fault ≡ false)
-IsTold rows fault refusal.Memory = Unit {0}
+abbrev pub IsToldFault : Rows → Fault → Refusal → Type 0
+IsToldFault rows fault (refusal.Fault told text) =
+    (told ≡ fault) × (string_bytes text ≡ fault_text rows fault) × (wants_memory fault ≡ false)
+IsToldFault rows fault refusal.Memory = Unit {0}

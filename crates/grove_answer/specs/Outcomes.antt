@@ -133,8 +133,9 @@ plan_lines tree planned =
     ++ codes "\nflow " ++ compact_text (flow_data tree planned.flow)
     ++ codes "\n"
 
-abbrev pub IsPlanned : Task → Outcome → Type 0
-IsPlanned task outcome = (planned : Planned) × IsPlannedList task.tree task.list planned × (outcome ≡ Ok (plan_lines task.tree planned))
+abbrev pub IsPlannedTask : Task → Outcome → Type 0
+IsPlannedTask task outcome =
+    (planned : Planned) × IsPlannedList task.tree task.list planned × (outcome ≡ Ok (plan_lines task.tree planned))
 
 -- ---- draw: the pictures of the settled plan and of the document's own, if it has one, unless that has a fault
 
@@ -153,7 +154,8 @@ pub record IsDrawingOf (task : Task) (own : Option (List Step)) (drawing : Drawi
 -- some text is made of the drawing
 abbrev pub IsDrawn : Task × Option (List Step) → Outcome → Type 0
 IsDrawn (task, own) outcome =
-    (lines : List ℕ) × (outcome ≡ unless_faulty task.tree (option_and_then (plan_fault_of task.tree (nodes_of task.list)) own) lines)
+    (lines : List ℕ) × (outcome
+    ≡ unless_faulty task.tree (option_and_then (plan_fault_of task.tree (nodes_of task.list)) own) lines)
 
 -- ---- run: the lists, each by its settled plan, brought to the end of some run, and the order in which doing them whole is the same
 

@@ -4,7 +4,7 @@ ghost use Rattle.grove_core.specs.Kept.{past_of};
 ghost use Rattle.grove_core.specs.Runs.{IsFinished};
 ghost use Rattle.grove_core.specs.Openings.{AllFit};
 ghost use Rattle.grove_wire.specs.Forms.{AreArraysShort, HasShortArrays};
-ghost use Rattle.grove_wire.specs.Histories.{standing_of};
+ghost use Rattle.grove_wire.specs.Histories.{said_standing};
 ghost use Rattle.grove_answer.specs.Faults.{standing_text};
 ghost use Rattle.grove_answer.specs.Says.{Says};
 ghost use Rattle.grove_answer.specs.Outcomes.{ThenSays, history_in, IsAudited, IsMisstated, Stands};
@@ -41,7 +41,7 @@ fn audit_history(alloc: Global, history: &History) -> Result<String, Refusal>
       records = history.now.records;
       jobs = history.now.jobs.items;
       events = history.now.events.items;
-      standing = option_map standing_of history.now.standing;
+      standing = option_map said_standing history.now.standing;
     })) result }
 {
     let History {
@@ -69,7 +69,7 @@ fn finished_lines(
       records = core.now.opening;
       jobs = core.now.jobs;
       events = core.now.history;
-      standing = option_map standing_of standing.now;
+      standing = option_map said_standing standing.now;
     })) result }
 {
     // That there is a record for each node is told with the jobs, and that nodes are few with their number.
@@ -91,8 +91,11 @@ fn finished_lines(
 fn stand(said: &Standing, records: &[i64], replies: &[&[Reply]]) -> Result<(), StandingFault>
     requires records { length records.now < 2 ^ 32 }
     requires replies { length replies.now < 2 ^ 32 }
-    ensures stands { OnOk result (Stands (Some (standing_of said.now)) records.now (map (λ list. list.now) replies.now)) }
-    ensures misstated { IfErr result (λ fault. IsMisstated (Some (standing_of said.now)) records.now (map (λ list. list.now) replies.now) (standing_text fault)) }
+    ensures stands { OnOk result
+        (Stands (Some (said_standing said.now)) records.now (map (λ list. list.now) replies.now)) }
+    ensures misstated { IfErr result
+        (λ fault. IsMisstated (Some (said_standing said.now)) records.now (map (λ list. list.now) replies.now)
+        (standing_text fault)) }
 {
     if let Some(node) = other_record(&said.records, records) {
         return Err(StandingFault::Record(node));

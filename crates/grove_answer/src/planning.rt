@@ -3,7 +3,7 @@ ghost use Rattle.serde_json.specs.View.{view};
 ghost use Rattle.grove_build.specs.Batches.{IsPlanned as IsPlannedList};
 ghost use Rattle.grove_wire.specs.Forms.{HasShortArrays};
 ghost use Rattle.grove_answer.specs.Says.{IsFitting, Says};
-ghost use Rattle.grove_answer.specs.Outcomes.{ThenSays, task_in, plan_lines, IsPlanned};
+ghost use Rattle.grove_answer.specs.Outcomes.{ThenSays, task_in, plan_lines, IsPlannedTask};
 
 use crate::reading::{Task, read_task};
 use crate::refusal::{Refusal, or_refuse};
@@ -18,7 +18,7 @@ use std::alloc::Global;
 /// The lines that plan a document's list: the cost, the settled plan, and the flow that proves it.
 pub fn plan_document(alloc: Global, document: &Value) -> Result<String, Refusal>
     requires { HasShortArrays (view document.now) }
-    ensures { Says (ThenSays (task_in (view document.now)) IsPlanned) result }
+    ensures { Says (ThenSays (task_in (view document.now)) IsPlannedTask) result }
 {
     let task = or_refuse(alloc, read_task(alloc, document))?;
     plan_task(alloc, &task)
@@ -26,7 +26,7 @@ pub fn plan_document(alloc: Global, document: &Value) -> Result<String, Refusal>
 
 fn plan_task(alloc: Global, task: &Task) -> Result<String, Refusal>
     requires { IsFitting task.now }
-    ensures { Says (IsPlanned task.now) result }
+    ensures { Says (IsPlannedTask task.now) result }
 {
     let planned = plan(alloc, &task.tree, &task.list)?;
     Ok(plan_lines(alloc, &task.tree, &task.list, &planned)?)

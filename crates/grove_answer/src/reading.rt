@@ -4,7 +4,7 @@ ghost use Rattle.serde_json.specs.View.{view};
 ghost use Rattle.grove_access.specs.Lists.{nodes_of, AreNodes};
 ghost use Rattle.grove_core.specs.Openings.{AllFit};
 ghost use Rattle.grove_wire.specs.Forms.{AreArraysShort, HasShortArrays};
-ghost use Rattle.grove_wire.specs.Histories.{standing_of};
+ghost use Rattle.grove_wire.specs.Histories.{said_standing};
 ghost use Rattle.grove_wire.specs.Outcomes.{Gives, if_there};
 ghost use Rattle.grove_wire.specs.Reading.{plan_in};
 ghost use Rattle.grove_answer.specs.Says.{IsFitting};
@@ -139,7 +139,7 @@ pub fn read_history(alloc: Global, document: &Value) -> Result<History, WireFaul
       records = history.records;
       jobs = history.jobs.items;
       events = history.events.items;
-      standing = option_map standing_of history.standing;
+      standing = option_map said_standing history.standing;
     }) result (history_in (view document.now)) }
     ensures records { IfOk result (λ history. length history.records ≡ length history.tree) }
     ensures fits { IfOk result (λ history. AllFit history.tree history.jobs.items) }

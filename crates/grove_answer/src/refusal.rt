@@ -1,7 +1,7 @@
 ghost use Rattle.std.specs.Prelude.{◌≡◌, ℕ, List, [], IfOk, IfErr, IsErrAnd, Ok, string_bytes};
 ghost use Rattle.grove_tree.specs.Trees.{Rows};
 ghost use Rattle.grove_wire.specs.declared.faults.Fault.TheVariants.{Wire};
-ghost use Rattle.grove_answer.specs.Faults.{fault_text, standing_text, wants_memory, FaultFits, IsTold};
+ghost use Rattle.grove_answer.specs.Faults.{fault_text, standing_text, wants_memory, NamesNodes, IsToldFault};
 
 use grove_base::NoMemory;
 use grove_core::{ReplayFault, RunFault};
@@ -26,8 +26,8 @@ pub enum Refusal {
 impl Refusal {
     /// The refusal for a fault of a document over the tree.
     pub fn of(alloc: Global, tree: &Tree, fault: Fault) -> Refusal
-        requires { FaultFits tree.now fault }
-        ensures { IsTold tree.now fault result }
+        requires { NamesNodes tree.now fault }
+        ensures { IsToldFault tree.now fault result }
     {
         let text = fault_text(alloc, tree, &fault);
         told(fault, text)
@@ -35,7 +35,7 @@ impl Refusal {
 
     /// The refusal for a fault of reading, which needs no tree.
     pub fn of_wire(alloc: Global, fault: &WireFault) -> Refusal
-        ensures { IsTold [] (Wire fault.now) result }
+        ensures { IsToldFault [] (Wire fault.now) result }
     {
         let text = wire_fault_text(alloc, fault);
         told(Fault::Wire(*fault), text)
@@ -44,7 +44,8 @@ impl Refusal {
 
 /// The refusal for the fault, where this is its text.
 fn told(fault: Fault, text: Result<String, NoMemory>) -> Refusal
-    ensures { (rows : Rows) → IfOk text (λ text. string_bytes text ≡ fault_text rows fault) → IsTold rows fault result }
+    ensures { (rows : Rows) → IfOk text (λ text. string_bytes text ≡ fault_text rows fault)
+        → IsToldFault rows fault result }
 {
     if wants_memory(&fault) {
         return Refusal::Memory;
@@ -69,7 +70,7 @@ fn wants_memory(fault: &Fault) -> bool
 }
 
 fn fault_text(alloc: Global, tree: &Tree, fault: &Fault) -> Result<String, NoMemory>
-    requires { FaultFits tree.now fault.now }
+    requires { NamesNodes tree.now fault.now }
     ensures { IfOk result (λ text. string_bytes text ≡ fault_text tree.now fault.now) }
 {
     match *fault {
@@ -94,7 +95,7 @@ fn standing_text(alloc: Global, fault: StandingFault) -> Result<String, NoMemory
 /// What is read, or else the refusal for its fault.
 pub fn or_refuse<T: Drop>(alloc: Global, reading: Result<T, WireFault>) -> Result<T, Refusal>
     ensures ok { IfOk result (λ value. reading ≡ Ok value) }
-    ensures err { IfErr result (λ refusal. IsErrAnd reading (λ fault. IsTold [] (Wire fault) refusal)) }
+    ensures err { IfErr result (λ refusal. IsErrAnd reading (λ fault. IsToldFault [] (Wire fault) refusal)) }
 {
     match reading {
         Ok(value) => Ok(value),

@@ -66,7 +66,8 @@ pub fn counts_text(alloc: Global, counts: &[u32]) -> Result<String, NoMemory>
 /// The replies of each list, as JSON.
 #[tactic(auto, using(grove_wire::proofs::Floatless::lists_have_no_float))]
 pub fn lists_text(alloc: Global, lists: &[&[Reply]]) -> Result<String, NoMemory>
-    ensures { IfOk result (λ text. string_bytes text ≡ compact_text (array_of (array_of reply_data) (map (λ list. list.now) lists.now))) }
+    ensures { IfOk result
+        (λ text. string_bytes text ≡ compact_text (array_of (array_of reply_data) (map (λ list. list.now) lists.now))) }
 {
     Ok(lists_value(alloc, lists)?.to_string(alloc)?)
 }

@@ -13,7 +13,7 @@ use Rattle.grove_access.specs.declared.access.Access.{Access}
 use Rattle.grove_build.specs.declared.planning.Planned.{Planned}
 use Rattle.grove_build.specs.declared.targets.Target.{Target}
 use Rattle.grove_build.specs.Batches.{IsPlanned}
-use Rattle.grove_build.specs.KeptPlans.{Kept, IsKeptFor, StandsAt, IsKeptIn, AreSettledFor}
+use Rattle.grove_build.specs.KeptPlans.{Kept, IsKeptFor, IsKeptAt, IsKeptIn, AreSettledFor}
 use Rattle.grove_build.specs.Keeping.{kept_of}
 use Rattle.grove_build.specs.Keeping.{AreTargetsOf, AddsAtMost}
 use Rattle.grove_build.proofs.TargetLists.{targets_alike}
@@ -35,7 +35,8 @@ settled_added rows before after new settled adds own place kept at list for =
     ]
 
 -- the list whose plan stands at a place has what is kept there
-pub planned_at_place : (rows : Rows) (plans : List Kept) (list : List Access) (place : ℕ) (planned : Planned) → AreSettledFor rows plans → StandsAt plans list place
+pub planned_at_place : (rows : Rows) (plans : List Kept) (list : List Access) (place : ℕ) (planned : Planned)
+    → AreSettledFor rows plans → IsKeptAt plans list place
     → ((kept : Kept) × (slice_get plans place ≡ Some kept) × (kept.planned ≡ planned)) → IsPlanned rows list planned
 planned_at_place rows plans list place planned settled stands found =
     let (kept, at, for) = stands in
@@ -69,7 +70,8 @@ module _ {K : Type 0} (items : K → List Target) where
   module _ (eq : K → K → Bool) (same : (a b : K) → eq a b ≡ true → items a ≡ items b) (key : K) where
     -- the entry at the index of a key is kept for the lists with the key's targets
     pub found_stands : (entries : List (K × Planned)) (r : Option ℕ) → r ≡ position (eq key) (keys_of entries)
-        → IfSome r (λ place. (list : List Access) → AreTargetsOf list (items key) → StandsAt (kept_in entries) list place)
+        → IfSome r (λ place. (list : List Access) → AreTargetsOf list (items key)
+        → IsKeptAt (kept_in entries) list place)
     found_stands entries None is = tt
     found_stands entries (Some place) is =
         λ list own.

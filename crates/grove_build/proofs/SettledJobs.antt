@@ -19,29 +19,38 @@ IsSettledFor rows list plan = IsSettled rows (nodes_of list) (lengths_of list) p
 abbrev job_with : List Access × List Step → Job
 job_with pair = record { list = pair.0; plan = pair.1 }
 
-over_lists : (rows : Rows) (lists : List (List Access)) (plans : List (List Step)) → AllZip (IsSettledFor rows) lists plans → map (λ job. job.list) (map job_with (zip lists plans)) ≡ lists
+over_lists : (rows : Rows) (lists : List (List Access)) (plans : List (List Step))
+    → AllZip (IsSettledFor rows) lists plans → map (λ job. job.list) (map job_with (zip lists plans)) ≡ lists
 over_lists rows [] plans all = refl
 over_lists rows (list ∷ lists) [] all = absurd all
-over_lists rows (list ∷ lists) (plan ∷ plans) all = ap (λ (ls : List (List Access)). list ∷ ls) (over_lists rows lists plans all.1)
+over_lists rows (list ∷ lists) (plan ∷ plans) all =
+    ap (λ (ls : List (List Access)). list ∷ ls) (over_lists rows lists plans all.1)
 
-each_settled : (rows : Rows) (lists : List (List Access)) (plans : List (List Step)) → AllZip (IsSettledFor rows) lists plans → (t : ℕ) (job : Job) → slice_get (map job_with (zip lists plans)) t ≡ Some job
+each_settled : (rows : Rows) (lists : List (List Access)) (plans : List (List Step))
+    → AllZip (IsSettledFor rows) lists plans → (t : ℕ) (job : Job)
+    → slice_get (map job_with (zip lists plans)) t ≡ Some job
     → IsSettled rows (nodes_of job.list) (lengths_of job.list) job.plan
 each_settled rows [] plans all t job at = absurd (none-some job at)
 each_settled rows (list ∷ lists) [] all t job at = absurd all
 each_settled rows (list ∷ lists) (plan ∷ plans) all zero job at =
-    subst (λ (j : Job). IsSettled rows (nodes_of j.list) (lengths_of j.list) j.plan) (same_Some (job_with (list, plan)) job at) all.0
+    subst (λ (j : Job). IsSettled rows (nodes_of j.list) (lengths_of j.list) j.plan)
+    (same_Some (job_with (list, plan)) job at) all.0
 each_settled rows (list ∷ lists) (plan ∷ plans) all (suc t) job at = each_settled rows lists plans all.1 t job at
 
 -- lists and what is planned for each
-pub settled_are : (rows : Rows) (lists : List (List Access)) (plans : List (List Step)) (jobs : List Job) → AllZip (IsSettledFor rows) lists plans → jobs ≡ map job_with (zip lists plans) → AreSettledJobs rows lists jobs
+pub settled_are : (rows : Rows) (lists : List (List Access)) (plans : List (List Step)) (jobs : List Job)
+    → AllZip (IsSettledFor rows) lists plans → jobs ≡ map job_with (zip lists plans) → AreSettledJobs rows lists jobs
 settled_are rows lists plans jobs all is = subst (λ (js : List Job). AreSettledJobs rows lists js) (sym is)
     (record { over = over_lists rows lists plans all; settled = each_settled rows lists plans all })
 
-each_legal : (rows : Rows) (jobs : List Job) → ((t : ℕ) (job : Job) → slice_get jobs t ≡ Some job → IsSettled rows (nodes_of job.list) (lengths_of job.list) job.plan) → AllLegal rows jobs
+each_legal : (rows : Rows) (jobs : List Job)
+    → ((t : ℕ) (job : Job) → slice_get jobs t ≡ Some job
+    → IsSettled rows (nodes_of job.list) (lengths_of job.list) job.plan) → AllLegal rows jobs
 each_legal rows [] settled t lt = absurd (omega arith)
 each_legal rows (job ∷ jobs) settled zero lt = (settled 0 job refl).least.legal
 each_legal rows (job ∷ jobs) settled (suc t) lt = each_legal rows jobs (λ u j at. settled (suc u) j at) t (omega arith)
 
 -- their plans are legal
-pub settled_legal : (rows : Rows) (lists : List (List Access)) (jobs : List Job) → AreSettledJobs rows lists jobs → AllLegal rows jobs
+pub settled_legal : (rows : Rows) (lists : List (List Access)) (jobs : List Job) → AreSettledJobs rows lists jobs
+    → AllLegal rows jobs
 settled_legal rows lists jobs settled = each_legal rows jobs settled.settled

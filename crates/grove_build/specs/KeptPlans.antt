@@ -18,12 +18,12 @@ pub record IsKeptFor (list : List Access) (kept : Kept) : Type 0 where
   pub lengths : kept.lengths ≡ lengths_of list
 
 -- what is kept at this place is kept for this list
-abbrev pub StandsAt : List Kept → List Access → ℕ → Type 0
-StandsAt plans list place = (kept : Kept) × (slice_get plans place ≡ Some kept) × IsKeptFor list kept
+abbrev pub IsKeptAt : List Kept → List Access → ℕ → Type 0
+IsKeptAt plans list place = (kept : Kept) × (slice_get plans place ≡ Some kept) × IsKeptFor list kept
 
 -- something is kept for this list
 abbrev pub IsKeptIn : List Kept → List Access → Type 0
-IsKeptIn plans list = (place : ℕ) × StandsAt plans list place
+IsKeptIn plans list = (place : ℕ) × IsKeptAt plans list place
 
 -- each is the settled plan, over a tree, of the lists for which it is kept, with its cost and a certificate of it
 abbrev pub AreSettledFor : Rows → List Kept → Type 0

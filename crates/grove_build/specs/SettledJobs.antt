@@ -9,4 +9,5 @@ use Rattle.grove_build.specs.Settled.{IsSettled}
 -- the lists with their settled plans
 pub record AreSettledJobs (rows : Rows) (lists : List (List Access)) (jobs : List Job) : Type 0 where
   pub over : map (λ job. job.list) jobs ≡ lists
-  pub settled : (t : ℕ) (job : Job) → slice_get jobs t ≡ Some job → IsSettled rows (nodes_of job.list) (lengths_of job.list) job.plan
+  pub settled : (t : ℕ) (job : Job) → slice_get jobs t ≡ Some job
+      → IsSettled rows (nodes_of job.list) (lengths_of job.list) job.plan

@@ -48,7 +48,8 @@ pub fn kept_jobs<R: Threads + Sync>(
 }
 
 fn jobs_of(alloc: Global, lists: Vec<AccessList>, plans: Vec<Plan>) -> Result<Vec<Job>, NoMemory>
-    ensures { IfOk result (λ jobs. jobs.items ≡ map (λ pair. record { list = pair.0; plan = pair.1 }) (zip lists.items plans.items)) }
+    ensures { IfOk result
+        (λ jobs. jobs.items ≡ map (λ pair. record { list = pair.0; plan = pair.1 }) (zip lists.items plans.items)) }
 {
     let pairs = lists.into_iter().zip(plans);
     let jobs = pairs.map(|(list, plan)| Job { list, plan });

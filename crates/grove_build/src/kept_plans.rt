@@ -2,7 +2,7 @@ ghost use Rattle.std.specs.Prelude.{◌≡◌, ◌≤◌, ◌<◌, [], List, len
 ghost use Rattle.grove_access.specs.declared.access.Access.{Access};
 ghost use Rattle.grove_access.specs.Lists.{nodes_of, AreNodes};
 ghost use Rattle.grove_build.specs.Batches.{IsPlanned};
-ghost use Rattle.grove_build.specs.KeptPlans.{Kept, StandsAt, IsKeptIn, AreSettledFor};
+ghost use Rattle.grove_build.specs.KeptPlans.{Kept, IsKeptAt, IsKeptIn, AreSettledFor};
 ghost use Rattle.grove_build.specs.Keeping.{kept_of};
 ghost use Rattle.grove_build.specs.Keeping.{AreTargetsOf, AddsAtMost};
 
@@ -86,7 +86,7 @@ impl KeptPlans {
     fn place(&mut self, alloc: Global, tree: &Tree, list: &AccessList) -> Result<usize, NoMemory>
         requires fits { AreNodes tree.now (nodes_of list.now) }
         requires settled { AreSettledFor tree.now self.old }
-        ensures stands { IfOk result (StandsAt self.new list.now) }
+        ensures stands { IfOk result (IsKeptAt self.new list.now) }
         ensures settled { AreSettledFor tree.now self.new }
         ensures known { IsKeptIn self.old list.now → self.new ≡ self.old }
     {
@@ -100,7 +100,8 @@ impl KeptPlans {
 
     /// Where the plan of these targets stands.
     fn place_of(&self, targets: &Vec<Target>) -> Option<usize>
-        ensures stands { IfSome result (λ place. (list : List Access) → AreTargetsOf list targets.now.items → StandsAt self.now list place) }
+        ensures stands { IfSome result
+            (λ place. (list : List Access) → AreTargetsOf list targets.now.items → IsKeptAt self.now list place) }
         ensures none { IfNone result ((list : List Access) → AreTargetsOf list targets.now.items → ¬ IsKeptIn self.now list) }
     {
         self.plans.get_index_of(targets)

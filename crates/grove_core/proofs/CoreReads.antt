@@ -19,7 +19,7 @@ use Rattle.grove_core.specs.Runs.{list_of, plan_of, steps_done, next_step, holds
 use Rattle.grove_core.specs.RunBounds.{lock_steps, most_events}
 use Rattle.grove_core.specs.Orders.{lock_time}
 use Rattle.grove_core.specs.declared.owner.Owner.{Owner}
-use Rattle.grove_core.specs.Owners.{holder_of, last_of}
+use Rattle.grove_core.specs.Owners.{holder_of, last_holder_of}
 use Rattle.grove_core.specs.Cores.{time_in, IsFirst, TellsFirsts, HasProgress, Owns, IsLastAt, IsCore}
 use Rattle.grove_core.specs.CarriedTests.{is_owner}
 use Rattle.grove_core.proofs.Precedence.{within_jobs}
@@ -208,9 +208,10 @@ module _ (rows : Rows) (jobs : List Job) (opening : List ℤ) (past : List Event
   last_tells t node (Some w) h yes' = subst (λ (k : ℕ). IsLastAt jobs past node (Some k)) (eqb-true w t yes') h
 
   -- by what is read at its number
-  pub last_seen : (t node number : ℕ) → node < length rows → number ≡ node → (owner : Owner) → owner ≡ get_or owners number owner → is_owner (last_of owner) t ≡ true → IsLastAt jobs past node (Some t)
+  pub last_seen : (t node number : ℕ) → node < length rows → number ≡ node → (owner : Owner)
+      → owner ≡ get_or owners number owner → is_owner (last_holder_of owner) t ≡ true → IsLastAt jobs past node (Some t)
   last_seen t node number within same owner read yes' =
-      last_tells t node (last_of owner)
+      last_tells t node (last_holder_of owner)
       (core.owned node owner (read_at owners node owner (owner_there node within) (subst (λ (n : ℕ). owner ≡ get_or owners n owner) same read))).1 yes'
 
   -- how often a node that is to be locked was waited for

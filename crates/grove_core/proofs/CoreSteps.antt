@@ -26,7 +26,7 @@ use Rattle.grove_core.specs.RunBounds.{lock_steps}
 use Rattle.grove_core.specs.Orders.{lock_time, earlier}
 use Rattle.grove_core.specs.declared.owner.Owner.{Owner}
 use Rattle.grove_core.specs.declared.owner.Owner.TheVariants.{Nobody, Holder, Last}
-use Rattle.grove_core.specs.Owners.{holder_of, last_of}
+use Rattle.grove_core.specs.Owners.{holder_of, last_holder_of}
 use Rattle.grove_core.specs.Cores.{time_in, IsFirst, HasProgress, Owns, IsLastAt, IsOwned, IsCore}
 use Rattle.grove_core.proofs.Precedence.{within_jobs}
 use Rattle.grove_core.proofs.CountChanges.{count_agree, count_added}
@@ -107,7 +107,11 @@ last_same jobs old new node (Some t) same h = λ u. ap (λ (o : Option ℕ). ear
 -- and both
 owned_same : (jobs : List Job) (old new : List Event) (node : ℕ) (owner : Owner) → ((u : ℕ) → holds jobs new u node ≡ holds jobs old u node)
     → ((u : ℕ) → lock_time jobs new u node ≡ lock_time jobs old u node) → IsOwned jobs old node owner → IsOwned jobs new node owner
-owned_same jobs old new node owner same times h = (owns_same jobs old new node (holder_of owner) same h.0, last_same jobs old new node (last_of owner) times h.1)
+owned_same jobs old new node owner same times h = (
+  owns_same jobs old new node (holder_of owner) same h.0,
+  last_same jobs old new node
+      (last_holder_of owner) times h.1,
+)
 
 -- a lock that is the last event has no later one
 none_later : (jobs : List Job) (past : List Event) (u node n : ℕ) → length past ≤ suc n → (o : Option ℕ) → lock_time jobs past u node ≡ o → earlier (Some n) o ≡ false

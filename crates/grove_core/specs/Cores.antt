@@ -11,7 +11,7 @@ use Rattle.grove_core.specs.Runs.{list_of, plan_of, steps_done, holds, is_marked
 use Rattle.grove_core.specs.RunBounds.{lock_steps}
 use Rattle.grove_core.specs.Orders.{first_lock, lock_time, earlier}
 use Rattle.grove_core.specs.declared.owner.Owner.{Owner}
-use Rattle.grove_core.specs.Owners.{holder_of, last_of}
+use Rattle.grove_core.specs.Owners.{holder_of, last_holder_of}
 
 -- when a node was locked, by the locks of a job
 abbrev pub time_in : List Locked → ℕ → Option ℕ
@@ -28,13 +28,15 @@ pub record TellsFirsts (nodes : ℕ) (jobs : List Job) (firsts : List Bool) : Ty
   pub told : (node : ℕ) → IsFirst jobs node → slice_get firsts node ≡ Some true
 
 -- how far a job has come; the times are those of nodes that some job locks first
-pub record HasProgress (rows : Rows) (jobs : List Job) (opening : List ℤ) (past : List Event) (t : ℕ) (progress : Progress) : Type 0 where
+pub record HasProgress (rows : Rows) (jobs : List Job) (opening : List ℤ) (past : List Event) (t : ℕ)
+    (progress : Progress) : Type 0 where
   pub at : progress.steps_done ≡ steps_done past t
   pub marks : progress.marked ≡ is_marked past t
   pub answers : progress.replies.items ≡ run_replies jobs opening past t
   pub room : length (list_of jobs t) ≤ progress.replies.capacity
   pub spare : lock_steps (plan_of jobs t) ≤ progress.locked.capacity
-  pub locks : length progress.locked.items ≤ count_below (steps_done past t) (λ i. is_lock (slice_get (plan_of jobs t) i))
+  pub locks : length progress.locked.items ≤ count_below (steps_done past t)
+      (λ i. is_lock (slice_get (plan_of jobs t) i))
   pub times : (node : ℕ) → IsFirst jobs node → time_in progress.locked.items node ≡ lock_time jobs past t node
   pub holding : progress.held_nodes ≡ count_below (length rows) (λ node. holds jobs past t node)
   pub held : progress.held_nodes ≤ steps_done past t
@@ -51,9 +53,10 @@ IsLastAt jobs past node (Some t) = (u : ℕ) → earlier (lock_time jobs past t 
 
 -- what is known of a node by its owner
 abbrev pub IsOwned : List Job → List Event → ℕ → Owner → Type 0
-IsOwned jobs past node owner = Owns jobs past node (holder_of owner) × IsLastAt jobs past node (last_of owner)
+IsOwned jobs past node owner = Owns jobs past node (holder_of owner) × IsLastAt jobs past node (last_holder_of owner)
 
-pub record IsCore (rows : Rows) (jobs : List Job) (opening : List ℤ) (past : List Event) (records : List ℤ) (progress : List Progress)
+pub record IsCore (rows : Rows) (jobs : List Job) (opening : List ℤ) (past : List Event) (records : List ℤ)
+    (progress : List Progress)
     (owners : List Owner) (waits : List ℕ) : Type 0 where
   pub tree : IsTree rows
   pub few : length jobs ≤ 256

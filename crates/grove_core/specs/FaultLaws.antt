@@ -11,7 +11,8 @@ use Rattle.grove_core.specs.Openings.{IsFirstFault}
 
 -- an event that is refused may not happen
 abbrev pub RefusedMayNot : Type 0
-RefusedMayNot = (jobs : List Job) (past : List Event) (event : Event) (fault : StepFault) → IsRefused jobs past event fault → ¬ MayHappen jobs past event
+RefusedMayNot = (jobs : List Job) (past : List Event) (event : Event) (fault : StepFault)
+    → IsRefused jobs past event fault → ¬ MayHappen jobs past event
 
 -- a run refuses an event for one reason alone
 abbrev pub RefusedForOne : Type 0

@@ -7,7 +7,7 @@ abbrev pub holder_of : Owner → Option ℕ
 holder_of (Holder t) = Some t
 holder_of _ = None
 
-abbrev pub last_of : Owner → Option ℕ
-last_of Nobody = None
-last_of (Holder t) = Some t
-last_of (Last t) = Some t
+abbrev pub last_holder_of : Owner → Option ℕ
+last_holder_of Nobody = None
+last_holder_of (Holder t) = Some t
+last_holder_of (Last t) = Some t

@@ -10,9 +10,11 @@ use Rattle.grove_core.specs.Replays.{IsReplayFault}
 
 -- events have one first reason alone, and a finished run has none
 abbrev pub ReplayFaultIsOne : Type 0
-ReplayFaultIsOne = (rows : Rows) (jobs : List Job) (events : List Event) (one other : ReplayFault) → one ≢ Memory → other ≢ Memory
+ReplayFaultIsOne = (rows : Rows) (jobs : List Job) (events : List Event) (one other : ReplayFault) → one ≢ Memory
+    → other ≢ Memory
     → IsReplayFault rows jobs events one → IsReplayFault rows jobs events other → one ≡ other
 
 abbrev pub FinishedIsFaultless : Type 0
-FinishedIsFaultless = (rows : Rows) (jobs : List Job) (events : List Event) → AllLegal rows jobs → IsRun jobs (reverse events) → IsFinished jobs (reverse events)
+FinishedIsFaultless = (rows : Rows) (jobs : List Job) (events : List Event) → AllLegal rows jobs
+    → IsRun jobs (reverse events) → IsFinished jobs (reverse events)
     → (fault : ReplayFault) → IsReplayFault rows jobs events fault → fault ≡ Memory

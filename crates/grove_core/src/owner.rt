@@ -1,5 +1,5 @@
 ghost use Rattle.std.specs.Prelude.{◌≡◌};
-ghost use Rattle.grove_core.specs.Owners.{holder_of, last_of};
+ghost use Rattle.grove_core.specs.Owners.{holder_of, last_holder_of};
 
 /// Which job has a node, or had it last.
 #[derive(Clone, Copy, Debug)]
@@ -25,7 +25,7 @@ impl Owner {
 
     /// The job that was the last to lock the node.
     pub fn last(self) -> Option<u32>
-        ensures { result ≡ last_of self }
+        ensures { result ≡ last_holder_of self }
     {
         match self {
             Owner::Holder(txn) | Owner::Last(txn) => Some(txn),

@@ -9,7 +9,9 @@ use std::alloc::Global;
 
 /// The replies of each job.
 pub fn replies_of<'a>(alloc: Global, core: &'a Core) -> Result<Vec<&'a [Reply]>, NoMemory>
-    ensures { IfOk result (λ replies. map (λ list. list.now) replies.items ≡ replies_of core.now.jobs core.now.opening (past_of core.now)) }
+    ensures { IfOk result
+        (λ replies. map (λ list. list.now) replies.items
+        ≡ replies_of core.now.jobs core.now.opening (past_of core.now)) }
 {
     let mut replies = Vec::new(alloc);
     let jobs = core.jobs().len() as u32;

@@ -9,9 +9,9 @@ use Rattle.grove_store.specs.Rounds.{IsLawfulRound}
 use Rattle.grove_tree.specs.Weights.{unweighed}
 use Rattle.grove_store.proofs.RoundsKeep.{round_keeps}
 use Rattle.std.proofs.lemmas.Option.{slice_get-map, slice_get-get_or}
-use Rattle.grove_desk.specs.Receipts.{Names, ReceiptState, AreNumbered, number_at, IsAllowed, IsAnswered}
+use Rattle.grove_desk.specs.Receipts.{Names, ReceiptState, AreNumberedFrom, number_at, IsAllowed, IsDeskReceipt}
 use Rattle.grove_desk.specs.Histories.{RoundState, IsRound, store_before, Leads, Led, receipts_in}
-use Rattle.grove_desk.specs.Ledgers.{JournalState, noted_in, next_number, IsJournal, IsKept, IsLedger}
+use Rattle.grove_desk.specs.Ledgers.{JournalState, noted_in, next_number, IsJournal, IsJournalOf, IsLedger}
 
 -- a round more at the end has no store before the first of the others
 before_more : (rounds : List RoundState) (round : RoundState) (last : StoreState) → store_before (rounds ++ round ∷ []) last ≡ store_before rounds round.before
@@ -30,7 +30,8 @@ receipts_more [] round = append-nil round.receipts
 receipts_more (first ∷ rounds) round = ap (λ (rs : List ReceiptState). first.receipts ++ rs) (receipts_more rounds round) ∙ sym (append_assoc first.receipts (receipts_in rounds) round.receipts)
 
 -- numbers go on from one list to the next
-numbered_on : (front back : List ReceiptState) → AreNumbered (Some 0) front → AreNumbered (Some (min (length front) (2 ^ 64 - 1))) back → AreNumbered (Some 0) (front ++ back)
+numbered_on : (front back : List ReceiptState) → AreNumberedFrom (Some 0) front
+    → AreNumberedFrom (Some (min (length front) (2 ^ 64 - 1))) back → AreNumberedFrom (Some 0) (front ++ back)
 numbered_on front back are next place other lt = elim (cases_lt place (length front)) [
   | inl before ↦ ap (λ (e : ReceiptState). e.number) (get_or_append_left front back other place before) ∙ are place other before
   | inr after ↦
@@ -40,7 +41,9 @@ numbered_on front back are next place other lt = elim (cases_lt place (length fr
 ]
 
 -- a journal with a round more is that of the store after it
-journal_more : (opening : StoreState) (journal : JournalState) (round : RoundState) (last : StoreState) → IsJournal opening journal round.before → IsRound round.before round.receipts last → AreNumbered (Some journal.lines) round.receipts
+journal_more : (opening : StoreState) (journal : JournalState) (round : RoundState) (last : StoreState)
+    → IsJournal opening journal round.before → IsRound round.before round.receipts last
+    → AreNumberedFrom (Some journal.lines) round.receipts
     → IsJournal opening (noted_in round journal) last
 journal_more opening journal round last is leads numbered = record {
   leads = leads_more journal.rounds round last is.leads leads;
@@ -48,13 +51,16 @@ journal_more opening journal round last is leads numbered = record {
   counted =
       let all = ap length (receipts_more journal.rounds round) ∙ length-append (receipts_in journal.rounds) round.receipts in
       let so_far = is.counted in omega arith;
-  numbered = subst (AreNumbered (Some 0)) (sym (receipts_more journal.rounds round))
-      (numbered_on (receipts_in journal.rounds) round.receipts is.numbered (subst (λ (n : ℕ). AreNumbered (Some n) round.receipts) is.counted numbered));
+  numbered = subst (AreNumberedFrom (Some 0)) (sym (receipts_more journal.rounds round))
+      (numbered_on (receipts_in journal.rounds) round.receipts is.numbered
+      (subst (λ (n : ℕ). AreNumberedFrom (Some n) round.receipts) is.counted numbered));
 }
 
 -- where a journal is kept, it goes on with a round more
-kept_more : (opening : StoreState) (journal : Option JournalState) (round : RoundState) (last : StoreState) → IsKept opening journal round.before → IsRound round.before round.receipts last → AreNumbered (next_number journal) round.receipts
-    → IsKept opening (option_map (noted_in round) journal) last
+kept_more : (opening : StoreState) (journal : Option JournalState) (round : RoundState) (last : StoreState)
+    → IsJournalOf opening journal round.before → IsRound round.before round.receipts last
+    → AreNumberedFrom (next_number journal) round.receipts
+    → IsJournalOf opening (option_map (noted_in round) journal) last
 kept_more opening None round last kept leads numbered = tt
 kept_more opening (Some journal) round last kept leads numbered = journal_more opening journal round last kept leads numbered
 
@@ -74,7 +80,9 @@ led_more opening before after receipts led round =
 
 -- a ledger that has answered a round, and noted it where it keeps a journal, is one
 ledger_more : (opening : StoreState) (kept : Bool) (before after : StoreState) (journal noted : Option JournalState) (receipts : List ReceiptState) → IsLedger opening kept before journal → IsRound before receipts after
-    → AreNumbered (next_number journal) receipts → noted ≡ option_map (noted_in (record { before = before; receipts = receipts })) journal → IsLedger opening kept after noted
+    → AreNumberedFrom (next_number journal) receipts
+    → noted ≡ option_map (noted_in (record { before = before; receipts = receipts })) journal
+    → IsLedger opening kept after noted
 ledger_more opening kept before after journal noted receipts is round numbered more =
     let it : RoundState = record { before = before; receipts = receipts } in
     subst (λ (j : Option JournalState). IsLedger opening kept after j) (sym more) (record {
@@ -84,7 +92,8 @@ ledger_more opening kept before after journal noted receipts is round numbered m
     })
 
 -- a lawful round has at most as many replies as there are lines
-pub few_replies : {L : Type 0} (line_of : L → List ℕ) (before after : StoreState) (texts : List (List ℕ)) (lines : List L) (replies : List (List ℕ)) → texts ≡ map line_of lines
+pub few_replies : {L : Type 0} (line_of : L → List ℕ) (before after : StoreState) (texts : List (List ℕ))
+    (lines : List L) (replies : List (List ℕ)) → texts ≡ map line_of lines
     → IsLawfulRound before (take (length replies) texts) replies after → length replies ≤ length lines
 few_replies line_of before after texts lines replies are round =
     let kept = (round_keeps before (take (length replies) texts) replies after round).1 in
@@ -122,8 +131,10 @@ unnumbered None kept receipt place some is plain = is
 unnumbered (Some journal) kept receipt place some is plain = let yes : kept ≡ true = some.0 refl in absurd (cc)
 
 -- a ledger's receipts are answers of its desk
-answered_by : (opening : StoreState) (kept : Bool) (before after : StoreState) (journal : Option JournalState) (receipts : List ReceiptState) → IsLedger opening kept before journal → IsRound before receipts after → AreNumbered (next_number journal) receipts
-    → All (IsAnswered opening kept) receipts
+answered_by : (opening : StoreState) (kept : Bool) (before after : StoreState) (journal : Option JournalState)
+    (receipts : List ReceiptState) → IsLedger opening kept before journal → IsRound before receipts after
+    → AreNumberedFrom (next_number journal) receipts
+    → All (IsDeskReceipt opening kept) receipts
 answered_by opening kept before after journal receipts is round numbered place other lt =
     let receipt = get_or receipts place other in record {
       allowed = subst (λ (names : Names). IsAllowed names receipt) (led_names opening before is.led) (allowed_by before after receipts round place other lt);
@@ -132,7 +143,9 @@ answered_by opening kept before after journal receipts is round numbered place o
 
 -- whether a round was answered and noted or refused, the ledger is one afterwards
 pub noted_after : {X E : Type 0} (result : Result X E) (receipts_of : X → List ReceiptState) (opening : StoreState) (kept : Bool) (before after : StoreState) (journal noted : JournalState) → IsLedger opening kept before (Some journal)
-    → IfOk result (λ x. IsRound before (receipts_of x) after) → IfOk result (λ x. AreNumbered (Some journal.lines) (receipts_of x)) → IfOk result (λ x. noted ≡ noted_in (record { before = before; receipts = receipts_of x }) journal)
+    → IfOk result (λ x. IsRound before (receipts_of x) after)
+    → IfOk result (λ x. AreNumberedFrom (Some journal.lines) (receipts_of x))
+    → IfOk result (λ x. noted ≡ noted_in (record { before = before; receipts = receipts_of x }) journal)
     → OnErr result ((noted ≡ journal) × (after ≡ before)) → IsLedger opening kept after (Some noted)
 noted_after (Ok x) receipts_of opening kept before after journal noted is round numbered more same = ledger_more opening kept before after (Some journal) (Some noted) (receipts_of x) is round numbered (ap Some more)
 noted_after (Err e) receipts_of opening kept before after journal noted is round numbered more same =
@@ -140,12 +153,15 @@ noted_after (Err e) receipts_of opening kept before after journal noted is round
 
 -- and so is a ledger without a journal
 pub plain_after : {X E : Type 0} (result : Result X E) (receipts_of : X → List ReceiptState) (opening : StoreState) (kept : Bool) (before after : StoreState) → IsLedger opening kept before None
-    → IfOk result (λ x. IsRound before (receipts_of x) after) → IfOk result (λ x. AreNumbered None (receipts_of x)) → OnErr result (after ≡ before) → IsLedger opening kept after None
+    → IfOk result (λ x. IsRound before (receipts_of x) after) → IfOk result (λ x. AreNumberedFrom None (receipts_of x))
+    → OnErr result (after ≡ before) → IsLedger opening kept after None
 plain_after (Ok x) receipts_of opening kept before after is round numbered same = ledger_more opening kept before after None None (receipts_of x) is round numbered refl
 plain_after (Err e) receipts_of opening kept before after is round numbered same = subst (λ (s : StoreState). IsLedger opening kept s None) (sym same) is
 
 -- where a round was answered, its receipts are answers of the desk
 pub answered_where : {X E : Type 0} (result : Result X E) (receipts_of : X → List ReceiptState) (opening : StoreState) (kept : Bool) (before after : StoreState) (journal : Option JournalState) → IsLedger opening kept before journal
-    → IfOk result (λ x. IsRound before (receipts_of x) after) → IfOk result (λ x. AreNumbered (next_number journal) (receipts_of x)) → IfOk result (λ x. All (IsAnswered opening kept) (receipts_of x))
+    → IfOk result (λ x. IsRound before (receipts_of x) after)
+    → IfOk result (λ x. AreNumberedFrom (next_number journal) (receipts_of x))
+    → IfOk result (λ x. All (IsDeskReceipt opening kept) (receipts_of x))
 answered_where (Ok x) receipts_of opening kept before after journal is round numbered = answered_by opening kept before after journal (receipts_of x) is round numbered
 answered_where (Err e) receipts_of opening kept before after journal is round numbered = tt

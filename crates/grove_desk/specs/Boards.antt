@@ -1,7 +1,7 @@
 -- For the proofs alone: what lies behind a desk's lock.
 use Rattle.std.specs.Prelude.{Bool, IfOk}
 use Rattle.grove_store.specs.StoreStates.{StoreState}
-use Rattle.grove_desk.specs.Receipts.{IsAnswered}
+use Rattle.grove_desk.specs.Receipts.{IsDeskReceipt}
 use Rattle.grove_desk.specs.declared.slot.State.{State}
 use Rattle.grove_desk.specs.declared.slot.State.TheVariants.{Waiting, Running, Done}
 use Rattle.grove_desk.specs.declared.slot.Slot.{Slot}
@@ -10,7 +10,7 @@ use Rattle.grove_desk.specs.declared.slot.Slot.{Slot}
 abbrev pub KeepsState : StoreState → Bool → State → Type 0
 KeepsState opening kept (Waiting line) = Unit {0}
 KeepsState opening kept Running = Unit {0}
-KeepsState opening kept (Done done) = IfOk done (IsAnswered opening kept)
+KeepsState opening kept (Done done) = IfOk done (IsDeskReceipt opening kept)
 
-abbrev pub Holds : StoreState → Bool → Slot → Type 0
-Holds opening kept slot = KeepsState opening kept slot.state
+abbrev pub SlotHolds : StoreState → Bool → Slot → Type 0
+SlotHolds opening kept slot = KeepsState opening kept slot.state

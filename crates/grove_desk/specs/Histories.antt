@@ -2,7 +2,7 @@
 use Rattle.std.specs.Prelude.{◌≡◌, ℕ, ◌+◌, ◌<◌, List, [], ◌∷◌, ◌++◌, Some, length, map, get_or, slice_get, All}
 use Rattle.grove_store.specs.StoreStates.{StoreState}
 use Rattle.grove_store.specs.Rounds.{IsLawfulRound}
-use Rattle.grove_desk.specs.Receipts.{ReceiptState, AreNumbered}
+use Rattle.grove_desk.specs.Receipts.{ReceiptState, AreNumberedFrom}
 
 -- a round that was answered: the store before it, and the receipts of its lines in order
 pub record RoundState : Type 0 where
@@ -48,7 +48,7 @@ Ascend receipts = (place : ℕ) (other : ReceiptState) → place + 1 < length re
 pub record IsHistory (opening : StoreState) (receipts : List ReceiptState) (rounds : List RoundState) (last : StoreState) : Type 0 where
   pub leads : Leads rounds last
   pub begins : store_before rounds last ≡ opening
-  pub numbered : AreNumbered (Some 0) (receipts_in rounds)
+  pub numbered : AreNumberedFrom (Some 0) (receipts_in rounds)
   pub stand : All (StandsIn rounds) receipts
   pub once : Ascend receipts
   pub whole : length receipts ≡ length (receipts_in rounds) → receipts ≡ receipts_in rounds

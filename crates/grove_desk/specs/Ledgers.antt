@@ -1,7 +1,7 @@
 -- For the proofs alone: a store and its journal, which change together.
 use Rattle.std.specs.Prelude.{◌≡◌, ℕ, ◌+◌, ◌-◌, ◌^◌, ◌↔◌, min, Bool, true, List, [], ◌∷◌, ◌++◌, Option, Some, None, length, map, take, All, IsSome}
 use Rattle.grove_store.specs.StoreStates.{StoreState}
-use Rattle.grove_desk.specs.Receipts.{ReceiptState, AreNumbered}
+use Rattle.grove_desk.specs.Receipts.{ReceiptState, AreNumberedFrom}
 use Rattle.grove_desk.specs.Histories.{RoundState, Leads, Led, store_before, receipts_in}
 
 -- every round since the opening, and the number of their lines, held at the greatest
@@ -30,21 +30,22 @@ pub record IsJournal (opening : StoreState) (journal : JournalState) (last : Sto
   pub leads : Leads journal.rounds last
   pub begins : store_before journal.rounds last ≡ opening
   pub counted : journal.lines ≡ min (length (receipts_in journal.rounds)) (2 ^ 64 - 1)
-  pub numbered : AreNumbered (Some 0) (receipts_in journal.rounds)
+  pub numbered : AreNumberedFrom (Some 0) (receipts_in journal.rounds)
 
-abbrev pub IsKept : StoreState → Option JournalState → StoreState → Type 0
-IsKept opening None last = Unit {0}
-IsKept opening (Some journal) last = IsJournal opening journal last
+abbrev pub IsJournalOf : StoreState → Option JournalState → StoreState → Type 0
+IsJournalOf opening None last = Unit {0}
+IsJournalOf opening (Some journal) last = IsJournal opening journal last
 
 -- lawful rounds lead from the opening store to this one, whether or not they were noted, and a journal has them all
 pub record IsLedger (opening : StoreState) (kept : Bool) (store : StoreState) (journal : Option JournalState) : Type 0 where
   pub led : Led opening store
-  pub account : IsKept opening journal store
+  pub account : IsJournalOf opening journal store
   pub keeps : IsSome journal ↔ (kept ≡ true)
 
 -- the receipts of the first of the lines, with these replies and this count of rounds, numbered from the first on
-pub record IsNoted (first : Option ℕ) (lines replies : List (List ℕ)) (rounds : ℕ) (receipts : List ReceiptState) : Type 0 where
+pub record AreReceiptsOf (first : Option ℕ) (lines replies : List (List ℕ)) (rounds : ℕ)
+    (receipts : List ReceiptState) : Type 0 where
   pub asked : map (λ receipt. receipt.line) receipts ≡ take (length replies) lines
   pub replied : map (λ receipt. receipt.reply) receipts ≡ replies
   pub counted : All (λ receipt. receipt.rounds ≡ rounds) receipts
-  pub numbered : AreNumbered first receipts
+  pub numbered : AreNumberedFrom first receipts

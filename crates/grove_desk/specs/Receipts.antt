@@ -32,18 +32,18 @@ abbrev pub IsAllowed : Names → ReceiptState → Type 0
 IsAllowed names receipt = Allows names receipt.line receipt.reply receipt.rounds
 
 -- what a desk with this opening store answers: a receipt that its names allow, with the number 0 where no journal is kept
-pub record IsAnswered (opening : StoreState) (kept : Bool) (receipt : ReceiptState) : Type 0 where
+pub record IsDeskReceipt (opening : StoreState) (kept : Bool) (receipt : ReceiptState) : Type 0 where
   pub allowed : IsAllowed (unweighed opening.rows) receipt
   pub unnumbered : kept ≡ false → receipt.number ≡ 0
 
 -- a receipt after one that was seen: its count of rounds isn't lower, and where a journal is kept its number is higher
-pub record Follows (kept : Bool) (seen : Option ReceiptState) (receipt : ReceiptState) : Type 0 where
+pub record ComesAfter (kept : Bool) (seen : Option ReceiptState) (receipt : ReceiptState) : Type 0 where
   pub rounds : IfSome seen (λ earlier. earlier.rounds ≤ receipt.rounds)
   pub number : kept ≡ true → IfSome seen (λ earlier. earlier.number < receipt.number)
 
 -- a receipt of another line, or one that doesn't come after the one that was seen
-abbrev pub IsForeign : Bool → List ℕ → Option ReceiptState → ReceiptState → Type 0
-IsForeign kept line seen receipt = receipt.line ≡ line → Follows kept seen receipt → ⊥
+abbrev pub IsForeignReceipt : Bool → List ℕ → Option ReceiptState → ReceiptState → Type 0
+IsForeignReceipt kept line seen receipt = receipt.line ≡ line → ComesAfter kept seen receipt → ⊥
 
 -- the number of a line, counted from that of the first one and held at the greatest; 0 where nothing is counted
 abbrev pub number_at : Option ℕ → ℕ → ℕ
@@ -51,5 +51,6 @@ number_at None place = 0
 number_at (Some first) place = min (first + place) (2 ^ 64 - 1)
 
 -- the receipts have the numbers from the first one on
-abbrev pub AreNumbered : Option ℕ → List ReceiptState → Type 0
-AreNumbered first receipts = (place : ℕ) (other : ReceiptState) → place < length receipts → (get_or receipts place other).number ≡ number_at first place
+abbrev pub AreNumberedFrom : Option ℕ → List ReceiptState → Type 0
+AreNumberedFrom first receipts = (place : ℕ) (other : ReceiptState) → place < length receipts
+    → (get_or receipts place other).number ≡ number_at first place

@@ -3,9 +3,9 @@ ghost use Rattle.std.specs.Prelude.{◌++◌};
 ghost use Rattle.std.specs.Option.{option_to_list};
 ghost use Rattle.std.specs.Vec.{vec_capacity};
 ghost use Rattle.grove_store.specs.StoreStates.{StoreState};
-ghost use Rattle.grove_desk.specs.Receipts.{IsAnswered};
+ghost use Rattle.grove_desk.specs.Receipts.{IsDeskReceipt};
 ghost use Rattle.grove_desk.specs.Histories.{Led};
-ghost use Rattle.grove_desk.specs.Boards.{KeepsState, Holds};
+ghost use Rattle.grove_desk.specs.Boards.{KeepsState, SlotHolds};
 
 use crate::ledger::Ledger;
 use crate::line::Line;
@@ -33,13 +33,13 @@ pub(crate) struct Board<B: Opening> {
 impl<B: Opening> Model for Board<B> {
     ghost use Rattle.std.specs.Prelude.{List, All};
     ghost use Rattle.grove_desk.specs.declared.slot.Slot.{Slot};
-    ghost use Rattle.grove_desk.specs.Boards.{Holds};
+    ghost use Rattle.grove_desk.specs.Boards.{SlotHolds};
 
     ghost Value = { List Slot };
 
     ghost view = { λ board. board.slots.items };
 
-    ghost invariant = { λ board. All (Holds B.store B.kept) board.slots.items };
+    ghost invariant = { λ board. All (SlotHolds B.store B.kept) board.slots.items };
 }
 
 impl<B: Opening> Board<B> {
@@ -97,7 +97,7 @@ impl<B: Opening> Board<B> {
 
     /// What the line of this ticket was answered, where it was.
     pub(crate) fn collect(&mut self, ticket: u64) -> Option<Result<Receipt, NoMemory>>
-        ensures { IfSome result (λ done. IfOk done (IsAnswered B.store B.kept)) }
+        ensures { IfSome result (λ done. IfOk done (IsDeskReceipt B.store B.kept)) }
     {
         let place = place_of(&self.slots, ticket)?;
         if !self.slots[place].is_done() {
@@ -142,7 +142,7 @@ impl<B: Opening> Board<B> {
         taken: &mut Vec<Asked>,
         mut answered: Result<Vec<Receipt>, NoMemory>,
     )
-        requires { IfOk answered (λ receipts. All (IsAnswered B.store B.kept) receipts.items) }
+        requires { IfOk answered (λ receipts. All (IsDeskReceipt B.store B.kept) receipts.items) }
         ensures taken { taken.new.items ≡ [] }
         ensures room { vec_capacity taken.new ≡ vec_capacity taken.old }
     {
@@ -156,7 +156,8 @@ impl<B: Opening> Board<B> {
 
 /// Where the line of this ticket has got to now.
 fn restore(slots: &mut Vec<Slot>, ticket: u64, state: State)
-    ensures held { (opening : StoreState) → (kept : Bool) → KeepsState opening kept state → All (Holds opening kept) slots.old.items → All (Holds opening kept) slots.new.items }
+    ensures held { (opening : StoreState) → (kept : Bool) → KeepsState opening kept state
+        → All (SlotHolds opening kept) slots.old.items → All (SlotHolds opening kept) slots.new.items }
 {
     if let Some(place) = place_of(slots, ticket) {
         slots[place].state = state;
@@ -173,8 +174,12 @@ fn place_of(slots: &[Slot], ticket: u64) -> Option<usize>
 /// Where a round has brought the last of its lines that isn't settled yet, at this place: it has its receipt, the last of those
 /// that are left, or waits again where there is none for it; without memory each line is refused.
 fn state_after(answered: &mut Result<Vec<Receipt>, NoMemory>, place: usize, line: Line) -> State
-    ensures state { (opening : StoreState) → (kept : Bool) → IfOk answered.old (λ receipts. All (IsAnswered opening kept) receipts.items) → KeepsState opening kept result }
-    ensures left { (opening : StoreState) → (kept : Bool) → IfOk answered.old (λ receipts. All (IsAnswered opening kept) receipts.items) → IfOk answered.new (λ receipts. All (IsAnswered opening kept) receipts.items) }
+    ensures state { (opening : StoreState) → (kept : Bool)
+        → IfOk answered.old (λ receipts. All (IsDeskReceipt opening kept) receipts.items)
+        → KeepsState opening kept result }
+    ensures left { (opening : StoreState) → (kept : Bool)
+        → IfOk answered.old (λ receipts. All (IsDeskReceipt opening kept) receipts.items)
+        → IfOk answered.new (λ receipts. All (IsDeskReceipt opening kept) receipts.items) }
 {
     match answered {
         Ok(receipts) => match pop_at(receipts, place) {

@@ -4,7 +4,7 @@ ghost use Rattle.std.specs.Vec.{vec_capacity};
 ghost use Rattle.grove_session.specs.declared.answers.TheConstants.{LINE_LIMIT};
 ghost use Rattle.grove_tree.specs.Weights.{unweighed};
 ghost use Rattle.grove_desk.specs.Histories.{Led};
-ghost use Rattle.grove_desk.specs.Receipts.{ReceiptState, IsAllowed, IsAnswered, IsForeign, Follows};
+ghost use Rattle.grove_desk.specs.Receipts.{ReceiptState, IsAllowed, IsDeskReceipt, IsForeignReceipt, ComesAfter};
 
 use crate::board::{Board, MOST_LINES};
 use crate::ledger::Ledger;
@@ -80,10 +80,11 @@ impl<B: Opening> Desk<B> {
         requires { length line.now ≤ LINE_LIMIT }
         ensures line { IfOk result (λ receipt. receipt.line ≡ line.now) }
         ensures allowed { IfOk result (IsAllowed (unweighed self.now.opening.rows)) }
-        ensures follows { IfOk result (Follows self.now.kept (option_copied seen.entry)) }
+        ensures follows { IfOk result (ComesAfter self.now.kept (option_copied seen.entry)) }
         ensures unnumbered { IfOk result (λ receipt. self.now.kept ≡ false → receipt.number ≡ 0) }
         ensures foreign { result ≡ Err DeskFault.Foreign
-            → (receipt : ReceiptState) × IsAnswered self.now.opening self.now.kept receipt × IsForeign self.now.kept line.now (option_copied seen.entry) receipt }
+            → (receipt : ReceiptState) × IsDeskReceipt self.now.opening self.now.kept receipt
+            × IsForeignReceipt self.now.kept line.now (option_copied seen.entry) receipt }
     {
         let _turn = if line.len() > LARGE_LINE {
             Some(self.large.lock(rt))
@@ -139,7 +140,7 @@ impl<B: Opening> Desk<B> {
         gate: &G,
     ) -> Result<Receipt, NoMemory>
         requires { (taken.old.items ≡ []) × (vec_capacity taken.old ≡ 16) }
-        ensures { IfOk result (IsAnswered B.store B.kept) }
+        ensures { IfOk result (IsDeskReceipt B.store B.kept) }
     {
         for _ in rt.forever() {
             let mut board = self.board.lock(rt);

@@ -1,6 +1,6 @@
 ghost use Rattle.std.specs.Prelude.{◌≡◌, [], Some, ◌<◌, ◌≤◌, ◌↔◌, length, map, take, drop, All, IsTrue, IfOk, IfErr, OnErr};
 ghost use Rattle.std.specs.Vec.{vec_capacity};
-ghost use Rattle.grove_desk.specs.Receipts.{AreNumbered};
+ghost use Rattle.grove_desk.specs.Receipts.{AreNumberedFrom};
 ghost use Rattle.grove_desk.specs.Histories.{StandsIn, Ascend, IsRound};
 ghost use Rattle.grove_desk.specs.Ledgers.{noted_in};
 
@@ -83,7 +83,7 @@ impl Journal {
         requires { (0 < length taken.old.items) × (length taken.old.items ≤ 16) }
         ensures lines { IfOk result (λ receipts. map (λ receipt. receipt.line) receipts.items ≡ take (length receipts.items) (map (λ asked. asked.line.bytes.items) taken.old.items)) }
         ensures round { IfOk result (λ receipts. IsRound store.old receipts.items store.new) }
-        ensures numbered { IfOk result (λ receipts. AreNumbered (Some self.old.lines) receipts.items) }
+        ensures numbered { IfOk result (λ receipts. AreNumberedFrom (Some self.old.lines) receipts.items) }
         ensures left { IfOk result (λ receipts. drop (length receipts.items) taken.new.items ≡ drop (length receipts.items) taken.old.items) }
         ensures tickets { map (λ asked. asked.ticket) taken.new.items ≡ map (λ asked. asked.ticket) taken.old.items }
         ensures room { vec_capacity taken.new ≡ vec_capacity taken.old }

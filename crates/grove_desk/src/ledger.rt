@@ -1,9 +1,9 @@
 ghost use Rattle.std.specs.Prelude.{◌≡◌, true, Some, ◌<◌, ◌≤◌, ◌↔◌, length, map, take, drop, All, IfOk, OnErr, IsSome};
 ghost use Rattle.std.specs.Option.{option_map};
 ghost use Rattle.std.specs.Vec.{vec_capacity};
-ghost use Rattle.grove_desk.specs.Receipts.{IsAnswered};
+ghost use Rattle.grove_desk.specs.Receipts.{IsDeskReceipt};
 ghost use Rattle.grove_desk.specs.Histories.{IsRound, Led};
-ghost use Rattle.grove_desk.specs.Ledgers.{noted_in, IsKept};
+ghost use Rattle.grove_desk.specs.Ledgers.{noted_in, IsJournalOf};
 
 use crate::answering::answer_taken;
 use crate::journal::Journal;
@@ -49,7 +49,7 @@ impl<B: Opening> Ledger<B> {
 
     pub(crate) fn into_parts(self) -> (Store, Option<Journal>)
         ensures led { Led B.store result.0 }
-        ensures kept { IsKept B.store result.1 result.0 }
+        ensures kept { IsJournalOf B.store result.1 result.0 }
         ensures journal { IsSome result.1 ↔ (B.kept ≡ true) }
     {
         let Ledger {
@@ -80,7 +80,7 @@ impl<B: Opening> Ledger<B> {
         ensures lines { IfOk result (λ receipts. map (λ receipt. receipt.line) receipts.items ≡ take (length receipts.items) (map (λ asked. asked.line.bytes.items) taken.old.items)) }
         ensures round { IfOk result (λ receipts. IsRound self.old.store receipts.items self.new.store) }
         ensures journal { IfOk result (λ receipts. self.new.journal ≡ option_map (noted_in (record { before = self.old.store; receipts = receipts.items })) self.old.journal) }
-        ensures answered { IfOk result (λ receipts. All (IsAnswered B.store B.kept) receipts.items) }
+        ensures answered { IfOk result (λ receipts. All (IsDeskReceipt B.store B.kept) receipts.items) }
         ensures left { IfOk result (λ receipts. drop (length receipts.items) taken.new.items ≡ drop (length receipts.items) taken.old.items) }
         ensures tickets { map (λ asked. asked.ticket) taken.new.items ≡ map (λ asked. asked.ticket) taken.old.items }
         ensures room { vec_capacity taken.new ≡ vec_capacity taken.old }

@@ -1,7 +1,7 @@
 ghost use Rattle.std.specs.Prelude.{◌≡◌, ◌↔◌, IsTrue, IfOk};
 ghost use Rattle.std.specs.Option.{option_copied};
 ghost use Rattle.grove_store.specs.Refusals.{TellsRefusal};
-ghost use Rattle.grove_desk.specs.Receipts.{Follows};
+ghost use Rattle.grove_desk.specs.Receipts.{ComesAfter};
 
 use grove_store::Refusal;
 use grove_tree::NoMemory;
@@ -74,7 +74,7 @@ impl Receipt {
 
     /// Does it come after one that was seen?
     pub(crate) fn follows(&self, seen: Option<&Receipt>, kept: bool) -> bool
-        ensures { IsTrue result ↔ Follows kept (option_copied seen.entry) self.now }
+        ensures { IsTrue result ↔ ComesAfter kept (option_copied seen.entry) self.now }
     {
         match seen {
             Some(seen) => { seen.rounds <= self.rounds && (!kept || seen.number < self.number) }

@@ -13,7 +13,7 @@ use Rattle.grove_plan.specs.declared.step.Step.{Step}
 use Rattle.grove_plan.specs.Plans.{holding, IsLegal}
 use Rattle.grove_proof.proofs.ForcedMarks.{passing_hit, passing_miss}
 use Rattle.grove_draw.specs.declared.bar.Bar.{Bar}
-use Rattle.grove_draw.specs.Pictures.{node_of, cost_of, IsBarOf, AreLocked}
+use Rattle.grove_draw.specs.Pictures.{node_of_bar, cost_of, IsBarOf, AreLocked}
 use Rattle.grove_draw.specs.Bars.{is_locked}
 use Rattle.grove_draw.specs.Bars.{AreBarsBelow}
 use Rattle.grove_draw.proofs.LockedNodes.{locked_by, locked_from, unlocked_free}
@@ -36,7 +36,7 @@ bars_skip tree lengths plan n bars so_far none = record {
 pub bars_push : (tree : Rows) (lengths : List ℕ) (plan : List Step) (n : ℕ) (bars new : List Bar) (bar : Bar) → AreBarsBelow tree lengths plan n bars → is_locked plan n ≡ true
     → bar.node ≡ n → IsBarOf tree lengths plan bar → new ≡ bars ++ bar ∷ [] → AreBarsBelow tree lengths plan (n + 1) new
 bars_push tree lengths plan n bars new bar so_far locked at is e = subst (λ (xs : List Bar). AreBarsBelow tree lengths plan (n + 1) xs) (sym e) (record {
-  nodes = map-append node_of bars (bar ∷ []) ∙ (ap (λ (xs : List ℕ). xs ++ bar.node ∷ []) so_far.nodes
+  nodes = map-append node_of_bar bars (bar ∷ []) ∙ (ap (λ (xs : List ℕ). xs ++ bar.node ∷ []) so_far.nodes
       ∙ (ap (λ (v : ℕ). passing_below n (is_locked plan) ++ v ∷ []) at ∙ sym (passing_hit n (is_locked plan) locked)));
   each = All-append (IsBarOf tree lengths plan) bars (bar ∷ []) so_far.each (All-cons (IsBarOf tree lengths plan) bar [] is (All-nil (IsBarOf tree lengths plan)));
   sum =
@@ -65,7 +65,7 @@ none_next tree lengths plan n v bars new found so_far number locked none e =
 
 -- all of them are those of the locked nodes
 pub bars_locked : (tree : Rows) (nodes lengths : List ℕ) (plan : List Step) (bars : List Bar) → IsLegal tree nodes plan → AreBarsBelow tree lengths plan (length tree) bars
-    → AreLocked plan (map node_of bars)
+    → AreLocked plan (map node_of_bar bars)
 bars_locked tree nodes lengths plan bars legal all = subst (λ (xs : List ℕ). AreLocked plan xs) (sym all.nodes) (record {
   ascend = λ i j a b lt h k. passing_rises (length tree) (is_locked plan) i j a b lt h k;
   locked = λ node. (

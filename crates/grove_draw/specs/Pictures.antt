@@ -16,8 +16,8 @@ pub record AreLocked (plan : List Step) (nodes : List ℕ) : Type 0 where
   pub ascend : Ascends nodes
   pub locked : (node : ℕ) → IsAmong nodes node ↔ IsLockedBy plan node
 
-abbrev pub node_of : Bar → ℕ
-node_of bar = bar.node
+abbrev pub node_of_bar : Bar → ℕ
+node_of_bar bar = bar.node
 
 abbrev pub cost_of : Bar → ℕ
 cost_of bar = bar.cost
@@ -33,7 +33,7 @@ pub record IsBarOf (tree : Rows) (lengths : List ℕ) (plan : List Step) (bar : 
 
 -- the picture of a plan for a list: a bar for each locked node; what the bars cost makes up what the plan costs
 pub record IsPictureOf (tree : Rows) (list : List Access) (plan : List Step) (picture : Picture) : Type 0 where
-  pub nodes : AreLocked plan (map node_of picture.bars.items)
+  pub nodes : AreLocked plan (map node_of_bar picture.bars.items)
   pub bars : All (IsBarOf tree (lengths_of list) plan) picture.bars.items
   pub accesses : picture.accesses.items ≡ list
   pub cost : picture.cost ≡ cost tree (lengths_of list) plan

@@ -7,18 +7,20 @@ use Rattle.std.proofs.lemmas.Grind.{common_steps}
 use lib.Signed.{lt_z}
 use borrow.Author.Differences.{ints, lt_out, le_out, at_most_in, below_in, lt-true}
 use Rattle.grove_flow.specs.declared.network.Arc.{Arc}
-use Rattle.grove_flow.specs.Networks.{arc_at, place, IsLawful, AreLawful, AreBelow, IsCandidate, IsLatest}
+use Rattle.grove_flow.specs.Networks.{arc_at, place, IsLawful, AreLawful, AreAtMost, IsCandidate, IsLatest}
 use Rattle.grove_flow.specs.declared.settling.Way.{Way}
 use Rattle.grove_flow.specs.declared.settling.Way.TheVariants.{Forward, Backward}
 use Rattle.grove_flow.specs.Ways.{arc_on}
 use Rattle.grove_flow.specs.Floors.{AreHeld, AreHighest, HasFloor, HaveFloor, IsKept, AreKept, IsLoweredAt, height, heights}
 
 -- a place that is set to a value above a low place stays above it
-set_below : (low old : List ℤ) (v : ℕ) (most : ℤ) → v < length old → AreBelow low old → place low v ≤ℤ most → AreBelow low (slice_set old v most)
+set_below : (low old : List ℤ) (v : ℕ) (most : ℤ) → v < length old → AreAtMost low old → place low v ≤ℤ most
+    → AreAtMost low (slice_set old v most)
 set_below low old v most lt below le u = grind (arith, common_steps)
 
 -- a place that is set to less makes no place higher
-set_down : (old : List ℤ) (v : ℕ) (most : ℤ) → v < length old → most ≤ℤ place old v → AreBelow (slice_set old v most) old
+set_down : (old : List ℤ) (v : ℕ) (most : ℤ) → v < length old → most ≤ℤ place old v
+    → AreAtMost (slice_set old v most) old
 set_down old v most lt le u = grind (arith, common_steps, ints)
 
 -- a place that is lowered makes the heights less
@@ -28,7 +30,7 @@ lowered_heights {v} {most} {old} lt held h =
 
 -- what is lawful on an arc stays below where a place is lowered to what the arc allows
 lowered_kept : {arc : Arc} {amount v : ℕ} {most : ℤ} {old new : List ℤ} → v < length old → IsLoweredAt v most old new
-    → ((low : List ℤ) → IsLawful arc amount low → AreBelow low old → place low v ≤ℤ most) → IsKept arc amount old new
+    → ((low : List ℤ) → IsLawful arc amount low → AreAtMost low old → place low v ≤ℤ most) → IsKept arc amount old new
 lowered_kept {v} {most} {old} lt h most_is = record {
   above = λ low lawful below. rw h.set (set_below low old v most lt below (most_is low lawful below));
   down = rw h.set (set_down old v most lt (at_most_in most (place old v) (omega (arith, lt_out most (place old v) h.below))));
@@ -120,7 +122,8 @@ swept_lawful {way} {arcs} {amounts} {new} h e i lt =
     subst (λ j. IsLawful (arc_at arcs j) (slice_index amounts j) new) is (h.lawful e k k_lt)
 
 -- the places of a candidate are below the highest ones
-candidate_below : {n : ℕ} {arcs : List Arc} {amounts : List ℕ} {top : ℤ} {low highest : List ℤ} → IsCandidate n arcs amounts top low → AreHighest n top highest → AreBelow low highest
+candidate_below : {n : ℕ} {arcs : List Arc} {amounts : List ℕ} {top : ℤ} {low highest : List ℤ}
+    → IsCandidate n arcs amounts top low → AreHighest n top highest → AreAtMost low highest
 candidate_below {n} {low} {highest} h high v = elim (cases_lt v n) [
   | inr past ↦ omega (arith, ints, get_or_past low v (pos 0) (omega (arith, h.size)), get_or_past highest v (pos 0) (omega (arith, high.size)))
   | inl within ↦ elim (cases_lt (suc v) n) [

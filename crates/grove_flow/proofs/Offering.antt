@@ -19,8 +19,8 @@ use Rattle.grove_flow.specs.declared.queue.Queue.{Queue}
 use Rattle.grove_flow.specs.declared.state.State.{State}
 use Rattle.grove_flow.specs.declared.tree.Tree.{Tree}
 use Rattle.grove_flow.specs.Networks.{arc_at}
-use Rattle.grove_flow.specs.Fans.{end_of, IsLastAt, IsFan, AreFans}
-use Rattle.grove_flow.specs.Queues.{HasEntry, AreQueued, AreQueuedPast, AreWithin}
+use Rattle.grove_flow.specs.Fans.{end_of, IsLastArcAt, IsFan, AreFans}
+use Rattle.grove_flow.specs.Queues.{HasEntry, AreQueued, AreQueuedPast, NamesArcsAlone}
 use Rattle.grove_flow.specs.Reaches.{IsNoStep}
 use Rattle.grove_flow.specs.Trees.{IsLive}
 use Rattle.grove_flow.proofs.Growing.{key_same, no_key}
@@ -69,10 +69,10 @@ past (Some i) = i + 1
 pub record IsOffered (network : Network) (state : State) (tree : Tree) (fan : Fan) (v : ℕ) (old new : Queue) (next : Option ℕ) : Type 0 where
   pub bound : ℕ
   pub bound_le : bound ≤ length network.arcs.items
-  pub last : IsLastAt fan.end network.arcs.items bound v next
+  pub last : IsLastArcAt fan.end network.arcs.items bound v next
   pub kept : (i key : ℕ) → HasEntry old key i → HasEntry new key i
   pub added : (i key : ℕ) → bound ≤ i → IsLive network state tree i key → end_of fan.end (arc_at network.arcs.items i) ≡ v → HasEntry new key i
-  pub within : AreWithin network new
+  pub within : NamesArcsAlone network new
 
 -- an arc is in the queue at one key alone
 pub key_once : {network : Network} {state : State} {tree : Tree} {i k l : ℕ} → IsLive network state tree i k → IsLive network state tree i l → k ≡ l
@@ -101,7 +101,8 @@ dead {network} {state} {tree} i key answer known differs {k} (k_is, j_is) h =
 -- one arc of the chain more
 pub offered_more : {network : Network} {state : State} {tree : Tree} {fan : Fan} {v : ℕ} {old mid : Queue} (new : Queue) {at : Option ℕ} (i : ℕ) (next : Option ℕ)
     → IsFan fan.end network fan → at ≡ Some i → IsOffered network state tree fan v old mid at → next ≡ slice_index_or fan.before.items i next
-    → ((k a : ℕ) → HasEntry mid k a → HasEntry new k a) → ((key : ℕ) → IsLive network state tree i key → HasEntry new key i) → AreWithin network new
+    → ((k a : ℕ) → HasEntry mid k a → HasEntry new k a)
+    → ((key : ℕ) → IsLive network state tree i key → HasEntry new key i) → NamesArcsAlone network new
     → IsOffered network state tree fan v old new next
 offered_more {network} {state} {tree} {fan} {v} new i next is_fan is h read kept here within =
     let (i_lt, ends, none) : (i < h.bound) × (end_of fan.end (arc_at network.arcs.items i) ≡ v) × ((k : ℕ) → i < k → k < h.bound → end_of fan.end (arc_at network.arcs.items k) ≢ v) =

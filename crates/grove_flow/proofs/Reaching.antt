@@ -6,7 +6,7 @@ use borrow.Author.Differences.{ints}
 use Rattle.grove_flow.specs.declared.network.Arc.{Arc}
 use Rattle.grove_flow.specs.Networks.{arc_at, place, IsMet, IsModest, IsLawful, AreLawful}
 use Rattle.grove_flow.specs.States.{AreUnmoved, AreNear, IsState}
-use Rattle.grove_flow.specs.Reaches.{IsStep, AreNoSteps, IsLeastStep, IsReached, IsRaised, IsTight, AreWays, IsGrown, unranked, IsAhead, IsBehind, IsLinkedOn, IsLinkedBack}
+use Rattle.grove_flow.specs.Reaches.{IsStep, AreNoSteps, IsLeastStep, IsReachedFrom, IsRaised, IsTight, AreWays, IsGrown, unranked, IsAhead, IsBehind, IsLinkedOn, IsLinkedBack}
 use Rattle.grove_flow.proofs.Closed.{IsClosed, none_to_give, excess_low}
 use Rattle.std.proofs.lemmas.List.{get_or-replicate, get_or_past, length-replicate}
 use Rattle.std.proofs.lemmas.List.Sums.{sum_by-set, sum_by-cons}
@@ -22,7 +22,8 @@ all_met unmet ranks last met none v reached = elim (cases_eq v last) [
 
 -- The search can't get stuck: where no arc leads on, what is reached is closed, and the source has nothing to give.
 pub never_stuck : {needs : List ℤ} {arcs : List Arc} {amounts : List ℕ} {places : List ℤ} {excess unmet ranks vias rooms : List ℕ} {source count last : ℕ}
-    → IsGrown needs arcs amounts places excess unmet ranks vias rooms source count last → slice_index unmet last ≡ 0
+    → IsGrown needs arcs amounts places excess unmet ranks vias rooms source count last
+    → slice_index unmet last ≡ 0
     → AreNoSteps (length arcs) arcs amounts ranks → ⊥
 never_stuck {arcs} {amounts} {excess} {unmet} {ranks} {rooms} {source} {last} grown none stuck =
     let is_reached : ℕ → Bool = λ v. ltb 0 (slice_index ranks v) in
@@ -128,7 +129,7 @@ pub record IsEntered (arc : Arc) (amount : ℕ) (places : List ℤ) (ranks rooms
   pub end : IsLinkedOn arc (slice_set ranks v (count + 1)) (slice_set rooms v room) v ⊎ IsLinkedBack arc amount (slice_set ranks v (count + 1)) (slice_set rooms v room) v
 
 entered : {n : ℕ} {arcs : List Arc} {amounts : List ℕ} {places : List ℤ} {excess ranks vias rooms : List ℕ} {source count : ℕ} {arc : Arc} {amount v room : ℕ}
-    → IsReached n arcs amounts excess ranks vias rooms source count
+    → IsReachedFrom n arcs amounts excess ranks vias rooms source count
     → ((u : ℕ) → 0 < slice_index ranks u → place places u ≤ℤ (place places source +ℤ pos (1048576 * slice_index ranks u)))
     → IsModest arc.least → IsTight arc places → v < n → IsAhead arc ranks rooms v room ⊎ IsBehind arc amount ranks rooms v room
     → IsEntered arc amount places ranks rooms source count v room
@@ -164,9 +165,10 @@ end_stays {arc} {ranks} v rank room fresh other (inr h) = let to : arc.to ≢ v 
 
 -- one variable more
 reach_more : {n : ℕ} {arcs : List Arc} {amounts : List ℕ} {places : List ℤ} {excess ranks vias rooms : List ℕ} {source count : ℕ} (i : ℕ) {v room : ℕ}
-    → IsReached n arcs amounts excess ranks vias rooms source count → i < length arcs → v < n
+    → IsReachedFrom n arcs amounts excess ranks vias rooms source count → i < length arcs → v < n
     → IsEntered (arc_at arcs i) (slice_index amounts i) places ranks rooms source count v room
-    → IsReached n arcs amounts excess (slice_set ranks v (count + 1)) (slice_set vias v i) (slice_set rooms v room) source (count + 1)
+    → IsReachedFrom n arcs amounts excess (slice_set ranks v (count + 1)) (slice_set vias v i)
+    (slice_set rooms v room) source (count + 1)
 reach_more {arcs} {ranks} {vias} {rooms} {source} {count} i {v} {room} h i_lt lt entry =
     let source_other : source ≢ v = apart ranks source v h.source_rank entry.fresh in
     let via_here : slice_index (slice_set vias v i) v ≡ i = get_or-set_same vias v i 0 (omega arith) in
@@ -208,7 +210,8 @@ all_unranked (suc n) = omega (arith, all_unranked n, sum_by-cons unranked 0 (zer
 pub start_grown : {needs : List ℤ} {arcs : List Arc} {amounts : List ℕ} {places : List ℤ} {excess unmet : List ℕ} (vias rooms : List ℕ) (n source : ℕ)
     → IsState needs arcs amounts places excess unmet → n ≡ length needs → length vias ≡ length needs → length rooms ≡ length needs
     → source < length needs → 0 < slice_index excess source
-    → IsGrown needs arcs amounts places excess unmet (slice_set (zeros n) source 1) vias (slice_set rooms source (slice_index excess source)) source 1 source
+    → IsGrown needs arcs amounts places excess unmet (slice_set (zeros n) source 1) vias
+    (slice_set rooms source (slice_index excess source)) source 1 source
 start_grown {places} {excess} vias rooms n source state n_is vias_size rooms_size lt some =
     let zeros_size : length (zeros n) ≡ n = length-replicate n 0 in
     let rank_here : slice_index (slice_set (zeros n) source 1) source ≡ 1 = get_or-set_same (zeros n) source 1 0 (omega arith) in
@@ -251,7 +254,8 @@ pub grown : {needs : List ℤ} {arcs : List Arc} {amounts : List ℕ} {old new :
     → IsGrown needs arcs amounts old excess unmet ranks vias rooms source count last → slice_index unmet last ≡ 0
     → IsLeastStep (length arcs) arcs amounts old ranks chosen by → IsRaised ranks by old new → arc ≡ arc_at arcs chosen → v < length ranks
     → IsAhead arc ranks rooms v room ⊎ IsBehind arc (slice_index amounts chosen) ranks rooms v room
-    → IsGrown needs arcs amounts new excess unmet (slice_set ranks v (count + 1)) (slice_set vias v chosen) (slice_set rooms v room) source (count + 1) v
+    → IsGrown needs arcs amounts new excess unmet (slice_set ranks v (count + 1)) (slice_set vias v chosen)
+    (slice_set rooms v room) source (count + 1) v
 grown {needs} {arcs} {amounts} {new} {excess} {unmet} {ranks} {vias} {rooms} {source} {count} {last} {chosen} {v} {room} h none least raised is lt entry =
     let state : IsState needs arcs amounts new excess unmet = raised_state h none least raised in
     let low = raised_low source raised h.reached.source_rank h.low in

@@ -140,7 +140,8 @@ sent_fits {needs} {amounts} {unmet} target i state lt = omega (arith, sum_term (
 
 -- the state once more is sent
 pub sent_state : {needs : List ℤ} {arcs : List Arc} {old : List ℕ} (new : List ℕ) {places : List ℤ} {excess unmet ranks vias rooms : List ℕ} {source count target : ℕ} (by : ℕ)
-    → IsGrown needs arcs old places excess unmet ranks vias rooms source count target → by ≤ slice_index rooms source → by ≤ slice_index unmet target
+    → IsGrown needs arcs old places excess unmet ranks vias rooms source count target
+    → by ≤ slice_index rooms source → by ≤ slice_index unmet target
     → length new ≡ length old → IsMoved arcs old new source target by → ((i : ℕ) → slice_index new i ≤ slice_index old i + by) → AreAlong ranks vias old new source
     → IsState needs arcs new places (slice_set excess source (slice_index excess source - by)) (slice_set unmet target (slice_index unmet target - by))
 sent_state {needs} {arcs} {old} new {excess} {unmet} {source} {target} by h room_le le size moved bounded along =

@@ -4,8 +4,8 @@ use Rattle.grove_flow.specs.declared.network.Arc.{Arc}
 use Rattle.grove_flow.specs.Flows.{amount_in, amount_out}
 use Rattle.grove_flow.specs.Networks.{place}
 
-abbrev pub AreBounded : List ℕ → ℕ → Type 0
-AreBounded amounts most = (i : ℕ) → slice_index amounts i ≤ most
+abbrev pub AreAmountsUpTo : List ℕ → ℕ → Type 0
+AreAmountsUpTo amounts most = (i : ℕ) → slice_index amounts i ≤ most
 
 -- what enters and leaves each variable
 pub record AreTotals (arcs : List Arc) (amounts into out : List ℕ) : Type 0 where

@@ -13,8 +13,8 @@ end_of From arc = arc.from
 end_of To arc = arc.to
 
 -- the last of the arcs before the bound that end at v, if there is one
-abbrev pub IsLastAt : End → List Arc → ℕ → ℕ → Option ℕ → Type 0
-IsLastAt end arcs bound v last =
+abbrev pub IsLastArcAt : End → List Arc → ℕ → ℕ → Option ℕ → Type 0
+IsLastArcAt end arcs bound v last =
     MatchOption last
     ((i : ℕ) → i < bound → end_of end (arc_at arcs i) ≢ v)
     (λ k. (k < bound) × (end_of end (arc_at arcs k) ≡ v) × ((i : ℕ) → k < i → i < bound → end_of end (arc_at arcs i) ≢ v))
@@ -23,8 +23,8 @@ IsLastAt end arcs bound v last =
 pub record AreLinked (i : ℕ) (end : End) (arcs : List Arc) (n : ℕ) (last before : List (Option ℕ)) : Type 0 where
   pub last_size : length last ≡ n
   pub before_size : length before ≡ length arcs
-  pub last_is : (v : ℕ) → v < n → IsLastAt end arcs i v (slice_index_or last v None)
-  pub before_is : (k : ℕ) → k < i → IsLastAt end arcs k (end_of end (arc_at arcs k)) (slice_index_or before k None)
+  pub last_is : (v : ℕ) → v < n → IsLastArcAt end arcs i v (slice_index_or last v None)
+  pub before_is : (k : ℕ) → k < i → IsLastArcAt end arcs k (end_of end (arc_at arcs k)) (slice_index_or before k None)
 
 pub record IsFan (end : End) (network : Network) (fan : Fan) : Type 0 where
   pub end_is : fan.end ≡ end

@@ -3,7 +3,7 @@ use Rattle.std.specs.Prelude.{◌≡◌, ℕ, suc, ◌+◌, ◌-◌, ◌<◌, Li
 use Rattle.std.specs.List.{sum_by}
 use borrow.Author.Differences.{up, down}
 use Rattle.grove_flow.specs.declared.network.Arc.{Arc}
-use Rattle.grove_flow.specs.Networks.{place, IsLawful, AreLawful, AreBelow}
+use Rattle.grove_flow.specs.Networks.{place, IsLawful, AreLawful, AreAtMost}
 
 -- no place is below the least i64
 abbrev pub AreHeld : List ℤ → Type 0
@@ -22,7 +22,7 @@ pub record AreHighest (n : ℕ) (top : ℤ) (places : List ℤ) : Type 0 where
 -- low places, lawful on an arc
 pub record IsFloor (arc : Arc) (amount : ℕ) (places low : List ℤ) : Type 0 where
   pub lawful : IsLawful arc amount low
-  pub below : AreBelow low places
+  pub below : AreAtMost low places
   pub held : AreHeld low
 
 abbrev pub HasFloor : Arc → ℕ → List ℤ → Type 0
@@ -31,7 +31,7 @@ HasFloor arc amount places = (low : List ℤ) × IsFloor arc amount places low
 -- low places, lawful on each arc
 pub record AreFloor (arcs : List Arc) (amounts : List ℕ) (places low : List ℤ) : Type 0 where
   pub lawful : AreLawful arcs amounts low
-  pub below : AreBelow low places
+  pub below : AreAtMost low places
   pub held : AreHeld low
 
 abbrev pub HaveFloor : List Arc → List ℕ → List ℤ → Type 0
@@ -39,12 +39,12 @@ HaveFloor arcs amounts places = (low : List ℤ) × AreFloor arcs amounts places
 
 -- the places that are lawful on an arc and below the old ones are below the new ones, which are below the old ones
 pub record IsKept (arc : Arc) (amount : ℕ) (old new : List ℤ) : Type 0 where
-  pub above : (low : List ℤ) → IsLawful arc amount low → AreBelow low old → AreBelow low new
-  pub down : AreBelow new old
+  pub above : (low : List ℤ) → IsLawful arc amount low → AreAtMost low old → AreAtMost low new
+  pub down : AreAtMost new old
 
 pub record AreKept (arcs : List Arc) (amounts : List ℕ) (old new : List ℤ) : Type 0 where
-  pub above : (low : List ℤ) → AreLawful arcs amounts low → AreBelow low old → AreBelow low new
-  pub down : AreBelow new old
+  pub above : (low : List ℤ) → AreLawful arcs amounts low → AreAtMost low old → AreAtMost low new
+  pub down : AreAtMost new old
 
 -- one place is lowered
 pub record IsLoweredAt (v : ℕ) (most : ℤ) (old new : List ℤ) : Type 0 where

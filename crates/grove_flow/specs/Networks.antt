@@ -67,10 +67,10 @@ pub record IsCandidate (n : ℕ) (arcs : List Arc) (amounts : List ℕ) (top : �
   pub capped : (v : ℕ) → v < n → place places v ≤ℤ top
 
 -- each place of the one is at most that of the other
-abbrev pub AreBelow : List ℤ → List ℤ → Type 0
-AreBelow low high = (v : ℕ) → place low v ≤ℤ place high v
+abbrev pub AreAtMost : List ℤ → List ℤ → Type 0
+AreAtMost low high = (v : ℕ) → place low v ≤ℤ place high v
 
 -- the greatest candidate
 pub record IsLatest (n : ℕ) (arcs : List Arc) (amounts : List ℕ) (top : ℤ) (places : List ℤ) : Type 0 where
   pub candidate : IsCandidate n arcs amounts top places
-  pub greatest : (other : List ℤ) → IsCandidate n arcs amounts top other → AreBelow other places
+  pub greatest : (other : List ℤ) → IsCandidate n arcs amounts top other → AreAtMost other places

@@ -17,8 +17,8 @@ abbrev pub entries_of : Queue → ℕ
 entries_of queue = heap_len queue.heap
 
 -- the queue names arcs alone
-abbrev pub AreWithin : Network → Queue → Type 0
-AreWithin network queue = (key i : ℕ) → HasEntry queue key i → i < length network.arcs.items
+abbrev pub NamesArcsAlone : Network → Queue → Type 0
+NamesArcsAlone network queue = (key i : ℕ) → HasEntry queue key i → i < length network.arcs.items
 
 -- each arc that leads on stands in the queue
 abbrev pub AreQueued : Network → State → Tree → Queue → Type 0

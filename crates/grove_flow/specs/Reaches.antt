@@ -80,7 +80,8 @@ pub record AreWays (arcs : List Arc) (amounts ranks vias rooms : List ℕ) (sour
       → IsLinkedOn (arc_at arcs (slice_index vias v)) ranks rooms v ⊎ IsLinkedBack (arc_at arcs (slice_index vias v)) (slice_index amounts (slice_index vias v)) ranks rooms v
 
 -- what was reached of n variables from a source, `count` of them, and by which arcs
-pub record IsReached (n : ℕ) (arcs : List Arc) (amounts excess ranks vias rooms : List ℕ) (source count : ℕ) : Type 0 where
+pub record IsReachedFrom (n : ℕ) (arcs : List Arc) (amounts excess ranks vias rooms : List ℕ)
+    (source count : ℕ) : Type 0 where
   pub ranks_size : length ranks ≡ n
   pub vias_size : length vias ≡ n
   pub rooms_size : length rooms ≡ n
@@ -102,9 +103,10 @@ IsTight arc places = place places arc.from +ℤ arc.least ≡ place places arc.t
 
 -- What the search keeps: the places of what is reached are near that of the source, and the arcs by which it was reached are tight. All but
 -- the last variable lacks nothing.
-pub record IsGrown (needs : List ℤ) (arcs : List Arc) (amounts : List ℕ) (places : List ℤ) (excess unmet ranks vias rooms : List ℕ) (source count last : ℕ) : Type 0 where
+pub record IsGrown (needs : List ℤ) (arcs : List Arc) (amounts : List ℕ) (places : List ℤ)
+    (excess unmet ranks vias rooms : List ℕ) (source count last : ℕ) : Type 0 where
   pub state : IsState needs arcs amounts places excess unmet
-  pub reached : IsReached (length needs) arcs amounts excess ranks vias rooms source count
+  pub reached : IsReachedFrom (length needs) arcs amounts excess ranks vias rooms source count
   pub low : (v : ℕ) → 0 < slice_index ranks v → place places v ≤ℤ (place places source +ℤ pos (1048576 * slice_index ranks v))
   pub tight : (v : ℕ) → 0 < slice_index ranks v → v ≢ source → IsTight (arc_at arcs (slice_index vias v)) places
   pub within : last < length needs

@@ -5,7 +5,7 @@ use Rattle.grove_flow.specs.declared.search.Search.{Search}
 use Rattle.grove_flow.specs.declared.state.State.{State}
 use Rattle.grove_flow.specs.declared.tree.Tree.{Tree}
 use Rattle.grove_flow.specs.Fans.{AreFans}
-use Rattle.grove_flow.specs.Queues.{AreQueued, AreWithin}
+use Rattle.grove_flow.specs.Queues.{AreQueued, NamesArcsAlone}
 use Rattle.grove_flow.specs.Reaches.{IsGrown}
 use Rattle.grove_flow.specs.Trees.{AreRaisedTo, IsStateOf, IsTreeOf}
 
@@ -27,4 +27,4 @@ pub record IsSearched (network : Network) (state : State) (search : Search) (sou
   pub fans : AreFans network search.fans
   pub growing : IsGrowing network state search.tree source count last
   pub queued : AreQueued network state search.tree search.queue
-  pub within : AreWithin network search.queue
+  pub within : NamesArcsAlone network search.queue

@@ -2,7 +2,7 @@ ghost use Rattle.std.specs.Prelude.{◌≡◌, ◌<◌, ◌↔◌, ◌-◌, ◌+
 ghost use Rattle.grove_base.specs.Numbers.{sum_below};
 ghost use Rattle.grove_flow.specs.Networks.{AreArcsOf, AreLawful, IsArcOf, IsLawful, place};
 ghost use Rattle.grove_flow.specs.Flows.{IsSolution, takes};
-ghost use Rattle.grove_flow.specs.Checks.{AreBounded, AreMet, AreTotals, IsBalanced};
+ghost use Rattle.grove_flow.specs.Checks.{AreAmountsUpTo, AreMet, AreTotals, IsBalanced};
 
 use crate::{Arc, Network};
 use grove_base::NoMemory;
@@ -90,9 +90,9 @@ fn are_lawful(
     requires into { into.old ≡ replicate (length places.now) 0 }
     requires out { out.old ≡ replicate (length places.now) 0 }
     ensures lawful { result ≡ true → AreLawful arcs.now amounts.now places.now }
-    ensures bounded { result ≡ true → AreBounded amounts.now most }
+    ensures bounded { result ≡ true → AreAmountsUpTo amounts.now most }
     ensures totals { result ≡ true → AreTotals arcs.now amounts.now into.new out.new }
-    ensures refused { result ≡ false → AreLawful arcs.now amounts.now places.now → AreBounded amounts.now most → ⊥ }
+    ensures refused { result ≡ false → AreLawful arcs.now amounts.now places.now → AreAmountsUpTo amounts.now most → ⊥ }
 {
     for (i, arc) in arcs.iter().enumerate() {
         let amount = u128::from(amounts[i]);

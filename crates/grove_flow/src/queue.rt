@@ -23,7 +23,7 @@ impl Queue {
     ghost use Rattle.grove_flow.specs.Networks.{arc_at};
     ghost use Rattle.grove_flow.specs.Fans.{AreFans, IsFan, end_of};
     ghost use Rattle.grove_flow.specs.Trees.{AreEarly, IsLive, IsStateOf, IsTreeOf};
-    ghost use Rattle.grove_flow.specs.Queues.{AreQueued, AreQueuedPast, AreWithin, HasEntry, entries_of};
+    ghost use Rattle.grove_flow.specs.Queues.{AreQueued, AreQueuedPast, NamesArcsAlone, HasEntry, entries_of};
 
     pub fn new(alloc: Global) -> Self
         ensures { (key arc : ℕ) → HasEntry result key arc → ⊥ }
@@ -66,12 +66,12 @@ impl Queue {
         requires tree { IsTreeOf (length network.now.needs.items) tree.now }
         requires early { AreEarly tree.now }
         requires queued { AreQueued network.now state.now tree.now self.old }
-        requires within { AreWithin network.now self.old }
+        requires within { NamesArcsAlone network.now self.old }
         ensures none { IfNone result ((i key : ℕ) → IsLive network.now state.now tree.now i key → ⊥) }
         ensures live { IfSome result (λ e. IsLive network.now state.now tree.now e.1 e.0) }
         ensures least { IfSome result (λ e. (i key : ℕ) → IsLive network.now state.now tree.now i key → e.0 ≤ key) }
         ensures rest { IfSome result (λ e. (i key : ℕ) → IsLive network.now state.now tree.now i key → i ≢ e.1 → HasEntry self.new key i) }
-        ensures within { AreWithin network.now self.new }
+        ensures within { NamesArcsAlone network.now self.new }
     {
         while let Some((key, i)) = self.pop() {
             if tree.key_at(network, state, i) == Some(key) {
@@ -96,9 +96,9 @@ impl Queue {
         requires fans { AreFans network.now fans.now }
         requires v { v < length network.now.needs.items }
         requires past { AreQueuedPast v network.now state.now tree.now self.old }
-        requires within { AreWithin network.now self.old }
+        requires within { NamesArcsAlone network.now self.old }
         ensures queued { OnOk result (AreQueued network.now state.now tree.now self.new) }
-        ensures within { OnOk result (AreWithin network.now self.new) }
+        ensures within { OnOk result (NamesArcsAlone network.now self.new) }
     {
         self.offer_chain(network, state, tree, &fans.outs, v)?;
         self.offer_chain(network, state, tree, &fans.ins, v)?;
@@ -118,10 +118,10 @@ impl Queue {
         requires early { AreEarly tree.now }
         requires fan { IsFan fan.now.end network.now fan.now }
         requires v { v < length network.now.needs.items }
-        requires within { AreWithin network.now self.old }
+        requires within { NamesArcsAlone network.now self.old }
         ensures kept { OnOk result ((i key : ℕ) → HasEntry self.old key i → HasEntry self.new key i) }
         ensures added { OnOk result ((i key : ℕ) → IsLive network.now state.now tree.now i key → end_of fan.now.end (arc_at network.now.arcs.items i) ≡ v → HasEntry self.new key i) }
-        ensures within { OnOk result (AreWithin network.now self.new) }
+        ensures within { OnOk result (NamesArcsAlone network.now self.new) }
     {
         let mut next = fan.last[v];
         while let Some(i) = next {

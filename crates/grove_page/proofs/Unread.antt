@@ -5,10 +5,10 @@ use Rattle.http_server.specs.Response.{IsResponse}
 use Rattle.grove_session.specs.declared.session_fault.SessionFault.TheVariants.{Memory}
 use Rattle.grove_session.specs.Sessions.{is_write}
 use Rattle.grove_store.specs.StoreStates.{StoreState}
-use Rattle.grove_page.specs.Pages.{json, error_line, visitor, AnswersLines}
+use Rattle.grove_page.specs.Pages.{json, error_line, visitor, AnswersBody}
 
 pub no_line_is_read : (opening : StoreState) (body : List ℕ) (r : Response)
-    → IsResponse 503 json (error_line (codes "memory")) r → AnswersLines opening body r
+    → IsResponse 503 json (error_line (codes "memory")) r → AnswersBody opening body r
 no_line_is_read opening body r said = (
   Err Memory,
   [],

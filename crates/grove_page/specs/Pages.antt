@@ -75,8 +75,9 @@ pub record VisitsDesk (opening : StoreState) (body : List ℕ) (result : Result 
   pub cut : (written : ℕ) → result ≡ Err (Write written) → written ≡ 16777216
 
 -- the reply tells of a session over the body
-abbrev pub AnswersLines : StoreState → List ℕ → Response → Type 0
-AnswersLines opening body r = (result : Result ℕ SessionFault) × (out : List ℕ) × VisitsDesk opening body result out × TellsSession result out r
+abbrev pub AnswersBody : StoreState → List ℕ → Response → Type 0
+AnswersBody opening body r =
+    (result : Result ℕ SessionFault) × (out : List ℕ) × VisitsDesk opening body result out × TellsSession result out r
 
 -- ---- stores
 
@@ -97,7 +98,7 @@ TellsStore line_of opening r =
 
 abbrev pub IsReplyTo : PageState → List ℕ → Route → Response → Type 0
 IsReplyTo state body Page r = IsResponse 200 html state.page r
-IsReplyTo state body Lines r = AnswersLines state.opening body r
+IsReplyTo state body Lines r = AnswersBody state.opening body r
 IsReplyTo state body Document r = TellsStore document_line state.opening r
 IsReplyTo state body Nodes r = TellsStore nodes_line state.opening r
 IsReplyTo state body OnlyLook r = IsResponse 405 (json_for (codes "GET, HEAD")) (error_line (codes "method")) r

@@ -1,6 +1,6 @@
 ghost use Rattle.std.specs.Prelude.{◌≡◌, ◌++◌, OnOk, OnErr, IfOk, codes, string_bytes};
 ghost use Rattle.http_server.specs.Response.{IsBlank, IsResponse};
-ghost use Rattle.grove_page.specs.Pages.{json, error_line, document_line, nodes_line, AnswersLines, TellsStore, TellsSession};
+ghost use Rattle.grove_page.specs.Pages.{json, error_line, document_line, nodes_line, AnswersBody, TellsStore, TellsSession};
 
 use crate::lines::{document_line, nodes_line};
 use crate::replies::{fill_allowed, fill_json, fill_page};
@@ -76,7 +76,7 @@ impl<'a, R: AllocGlobal, F: Front<R>> PageService<'a, R, F> {
     #[tactic(auto, using(crate::proofs::Unread::no_line_is_read))]
     fn answer_lines(&self, lines: &[u8], response: &mut Response) -> Result<(), AllocError>
         requires { IsBlank response.old }
-        ensures { OnOk result (AnswersLines self.now.opening lines.now response.new) }
+        ensures { OnOk result (AnswersBody self.now.opening lines.now response.new) }
     {
         match RepliesSink::new(self.rt.alloc()) {
             Ok(mut sink) => {

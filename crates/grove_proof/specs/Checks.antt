@@ -15,4 +15,5 @@ use Rattle.grove_proof.specs.Faults.{IsFault}
 abbrev pub ChecksAs : Rows → List Access → List Step → List FlowRow → Result ℕ ProofFault → Type 0
 ChecksAs rows list plan flow (Ok sum) = IsLeast rows (nodes_of list) (lengths_of list) plan
     × IsCertificate rows (nodes_of list) (lengths_of list) flow sum × (sum ≡ cost rows (lengths_of list) plan)
-ChecksAs rows list plan flow (Err fault) = (fault ≢ Memory) × IsFault rows (nodes_of list) (lengths_of list) plan flow fault
+ChecksAs rows list plan flow (Err fault) =
+    (fault ≢ Memory) × IsFault rows (nodes_of list) (lengths_of list) plan flow fault

@@ -11,10 +11,13 @@ use Rattle.grove_proof.specs.Faults.{IsFault}
 
 -- a plan with a flow has one first fault alone
 abbrev pub FaultIsOne : Type 0
-FaultIsOne = (rows : Rows) (nodes lengths : List ℕ) (plan : List Step) (flow : List FlowRow) (one other : ProofFault) → one ≢ Memory → other ≢ Memory
+FaultIsOne = (rows : Rows) (nodes lengths : List ℕ) (plan : List Step) (flow : List FlowRow) (one other : ProofFault)
+    → one ≢ Memory → other ≢ Memory
     → IsFault rows nodes lengths plan flow one → IsFault rows nodes lengths plan flow other → one ≡ other
 
 -- a legal plan with a certificate of its cost has no fault, and want of memory alone can keep it from being accepted
 abbrev pub CertifiedIsFaultless : Type 0
-CertifiedIsFaultless = (rows : Rows) (nodes lengths : List ℕ) (plan : List Step) (flow : List FlowRow) (fault : ProofFault) → IsLegal rows nodes plan
-    → IsCertificate rows nodes lengths flow (cost rows lengths plan) → IsFault rows nodes lengths plan flow fault → fault ≡ Memory
+CertifiedIsFaultless = (rows : Rows) (nodes lengths : List ℕ) (plan : List Step) (flow : List FlowRow)
+    (fault : ProofFault) → IsLegal rows nodes plan
+    → IsCertificate rows nodes lengths flow (cost rows lengths plan) → IsFault rows nodes lengths plan flow fault
+    → fault ≡ Memory

@@ -3,8 +3,8 @@ use std::sync::atomic::{AtomicBool, AtomicU64, Ordering};
 use std::sync::{Condvar, Mutex, Wait};
 use std::time::{Clock, Duration};
 
-/// What standard error is told of a server's connections, a line at a time, and what is counted of them for each minute.
-/// Where standard error fails, nothing else does.
+/// What standard error is told of a server's connections, a line at a time, and what is counted of them for each
+/// minute. Where standard error fails, nothing else does.
 #[derive(Drop)]
 pub struct Log {
     /// Whoever writes a line has it meanwhile.

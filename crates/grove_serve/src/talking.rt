@@ -21,8 +21,8 @@ pub struct Caller {
     pub number: u64,
 }
 
-/// A session, or requests, over the connection, which is closed then and leaves its seat. What ends it ends it alone, and
-/// nobody is left there to be told of it.
+/// A session, or requests, over the connection, which is closed then and leaves its seat. What ends it ends it alone,
+/// and nobody is left there to be told of it.
 pub fn serve_caller<B: Opening, R: Host>(rt: &R, desk: &Desk<B>, seats: &Seats, caller: Caller) {
     let Caller { stream, number } = caller;
     // No reply is to wait until the one before it has arrived.

@@ -20,9 +20,9 @@ impl LimitedRead for &TcpStream {
     }
 }
 
-/// A connection that may idle for so long and no longer: a read of it fails once a line has been waited for all that time.
-/// Bytes without a line feed win none, and the time in which a line is answered doesn't count. What it reads is what the
-/// stream gives.
+/// A connection that may idle for so long and no longer: a read of it fails once a line has been waited for all that
+/// time. Bytes without a line feed win none, and the time in which a line is answered doesn't count. What it reads is
+/// what the stream gives.
 #[derive(Drop)]
 pub struct TimedStream<'a, R, S> {
     clock: &'a R,
@@ -51,7 +51,8 @@ impl<'a, R: Clock, S: LimitedRead> TimedStream<'a, R, S> {
         }
     }
 
-    /// How long the next read may wait, as there is so much time left. Where there is none, the system refuses the limit.
+    /// How long the next read may wait, as there is so much time left. Where there is none, the system refuses the
+    /// limit.
     fn time_left(&mut self) -> io::Result<Duration>
         ensures { self.new.stream ≡ self.old.stream }
     {

@@ -16,7 +16,7 @@ use Rattle.grove_access.specs.Forced.{IsForcedByTree, is_forced}
 use Rattle.grove_access.proofs.ForcedByTree.{forced_got, forced_get, passing_get}
 use Rattle.grove_span.specs.declared.row.SpanRow.{SpanRow}
 use Rattle.grove_span.specs.SpanRows.{find_place, IsAccessedSo}
-use Rattle.grove_span.specs.Ways.{IsLowest, AreAscending, AreForcedTo, IsFirstFrom, IsUnnamed, IsListedTo}
+use Rattle.grove_span.specs.Ways.{IsLowestCommon, AreAscending, AreForcedTo, IsFirstFrom, IsUnnamed, IsListedTo}
 use Rattle.grove_span.proofs.ForcedRows.{list_hit, list_miss}
 
 -- what is above a node is above those between them
@@ -200,7 +200,8 @@ pub record IsSpannedTo (rows : Rows) (nodes lengths targets : List ℕ) (top i n
   pub past : (j target : ℕ) → j < i → slice_get targets j ≡ Some target → target < next
 
 -- above the top nothing is forced
-pub span_begins : (rows : Rows) (nodes lengths targets : List ℕ) (top : ℕ) (numbers : List ℕ) (items : List SpanRow) → IsTree rows → AreNodes rows nodes → IsLowest rows nodes top → top < length rows
+pub span_begins : (rows : Rows) (nodes lengths targets : List ℕ) (top : ℕ) (numbers : List ℕ) (items : List SpanRow)
+    → IsTree rows → AreNodes rows nodes → IsLowestCommon rows nodes top → top < length rows
     → items ≡ [] → numbers ≡ [] → IsSpannedTo rows nodes lengths targets top 0 top numbers items
 span_begins rows nodes lengths targets top numbers items tree fits lowest within none unplaced = record {
   listed = list_misses rows nodes lengths tree fits 0 top numbers items (omega arith)
@@ -228,7 +229,8 @@ first_from rows nodes lengths targets top i next target numbers items ascending 
     ]
 
 -- and just the nodes above it are forced
-pub forced_to : (rows : Rows) (nodes lengths targets : List ℕ) (top i next target : ℕ) (numbers : List ℕ) (items : List SpanRow) → IsTree rows → AreNodes rows nodes → IsLowest rows nodes top
+pub forced_to : (rows : Rows) (nodes lengths targets : List ℕ) (top i next target : ℕ) (numbers : List ℕ)
+    (items : List SpanRow) → IsTree rows → AreNodes rows nodes → IsLowestCommon rows nodes top
     → AreAscending nodes targets → slice_get targets i ≡ Some target → IsSpannedTo rows nodes lengths targets top i next numbers items → AreForcedTo rows nodes next target
 forced_to rows nodes lengths targets top i next target numbers items tree fits lowest ascending at so_far node from to =
     let (access, named) = ascending.named i target at in

@@ -5,7 +5,7 @@ use Rattle.std.proofs.lemmas.Bool.{cases_eq}
 use Rattle.grove_tree.specs.Trees.{Rows, IsAbove, IsTree, parent_of}
 use Rattle.grove_tree.proofs.Above.{above_trans, root_above}
 use Rattle.grove_access.specs.Forced.{IsCommon}
-use Rattle.grove_span.specs.Ways.{IsLowest}
+use Rattle.grove_span.specs.Ways.{IsLowestCommon}
 
 -- a node without a parent is above every node
 pub top_above : (rows : Rows) → IsTree rows → (v w : ℕ) → v < length rows → w < length rows → parent_of rows v ≡ None → IsAbove rows v w
@@ -42,7 +42,8 @@ lowest_next rows nodes n old target new at so_far over_target over_old within le
 }
 
 -- the same after all accesses
-pub lowest_last : (rows : Rows) (nodes : List ℕ) (n top : ℕ) → length nodes ≤ n → IsLowestTo rows nodes n top → IsLowest rows nodes top
+pub lowest_last : (rows : Rows) (nodes : List ℕ) (n top : ℕ) → length nodes ≤ n → IsLowestTo rows nodes n top
+    → IsLowestCommon rows nodes top
 lowest_last rows nodes n top all so_far = record {
   common = λ access target h. so_far.common access target (let lt : access < length nodes = slice_get_within nodes access target h in omega arith) h;
   lowest = so_far.lowest;

@@ -18,11 +18,11 @@ abbrev pub parent_place : Rows → List ℕ → ℕ → Option ℕ
 parent_place tree span node = option_and_then (λ parent. find_place parent span) (parent_of tree node)
 
 -- the numbers of the first and the last access of a node itself
-abbrev pub first_of : List ℕ → ℕ → Option ℕ
-first_of nodes node = if is_accessed nodes node then Some (first_access nodes node) else None
+abbrev pub first_access_of : List ℕ → ℕ → Option ℕ
+first_access_of nodes node = if is_accessed nodes node then Some (first_access nodes node) else None
 
-abbrev pub last_of : List ℕ → ℕ → Option ℕ
-last_of nodes node = if is_accessed nodes node then Some (last_end nodes node - 1) else None
+abbrev pub last_access_of : List ℕ → ℕ → Option ℕ
+last_access_of nodes node = if is_accessed nodes node then Some (last_end nodes node - 1) else None
 
 -- the slots before its first access, and before the end of its last one
 abbrev pub from_of : List ℕ → List ℕ → ℕ → Option ℕ
@@ -41,8 +41,8 @@ HaveWeights tree rows = (i : ℕ) (row : SpanRow) → slice_get rows i ≡ Some 
 
 -- the first and last access of a row's node, and their slots
 pub record IsAccessedSo (nodes lengths : List ℕ) (row : SpanRow) : Type 0 where
-  pub first : row.first ≡ first_of nodes row.node
-  pub last : row.last ≡ last_of nodes row.node
+  pub first : row.first ≡ first_access_of nodes row.node
+  pub last : row.last ≡ last_access_of nodes row.node
   pub from : row.from ≡ from_of nodes lengths row.node
   pub until : row.until ≡ until_of nodes lengths row.node
 

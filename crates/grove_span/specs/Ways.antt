@@ -8,7 +8,7 @@ use Rattle.grove_span.specs.declared.row.SpanRow.{SpanRow}
 use Rattle.grove_span.specs.declared.visit.Visits.{Visits}
 
 -- the lowest node above all accessed ones
-pub record IsLowest (rows : Rows) (nodes : List ℕ) (top : ℕ) : Type 0 where
+pub record IsLowestCommon (rows : Rows) (nodes : List ℕ) (top : ℕ) : Type 0 where
   pub common : IsCommon rows nodes top
   pub lowest : (node : ℕ) → IsCommon rows nodes node → IsAbove rows node top
 

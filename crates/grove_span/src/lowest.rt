@@ -1,7 +1,7 @@
 ghost use Rattle.std.specs.Prelude.{ℕ, ◌<◌, length};
 ghost use Rattle.grove_tree.specs.Trees.{IsAbove, IsTree};
 ghost use Rattle.grove_access.specs.Lists.{nodes_of, AreNodes};
-ghost use Rattle.grove_span.specs.Ways.{IsLowest};
+ghost use Rattle.grove_span.specs.Ways.{IsLowestCommon};
 
 use grove_access::AccessList;
 use grove_tree::{Node, Tree};
@@ -30,7 +30,7 @@ pub fn lowest_common(tree: &Tree, list: &AccessList) -> Node
     requires tree { IsTree tree.now }
     requires fits { AreNodes tree.now (nodes_of list.now) }
     requires some { 0 < length list.now }
-    ensures lowest { IsLowest tree.now (nodes_of list.now) result }
+    ensures lowest { IsLowestCommon tree.now (nodes_of list.now) result }
     ensures within { result < length tree.now }
 {
     let mut top = list.get(0).node;

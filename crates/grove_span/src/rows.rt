@@ -2,7 +2,7 @@ ghost use Rattle.std.specs.Prelude.{◌≡◌, suc, ◌<◌, ◌≤◌, ◌++◌
 ghost use Rattle.grove_access.specs.Lists.{nodes_of, lengths_of, AreNodes};
 ghost use Rattle.grove_access.specs.Forced.{forced_nodes};
 ghost use Rattle.grove_span.specs.SpanRows.{node_of_row, find_place, HaveParents, HaveWeights, HaveAccesses, IsAccessedSo};
-ghost use Rattle.grove_span.specs.Ways.{IsLowest, AreAscending, AreForcedTo, IsFirstFrom, IsListedTo, IsRising, TellsOf};
+ghost use Rattle.grove_span.specs.Ways.{IsLowestCommon, AreAscending, AreForcedTo, IsFirstFrom, IsListedTo, IsRising, TellsOf};
 
 use crate::SpanRow;
 use crate::visit::{Visits, visits_at};
@@ -129,7 +129,7 @@ pub fn forced_rows(
     targets: &[u32],
 ) -> Result<Vec<SpanRow>, NoMemory>
     requires fits { AreNodes tree.now (nodes_of list.now) }
-    requires top { IsLowest tree.now (nodes_of list.now) top }
+    requires top { IsLowestCommon tree.now (nodes_of list.now) top }
     requires within { top < length tree.now }
     requires targets { AreAscending (nodes_of list.now) targets.now }
     ensures nodes { IfOk result (λ rows. map node_of_row rows.items ≡ forced_nodes tree.now (nodes_of list.now)) }

@@ -9,7 +9,8 @@ use Rattle.grove_proof.specs.declared.flow.FlowRow.{FlowRow}
 use Rattle.grove_wire.specs.Replies.{planned_data, cost_data, round_data, weights_data, changed_data}
 use Rattle.grove_store.specs.Refusals.{is_refusal}
 
-pub planned_accepted : (rows : Rows) (cost : ℕ) (plan : List Step) (flow : List FlowRow) → is_refusal (compact_text (planned_data rows cost plan flow)) ≡ false
+pub planned_accepted : (rows : Rows) (cost : ℕ) (plan : List Step) (flow : List FlowRow)
+    → is_refusal (compact_text (planned_data rows cost plan flow)) ≡ false
 unfolding escape_byte
 planned_accepted rows cost plan flow = refl
 
@@ -17,7 +18,8 @@ pub cost_accepted : (cost : ℕ) → is_refusal (compact_text (cost_data cost)) 
 unfolding escape_byte
 cost_accepted cost = refl
 
-pub round_accepted : (round : ℕ) (places : List ℕ) (replies : List (List Reply)) → is_refusal (compact_text (round_data round places replies)) ≡ false
+pub round_accepted : (round : ℕ) (places : List ℕ) (replies : List (List Reply))
+    → is_refusal (compact_text (round_data round places replies)) ≡ false
 unfolding escape_byte
 round_accepted round places replies = refl
 

@@ -12,7 +12,8 @@ use Rattle.grove_wire.specs.Replies.{round_data}
 use Rattle.grove_store.specs.Rounds.{round_texts}
 
 -- a reply that was made is that of a text that was made
-pub text_made : {E : Type 0} {P : List ℕ → Type 0} (text : Result (List ℕ) E) (replies : List (List ℕ)) → IfOk text P → MatchResult text (λ t. replies ≡ t ∷ []) (λ _. ⊥)
+pub text_made : {E : Type 0} {P : List ℕ → Type 0} (text : Result (List ℕ) E) (replies : List (List ℕ)) → IfOk text P
+    → MatchResult text (λ t. replies ≡ t ∷ []) (λ _. ⊥)
     → (t : List ℕ) × P t × (replies ≡ t ∷ [])
 text_made (Ok t) replies tells one = (t, tells, one)
 text_made (Err e) replies tells one = absurd one

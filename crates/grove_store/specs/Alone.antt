@@ -13,7 +13,7 @@ use Rattle.grove_build.specs.Batches.{IsPlanned}
 use Rattle.grove_meter.specs.Waits.{reweighed}
 use Rattle.grove_wire.specs.declared.fault.WireFault.{WireFault}
 use Rattle.grove_wire.specs.Requests.{Asked, Plan, Check, Batch, Weights, Reweigh, request_of}
-use Rattle.grove_wire.specs.Replies.{error_data, planned_data, cost_data, weights_of, weights_data, changed_data}
+use Rattle.grove_wire.specs.Replies.{error_data, planned_data, cost_data, weights_in_rows, weights_data, changed_data}
 use Rattle.grove_wire.specs.Names.{wire_name, proof_name}
 use Rattle.grove_store.specs.StoreStates.{StoreState, changes, reweighed_store}
 
@@ -35,7 +35,8 @@ RepliesAlone before (Err fault) reply after = (reply ≡ error_data (wire_name f
 RepliesAlone before (Ok (Plan list)) reply after = TellsPlan before.rows list reply × (after ≡ before)
 RepliesAlone before (Ok (Check list plan flow)) reply after = TellsCheck before.rows list plan flow reply × (after ≡ before)
 RepliesAlone before (Ok (Batch lists)) reply after = ⊥
-RepliesAlone before (Ok Weights) reply after = (reply ≡ weights_data before.waits (weights_of before.rows)) × (after ≡ before)
+RepliesAlone before (Ok Weights) reply after =
+    (reply ≡ weights_data before.waits (weights_in_rows before.rows)) × (after ≡ before)
 RepliesAlone before (Ok Reweigh) reply after =
     (reply ≡ changed_data (changes before.rows (reweighed before.waits before.rows))) × (after ≡ reweighed_store before)
 

@@ -16,8 +16,8 @@ use Rattle.grove_store.specs.StoreStates.{StoreState, changes, reweighed_store}
 use Rattle.grove_store.specs.Rounds.{batches_in, joined, first_fits, fitting, waits_after, RunsRound, FailsRound, round_texts}
 
 -- the text of a reply of which something holds
-abbrev pub IsTextOf : (Data → Type 0) → List ℕ → Type 0
-IsTextOf Tells text = (reply : Data) × Tells reply × (text ≡ compact_text reply)
+abbrev pub IsTextOfReply : (Data → Type 0) → List ℕ → Type 0
+IsTextOfReply Tells text = (reply : Data) × Tells reply × (text ≡ compact_text reply)
 
 -- what is asked are these lists, and they have room
 abbrev pub FitsRoom : Option (List (List Access)) → ℕ → List (List Access) → Type 0

@@ -4,9 +4,9 @@ ghost use Rattle.serde_json.specs.Written.{compact_text};
 ghost use Rattle.grove_access.specs.Lists.{nodes_of, AreNodes};
 ghost use Rattle.grove_build.specs.KeptPlans.{AreSettledFor};
 ghost use Rattle.grove_wire.specs.Names.{wire_name, proof_name, run_name};
-ghost use Rattle.grove_wire.specs.Replies.{error_text, round_data, weights_of, weights_data, changed_data};
+ghost use Rattle.grove_wire.specs.Replies.{error_text, round_data, weights_in_rows, weights_data, changed_data};
 ghost use Rattle.grove_store.specs.Alone.{TellsPlan, TellsCheck};
-ghost use Rattle.grove_store.specs.Parts.{IsTextOf};
+ghost use Rattle.grove_store.specs.Parts.{IsTextOfReply};
 ghost use Rattle.grove_store.specs.Refusals.{refusal_name};
 ghost use Rattle.grove_store.specs.Rounds.{round_texts};
 
@@ -52,7 +52,7 @@ pub fn plan_text(
 ) -> Result<LineReply, NoMemory>
     requires fits { AreNodes tree.now (nodes_of list.now) }
     requires kept { AreSettledFor tree.now plans.old }
-    ensures text { IfOk result (IsTextOf (TellsPlan tree.now list.now)) }
+    ensures text { IfOk result (IsTextOfReply (TellsPlan tree.now list.now)) }
     ensures kept { AreSettledFor tree.now plans.new }
 {
     let planned = plans.plan(alloc, tree, list)?;
@@ -69,7 +69,7 @@ pub fn check_text(
     flow: &Flow,
 ) -> Result<LineReply, NoMemory>
     requires { AreNodes tree.now (nodes_of list.now) }
-    ensures { IfOk result (IsTextOf (TellsCheck tree.now list.now plan.now flow.now)) }
+    ensures { IfOk result (IsTextOfReply (TellsCheck tree.now list.now plan.now flow.now)) }
 {
     match check(alloc, tree, list, plan, flow) {
         Ok(cost) => LineReply::new(alloc, &cost_value(alloc, cost)?),
@@ -103,7 +103,8 @@ pub fn run_refusals(
     fault: RunFault,
     lines: usize,
 ) -> Result<Vec<LineReply>, NoMemory>
-    ensures { IfOk result (λ replies. (fault ≢ RunFault.Memory) × (replies.items ≡ replicate lines (error_text (run_name fault)))) }
+    ensures { IfOk result
+        (λ replies. (fault ≢ RunFault.Memory) × (replies.items ≡ replicate lines (error_text (run_name fault)))) }
 {
     match fault {
         RunFault::Memory => Err(NoMemory),
@@ -113,7 +114,7 @@ pub fn run_refusals(
 
 /// The waits and the weights.
 pub fn weights_text(alloc: Global, tree: &Tree, waits: &[u32]) -> Result<LineReply, NoMemory>
-    ensures { IfOk result (λ reply. reply ≡ compact_text (weights_data waits.now (weights_of tree.now))) }
+    ensures { IfOk result (λ reply. reply ≡ compact_text (weights_data waits.now (weights_in_rows tree.now))) }
 {
     LineReply::new(alloc, &weights_value(alloc, tree, waits)?)
 }
@@ -131,7 +132,8 @@ fn round_text(
     places: &[u32],
     replies: &[&[Reply]],
 ) -> Result<LineReply, NoMemory>
-    ensures { IfOk result (λ reply. reply ≡ compact_text (round_data round places.now (map (λ list. list.now) replies.now))) }
+    ensures { IfOk result
+        (λ reply. reply ≡ compact_text (round_data round places.now (map (λ list. list.now) replies.now))) }
 {
     LineReply::new(alloc, &round_value(alloc, round, places, replies)?)
 }
@@ -146,7 +148,8 @@ pub fn round_texts(
 ) -> Result<Vec<LineReply>, NoMemory>
     requires places { sum counts.now ≤ length places.now }
     requires replies { sum counts.now ≤ length replies.now }
-    ensures { IfOk result (λ texts. texts.items ≡ round_texts round counts.now places.now (map (λ list. list.now) replies.now)) }
+    ensures { IfOk result
+        (λ texts. texts.items ≡ round_texts round counts.now places.now (map (λ list. list.now) replies.now)) }
 {
     let mut texts = Vec::new(alloc);
     let mut at = 0;

@@ -50,8 +50,8 @@ fn run<R: Abort + Threads + Wait + Sync>(
     assert!(rt; cues.have_come());
 }
 
-/// The second job sleeps for the leaf, the last of its locks that is in its way. When the first one lets the leaf go, it
-/// still has the root: so the second sleeps for that one, and is woken when it is let go too.
+/// The second job sleeps for the leaf, the last of its locks that is in its way. When the first one lets the leaf go,
+/// it still has the root: so the second sleeps for that one, and is woken when it is let go too.
 #[test]
 fn who_sleeps_for_a_node_that_is_let_go_sleeps_for_the_next_one_in_its_way(rt: HostRuntime) {
     let alloc = rt.alloc();
@@ -73,7 +73,8 @@ fn who_sleeps_for_a_node_that_is_let_go_sleeps_for_the_next_one_in_its_way(rt: H
     }
 }
 
-/// Both others sleep for the leaf that the first job has. One is woken when it lets it go, and the other when that one does.
+/// Both others sleep for the leaf that the first job has. One is woken when it lets it go, and the other when that one
+/// does.
 #[test]
 fn two_that_sleep_for_one_node_get_it_one_after_the_other(rt: HostRuntime) {
     let alloc = rt.alloc();

@@ -6,7 +6,7 @@ use Rattle.std.proofs.lemmas.Option.{same_Some, none-some, option_and_then_some,
 use Rattle.std.proofs.lemmas.Bool.{cases_lt}
 use Rattle.grove_tree.specs.Trees.{Rows, NodeRow, parent_of, up, IsAbove, IsTree}
 use Rattle.grove_tree.specs.Outlines.{Under, KeepsInside, put_under, rows_under, total, AreNumbered}
-use Rattle.grove_tree.specs.OutlinesInTrees.{IsPlaced, IsGrown}
+use Rattle.grove_tree.specs.OutlinesInTrees.{IsPlaced, IsOutlineIn}
 use Rattle.grove_tree.specs.OutlineFalls.{length-rows_under}
 use Rattle.grove_tree.proofs.Above.{parent_lt, parent_within, above_le}
 use Rattle.grove_base.proofs.Lists.{get_append_left, get_append_at, same_lists}
@@ -70,7 +70,7 @@ put_inside rows parent [] start row high h k = absurd (none-some high k)
 put_inside rows parent (first ∷ rest) start row high h k = ap (λ (o : Option NodeRow). option_and_then (λ (r : NodeRow). r.parent) o) h ∙ k
 
 -- the parents in a grown outline are in it
-pub grown_inside : (rows : Rows) (node : ℕ) (outline : Under) → IsGrown rows node outline → KeepsInside outline
+pub grown_inside : (rows : Rows) (node : ℕ) (outline : Under) → IsOutlineIn rows node outline → KeepsInside outline
 grown_inside rows node outline grown row parent h =
     let lt : suc row < length outline.1 = parent_within outline.1 (suc row) parent h in
     let e : outline.0 ≡ node = grown.number in
@@ -80,7 +80,7 @@ grown_inside rows node outline grown row parent h =
     omega arith
 
 child_placed : (rows : Rows) (node next : ℕ) (children : List Under) (child : Under) → IsGrowing rows node next children
-    → parent_of rows next ≡ Some node → IsGrown rows next child → (row : ℕ) → row < total (children ++ child ∷ [])
+    → parent_of rows next ≡ Some node → IsOutlineIn rows next child → (row : ℕ) → row < total (children ++ child ∷ [])
     → slice_get rows (suc node + row) ≡ slice_get (rows_under node (children ++ child ∷ [])) row
 child_placed rows node next children child so_far own grown row lt =
     let counted = total-append children child in
@@ -100,7 +100,8 @@ child_placed rows node next children child so_far own grown row lt =
     ])
 
 child_below : (rows : Rows) (node next : ℕ) (children : List Under) (child : Under) → IsGrowing rows node next children
-    → parent_of rows next ≡ Some node → IsGrown rows next child → (row parent : ℕ) → node < row → row < next + length child.1 → parent_of rows row ≡ Some parent → node ≤ parent
+    → parent_of rows next ≡ Some node → IsOutlineIn rows next child → (row parent : ℕ) → node < row
+    → row < next + length child.1 → parent_of rows row ≡ Some parent → node ≤ parent
 child_below rows node next children child so_far own grown row parent from to h = elim (cases_lt row next) [
   | inl before ↦ so_far.below row parent from before h
   | inr after ↦ elim (cases_lt next row) [
@@ -112,7 +113,8 @@ child_below rows node next children child so_far own grown row parent from to h 
   ]
 ]
 
-child_last : (rows : Rows) (node next : ℕ) (child : Under) → IsTree rows → parent_of rows next ≡ Some node → IsGrown rows next child
+child_last : (rows : Rows) (node next : ℕ) (child : Under) → IsTree rows → parent_of rows next ≡ Some node
+    → IsOutlineIn rows next child
     → (parent : ℕ) → parent_of rows (next + length child.1) ≡ Some parent → parent ≤ node
 child_last rows node next child tree own grown parent h =
     let some : 0 < length child.1 = grown.some in
@@ -130,7 +132,8 @@ nothing_less n h = omega arith
 
 -- one more child
 pub growing_child : (rows : Rows) (node next : ℕ) (children : List Under) (child : Under) → IsTree rows → IsGrowing rows node next children
-    → parent_of rows next ≡ Some node → IsGrown rows next child → IsGrowing rows node (next + length child.1) (children ++ child ∷ [])
+    → parent_of rows next ≡ Some node → IsOutlineIn rows next child
+    → IsGrowing rows node (next + length child.1) (children ++ child ∷ [])
 growing_child rows node next children child tree so_far own grown =
     let counted = total-append children child in
     let start : next ≡ suc node + total children = so_far.next_is in
@@ -168,7 +171,8 @@ node_placed rows node next children row so_far here (suc i) lt =
 -- at the end, when the next row is no child
 pub growing_done : (rows : Rows) (node next : ℕ) (children : List Under) (row : NodeRow) → IsGrowing rows node next children → slice_get rows node ≡ Some row
     → (parent_of rows next ≡ Some node → ⊥)
-    → IsGrown rows node (node, record { parent = None; name = row.name; weight = row.weight } ∷ rows_under node children)
+    → IsOutlineIn rows node
+    (node, record { parent = None; name = row.name; weight = row.weight } ∷ rows_under node children)
 growing_done rows node next children row so_far here other =
     let long = length-rows_under node children in
     let start : next ≡ suc node + total children = so_far.next_is in
@@ -185,7 +189,8 @@ growing_done rows node next children row so_far here other =
     }
 
 -- no row follows those of a root's outline
-all_grown : (rows : Rows) (outline : Under) → IsTree rows → IsGrown rows 0 outline → (row : ℕ) → length outline.1 ≤ row → length rows ≤ row
+all_grown : (rows : Rows) (outline : Under) → IsTree rows → IsOutlineIn rows 0 outline → (row : ℕ)
+    → length outline.1 ≤ row → length rows ≤ row
 all_grown rows outline tree grown row past =
     let some : 0 < length outline.1 = grown.some in
     elim (cases_lt (length outline.1) (length rows)) [
@@ -198,7 +203,7 @@ all_grown rows outline tree grown row past =
     ]
 
 -- a root's outline has all the rows of the tree
-pub grown_whole : (rows : Rows) (outline : Under) → IsTree rows → IsGrown rows 0 outline → outline.1 ≡ rows
+pub grown_whole : (rows : Rows) (outline : Under) → IsTree rows → IsOutlineIn rows 0 outline → outline.1 ≡ rows
 grown_whole rows outline tree grown =
     let number : outline.0 ≡ 0 = grown.number in
     let within : 0 + length outline.1 ≤ length rows = grown.within in

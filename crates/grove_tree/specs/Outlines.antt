@@ -1,5 +1,5 @@
--- For the proofs alone. An outline: a node's number, and the rows of the node and of all that is below it. The node's own row stands first, and
--- its parent is left out.
+-- For the proofs alone. An outline: a node's number, and the rows of the node and of all that is below it. The node's
+-- own row stands first, and its parent is left out.
 use Rattle.std.specs.Prelude.{◌≡◌, ℕ, suc, ◌+◌, ◌<◌, ◌≤◌, ⊤, List, [], ◌∷◌, ◌++◌, length, slice_get, Option, Some}
 use Rattle.grove_tree.specs.Trees.{Rows, parent_of}
 

@@ -8,7 +8,7 @@ abbrev pub IsPlaced : Rows → Option ℕ → Under → Type 0
 IsPlaced rows parent outline = (row : ℕ) → row < length outline.1 → slice_get rows (outline.0 + row) ≡ slice_get (put_under parent outline.1) row
 
 -- the outline of a node of a tree: all that is below the node, and nothing else
-pub record IsGrown (rows : Rows) (node : ℕ) (outline : Under) : Type 0 where
+pub record IsOutlineIn (rows : Rows) (node : ℕ) (outline : Under) : Type 0 where
   pub number : outline.0 ≡ node
   pub some : 0 < length outline.1
   pub own : put_under None outline.1 ≡ outline.1

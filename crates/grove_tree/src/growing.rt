@@ -1,7 +1,7 @@
 ghost use Rattle.std.specs.Prelude.{◌≡◌, ◌<◌, ◌≤◌, ◌↔◌, length, IsTrue, IfOk, Some};
 ghost use Rattle.grove_tree.specs.Trees.{IsTree, parent_of};
 ghost use Rattle.grove_tree.specs.BuiltRows.{rows_of};
-ghost use Rattle.grove_tree.specs.OutlinesInTrees.{IsGrown};
+ghost use Rattle.grove_tree.specs.OutlinesInTrees.{IsOutlineIn};
 
 use crate::child_mark::marks_of;
 use crate::name::Name;
@@ -23,7 +23,7 @@ pub fn grow(alloc: Global, rows: &[Row], node: u32) -> Result<Outline, AllocErro
     requires tree { IsTree (rows_of rows.now) }
     requires few { length rows.now ≤ 4096 }
     requires within { node < length rows.now }
-    ensures { IfOk result (λ outline. IsGrown (rows_of rows.now) node outline) }
+    ensures { IfOk result (λ outline. IsOutlineIn (rows_of rows.now) node outline) }
 {
     let row = &rows[node as usize];
     let name = Name::new(row.name.clone()?);

@@ -49,7 +49,8 @@ digits_feedless : (k n : ℕ) (after : List ℕ) → Feedless after → Feedless
 digits_feedless zero n after so_far = so_far
 digits_feedless (suc k) n after so_far =
     let more = All-cons NoFeed (digit_glyph false (n % 10)) after (glyph (n % 10)) so_far in
-    either (n / 10 == 0) (digit_glyph false (n % 10) ∷ after) (digits_onto k 10 false (n / 10) (digit_glyph false (n % 10) ∷ after)) more
+    either (n / 10 == 0) (digit_glyph false (n % 10) ∷ after)
+    (digits_onto k 10 false (n / 10) (digit_glyph false (n % 10) ∷ after)) more
     (λ _. digits_feedless k (n / 10) (digit_glyph false (n % 10) ∷ after) more)
 
 pub decimal_feedless : (n : ℕ) → Feedless (decimal n)
@@ -89,9 +90,11 @@ hexadecimal d = either_byte (nat_lt d 10) (48 + d) (87 + d) (λ is. omega arith)
 byte_feedless : (x : ℕ) → Feedless (escape_byte x)
 unfolding escape_byte
 byte_feedless x =
-    either (nat_lt 0 (escape_letter x)) (92 ∷ escape_letter x ∷ []) _ (two 92 (escape_letter x) (λ is. omega arith) (letter x))
+    either (nat_lt 0 (escape_letter x)) (92 ∷ escape_letter x ∷ []) _
+    (two 92 (escape_letter x) (λ is. omega arith) (letter x))
     (λ _. either (nat_lt x 32) (92 ∷ 117 ∷ 48 ∷ 48 ∷ digit_char (x / 16) ∷ digit_char (x % 16) ∷ []) (x ∷ [])
-    (All-append NoFeed (92 ∷ 117 ∷ 48 ∷ 48 ∷ []) (digit_char (x / 16) ∷ digit_char (x % 16) ∷ []) (none_found (92 ∷ 117 ∷ 48 ∷ 48 ∷ []) refl)
+    (All-append NoFeed (92 ∷ 117 ∷ 48 ∷ 48 ∷ []) (digit_char (x / 16) ∷ digit_char (x % 16) ∷ [])
+    (none_found (92 ∷ 117 ∷ 48 ∷ 48 ∷ []) refl)
     (two (digit_char (x / 16)) (digit_char (x % 16)) (hexadecimal (x / 16)) (hexadecimal (x % 16))))
     (λ above. let least : 32 ≤ x = ltb-false x 32 above in All-cons NoFeed x [] (λ is. omega arith) (All-nil NoFeed)))
 
@@ -101,7 +104,8 @@ escape_feedless (x ∷ s) = All-append NoFeed (escape_byte x) (escape s) (byte_f
 
 quoted_feedless : (s : List ℕ) → Feedless (quoted s)
 quoted_feedless s =
-    All-cons NoFeed 34 (escape s ++ 34 ∷ []) (λ is. omega arith) (All-append NoFeed (escape s) (34 ∷ []) (escape_feedless s) (none_found (34 ∷ []) refl))
+    All-cons NoFeed 34 (escape s ++ 34 ∷ []) (λ is. omega arith)
+    (All-append NoFeed (escape s) (34 ∷ []) (escape_feedless s) (none_found (34 ∷ []) refl))
 
 -- ---- of values
 
@@ -116,7 +120,8 @@ mutual
   text_feedless (number n) = number_feedless n
   text_feedless (string s) = quoted_feedless s
   text_feedless (array ds) = All-cons NoFeed 91 (items_text false ds) (λ is. omega arith) (items_feedless false ds)
-  text_feedless (object ms) = All-cons NoFeed 123 (members_text false ms) (λ is. omega arith) (members_feedless false ms)
+  text_feedless (object ms) =
+      All-cons NoFeed 123 (members_text false ms) (λ is. omega arith) (members_feedless false ms)
 
   items_feedless : (later : Bool) (ds : Items) → Feedless (items_text later ds)
   items_feedless later no_items = none_found (93 ∷ []) refl
@@ -127,7 +132,8 @@ mutual
   members_feedless : (later : Bool) (ms : Members) → Feedless (members_text later ms)
   members_feedless later no_members = none_found (125 ∷ []) refl
   members_feedless later (member k d ms) =
-      All-append NoFeed (comma_if later) (quoted k ++ 58 ∷ (compact_text d ++ members_text true ms)) (comma_feedless later)
+      All-append NoFeed (comma_if later) (quoted k ++ 58 ∷ (compact_text d ++ members_text true ms))
+      (comma_feedless later)
       (All-append NoFeed (quoted k) (58 ∷ (compact_text d ++ members_text true ms)) (quoted_feedless k)
       (All-cons NoFeed 58 (compact_text d ++ members_text true ms) (λ is. omega arith)
       (All-append NoFeed (compact_text d) (members_text true ms) (text_feedless d) (members_feedless true ms))))

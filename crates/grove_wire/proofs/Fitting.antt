@@ -143,8 +143,10 @@ access_reads : (rows : Rows) (version : Version) (place : Place) (d : Data) → 
 unfolding access_at
 access_reads rows version place d =
     then_reads (λ form. Unit {0}) (IsAccess rows) (or_fault (Shape place) (access_form version d)) _ (any_reads (Shape place) (access_form version d) tt) (λ form told.
-    then_reads (λ node. node < length rows) (IsAccess rows) (node_on rows place form.0) _ (node_reads rows place form.0) (λ node within.
-    then_reads (λ slots. is_length slots ≡ true) (IsAccess rows) (length_on place form.2) _ (length_reads place form.2) (λ slots fits. record { node = within; length_is = fits })))
+    then_reads (λ node. node < length rows) (IsAccess rows) (node_on rows place form.0) _ (node_reads rows place form.0)
+    (λ node within.
+    then_reads (λ slots. is_length slots ≡ true) (IsAccess rows) (length_on place form.2) _ (length_reads place form.2)
+    (λ slots fits. record { node = within; length_is = fits })))
 
 -- the nodes of such accesses, and their lengths
 are_nodes : (rows : Rows) (list : List Access) → All (IsAccess rows) list → AreNodes rows (nodes_of list)
@@ -249,7 +251,8 @@ all_at P (y ∷ xs) all zero x at = subst P (same_Some y x at) (All-head P y xs 
 all_at P (y ∷ xs) all (suc place) x at = all_at P xs (All-tail P y xs all) place x at
 
 -- the steps of a plan that stands at a place
-pub steps_read : (rows : Rows) (place : Place) (ds : List Data) → Reads (PlanFits rows) (each_on (step_at rows) place ds)
+pub steps_read : (rows : Rows) (place : Place) (ds : List Data)
+    → Reads (PlanFits rows) (each_on (step_at rows) place ds)
 steps_read rows place ds =
     weaker_reads (λ plan. (length plan ≡ length ds) × All (StepFits rows) plan) (PlanFits rows) (each_from (step_in rows place) 0 ds) (λ plan here. all_at (StepFits rows) plan here.1)
     (each_reads (StepFits rows) (step_in rows place) (λ at d. step_reads rows (item_on place at) d) 0 ds)
@@ -272,7 +275,8 @@ job_reads rows version at d =
     then_reads (λ ds. Unit {0}) (JobFits rows) (items_at (item_of part.JobList at) (codes "list") object) _ (any_reads _ (items_of (codes "list") object) tt) (λ accesses told.
     then_reads (AreListed rows) (JobFits rows) (list_of rows version (item_of part.JobList at) accesses) _ (list_reads rows version (item_of part.JobList at) accesses) (λ list listed.
     then_reads (λ ds. Unit {0}) (JobFits rows) (items_at (item_of part.JobPlan at) (codes "plan") object) _ (any_reads _ (items_of (codes "plan") object) tt) (λ steps told.
-    then_reads (PlanFits rows) (JobFits rows) (each_on (step_at rows) (item_of part.JobPlan at) steps) _ (steps_read rows (item_of part.JobPlan at) steps) (λ plan fits. listed)))))
+    then_reads (PlanFits rows) (JobFits rows) (each_on (step_at rows) (item_of part.JobPlan at) steps) _
+    (steps_read rows (item_of part.JobPlan at) steps) (λ plan fits. listed)))))
 
 jobs_read : (rows : Rows) (version : Version) (ds : List Data) → Reads (λ jobs. (length jobs ≤ 256) × All (JobFits rows) jobs) (jobs_of rows version ds)
 jobs_read rows version ds = few_reads (JobFits rows) 256 (whole_of part.Jobs) (job_at rows version) ds (nat_lt 256 (length ds)) (ltb-false 256 (length ds)) (job_reads rows version)
@@ -305,7 +309,8 @@ flow_row_reads : (rows : Rows) (place : Place) (d : Data) → Reads (RowFits row
 unfolding flow_row_at
 flow_row_reads rows place d =
     then_reads (λ form. Unit {0}) (RowFits rows) (or_fault (Shape place) (flow_form d)) _ (any_reads (Shape place) (flow_form d) tt) (λ form told.
-    then_reads (λ node. node < length rows) (RowFits rows) (node_on rows place form.0) (λ node. Ok (record form.1 { node = node })) (node_reads rows place form.0) (λ node within. within))
+    then_reads (λ node. node < length rows) (RowFits rows) (node_on rows place form.0)
+    (λ node. Ok (record form.1 { node = node })) (node_reads rows place form.0) (λ node within. within))
 
 pub flow_reads : (rows : Rows) (d : Data) → Reads (FlowFits rows) (flow_in rows d)
 unfolding flow_in

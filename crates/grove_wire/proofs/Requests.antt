@@ -29,7 +29,8 @@ object_reads d = either_reads (λ object. Unit {0}) (is_some (as_object d)) (Ok 
 check_asks : (rows : Rows) (d : Data) → Reads (AskedFits rows) (check_of rows d)
 unfolding check_of
 check_asks rows d =
-    then_reads (λ object. Unit {0}) (AskedFits rows) (object_at (whole_of part.Whole) d) _ (object_reads d) (λ object told.
+    then_reads (λ object. Unit {0}) (AskedFits rows) (object_at (whole_of part.Whole) d) _ (object_reads d)
+    (λ object told.
     then_reads (AreListed rows) (AskedFits rows) (list_in rows object) _ (list_in_reads rows object) (λ list listed.
     then_reads (PlanFits rows) (AskedFits rows) (plan_in rows object) _ (plan_reads rows object) (λ plan plan_fits.
     then_reads (FlowFits rows) (AskedFits rows) (flow_in rows object) (λ flow. Ok (Check list plan flow)) (flow_reads rows object) (λ flow flow_fits. (listed, plan_fits, flow_fits)))))

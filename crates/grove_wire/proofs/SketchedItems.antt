@@ -54,7 +54,9 @@ item_rows json.no_items ds is = record {
 }
 item_rows (json.item j js) ds is = with_item (of_json j) (of_items js) refl refl (item_rows js) is
   where
-    with_item : (o : Option Data) (p : Option Items) → of_json j ≡ o → of_items js ≡ p → ((es : Items) → of_items js ≡ Some es → ItemRows js es) → option_and_then (λ d. option_map (item d) p) o ≡ Some ds → ItemRows (json.item j js) ds
+    with_item : (o : Option Data) (p : Option Items) → of_json j ≡ o → of_items js ≡ p
+        → ((es : Items) → of_items js ≡ Some es → ItemRows js es)
+        → option_and_then (λ d. option_map (item d) p) o ≡ Some ds → ItemRows (json.item j js) ds
     with_item None p here there again is = absurd (cc)
     with_item (Some d) None here there again is = absurd (cc)
     with_item (Some d) (Some es) here there again is =
@@ -86,20 +88,25 @@ leaf_same look form.Check d same = same
 leaf_same look form.Line d same = same
 
 module _ {A : Type 0} (look : Data → A) where
-  pub number_same : (f : Form) (o : Option Num) (d : Data) → option_map number o ≡ Some d → ((n : Num) → look (leaf f (number n)) ≡ look (number n)) → look (leaf f (number_data o)) ≡ look d
+  pub number_same : (f : Form) (o : Option Num) (d : Data) → option_map number o ≡ Some d
+      → ((n : Num) → look (leaf f (number n)) ≡ look (number n)) → look (leaf f (number_data o)) ≡ look d
   number_same f None d is same = absurd (cc)
   number_same f (Some n) d is same = same n ∙ ap look (same_Some (number n) d is)
 
-  pub array_same : (e : Data) (o : Option Items) (d : Data) → option_map array o ≡ Some d → ((ds : Items) → o ≡ Some ds → look e ≡ look (array ds)) → look e ≡ look d
+  pub array_same : (e : Data) (o : Option Items) (d : Data) → option_map array o ≡ Some d
+      → ((ds : Items) → o ≡ Some ds → look e ≡ look (array ds)) → look e ≡ look d
   array_same e None d is same = absurd (cc)
   array_same e (Some ds) d is same = same ds refl ∙ ap look (same_Some (array ds) d is)
 
-  pub object_same : (e : Data) (o : Option Members) (d : Data) → option_map object o ≡ Some d → ((ms : Members) → o ≡ Some ms → look e ≡ look (object ms)) → look e ≡ look d
+  pub object_same : (e : Data) (o : Option Members) (d : Data) → option_map object o ≡ Some d
+      → ((ms : Members) → o ≡ Some ms → look e ≡ look (object ms)) → look e ≡ look d
   object_same e None d is same = absurd (cc)
   object_same e (Some ms) d is same = same ms refl ∙ ap look (same_Some (object ms) d is)
 
   -- of a scalar
-  pub scalar_same : (no_boolean : (b : Bool) → look null ≡ look (boolean b)) (arrays : (ds es : Items) → look (array ds) ≡ look (array es)) (objects : (ms ns : Members) → look (object ms) ≡ look (object ns))
+  pub scalar_same : (no_boolean : (b : Bool) → look null ≡ look (boolean b))
+      (arrays : (ds es : Items) → look (array ds) ≡ look (array es))
+      (objects : (ms ns : Members) → look (object ms) ≡ look (object ns))
       → (row : Row) → look (drawn form.Scalar row.text) ≡ look row.whole
   scalar_same no_boolean arrays objects row = by_text row.text row.whole row.reads
     where
@@ -108,11 +115,14 @@ module _ {A : Type 0} (look : Data → A) where
       by_text (json.boolean b) d is = no_boolean b ∙ ap look (same_Some (boolean b) d is)
       by_text (json.number s) d is = number_same form.Scalar (number_of s) d is (λ n. refl)
       by_text (json.string s) d is = ap look (same_Some (string s) d is)
-      by_text (json.array js) d is = array_same (drawn form.Scalar (json.array js)) (of_items js) d is (λ ds at. arrays _ ds)
-      by_text (json.object ms) d is = object_same (drawn form.Scalar (json.object ms)) (of_members ms no_members) d is (λ ns at. objects _ ns)
+      by_text (json.array js) d is =
+          array_same (drawn form.Scalar (json.array js)) (of_items js) d is (λ ds at. arrays _ ds)
+      by_text (json.object ms) d is =
+          object_same (drawn form.Scalar (json.object ms)) (of_members ms no_members) d is (λ ns at. objects _ ns)
 
 -- of an array
-pub list_same : {A : Type 0} (f : Form) (look : Option (List Data) → A) → ((rows : List Row) → look (Some (cut (most_items f) (sketches (item_form f) rows))) ≡ look (Some (wholes rows)))
+pub list_same : {A : Type 0} (f : Form) (look : Option (List Data) → A)
+    → ((rows : List Row) → look (Some (cut (most_items f) (sketches (item_form f) rows))) ≡ look (Some (wholes rows)))
     → (row : Row) → look (forms.as_list (drawn f row.text)) ≡ look (forms.as_list row.whole)
 list_same {A} f look same row = by_text row.text row.whole row.reads
   where
@@ -126,36 +136,50 @@ list_same {A} f look same row = by_text row.text row.whole row.reads
     by_text (json.string s) d is = leaf_same seen f (string s) refl ∙ ap seen (same_Some (string s) d is)
     by_text (json.array js) d is = array_same seen (drawn f (json.array js)) (of_items js) d is (λ ds at.
         let items = item_rows js ds at in
-        ap (λ xs. look (Some xs)) (list_of_items (cut (most_items f) (drawn_items (item_form f) js)) ∙ ap (cut (most_items f)) (items.drawn_so (item_form f)))
+        ap (λ xs. look (Some xs))
+        (list_of_items (cut (most_items f) (drawn_items (item_form f) js))
+        ∙ ap (cut (most_items f)) (items.drawn_so (item_form f)))
         ∙ same items.rows ∙ ap (λ xs. look (Some xs)) (sym items.whole))
-    by_text (json.object ms) d is = object_same seen (drawn f (json.object ms)) (of_members ms no_members) d is (λ ns at. refl)
+    by_text (json.object ms) d is =
+        object_same seen (drawn f (json.object ms)) (of_members ms no_members) d is (λ ns at. refl)
 
 -- ---- items that read the same
 
-module _ {A : Type 0} (f : Form) (read : ℕ → Data → Result A WireFault) (same : (at : ℕ) (row : Row) → read at (drawn f row.text) ≡ read at row.whole) where
+module _ {A : Type 0} (f : Form) (read : ℕ → Data → Result A WireFault)
+    (same : (at : ℕ) (row : Row) → read at (drawn f row.text) ≡ read at row.whole) where
   pub each_same : (at : ℕ) (rows : List Row) → each_from read at (sketches f rows) ≡ each_from read at (wholes rows)
   each_same at [] = refl
-  each_same at (row ∷ rows) = ap₂ (λ first others. first >>= λ x. others >>= λ xs. Ok (x ∷ xs)) (same at row) (each_same (suc at) rows)
+  each_same at (row ∷ rows) =
+      ap₂ (λ first others. first >>= λ x. others >>= λ xs. Ok (x ∷ xs)) (same at row) (each_same (suc at) rows)
 
   abbrev pub limited : ℕ → WireFault → List Data → Result (List A) WireFault
   limited limit fault ds = cond (nat_lt limit (length ds)) (Err fault) (each_from read 0 ds)
 
   -- of more than may be it only matters that they are
-  pub limited_same : (limit : ℕ) (fault : WireFault) (rows : List Row) → limited limit fault (take (suc limit) (sketches f rows)) ≡ limited limit fault (wholes rows)
+  pub limited_same : (limit : ℕ) (fault : WireFault) (rows : List Row)
+      → limited limit fault (take (suc limit) (sketches f rows)) ≡ limited limit fault (wholes rows)
   limited_same limit fault rows = by_test (nat_lt limit (length rows)) refl
     where
-      by_test : (test : Bool) → nat_lt limit (length rows) ≡ test → limited limit fault (take (suc limit) (sketches f rows)) ≡ limited limit fault (wholes rows)
+      by_test : (test : Bool) → nat_lt limit (length rows) ≡ test
+          → limited limit fault (take (suc limit) (sketches f rows)) ≡ limited limit fault (wholes rows)
       by_test true beyond =
           let many : limit < length rows = ltb-true limit (length rows) beyond in
-          let kept : length (take (suc limit) (sketches f rows)) ≡ suc limit = length-take-le (suc limit) (sketches f rows) (omega (arith, many, map_length (λ row. drawn f row.text) rows)) in
-          let here : nat_lt limit (length (take (suc limit) (sketches f rows))) ≡ true = lt-ltb limit _ (omega (arith, kept)) in
-          let there : nat_lt limit (length (wholes rows)) ≡ true = ap (nat_lt limit) (map_length (λ row. row.whole) rows) ∙ beyond in
-          ap (λ test. cond test (Err fault) (each_from read 0 (take (suc limit) (sketches f rows)))) here ∙ sym (ap (λ test. cond test (Err fault) (each_from read 0 (wholes rows))) there)
+          let kept : length (take (suc limit) (sketches f rows))
+          ≡ suc limit = length-take-le (suc limit) (sketches f rows)
+          (omega (arith, many, map_length (λ row. drawn f row.text) rows)) in
+          let here : nat_lt limit (length (take (suc limit) (sketches f rows))) ≡ true =
+          lt-ltb limit _ (omega (arith, kept)) in
+          let there : nat_lt limit (length (wholes rows)) ≡ true =
+          ap (nat_lt limit) (map_length (λ row. row.whole) rows) ∙ beyond in
+          ap (λ test. cond test (Err fault) (each_from read 0 (take (suc limit) (sketches f rows)))) here
+          ∙ sym (ap (λ test. cond test (Err fault) (each_from read 0 (wholes rows))) there)
       by_test false within =
           let few : length rows ≤ limit = ltb-false limit (length rows) within in
-          let all : take (suc limit) (sketches f rows) ≡ sketches f rows = take_all (suc limit) (sketches f rows) (omega (arith, few, map_length (λ row. drawn f row.text) rows)) in
+          let all : take (suc limit) (sketches f rows) ≡ sketches f rows =
+          take_all (suc limit) (sketches f rows) (omega (arith, few, map_length (λ row. drawn f row.text) rows)) in
           ap (limited limit fault) all
-          ∙ ap₂ (λ n rest. cond (nat_lt limit n) (Err fault) rest) (map_length (λ row. drawn f row.text) rows ∙ sym (map_length (λ row. row.whole) rows)) (each_same 0 rows)
+          ∙ ap₂ (λ n rest. cond (nat_lt limit n) (Err fault) rest)
+          (map_length (λ row. drawn f row.text) rows ∙ sym (map_length (λ row. row.whole) rows)) (each_same 0 rows)
 
 -- ---- scalars
 
@@ -169,8 +193,10 @@ module _ (row : Row) where
   pub signed_same : forms.as_signed (drawn form.Scalar row.text) ≡ forms.as_signed row.whole
   signed_same = scalar_same forms.as_signed (λ b. refl) (λ ds es. refl) (λ ms ns. refl) row
 
-  pub unsigned_same : option_and_then as_u64 (as_number (drawn form.Scalar row.text)) ≡ option_and_then as_u64 (as_number row.whole)
-  unsigned_same = scalar_same (λ d. option_and_then as_u64 (as_number d)) (λ b. refl) (λ ds es. refl) (λ ms ns. refl) row
+  pub unsigned_same : option_and_then as_u64 (as_number (drawn form.Scalar row.text))
+      ≡ option_and_then as_u64 (as_number row.whole)
+  unsigned_same = scalar_same (λ d. option_and_then as_u64 (as_number d)) (λ b. refl) (λ ds es. refl)
+      (λ ms ns. refl) row
 
   pub short_same : forms.as_short (drawn form.Scalar row.text) ≡ forms.as_short row.whole
   unfolding forms.as_short
@@ -178,7 +204,8 @@ module _ (row : Row) where
 
 -- ---- the same of the same
 
-pub three : {A B C D : Type 0} (f : A → B → C → D) {a b : A} {c d : B} {x y : C} → a ≡ b → c ≡ d → x ≡ y → f a c x ≡ f b d y
+pub three : {A B C D : Type 0} (f : A → B → C → D) {a b : A} {c d : B} {x y : C} → a ≡ b → c ≡ d → x ≡ y
+    → f a c x ≡ f b d y
 three f p q r = ap₂ (λ g z. g z) (ap₂ f p q) r
 
 pub applied : {A B : Type 0} {f g : A → B} {a b : A} → f ≡ g → a ≡ b → f a ≡ g b
@@ -194,68 +221,102 @@ abbrev pub get_of : Data → Option Op
 get_of word = cond (forms.is_word (codes "get") word) (Some Get) None
 
 abbrev pub op_of : Data → ℤ → Option Op
-op_of word n = cond (forms.is_word (codes "set") word) (Some (Set n)) (cond (forms.is_word (codes "add") word) (Some (Add n)) (cond (forms.is_word (codes "take") word) (Some (Take n)) None))
+op_of word n = cond (forms.is_word (codes "set") word) (Some (Set n))
+    (cond (forms.is_word (codes "add") word) (Some (Add n))
+    (cond (forms.is_word (codes "take") word) (Some (Take n)) None))
 
 pub get_same : (a : Row) → get_of (drawn form.Scalar a.text) ≡ get_of a.whole
 get_same a = if_same (word_same a (codes "get")) refl refl
 
 pub op_same : (a : Row) (value : ℤ) → op_of (drawn form.Scalar a.text) value ≡ op_of a.whole value
-op_same a value = if_same (word_same a (codes "set")) refl (if_same (word_same a (codes "add")) refl (if_same (word_same a (codes "take")) refl refl))
+op_same a value = if_same (word_same a (codes "set")) refl
+    (if_same (word_same a (codes "add")) refl (if_same (word_same a (codes "take")) refl refl))
 
-pub numbered_same : (a b : Row) → forms.numbered_op (drawn form.Scalar a.text) (drawn form.Scalar b.text) ≡ forms.numbered_op a.whole b.whole
-numbered_same a b = ap (option_and_then (op_of (drawn form.Scalar a.text))) (signed_same b) ∙ by_value (forms.as_signed b.whole)
+pub numbered_same : (a b : Row)
+    → forms.numbered_op (drawn form.Scalar a.text) (drawn form.Scalar b.text) ≡ forms.numbered_op a.whole b.whole
+numbered_same a b = ap (option_and_then (op_of (drawn form.Scalar a.text))) (signed_same b)
+    ∙ by_value (forms.as_signed b.whole)
   where
     by_value : (o : Option ℤ) → option_and_then (op_of (drawn form.Scalar a.text)) o ≡ option_and_then (op_of a.whole) o
     by_value None = refl
     by_value (Some value) = op_same a value
 
-pub length_same : (path length : Row) (op p : Option Op) → op ≡ p → forms.with_length (drawn form.Scalar path.text) op (drawn form.Scalar length.text) ≡ forms.with_length path.whole p length.whole
+pub length_same : (path length : Row) (op p : Option Op) → op ≡ p
+    → forms.with_length (drawn form.Scalar path.text) op (drawn form.Scalar length.text)
+    ≡ forms.with_length path.whole p length.whole
 length_same path length op p same =
-    three (λ text o told. option_and_then (λ slots. option_and_then (λ t. option_map (λ found. (t, found, Some slots)) o) text) told) (text_same path) same (unsigned_same length)
+    three (λ text o told. option_and_then
+    (λ slots. option_and_then (λ t. option_map (λ found. (t, found, Some slots)) o) text) told)
+    (text_same path) same (unsigned_same length)
 
-pub no_length_same : (path : Row) (op p : Option Op) → op ≡ p → forms.form_with (drawn form.Scalar path.text) op None ≡ forms.form_with path.whole p None
-no_length_same path op p same = ap₂ (λ text o. option_and_then (λ t. option_map (λ found. (t, found, None)) o) text) (text_same path) same
+pub no_length_same : (path : Row) (op p : Option Op) → op ≡ p
+    → forms.form_with (drawn form.Scalar path.text) op None ≡ forms.form_with path.whole p None
+no_length_same path op p same =
+    ap₂ (λ text o. option_and_then (λ t. option_map (λ found. (t, found, None)) o) text) (text_same path) same
 
 pub form_same : (rows : List Row) → forms.form_of (take 5 (sketches form.Scalar rows)) ≡ forms.form_of (wholes rows)
 form_same [] = refl
 form_same (a ∷ []) = refl
 form_same (a ∷ b ∷ []) = no_length_same b _ _ (get_same a)
-form_same (a ∷ b ∷ c ∷ []) = if_same (word_same a (codes "get")) (length_same b c (Some Get) (Some Get) refl) (no_length_same b _ _ (numbered_same a c))
+form_same (a ∷ b ∷ c ∷ []) = if_same (word_same a (codes "get")) (length_same b c (Some Get) (Some Get) refl)
+    (no_length_same b _ _ (numbered_same a c))
 form_same (a ∷ b ∷ c ∷ d ∷ []) = length_same b d _ _ (numbered_same a c)
 form_same (a ∷ b ∷ c ∷ d ∷ e ∷ rows) = refl
 
-pub access_same : (version : Version) (row : Row) → forms.access_form version (drawn form.Access row.text) ≡ forms.access_form version row.whole
+pub access_same : (version : Version) (row : Row)
+    → forms.access_form version (drawn form.Access row.text) ≡ forms.access_form version row.whole
 unfolding forms.access_form
-access_same version row = list_same form.Access (λ o. option_and_then (forms.allowed version) (option_and_then forms.form_of o)) (λ rows. ap (option_and_then (forms.allowed version)) (form_same rows)) row
+access_same version row = list_same form.Access
+    (λ o. option_and_then (forms.allowed version) (option_and_then forms.form_of o))
+    (λ rows. ap (option_and_then (forms.allowed version)) (form_same rows)) row
 
-pub access_in_same : (tree : Rows) (version : Version) (place : Place) (at : ℕ) (row : Row) → access_in tree version place at (drawn form.Access row.text) ≡ access_in tree version place at row.whole
+pub access_in_same : (tree : Rows) (version : Version) (place : Place) (at : ℕ) (row : Row)
+    → access_in tree version place at (drawn form.Access row.text) ≡ access_in tree version place at row.whole
 unfolding reading.access_at
 access_in_same tree version place at row =
-    ap (λ o. or_fault (Shape (item_on place at)) o >>= λ form. reading.node_on tree (item_on place at) form.0 >>= λ node. reading.length_on (item_on place at) form.2 >>= λ slots. Ok (record { node = node; op = form.1; length = slots }))
+    ap (λ o. or_fault (Shape (item_on place at)) o >>= λ form. reading.node_on tree
+    (item_on place at) form.0 >>= λ node. reading.length_on (item_on place at) form.2 >>= λ slots. Ok
+    (record { node = node; op = form.1; length = slots }))
     (access_same version row)
 
-pub list_of_same : (tree : Rows) (version : Version) (place : Place) (rows : List Row) → reading.list_of tree version place (take 65 (sketches form.Access rows)) ≡ reading.list_of tree version place (wholes rows)
-list_of_same tree version place rows = limited_same form.Access (access_in tree version place) (access_in_same tree version place) 64 (Limit place) rows
+pub list_of_same : (tree : Rows) (version : Version) (place : Place) (rows : List Row)
+    → reading.list_of tree version place (take 65 (sketches form.Access rows))
+    ≡ reading.list_of tree version place (wholes rows)
+list_of_same tree version place rows =
+    limited_same form.Access (access_in tree version place) (access_in_same tree version place) 64 (Limit place) rows
 
-pub list_on_same : (tree : Rows) (version : Version) (place : Place) (row : Row) → reading.list_on tree version place (drawn form.List row.text) ≡ reading.list_on tree version place row.whole
+pub list_on_same : (tree : Rows) (version : Version) (place : Place) (row : Row)
+    → reading.list_on tree version place (drawn form.List row.text) ≡ reading.list_on tree version place row.whole
 unfolding reading.list_on
-list_on_same tree version place row = list_same form.List (λ o. or_fault (Shape place) o >>= reading.list_of tree version place) (list_of_same tree version place) row
+list_on_same tree version place row = list_same form.List
+    (λ o. or_fault (Shape place) o >>= reading.list_of tree version place) (list_of_same tree version place) row
 
 -- ---- steps and plans
 
-pub step_of_same : (tree : Rows) (place : Place) (a b : Row) → reading.step_of tree place (drawn form.Scalar a.text) (drawn form.Scalar b.text) ≡ reading.step_of tree place a.whole b.whole
+pub step_of_same : (tree : Rows) (place : Place) (a b : Row)
+    → reading.step_of tree place (drawn form.Scalar a.text) (drawn form.Scalar b.text)
+    ≡ reading.step_of tree place a.whole b.whole
 unfolding reading.step_of
 step_of_same tree place a b =
-    if_same (word_same a (codes "lock")) (ap (λ text. (or_fault (Shape place) text >>= reading.node_on tree place) >>= λ node. Ok (step.Lock node)) (text_same b))
-    (if_same (word_same a (codes "unlock")) (ap (λ text. (or_fault (Shape place) text >>= reading.node_on tree place) >>= λ node. Ok (step.Unlock node)) (text_same b))
-    (if_same (word_same a (codes "access")) (ap (λ short. or_fault (Shape place) short >>= λ access. Ok (step.Access access)) (short_same b)) refl))
+    if_same (word_same a (codes "lock"))
+    (ap (λ text. (or_fault (Shape place) text >>= reading.node_on tree place) >>= λ node. Ok (step.Lock node))
+    (text_same b))
+    (if_same (word_same a (codes "unlock"))
+    (ap (λ text. (or_fault (Shape place) text >>= reading.node_on tree place) >>= λ node. Ok (step.Unlock node))
+    (text_same b))
+    (if_same (word_same a (codes "access"))
+    (ap (λ short. or_fault (Shape place) short >>= λ access. Ok (step.Access access)) (short_same b)) refl))
 
-pub step_on_same : (tree : Rows) (place : Place) (rows : List Row) → reading.step_on tree place (take 3 (sketches form.Scalar rows)) ≡ reading.step_on tree place (wholes rows)
+pub step_on_same : (tree : Rows) (place : Place) (rows : List Row)
+    → reading.step_on tree place (take 3 (sketches form.Scalar rows)) ≡ reading.step_on tree place (wholes rows)
 step_on_same tree place [] = refl
 step_on_same tree place (a ∷ []) = refl
 step_on_same tree place (a ∷ b ∷ []) = step_of_same tree place a b
 step_on_same tree place (a ∷ b ∷ c ∷ rows) = refl
 
-pub step_in_same : (tree : Rows) (place : Place) (at : ℕ) (row : Row) → step_in tree place at (drawn form.Step row.text) ≡ step_in tree place at row.whole
+pub step_in_same : (tree : Rows) (place : Place) (at : ℕ) (row : Row)
+    → step_in tree place at (drawn form.Step row.text) ≡ step_in tree place at row.whole
 unfolding reading.step_at
-step_in_same tree place at row = list_same form.Step (λ o. or_fault (Shape (item_on place at)) o >>= reading.step_on tree (item_on place at)) (step_on_same tree (item_on place at)) row
+step_in_same tree place at row = list_same form.Step
+    (λ o. or_fault (Shape (item_on place at)) o >>= reading.step_on tree (item_on place at))
+    (step_on_same tree (item_on place at)) row

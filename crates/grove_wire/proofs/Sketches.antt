@@ -151,12 +151,18 @@ flow_form_same row =
   where
     rows_of : Option (List ℕ) → Option ℕ → Option ℕ → Option ℕ → Option ℕ → Option ℕ → Option (List ℕ × FlowRow)
     rows_of p a h f l o =
-        option_and_then (λ path. option_and_then (λ above. option_and_then (λ held. option_and_then (λ first. option_and_then (λ last. option_and_then (λ own. Some (flow_with path above held first last own)) o) l) f) h) a) p
+        option_and_then (λ path. option_and_then
+        (λ above. option_and_then
+        (λ held. option_and_then
+        (λ first. option_and_then
+        (λ last. option_and_then (λ own. Some (flow_with path above held first last own)) o) l) f) h) a) p
 
-flow_row_in_same : (tree : Rows) (at : ℕ) (row : Row) → flow_row_in tree at (drawn form.Row row.text) ≡ flow_row_in tree at row.whole
+flow_row_in_same : (tree : Rows) (at : ℕ) (row : Row)
+    → flow_row_in tree at (drawn form.Row row.text) ≡ flow_row_in tree at row.whole
 unfolding reading.flow_row_at
 flow_row_in_same tree at row =
-    ap (λ o. or_fault (Shape (item_of part.Flow at)) o >>= λ form. reading.node_on tree (item_of part.Flow at) form.0 >>= λ node. Ok (record form.1 { node = node })) (flow_form_same row)
+    ap (λ o. or_fault (Shape (item_of part.Flow at)) o >>= λ form. reading.node_on tree
+    (item_of part.Flow at) form.0 >>= λ node. Ok (record form.1 { node = node })) (flow_form_same row)
 
 -- ---- a check
 
@@ -179,7 +185,9 @@ module _ (tree : Rows) (row : Row) where
   version_same : reading.version_in (drawn form.Check row.text) ≡ reading.version_in row.whole
   unfolding reading.version_in
   version_same = member_same form.Check form.Scalar (codes "version") refl (check_others (codes "version")) (λ o. or_fault (Shape (whole_of part.Whole)) (forms.version_of o))
-      (λ r. ap (λ o. or_fault (Shape (whole_of part.Whole)) (option_and_then (λ n. cond (n == 1) (Some First) (cond (n == 2) (Some Second) None)) o)) (unsigned_same r)) row
+      (λ r. ap (λ o. or_fault (Shape (whole_of part.Whole))
+      (option_and_then (λ n. cond (n == 1) (Some First) (cond (n == 2) (Some Second) None)) o))
+      (unsigned_same r)) row
 
   list_in_same : reading.list_in tree (drawn form.Check row.text) ≡ reading.list_in tree row.whole
   unfolding reading.list_in
@@ -188,11 +196,13 @@ module _ (tree : Rows) (row : Row) where
   plan_in_same : reading.plan_in tree (drawn form.Check row.text) ≡ reading.plan_in tree row.whole
   unfolding reading.plan_in
   plan_in_same = part_same part.Plan form.Plan refl (each_on (reading.step_at tree) (whole_of part.Plan))
-      (λ rows. each_same form.Step (step_in tree (whole_of part.Plan)) (step_in_same tree (whole_of part.Plan)) 0 rows) row
+      (λ rows. each_same form.Step (step_in tree (whole_of part.Plan))
+      (step_in_same tree (whole_of part.Plan)) 0 rows) row
 
   flow_in_same : reading.flow_in tree (drawn form.Check row.text) ≡ reading.flow_in tree row.whole
   unfolding reading.flow_in
-  flow_in_same = part_same part.Flow form.Flow refl (each_from (flow_row_in tree) 0) (λ rows. each_same form.Row (flow_row_in tree) (flow_row_in_same tree) 0 rows) row
+  flow_in_same = part_same part.Flow form.Flow refl (each_from (flow_row_in tree) 0)
+      (λ rows. each_same form.Row (flow_row_in tree) (flow_row_in_same tree) 0 rows) row
 
   kind_same : is_some (as_object (drawn form.Check row.text)) ≡ is_some (as_object row.whole)
   kind_same = by_text row.text row.whole row.reads
@@ -233,7 +243,8 @@ module _ (tree : Rows) (row : Row) where
   unfolding requests.batch_of
   batch_same = list_same form.Batch (λ o. or_fault (Shape (whole_of part.Lists)) o >>= λ ds. (reading.lists_of tree Second ds >>= λ lists. Ok (requests.Batch lists)))
       (λ rows. ap (λ read. read >>= λ lists. Ok (requests.Batch lists))
-      (limited_same form.List (nth_list tree Second) (λ at r. list_on_same tree Second _ r) 256 (Limit (whole_of part.Lists)) rows)) row
+      (limited_same form.List (nth_list tree Second) (λ at r. list_on_same tree Second _ r) 256
+      (Limit (whole_of part.Lists)) rows)) row
 
 -- ---- a line
 

@@ -48,8 +48,8 @@ events_in d = items_in part.Events d >>= few_on 1048576 (of_form event_form) (wh
 abbrev pub Standing : Type 0
 Standing = List ℤ × List (List Reply)
 
-abbrev pub standing_of : Said → Standing
-standing_of said = (said.records.items, map (λ replies. replies.items) said.replies.items)
+abbrev pub said_standing : Said → Standing
+said_standing said = (said.records.items, map (λ replies. replies.items) said.replies.items)
 
 -- the replies of one job, which stand at a place
 unfoldable pub replies_on : Place → Data → Result (List Reply) WireFault

@@ -39,7 +39,8 @@ abbrev pub each_on : {A : Type 0} → (Place → Data → Result A WireFault) �
 each_on read place ds = each_from (λ at. read (item_on place at)) 0 ds
 
 -- of which there are at most so many
-abbrev pub few_on : {A : Type 0} → ℕ → (Place → Data → Result A WireFault) → Place → List Data → Result (List A) WireFault
+abbrev pub few_on : {A : Type 0} → ℕ → (Place → Data → Result A WireFault) → Place → List Data
+    → Result (List A) WireFault
 few_on most read place ds = if nat_lt most (length ds) then Err (Limit place) else each_on read place ds
 
 -- a call fails as a definition says, or for want of memory

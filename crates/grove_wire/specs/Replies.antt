@@ -33,12 +33,13 @@ round_data round places replies = object
     (member (codes "round") (count_data round) no_members)))
 
 -- the weights of the nodes
-abbrev pub weights_of : Rows → List ℕ
-weights_of rows = map (λ row. row.weight) rows
+abbrev pub weights_in_rows : Rows → List ℕ
+weights_in_rows rows = map (λ row. row.weight) rows
 
 abbrev pub weights_data : List ℕ → List ℕ → Data
 weights_data waits weights = object
-    (member (codes "waits") (array_of count_data waits) (member (codes "weights") (array_of count_data weights) no_members))
+    (member (codes "waits") (array_of count_data waits)
+    (member (codes "weights") (array_of count_data weights) no_members))
 
 -- how many weights were changed
 abbrev pub changed_data : ℕ → Data

@@ -31,7 +31,8 @@ pub fn read_events(alloc: Global, document: &Value) -> Result<Vec<Event>, WireFa
 /// The events, of which there are few enough.
 fn read_each_event(alloc: Global, items: &[Value]) -> Result<Vec<Event>, WireFault>
     requires { length items.now ≤ 1048576 }
-    ensures read { Gives (λ events. events.items) result (each_on (of_form event_form) (whole_of Part.Events) (map view items.now)) }
+    ensures read { Gives (λ events. events.items) result
+        (each_on (of_form event_form) (whole_of Part.Events) (map view items.now)) }
     ensures few { IfOk result (λ events. length events.items ≤ 1048576) }
 {
     let mut events = Vec::new(alloc);

@@ -89,7 +89,8 @@ pub fn proof_fault_text(alloc: Global, tree: &Tree, fault: &ProofFault) -> Resul
 }
 
 fn value_text(alloc: Global, cost: u64, bound: i128) -> Result<String, NoMemory>
-    ensures { IfOk result (λ text. string_bytes text ≡ codes "value " ++ decimal cost ++ (codes " " ++ signed_decimal bound)) }
+    ensures { IfOk result
+        (λ text. string_bytes text ≡ codes "value " ++ decimal cost ++ (codes " " ++ signed_decimal bound)) }
 {
     let bound = format!(in alloc; " {bound}")?;
     Ok(format!(in alloc; "value {cost}{bound}")?)
@@ -134,7 +135,8 @@ pub(crate) fn said_text(
     number: u32,
     said: &str,
 ) -> Result<String, NoMemory>
-    ensures { IfOk result (λ text. string_bytes text ≡ word.now ++ codes " " ++ decimal number ++ (codes " " ++ said.now)) }
+    ensures { IfOk result
+        (λ text. string_bytes text ≡ word.now ++ codes " " ++ decimal number ++ (codes " " ++ said.now)) }
 {
     Ok(format!(in alloc; "{word} {number} {said}")?)
 }

@@ -28,7 +28,8 @@ pub fn read_flow(alloc: Global, tree: &Tree, document: &Value) -> Result<Flow, W
 
 fn read_flow_rows(alloc: Global, tree: &Tree, items: &[Value]) -> Result<Vec<FlowRow>, WireFault>
     requires { length items.now < 2 ^ 32 }
-    ensures read { Gives (λ rows. rows.items) result (each_on (flow_row_at tree.now) (whole_of Part.Flow) (map view items.now)) }
+    ensures read { Gives (λ rows. rows.items) result
+        (each_on (flow_row_at tree.now) (whole_of Part.Flow) (map view items.now)) }
     ensures few { IfOk result (λ rows. vec_len rows < 2 ^ 32) }
 {
     let mut rows = Vec::new(alloc);

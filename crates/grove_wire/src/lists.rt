@@ -79,7 +79,8 @@ fn read_accesses(
     items: &[Value],
 ) -> Result<Vec<Access>, WireFault>
     requires { length items.now ≤ 64 }
-    ensures { Gives (λ accesses. accesses.items) result (each_on (access_at tree.now version) place (map view items.now)) }
+    ensures { Gives (λ accesses. accesses.items) result
+        (each_on (access_at tree.now version) place (map view items.now)) }
 {
     let mut accesses = Vec::new(alloc);
     for (at, item) in items.iter().enumerate() {
@@ -130,7 +131,8 @@ fn read_each_list(
     items: &[Value],
 ) -> Result<Vec<AccessList>, WireFault>
     requires { length items.now ≤ 256 }
-    ensures { Gives (λ lists. lists.items) result (each_on (list_on tree.now version) (whole_of Part.Lists) (map view items.now)) }
+    ensures { Gives (λ lists. lists.items) result
+        (each_on (list_on tree.now version) (whole_of Part.Lists) (map view items.now)) }
 {
     let mut lists = Vec::new(alloc);
     for (at, item) in items.iter().enumerate() {

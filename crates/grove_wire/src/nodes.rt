@@ -32,7 +32,8 @@ pub fn read_tree(alloc: Global, document: &Value) -> Result<(Tree, Records), Wir
 /// The tree of the rows, beside the records of its nodes.
 fn tree_of(alloc: Global, rows: &[Row], values: &[i64]) -> Result<(Tree, Records), WireFault>
     requires { length values.now ≡ length rows.now }
-    ensures read { Gives {A = Rows × List ℤ} (λ read. (read.0, read.1)) result (unless_fault (tree_fault_of (rows_of rows.now)) (rows_of rows.now, values.now)) }
+    ensures read { Gives {A = Rows × List ℤ} (λ read. (read.0, read.1)) result
+        (unless_fault (tree_fault_of (rows_of rows.now)) (rows_of rows.now, values.now)) }
     ensures fits { IfOk result (λ read. length read.1 ≡ length read.0) }
 {
     let tree = build_tree(alloc, rows)?;

@@ -1,7 +1,7 @@
 ghost use Rattle.std.specs.Prelude.{◌≡◌, IfOk, map};
 ghost use Rattle.serde_json.specs.View.{view};
 ghost use Rattle.grove_wire.specs.Writing.{PlanFits, FlowFits, array_of, count_data, reply_data};
-ghost use Rattle.grove_wire.specs.Replies.{error_data, planned_data, cost_data, round_data, weights_of, weights_data, changed_data};
+ghost use Rattle.grove_wire.specs.Replies.{error_data, planned_data, cost_data, round_data, weights_in_rows, weights_data, changed_data};
 
 use crate::plan_values::{flow_value, plan_value};
 use crate::replies::replies_value;
@@ -64,7 +64,7 @@ pub fn round_value(
 
 /// The waits, and the weights of the tree's nodes.
 pub fn weights_value(alloc: Global, tree: &Tree, waits: &[u32]) -> Result<Value, NoMemory>
-    ensures { IfOk result (λ value. view value ≡ weights_data waits.now (weights_of tree.now)) }
+    ensures { IfOk result (λ value. view value ≡ weights_data waits.now (weights_in_rows tree.now)) }
 {
     let mut members = Map::new(alloc);
     put(&mut members, alloc, "waits", counts_value(alloc, waits)?)?;
@@ -107,7 +107,7 @@ pub fn lists_value(alloc: Global, replies: &[&[Reply]]) -> Result<Value, NoMemor
 }
 
 fn tree_weights_value(alloc: Global, tree: &Tree) -> Result<Value, NoMemory>
-    ensures { IfOk result (λ value. view value ≡ array_of count_data (weights_of tree.now)) }
+    ensures { IfOk result (λ value. view value ≡ array_of count_data (weights_in_rows tree.now)) }
 {
     let mut items = Vec::new(alloc);
     for number in 0..tree.len() {

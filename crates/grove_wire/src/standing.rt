@@ -4,7 +4,7 @@ ghost use Rattle.serde_json.specs.View.{view};
 ghost use Rattle.grove_wire.specs.Forms.{as_signed, reply_form, AreArraysShort};
 ghost use Rattle.grove_wire.specs.Outcomes.{Gives, of_form, each_on};
 ghost use Rattle.grove_wire.specs.Places.{whole_of, item_of};
-ghost use Rattle.grove_wire.specs.Histories.{replies_on, standing_at, standing_of, standing_in};
+ghost use Rattle.grove_wire.specs.Histories.{replies_on, standing_at, said_standing, standing_in};
 
 use crate::document::items_at;
 use crate::forms::{is_word, list_items};
@@ -26,7 +26,7 @@ pub struct Standing {
 #[tactic(auto, using(crate::proofs::Lengths::member_within), unfolding(crate::specs::Histories::standing_in))]
 pub fn read_standing(alloc: Global, document: &Value) -> Result<Option<Standing>, WireFault>
     requires { AreArraysShort (view document.now) }
-    ensures { Gives (λ standing. option_map standing_of standing) result (standing_in (view document.now)) }
+    ensures { Gives (λ standing. option_map said_standing standing) result (standing_in (view document.now)) }
 {
     match document.get("standing") {
         Some(value) => Ok(Some(standing_at(alloc, value)?)),
@@ -37,7 +37,7 @@ pub fn read_standing(alloc: Global, document: &Value) -> Result<Option<Standing>
 #[tactic(auto, unfolding(crate::specs::Histories::standing_at))]
 fn standing_at(alloc: Global, value: &Value) -> Result<Standing, WireFault>
     requires { AreArraysShort (view value.now) }
-    ensures { Gives standing_of result (standing_at (view value.now)) }
+    ensures { Gives said_standing result (standing_at (view value.now)) }
 {
     if !value.is_object() {
         return Err(WireFault::Shape(Place::whole(Part::Standing)));
@@ -51,7 +51,8 @@ fn standing_at(alloc: Global, value: &Value) -> Result<Standing, WireFault>
 
 fn read_records(alloc: Global, items: &[Value]) -> Result<Vec<i64>, WireFault>
     requires { length items.now < 2 ^ 32 }
-    ensures { Gives (λ records. records.items) result (each_on (of_form as_signed) (whole_of Part.StandingRecords) (map view items.now)) }
+    ensures { Gives (λ records. records.items) result
+        (each_on (of_form as_signed) (whole_of Part.StandingRecords) (map view items.now)) }
 {
     let mut records = Vec::new(alloc);
     for (at, item) in items.iter().enumerate() {
@@ -72,7 +73,8 @@ fn record_at(at: u32, value: &Value) -> Result<i64, WireFault>
 fn read_each_replies(alloc: Global, items: &[Value]) -> Result<Vec<Vec<Reply>>, WireFault>
     requires few { length items.now < 2 ^ 32 }
     requires short { All AreArraysShort (map view items.now) }
-    ensures { Gives (λ all. map (λ replies. replies.items) all.items) result (each_on replies_on (whole_of Part.StandingReplies) (map view items.now)) }
+    ensures { Gives (λ all. map (λ replies. replies.items) all.items) result
+        (each_on replies_on (whole_of Part.StandingReplies) (map view items.now)) }
 {
     let mut all = Vec::new(alloc);
     for (at, item) in items.iter().enumerate() {

@@ -55,8 +55,11 @@ below_fault verb rest = level_fault (shape_of verb) [] nothing_held rest false [
 pub record IsOneOf (verb : Verb) : Type 0 where
   pub met : walked top_rules names (walk_from nothing_held) (word_of verb) ≡ at_command (word_of verb)
   pub turns : turn_fault top names (walk_from nothing_held) (word_of verb) ≡ []
-  pub enters : (rest : List Text) → entered (built grove_command) (Some (word_of verb, rest)) ≡ Some (word_of verb, rows_after (rules_of verb) [] rest)
-  pub fails : (rest : List Text) → entered_fault (built grove_command) (Some (word_of verb, rest)) ≡ below_fault verb rest
+  pub enters : (rest : List Text)
+      → entered (built grove_command) (Some (word_of verb, rest))
+      ≡ Some (word_of verb, rows_after (rules_of verb) [] rest)
+  pub fails : (rest : List Text)
+      → entered_fault (built grove_command) (Some (word_of verb, rest)) ≡ below_fault verb rest
   pub named : verb_named (word_of verb) ≡ verb
 
 pub is_one_of : (verb : Verb) → IsOneOf verb
@@ -75,9 +78,11 @@ module _ (verb : Verb) (rest : List Text) where
   stop_is : (walk top_rules names nothing_held (word_of verb ∷ rest)).stopped ≡ Some (word_of verb, rest)
   stop_is =
       ap (λ (w : Walk). (fold (walked top_rules names) w rest).stopped) (is_one_of verb).met
-      ∙ ap (λ (w : Walk). w.stopped) (sym (walk_stopped top_rules names (walk_from nothing_held) (word_of verb) [] rest))
+      ∙ ap (λ (w : Walk). w.stopped)
+      (sym (walk_stopped top_rules names (walk_from nothing_held) (word_of verb) [] rest))
 
-  pub rows_are : subcommand_of grove_command (word_of verb ∷ rest) ≡ Some (word_of verb, rows_after (rules_of verb) [] rest)
+  pub rows_are : subcommand_of grove_command (word_of verb ∷ rest)
+      ≡ Some (word_of verb, rows_after (rules_of verb) [] rest)
   rows_are = ap (entered (built grove_command)) stop_is ∙ (is_one_of verb).enters rest
 
 -- what a word is at the top: a command's, `help`, or neither
@@ -149,17 +154,20 @@ hyphens_found = refl
 
 -- what clap finds in words is one command with its rows, or none
 
-pub none_found : (found : Option (Text × List Row)) (word : Text) (rows : List Row) → found ≡ None → found ≡ Some (word, rows) → ⊥
+pub none_found : (found : Option (Text × List Row)) (word : Text) (rows : List Row) → found ≡ None
+    → found ≡ Some (word, rows) → ⊥
 none_found found word rows none some = cc
 
-one_word : (found : Option (Text × List Row)) (v w : Text) (rows others : List Row) → found ≡ Some (v, rows) → found ≡ Some (w, others) → v ≡ w
+one_word : (found : Option (Text × List Row)) (v w : Text) (rows others : List Row) → found ≡ Some (v, rows)
+    → found ≡ Some (w, others) → v ≡ w
 one_word found v w rows others at be =
     let both : Some (v, rows) ≡ Some (w, others) = sym at ∙ be in
     let pair : (v, rows) ≡ (w, others) = cc in
     ap (λ (p : Text × List Row). p.0) pair
 
 -- it finds a command's word with its rows
-pub found_is : {A B : Type 0} (name : A → Text) (below : A → B) (found : Option A) (word : Text) (rows : B) → Some word ≡ option_map name found
+pub found_is : {A B : Type 0} (name : A → Text) (below : A → B) (found : Option A) (word : Text) (rows : B)
+    → Some word ≡ option_map name found
     → Some rows ≡ option_map {T = Text × B} (λ both. both.1) (option_map {U = Text × B} (λ a. (name a, below a)) found)
     → ◌≡◌ {A = Option (Text × B)} (Some (word, rows)) (option_map {U = Text × B} (λ a. (name a, below a)) found)
 found_is name below None word rows is at = absurd (cc)
@@ -172,14 +180,16 @@ found_is {A} {B} name below (Some a) word rows is at =
 
 -- a word that it finds is a command's
 abbrev FindsCommand : List Text → Type 0
-FindsCommand words = (word : Text) (rows : List Row) → subcommand_of grove_command words ≡ Some (word, rows) → word ≡ word_of (verb_named word)
+FindsCommand words = (word : Text) (rows : List Row) → subcommand_of grove_command words ≡ Some (word, rows)
+    → word ≡ word_of (verb_named word)
 
 bare_finds : (words : List Text) → subcommand_of grove_command words ≡ None → FindsCommand words
 bare_finds words none word rows some = absurd (none_found (subcommand_of grove_command words) word rows none some)
 
 command_finds : (verb : Verb) (rest : List Text) → FindsCommand (word_of verb ∷ rest)
 command_finds verb rest word rows some =
-    let same : word ≡ word_of verb = one_word (subcommand_of grove_command (word_of verb ∷ rest)) word (word_of verb) rows (rows_after (rules_of verb) [] rest) some (rows_are verb rest) in
+    let same : word ≡ word_of verb = one_word (subcommand_of grove_command (word_of verb ∷ rest)) word
+    (word_of verb) rows (rows_after (rules_of verb) [] rest) some (rows_are verb rest) in
     same ∙ ap word_of (sym (is_one_of verb).named ∙ ap verb_named (sym same))
 
 pub finds_command : (words : List Text) → fault_of grove_command words ≡ [] → FindsCommand words
@@ -190,7 +200,8 @@ finds_command (word ∷ rest) taken = by_which (which word)
     refused faulty = absurd (not_none (fault_of grove_command (word ∷ rest)) faulty taken)
 
     by_hyphens : (others : List Text) → rest ≡ others → word ≡ hyphens → FindsCommand (word ∷ rest)
-    by_hyphens [] none is = subst FindsCommand (ap (λ xs. word ∷ xs) (sym none)) (subst (λ w. FindsCommand (w ∷ [])) (sym is) (bare_finds (hyphens ∷ []) hyphens_found))
+    by_hyphens [] none is = subst FindsCommand (ap (λ xs. word ∷ xs) (sym none))
+        (subst (λ w. FindsCommand (w ∷ [])) (sym is) (bare_finds (hyphens ∷ []) hyphens_found))
     by_hyphens (next ∷ more) some is =
         refused (subst (λ xs. IsFaulty (fault_of grove_command (word ∷ xs))) (sym some) (subst (λ w. IsFaulty (fault_of grove_command (w ∷ next ∷ more))) (sym is) (hyphens_more next more)))
 

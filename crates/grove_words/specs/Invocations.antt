@@ -20,9 +20,9 @@ name_in StandardInput = None
 name_in (Named name) = Some name.now
 
 -- an order is what the texts under the names of the options say, and the lines that it may have
-abbrev pub Says : (List ℕ → Option (List ℕ)) → List (List ℕ) → Order → Type 0
-Says texts lines (order.Do command document) = SaysCommand texts command
-Says texts lines (order.Ask server asked) = IsServer texts server × (map (λ line. line.now) asked.items ≡ lines)
+abbrev pub SaysOrder : (List ℕ → Option (List ℕ)) → List (List ℕ) → Order → Type 0
+SaysOrder texts lines (order.Do command document) = SaysCommand texts command
+SaysOrder texts lines (order.Ask server asked) = IsServer texts server × (map (λ line. line.now) asked.items ≡ lines)
 
 -- the words ask for an order's command, and for its document
 abbrev pub AskForOrder : List (List ℕ) → Order → Type 0
@@ -40,5 +40,5 @@ lines_given words =
 -- the words ask for this
 pub record IsAskedBy (words : List (List ℕ)) (invocation : Invocation) : Type 0 where
   pub asked : AskForOrder words invocation.order
-  pub said : Says (text_given words) (lines_given words) invocation.order
+  pub said : SaysOrder (text_given words) (lines_given words) invocation.order
   pub explain : AskToExplain words invocation.explain

@@ -13,7 +13,7 @@ use Rattle.grove_words.specs.declared.order.Invocation.{Invocation}
 use Rattle.grove_words.specs.declared.order.Order.{Order}
 use Rattle.grove_words.specs.declared.order.Order.TheVariants as order
 use Rattle.grove_words.specs.CommandLines.{grove_command, serves, Verb, Judge, Check, Plan, Draw, Run, Audit, Serve, Page, Ask, AskFor, Chooses, IsPlace, IsServer}
-use Rattle.grove_words.specs.Invocations.{lines_in, name_in, verb_of, Says}
+use Rattle.grove_words.specs.Invocations.{lines_in, name_in, verb_of, SaysOrder}
 
 -- an argument has this rule, and is its command's alone
 abbrev pub HasRule : Rule → Arg → Type 0
@@ -52,7 +52,7 @@ HasName name (order.Ask server lines) = Unit {0}
 pub record IsFoundIn (word : List ℕ) (rows : List Row) (invocation : Invocation) : Type 0 where
   pub verb : verb_of invocation.order ≡ verb_named word
   pub name : HasName (first_of (codes "DOC") rows) invocation.order
-  pub said : Says (λ name. one_of name rows) (lines_in rows) invocation.order
+  pub said : SaysOrder (λ name. one_of name rows) (lines_in rows) invocation.order
   pub explain : Chooses true false (one_of (codes "explain") rows) invocation.explain
 
 -- this was found, with a command's word or with none
@@ -61,14 +61,14 @@ IsFound None invocation = (invocation.order ≡ order.Do command.Judge StandardI
 IsFound (Some (word, rows)) invocation = IsFoundIn word rows invocation
 
 -- there is no memory, or nothing is such as is wanted
-abbrev pub IsRefused : {A : Type 0} → (A → Type 0) → Error → Type 0
-IsRefused {A} IsWanted error =
+abbrev pub IsRefusedFor : {A : Type 0} → (A → Type 0) → Error → Type 0
+IsRefusedFor {A} IsWanted error =
     (kind_of error ≡ OutOfMemory) ⊎ ((kind_of error ≡ InvalidValue) × ((a : A) → ¬ IsWanted a))
 
 -- and the word is that of a command for which the texts give no place, or no server
 abbrev pub IsUnplaced : List ℕ → (List ℕ → Option (List ℕ)) → Error → Type 0
-IsUnplaced word texts error = ((serves (verb_named word) ≡ true) × IsRefused (IsPlace texts) error)
-    ⊎ ((verb_named word ≡ Ask) × IsRefused (IsServer texts) error)
+IsUnplaced word texts error = ((serves (verb_named word) ≡ true) × IsRefusedFor (IsPlace texts) error)
+    ⊎ ((verb_named word ≡ Ask) × IsRefusedFor (IsServer texts) error)
 
 abbrev pub IsPlaceless : Option (List ℕ × List Row) → Error → Type 0
 IsPlaceless None error = kind_of error ≡ OutOfMemory
@@ -80,5 +80,5 @@ IsNowhere words error = (kind_of error ≡ InvalidValue) × (fault_of grove_comm
     × ((verb : Verb) (name : Option (List ℕ)) → ¬ AskFor words verb name)
 
 -- what words are told that are no order
-abbrev pub IsTold : List (List ℕ) → Error → Type 0
-IsTold words error = HasKind (fault_of grove_command words) error ⊎ IsNowhere words error
+abbrev pub IsToldWords : List (List ℕ) → Error → Type 0
+IsToldWords words error = HasKind (fault_of grove_command words) error ⊎ IsNowhere words error

@@ -1,10 +1,10 @@
 ghost use Rattle.std.specs.Prelude.{◌≡◌, ◌≢◌, ◌≤◌, ℕ, List, Option, [], true, false, codes, map, Some, None, IfOk, IfErr, IfSome, IsErrAnd, string_bytes};
 ghost use Rattle.clap.specs.Words.{rows_of, fault_of, first_value, found_of, kind_of, one_text, subcommand_of, subcommand_rows_of};
 ghost use Rattle.grove_words.specs.CommandLines.{Verb, AreWorkers, AreWrong, AskFor, AskToShow, Chooses, IsAddress, IsIdle, IsNamed, IsPlace, IsPort, IsServer};
-ghost use Rattle.grove_words.specs.Invocations.{lines_in, name_in, verb_of, IsAskedBy, Says};
+ghost use Rattle.grove_words.specs.Invocations.{lines_in, name_in, verb_of, IsAskedBy, SaysOrder};
 ghost use Rattle.grove_words.specs.NoOrders.{HasText, TellsShown, TellsWrong};
 ghost use Rattle.grove_words.specs.Orders.{SaysServing};
-ghost use Rattle.grove_words.specs.Steps.{verb_named, HasName, IsFound, IsPlaceless, IsRefused, IsTold, IsUnplaced};
+ghost use Rattle.grove_words.specs.Steps.{verb_named, HasName, IsFound, IsPlaceless, IsRefusedFor, IsToldWords, IsUnplaced};
 
 use crate::definitions::command_line;
 use crate::no_order::{NoOrder, no_order};
@@ -58,7 +58,7 @@ fn is_file_name(word: &str) -> bool {
 /// What clap finds in the words, or what they are told.
 fn invocation_among<'a>(alloc: Global, words: &'a [String]) -> Result<Invocation<'a>, Error>
     ensures asked { IfOk result (IsAskedBy (map string_bytes words.now)) }
-    ensures refused { IfErr result (IsTold (map string_bytes words.now)) }
+    ensures refused { IfErr result (IsToldWords (map string_bytes words.now)) }
 {
     let matches = command_line(alloc)?.try_get_matches_from(words)?;
     invocation_in(alloc, &matches)
@@ -91,7 +91,7 @@ fn invocation_in<'a>(alloc: Global, matches: &ArgMatches<'a>) -> Result<Invocati
 fn order_with<'a>(alloc: Global, word: &str, given: &ArgMatches<'a>) -> Result<Order<'a>, Error>
     ensures verb { IfOk result (λ order. verb_of order ≡ verb_named word.now) }
     ensures name { IfOk result (HasName (first_value (found_of given.now) (codes "DOC"))) }
-    ensures said { IfOk result (Says (one_text (found_of given.now)) (lines_in (rows_of (found_of given.now)))) }
+    ensures said { IfOk result (SaysOrder (one_text (found_of given.now)) (lines_in (rows_of (found_of given.now)))) }
     ensures refused { IfErr result (IsUnplaced word.now (one_text (found_of given.now))) }
 {
     let command = match word {
@@ -135,7 +135,7 @@ fn document_in<'a>(given: &ArgMatches<'a>) -> Document<'a>
 /// Where and how a command serves.
 fn serving_in(alloc: Global, given: &ArgMatches<'_>) -> Result<Serving, Error>
     ensures said { IfOk result (SaysServing (one_text (found_of given.now))) }
-    ensures refused { IfErr result (IsRefused (IsPlace (one_text (found_of given.now)))) }
+    ensures refused { IfErr result (IsRefusedFor (IsPlace (one_text (found_of given.now)))) }
 {
     Ok(Serving {
         place: place_in(alloc, given)?,
@@ -151,7 +151,7 @@ fn serving_in(alloc: Global, given: &ArgMatches<'_>) -> Result<Serving, Error>
 /// The place that a command serves at.
 fn place_in(alloc: Global, given: &ArgMatches<'_>) -> Result<Place, Error>
     ensures given { IfOk result (IsPlace (one_text (found_of given.now))) }
-    ensures refused { IfErr result (IsRefused (IsPlace (one_text (found_of given.now)))) }
+    ensures refused { IfErr result (IsRefusedFor (IsPlace (one_text (found_of given.now)))) }
 {
     let address = address_in(alloc, given)?;
     let port = port_in(alloc, given)?;
@@ -161,7 +161,7 @@ fn place_in(alloc: Global, given: &ArgMatches<'_>) -> Result<Place, Error>
 /// The server that a command asks.
 fn server_in(alloc: Global, given: &ArgMatches<'_>) -> Result<SocketAddr, Error>
     ensures given { IfOk result (IsServer (one_text (found_of given.now))) }
-    ensures refused { IfErr result (IsRefused (IsServer (one_text (found_of given.now)))) }
+    ensures refused { IfErr result (IsRefusedFor (IsServer (one_text (found_of given.now)))) }
 {
     let address = address_in(alloc, given)?;
     match named_port(given) {
@@ -172,7 +172,7 @@ fn server_in(alloc: Global, given: &ArgMatches<'_>) -> Result<SocketAddr, Error>
 
 fn address_in(alloc: Global, given: &ArgMatches<'_>) -> Result<IpAddr, Error>
     ensures given { IfOk result (IsAddress (one_text (found_of given.now))) }
-    ensures refused { IfErr result (IsRefused (IsAddress (one_text (found_of given.now)))) }
+    ensures refused { IfErr result (IsRefusedFor (IsAddress (one_text (found_of given.now)))) }
 {
     match given.get_one::<IpAddr>("address") {
         Some(address) => Ok(address),
@@ -183,7 +183,7 @@ fn address_in(alloc: Global, given: &ArgMatches<'_>) -> Result<IpAddr, Error>
 /// The port to listen on. No clause of clap's speaks of options that stand in each other's place, so this is told here.
 fn port_in(alloc: Global, given: &ArgMatches<'_>) -> Result<Port, Error>
     ensures given { IfOk result (IsPort (one_text (found_of given.now))) }
-    ensures refused { IfErr result (IsRefused (IsPort (one_text (found_of given.now)))) }
+    ensures refused { IfErr result (IsRefusedFor (IsPort (one_text (found_of given.now)))) }
 {
     match (named_port(given), takes_any_port(given)) {
         (Some(port), false) => Ok(Port::Named(port)),

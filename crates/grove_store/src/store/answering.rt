@@ -62,8 +62,11 @@ impl Store {
     ) -> Result<Vec<LineReply>, NoMemory>
         requires count { (0 < length lines.now) × (length lines.now ≤ 16) }
         requires limit { All (λ line. length line.now ≤ 1048576) lines.now }
-        ensures length { IfOk result (λ replies. length replies.items ≡ round_length self.old.rows (map (λ line. line.now) lines.now)) }
-        ensures round { IfOk result (λ replies. IsLawfulRound self.old (take (length replies.items) (map (λ line. line.now) lines.now)) replies.items self.new) }
+        ensures length { IfOk result
+            (λ replies. length replies.items ≡ round_length self.old.rows (map (λ line. line.now) lines.now)) }
+        ensures round { IfOk result
+            (λ replies. IsLawfulRound self.old
+            (take (length replies.items) (map (λ line. line.now) lines.now)) replies.items self.new) }
         ensures err { OnErr result (self.new ≡ self.old) }
     {
         let first = lines[0];

@@ -25,7 +25,8 @@ impl Store {
         requires counts { sum round.counts.items ≡ length round.lists.items }
         requires few { length round.lists.items ≤ 256 }
         requires fit { All (λ list. AreNodes self.old.rows (nodes_of list)) round.lists.items }
-        ensures round { IfOk result (λ replies. AnswersRound self.old round.lists.items round.counts.items replies.items self.new) }
+        ensures round { IfOk result
+            (λ replies. AnswersRound self.old round.lists.items round.counts.items replies.items self.new) }
         ensures err { OnErr result (self.new ≡ self.old) }
     {
         let Round { counts, lists } = round;

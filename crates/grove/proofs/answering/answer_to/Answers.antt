@@ -9,20 +9,25 @@ returns-in-Judge-clause-said g c =
 
 pub returns-in-Check-clause-said : goal.returns-in-Check-clause-said
 returns-in-Check-clause-said g c =
-    rw c.in-Check.is (c.done-in-Check.ensures.said command.Check (view c.args.document.now) refl c.check_document.ensures)
+    rw c.in-Check.is (c.done-in-Check.ensures.said command.Check
+    (view c.args.document.now) refl c.check_document.ensures)
 
 pub returns-in-Plan-clause-said : goal.returns-in-Plan-clause-said
 returns-in-Plan-clause-said g c =
-    rw c.in-Plan.is (c.done-in-Plan.ensures.said (command.Plan c.in-Plan.in_document) (view c.args.document.now) refl c.plan_for.ensures)
+    rw c.in-Plan.is (c.done-in-Plan.ensures.said (command.Plan c.in-Plan.in_document)
+    (view c.args.document.now) refl c.plan_for.ensures)
 
 pub returns-in-Draw-clause-said : goal.returns-in-Draw-clause-said
 returns-in-Draw-clause-said g c =
-    rw c.in-Draw.is (c.done-in-Draw.ensures.said (command.Draw c.in-Draw.form) (view c.args.document.now) refl c.draw_document.ensures)
+    rw c.in-Draw.is (c.done-in-Draw.ensures.said (command.Draw c.in-Draw.form)
+    (view c.args.document.now) refl c.draw_document.ensures)
 
 pub returns-in-Run-clause-said : goal.returns-in-Run-clause-said
 returns-in-Run-clause-said g c =
-    rw c.in-Run.is (c.done-in-Run.ensures.said (command.Run c.in-Run.workers) (view c.args.document.now) refl c.run_document.ensures)
+    rw c.in-Run.is (c.done-in-Run.ensures.said (command.Run c.in-Run.workers)
+    (view c.args.document.now) refl c.run_document.ensures)
 
 pub returns-in-Audit-clause-said : goal.returns-in-Audit-clause-said
 returns-in-Audit-clause-said g c =
-    rw c.in-Audit.is (c.done-in-Audit.ensures.said command.Audit (view c.args.document.now) refl c.audit_document.ensures)
+    rw c.in-Audit.is (c.done-in-Audit.ensures.said command.Audit
+    (view c.args.document.now) refl c.audit_document.ensures)

@@ -12,7 +12,8 @@ returns-clause-done g c =
     let found = document_for c.args.command c.deref.result.now in
     let answer = c.in_ok-answer.field-0.answer in
     let says = c.in_ok-answer.ensures.said in
-    let good = subst (IsAsGoodAs c.args.command (name_in c.args.document) (g.I.Source.remaining c.args.input.now)) (sym c.deref.ensures.value) c.in_ok-bytes.ensures.read in
+    let good = subst (IsAsGoodAs c.args.command (name_in c.args.document) (g.I.Source.remaining c.args.input.now))
+    (sym c.deref.ensures.value) c.in_ok-bytes.ensures.read in
     let printed = c.in_ok-status.ensures.printed in
     let said = whole_said c.args.command found answer c.in_ok-status.status _ _ says printed.0 printed.1 in
     record {
@@ -38,7 +39,8 @@ returns-in_err-answer-clause-stopped g c =
     rw (p.1, p.2) (record {
       part = inl (Keeps-refl _);
       unprinted = λ sound. inl (Keeps-refl _);
-      blamed = blames_place _ _ _ _ _ _ c.in_err-answer.field-0.0 c.in_err-answer.ensures.blamed (c.in_ok-bytes.ensures.sound, refl);
+      blamed = blames_place _ _ _ _ _ _ c.in_err-answer.field-0.0 c.in_err-answer.ensures.blamed
+          (c.in_ok-bytes.ensures.sound, refl);
       errors = (refl, refl);
     })
 
@@ -47,7 +49,8 @@ returns-in_err-status-clause-stopped g c =
     let found = document_for c.args.command c.deref.result.now in
     let answer = c.in_ok-answer.field-0.answer in
     let says = c.in_ok-answer.ensures.said in
-    let good = subst (IsAsGoodAs c.args.command (name_in c.args.document) (g.I.Source.remaining c.args.input.now)) (sym c.deref.ensures.value) c.in_ok-bytes.ensures.read in
+    let good = subst (IsAsGoodAs c.args.command (name_in c.args.document) (g.I.Source.remaining c.args.input.now))
+    (sym c.deref.ensures.value) c.in_ok-bytes.ensures.read in
     let cut = c.in_err-status.ensures.cut in
     let part = part_said c.args.command found answer _ _ _ says cut.1 in
     let p = err_from_is_err_and c.from_residual-in_err-status.result c.from_residual-in_err-status.ensures.1 in

@@ -9,7 +9,8 @@ pub returns-in-Do-clause-given_up : goal.returns-in-Do-clause-given_up
 returns-in-Do-clause-given_up g c = rw c.in-Do.is c.do_command.ensures.stopped
 
 pub returns-in-Ask-clause-obeyed : goal.returns-in-Ask-clause-obeyed
-returns-in-Ask-clause-obeyed g c = rw c.in-Ask.is (is_asked _ _ c.ask.result c.ask.ensures.status c.ask.ensures.sound (refl, refl))
+returns-in-Ask-clause-obeyed g c =
+    rw c.in-Ask.is (is_asked _ _ c.ask.result c.ask.ensures.status c.ask.ensures.sound (refl, refl))
 
 pub returns-in-Ask-clause-given_up : goal.returns-in-Ask-clause-given_up
 returns-in-Ask-clause-given_up g c = rw c.in-Ask.is (is_lost _ _ c.ask.result c.ask.ensures.blamed (refl, refl))

@@ -12,5 +12,6 @@ of-requires g c = run_fault_fits c.args.tree.now c.in-Err.fault c.in-Err.ensures
 
 pub returns-in-Err : goal.returns-in-Err
 returns-in-Err g c =
-    says_run_fault c.args.tree.now c.args.records.now (map (λ (job : Job). job.list) c.args.jobs.now) c.in-Err.fault c.of.result
+    says_run_fault c.args.tree.now c.args.records.now
+    (map (λ (job : Job). job.list) c.args.jobs.now) c.in-Err.fault c.of.result
     c.in-Err.ensures.fault c.of.ensures

@@ -7,5 +7,9 @@ use Rattle.grove_build.proofs.jobs.kept_jobs.Goals as goal
 
 pub returns-clause-jobs : goal.returns-clause-jobs
 returns-clause-jobs g c =
-    IfOk-weaker c.jobs_of.result _ _ (λ jobs are. settled_are c.args.tree.now c.args.lists.items c.in_ok-settled.settled.items jobs.items
-    (subst (λ (lists : List (List Access)). AllZip (IsSettledFor c.args.tree.now) lists c.in_ok-settled.settled.items) c.deref.ensures.value c.in_ok-settled.ensures.plans) are) c.jobs_of.ensures
+    let AreFor : List (List Access) → Type 0 = λ lists.
+    AllZip (IsSettledFor c.args.tree.now) lists c.in_ok-settled.settled.items in
+    let settled : AreFor c.args.lists.items = subst AreFor c.deref.ensures.value c.in_ok-settled.ensures.plans in
+    IfOk-weaker c.jobs_of.result _ _
+    (λ jobs. settled_are c.args.tree.now c.args.lists.items c.in_ok-settled.settled.items jobs.items settled)
+    c.jobs_of.ensures

@@ -5,4 +5,5 @@ use Rattle.grove_core.specs.Runs.{run_replies}
 use Rattle.grove_core.proofs.replies.replies_of.Given as goal
 
 abbrev pub invariant-loop-txn : goal.invariant-loop-txn
-invariant-loop-txn l = map (λ list. list.now) l.replies.items ≡ map (run_replies l.core.jobs l.core.opening (past_of l.core)) (numbers_below l.txn)
+invariant-loop-txn l = map (λ list. list.now) l.replies.items
+    ≡ map (run_replies l.core.jobs l.core.opening (past_of l.core)) (numbers_below l.txn)

@@ -2,7 +2,7 @@ use Rattle.std.proofs.Common.{◌≡◌, ℕ, ◌+◌, ◌<◌, [], ◌∷◌, �
 use Rattle.std.proofs.lemmas.List.{length-set, drop-set-lt}
 use Rattle.std.proofs.Math.Seq.{map-set_same}
 use Rattle.grove_desk.specs.declared.slot.Asked.{Asked}
-use Rattle.grove_desk.specs.Ledgers.{IsNoted}
+use Rattle.grove_desk.specs.Ledgers.{AreReceiptsOf}
 use Rattle.grove_desk.proofs.Keeping.{few_replies}
 use Rattle.grove_desk.proofs.Moving.{drop_step, same_next, drop_on}
 use Rattle.grove_desk.proofs.Noting.{noted_more, noted_round}
@@ -57,11 +57,16 @@ loop-reply-preserved g c =
     let within : i < length replies = step.0 in
     let asked : c.index_mut.result.now ≡ get_or c.args.taken.now.items c.len-place.result c.index_mut.result.now =
     c.index_mut.ensures.value ∙ same_next c.loop-reply.taken.items c.args.taken.now.items i c.len-place.result c.index_mut.result.now place c.loop-reply.invariant.left in
-    let next = noted_more (λ (a : Asked). a.line.bytes.items) c.args.first c.args.taken.now.items replies c.reply_round.new.self.rounds c.loop-reply.receipts.items c.push_reserved.new.self.items i c.len-place.result
-    c.number_of.result c.take.result.items c.into_text.result.items c.index_mut.result.now c.in-Some.reply within few refl place c.loop-reply.invariant.noted
+    let next = noted_more
+    (λ (a : Asked). a.line.bytes.items) c.args.first c.args.taken.now.items replies c.reply_round.new.self.rounds
+    c.loop-reply.receipts.items c.push_reserved.new.self.items i c.len-place.result
+    c.number_of.result c.take.result.items c.into_text.result.items c.index_mut.result.now c.in-Some.reply within few
+    refl place c.loop-reply.invariant.noted
     (c.take.ensures ∙ ap (λ (a : Asked). a.line.bytes.items) asked) c.into_text.ensures step.1 c.number_of.ensures
     (c.push_reserved.ensures.items
-    ∙ ap (λ (n : ℕ). c.loop-reply.receipts.items ++ record { number = c.number_of.result; line = c.take.result.items; reply = c.into_text.result.items; rounds = n } ∷ []) c.rounds.ensures) in
+    ∙ ap (λ (n : ℕ). c.loop-reply.receipts.items ++ record
+    { number = c.number_of.result; line = c.take.result.items; reply = c.into_text.result.items; rounds = n } ∷ [])
+    c.rounds.ensures) in
     let more : length c.push_reserved.new.self.items ≡ i + 1 = next.0 in
     record {
       next = tt;
@@ -69,7 +74,9 @@ loop-reply-preserved g c =
       few = few;
       rest = step.2 ∙ sym (ap (λ (n : ℕ). drop n replies) more);
       within = omega arith;
-      noted = subst (λ (n : ℕ). IsNoted c.args.first (map (λ (a : Asked). a.line.bytes.items) c.args.taken.now.items) (take n replies) c.reply_round.new.self.rounds c.push_reserved.new.self.items) (sym more) next.1;
+      noted = subst (λ (n : ℕ). AreReceiptsOf c.args.first
+          (map (λ (a : Asked). a.line.bytes.items) c.args.taken.now.items)
+          (take n replies) c.reply_round.new.self.rounds c.push_reserved.new.self.items) (sym more) next.1;
       room = c.push_reserved.ensures.capacity ∙ c.loop-reply.invariant.room;
       long = length-set c.loop-reply.taken.items c.len-place.result _ ∙ long;
       left = drop-set-lt (length c.push_reserved.new.self.items) c.loop-reply.taken.items c.len-place.result _ (omega arith)
@@ -82,7 +89,9 @@ loop-reply-preserved g c =
 
 pub returns-clause-lines : goal.returns-clause-lines
 returns-clause-lines g c =
-    (noted_round (λ (asked : Asked). asked.line.bytes.items) c.args.first c.args.taken.now.items c.in_ok-replies.replies.items c.into_iter-reply-iterator.result.rest.items c.loop-reply.reply-iterator.rest.items
+    (noted_round (λ (asked : Asked). asked.line.bytes.items) c.args.first c.args.taken.now.items
+    c.in_ok-replies.replies.items c.into_iter-reply-iterator.result.rest.items
+    c.loop-reply.reply-iterator.rest.items
     (map (λ line. line.now) c.deref-2.result.now) c.loop-reply.receipts.items c.args.store.now c.reply_round.new.self
     (omega (arith, c.in-None.ensures.steps.0, c.loop-reply.reply-iterator.rest.ok.0)) c.loop-reply.invariant.rest c.loop-reply.invariant.within c.into_iter-reply-iterator.ensures.into_iter_gives.0
     (ap (map (λ line. line.now)) c.deref-2.ensures.value ∙ c.in_ok-lines.ensures.lines ∙ ap (map (λ (asked : Asked). asked.line.bytes.items)) c.deref.ensures.value)
@@ -90,7 +99,9 @@ returns-clause-lines g c =
 
 pub returns-clause-round : goal.returns-clause-round
 returns-clause-round g c =
-    (noted_round (λ (asked : Asked). asked.line.bytes.items) c.args.first c.args.taken.now.items c.in_ok-replies.replies.items c.into_iter-reply-iterator.result.rest.items c.loop-reply.reply-iterator.rest.items
+    (noted_round (λ (asked : Asked). asked.line.bytes.items) c.args.first c.args.taken.now.items
+    c.in_ok-replies.replies.items c.into_iter-reply-iterator.result.rest.items
+    c.loop-reply.reply-iterator.rest.items
     (map (λ line. line.now) c.deref-2.result.now) c.loop-reply.receipts.items c.args.store.now c.reply_round.new.self
     (omega (arith, c.in-None.ensures.steps.0, c.loop-reply.reply-iterator.rest.ok.0)) c.loop-reply.invariant.rest c.loop-reply.invariant.within c.into_iter-reply-iterator.ensures.into_iter_gives.0
     (ap (map (λ line. line.now)) c.deref-2.ensures.value ∙ c.in_ok-lines.ensures.lines ∙ ap (map (λ (asked : Asked). asked.line.bytes.items)) c.deref.ensures.value)

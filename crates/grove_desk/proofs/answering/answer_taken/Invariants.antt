@@ -1,6 +1,6 @@
 use Rattle.std.proofs.Common.{◌≡◌, ◌≤◌, length, map, take, drop}
 use Rattle.std.specs.Vec.{vec_capacity}
-use Rattle.grove_desk.specs.Ledgers.{IsNoted}
+use Rattle.grove_desk.specs.Ledgers.{AreReceiptsOf}
 use Rattle.grove_desk.proofs.answering.answer_taken.Given as goal
 
 abbrev pub invariant-loop-reply : goal.invariant-loop-reply
@@ -10,7 +10,8 @@ invariant-loop-reply g l = record {
   few : length l.initial.reply-iterator.rest.items ≤ length l.initial.taken.items;
   rest : l.reply-iterator.rest.items ≡ drop (length l.receipts.items) l.initial.reply-iterator.rest.items;
   within : length l.receipts.items ≤ length l.initial.reply-iterator.rest.items;
-  noted : IsNoted l.first (map (λ asked. asked.line.bytes.items) l.initial.taken.items) (take (length l.receipts.items) l.initial.reply-iterator.rest.items) l.store.rounds l.receipts.items;
+  noted : AreReceiptsOf l.first (map (λ asked. asked.line.bytes.items) l.initial.taken.items)
+      (take (length l.receipts.items) l.initial.reply-iterator.rest.items) l.store.rounds l.receipts.items;
   room : vec_capacity l.receipts ≡ vec_capacity l.initial.receipts;
   long : length l.taken.items ≡ length l.initial.taken.items;
   left : drop (length l.receipts.items) l.taken.items ≡ drop (length l.receipts.items) l.initial.taken.items;

@@ -6,4 +6,5 @@ use Rattle.grove_store.proofs.Accepted.{changed_accepted}
 use Rattle.grove_store.proofs.texts.changed_text.Goals as goal
 
 pub new-requires-clause-accepted : goal.new-requires-clause-accepted
-new-requires-clause-accepted c = ap (λ (d : Data). is_refusal (compact_text d)) c.in_ok-changed_value.ensures ∙ changed_accepted c.args.changed
+new-requires-clause-accepted c =
+    ap (λ (d : Data). is_refusal (compact_text d)) c.in_ok-changed_value.ensures ∙ changed_accepted c.args.changed

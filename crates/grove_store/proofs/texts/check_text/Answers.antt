@@ -14,4 +14,5 @@ returns-in-Err c =
     (error_data (proof_name c.in-Err.fault), (Err c.in-Err.fault, (told.0, c.in-Err.ensures.fault told.0), refl), told.1)) c.proof_refusal.ensures
 
 pub new-requires-clause-accepted : goal.new-requires-clause-accepted
-new-requires-clause-accepted c = ap (λ (d : Data). is_refusal (compact_text d)) c.in_ok-cost_value-in-Ok.ensures ∙ cost_accepted c.in-Ok.cost
+new-requires-clause-accepted c =
+    ap (λ (d : Data). is_refusal (compact_text d)) c.in_ok-cost_value-in-Ok.ensures ∙ cost_accepted c.in-Ok.cost

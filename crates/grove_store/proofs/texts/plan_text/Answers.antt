@@ -21,11 +21,13 @@ planned_value-requires-clause-flow c =
 
 pub new-requires-clause-floatless : goal.new-requires-clause-floatless
 new-requires-clause-floatless c =
-    let planned = c.in_ok-planned.planned in ap has_float c.in_ok-value.ensures ∙ planned_has_no_float c.args.tree.now planned.cost planned.plan planned.flow
+    let planned = c.in_ok-planned.planned in ap has_float c.in_ok-value.ensures
+    ∙ planned_has_no_float c.args.tree.now planned.cost planned.plan planned.flow
 
 pub new-requires-clause-accepted : goal.new-requires-clause-accepted
 new-requires-clause-accepted c =
-    let planned = c.in_ok-planned.planned in ap (λ (d : Data). is_refusal (compact_text d)) c.in_ok-value.ensures ∙ planned_accepted c.args.tree.now planned.cost planned.plan planned.flow
+    let planned = c.in_ok-planned.planned in ap (λ (d : Data). is_refusal (compact_text d)) c.in_ok-value.ensures
+    ∙ planned_accepted c.args.tree.now planned.cost planned.plan planned.flow
 
 pub returns-clause-text : goal.returns-clause-text
 returns-clause-text c =

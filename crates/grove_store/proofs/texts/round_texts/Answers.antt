@@ -9,9 +9,12 @@ loop-count-preserved c = record {
       ap (λ texts. texts ++ round_texts c.args.round (drop (c.loop-count.count-index + 1) c.args.counts.now)
       (drop (c.loop-count.at + get_or c.args.counts.now c.loop-count.count-index 0) c.args.places.now)
       (drop (c.loop-count.at + get_or c.args.counts.now c.loop-count.count-index 0) (map (λ list. list.now) c.args.replies.now))) c.in_ok-push.ensures.items
-      ∙ texts_more c.args.round c.args.counts.now c.args.places.now (map (λ list. list.now) c.args.replies.now) c.loop-count.texts.items _ c.loop-count.count-index c.loop-count.at _
+      ∙ texts_more c.args.round c.args.counts.now c.args.places.now
+      (map (λ list. list.now) c.args.replies.now) c.loop-count.texts.items _ c.loop-count.count-index c.loop-count.at _
       c.in_ok-text.text (omega arith) refl
-      (text_told c.args.round (get_or c.args.counts.now c.loop-count.count-index 0) c.loop-count.at (c.loop-count.at + get_or c.args.counts.now c.loop-count.count-index 0) c.args.places.now c.args.replies.now c.in_ok-text.text refl c.in_ok-text.ensures)
+      (text_told c.args.round (get_or c.args.counts.now c.loop-count.count-index 0) c.loop-count.at
+      (c.loop-count.at + get_or c.args.counts.now c.loop-count.count-index 0) c.args.places.now c.args.replies.now
+      c.in_ok-text.text refl c.in_ok-text.ensures)
       c.loop-count.invariant.all;
   within = sum_more c.args.counts.now c.loop-count.count-index c.loop-count.at _ _ (omega arith) refl c.loop-count.invariant.within;
 }

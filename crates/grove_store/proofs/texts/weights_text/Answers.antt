@@ -2,17 +2,20 @@ use Rattle.std.proofs.Common.{ap, ◌∙◌}
 use Rattle.std.proofs.lemmas.Result.{IfOk-weaker}
 use Rattle.serde_json.specs.Data.{Data}
 use Rattle.serde_json.specs.Written.{compact_text, has_float}
-use Rattle.grove_wire.specs.Replies.{weights_of}
+use Rattle.grove_wire.specs.Replies.{weights_in_rows}
 use Rattle.grove_wire.proofs.Floatless.{weights_have_no_float}
 use Rattle.grove_store.specs.Refusals.{is_refusal}
 use Rattle.grove_store.proofs.Accepted.{weights_accepted}
 use Rattle.grove_store.proofs.texts.weights_text.Goals as goal
 
 pub new-requires-clause-floatless : goal.new-requires-clause-floatless
-new-requires-clause-floatless c = ap has_float c.in_ok-weights_value.ensures ∙ weights_have_no_float c.args.waits.now (weights_of c.args.tree.now)
+new-requires-clause-floatless c =
+    ap has_float c.in_ok-weights_value.ensures
+    ∙ weights_have_no_float c.args.waits.now (weights_in_rows c.args.tree.now)
 
 pub new-requires-clause-accepted : goal.new-requires-clause-accepted
-new-requires-clause-accepted c = ap (λ (d : Data). is_refusal (compact_text d)) c.in_ok-weights_value.ensures ∙ weights_accepted c.args.waits.now (weights_of c.args.tree.now)
+new-requires-clause-accepted c = ap (λ (d : Data). is_refusal (compact_text d)) c.in_ok-weights_value.ensures
+    ∙ weights_accepted c.args.waits.now (weights_in_rows c.args.tree.now)
 
 pub returns : goal.returns
 returns c = IfOk-weaker c.new.result _ _ (λ reply is. is ∙ ap compact_text c.in_ok-weights_value.ensures) c.new.ensures

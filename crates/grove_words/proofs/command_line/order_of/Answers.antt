@@ -10,7 +10,8 @@ pub returns-in-Ok-clause-shown : goal.returns-in-Ok-clause-shown
 returns-in-Ok-clause-shown c shown = absurd (not_help _ c.in-Ok.invocation.order c.in-Ok.ensures.asked.asked shown)
 
 pub returns-in-Err-clause-taken : goal.returns-in-Err-clause-taken
-returns-in-Err-clause-taken c verb name asks = c.no_order.ensures.memory (certain _ verb name c.in-Err.error asks c.in-Err.ensures.refused)
+returns-in-Err-clause-taken c verb name asks =
+    c.no_order.ensures.memory (certain _ verb name c.in-Err.error asks c.in-Err.ensures.refused)
 
 pub returns-in-Err-clause-wrong : goal.returns-in-Err-clause-wrong
 returns-in-Err-clause-wrong c wrong =

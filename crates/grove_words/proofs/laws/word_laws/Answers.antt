@@ -1,4 +1,4 @@
-use Rattle.grove_words.proofs.Orders.{commands_are_orders, no_command_judges}
+use Rattle.grove_words.proofs.TakenWords.{commands_are_orders, no_command_judges}
 use Rattle.grove_words.proofs.laws.word_laws.Goals as goal
 
 pub returns-clause-commands : goal.returns-clause-commands

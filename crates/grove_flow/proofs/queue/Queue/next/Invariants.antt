@@ -1,10 +1,10 @@
-use Rattle.grove_flow.specs.Queues.{AreQueued, AreWithin, entries_of}
+use Rattle.grove_flow.specs.Queues.{AreQueued, NamesArcsAlone, entries_of}
 use Rattle.grove_flow.proofs.queue.Queue.next.Given as goal
 
 abbrev pub invariant-loop-key : goal.invariant-loop-key
 invariant-loop-key l = record {
   queued : AreQueued l.network l.state l.tree l.self;
-  within : AreWithin l.network l.self;
+  within : NamesArcsAlone l.network l.self;
 }
 
 abbrev pub decreases-loop-key : goal.decreases-loop-key

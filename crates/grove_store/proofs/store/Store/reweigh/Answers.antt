@@ -25,9 +25,12 @@ returns-clause-reply g c =
     let waits = c.self.inside.waits in
     let waited : length waits.items ≡ length c.self.inside.tree = c.self.invariant.0.waited in
     let long : vec_len waits ≡ length c.self.inside.tree = omega (arith, waits.ok.0) in
-    let made = text_made c.changed_text.result c.in_ok-replies.replies.items c.changed_text.ensures c.in_ok-replies.ensures in
+    let made = text_made c.changed_text.result c.in_ok-replies.replies.items c.changed_text.ensures
+    c.in_ok-replies.ensures in
     let before : StoreState = record { rows = c.self.inside.tree; records = c.self.inside.records; waits = waits.items; workers = c.self.inside.workers; rounds = c.self.inside.rounds } in
-    subst (λ (store : StoreState). AnswersReweigh store c.in_ok-replies.replies.items (record before { rows = c.reweigh-changed.new.tree; waits = c.fill.new.self.items })) c.self.view_is
-    (reweigh_answers before c.in_ok-tree.tree c.reweigh-changed.new.tree c.deref.result.now c.fill.new.self.items made.0 c.reweigh-changed.result _
+    subst (λ (store : StoreState). AnswersReweigh store c.in_ok-replies.replies.items
+    (record before { rows = c.reweigh-changed.new.tree; waits = c.fill.new.self.items })) c.self.view_is
+    (reweigh_answers before c.in_ok-tree.tree c.reweigh-changed.new.tree c.deref.result.now c.fill.new.self.items made.0
+    c.reweigh-changed.result _
     c.in_ok-tree.ensures c.deref.ensures.value c.reweigh-changed.ensures.rows c.reweigh-changed.ensures.count (c.fill.ensures.items (λ y e. e) ∙ ap (λ (n : ℕ). replicate n 0) long)
     made.1 made.2)

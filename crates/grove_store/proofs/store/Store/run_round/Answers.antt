@@ -52,7 +52,8 @@ returns-in-Err-clause-round g c =
     let room : before.rounds < 2 ^ 64 - 1 = omega (arith, c.self.invariant.0.counted) in
     let number : c.len-in-Err.result ≡ length c.args.round.counts.items = omega (arith, c.args.round.counts.ok.0) in
     IfOk-weaker c.run_refusals.result _ _ (λ texts told.
-    subst (λ (store : StoreState). AnswersRound store c.args.round.lists.items c.args.round.counts.items texts.items before) c.self.view_is
+    subst (λ (store : StoreState). AnswersRound store c.args.round.lists.items c.args.round.counts.items texts.items
+    before) c.self.view_is
     (fails_run before c.args.round.lists.items c.args.round.counts.items texts.items c.in-Err.fault
     room c.in-Err.ensures.fault told.0
     (told.1 ∙ ap (λ (n : ℕ). replicate n (error_text (run_name c.in-Err.fault))) number))) c.run_refusals.ensures
@@ -63,5 +64,6 @@ returns-then-self-clause-round g c =
     let same : before.rounds ≡ c.self.inside.rounds = sym (ap (λ (s : StoreState). s.rounds) c.self.view_is) in
     let full : before.rounds ≡ 2 ^ 64 - 1 = omega (arith, c.if-self.true) in
     let number : c.len.result ≡ length c.args.round.counts.items = omega (arith, c.args.round.counts.ok.0) in
-    IfOk-weaker c.refusals.result _ _ (λ texts told. fails_full before c.args.round.lists.items c.args.round.counts.items texts.items full
+    IfOk-weaker c.refusals.result _ _
+    (λ texts told. fails_full before c.args.round.lists.items c.args.round.counts.items texts.items full
     (told ∙ ap (λ (n : ℕ). replicate n (error_text (codes "rounds"))) number)) c.refusals.ensures

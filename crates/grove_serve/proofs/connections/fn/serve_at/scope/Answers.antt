@@ -5,7 +5,9 @@ use Rattle.grove_serve.proofs.Sharing.{Seats-sync, caller-send}
 use Rattle.grove_serve.proofs.connections.fn.serve_at.scope.Goals as goal
 
 pub spawn-spawned-requires-send-F : goal.spawn-spawned-requires-send-F
-spawn-spawned-requires-send-F g c κs within = search (sendable, crosses, c.requires, Desk-sync, Seats-sync, caller-send) depth 60 fits 4000
+spawn-spawned-requires-send-F g c κs within =
+    search (sendable, crosses, c.requires, Desk-sync, Seats-sync, caller-send) depth 60 fits 4000
 
 pub spawn-told-requires-send-F : goal.spawn-told-requires-send-F
-spawn-told-requires-send-F g c κs within = search (sendable, crosses, c.requires, Desk-sync, Seats-sync) depth 60 fits 4000
+spawn-told-requires-send-F g c κs within =
+    search (sendable, crosses, c.requires, Desk-sync, Seats-sync) depth 60 fits 4000
