@@ -2,7 +2,6 @@ ghost use Rattle.std.specs.Prelude.{◌≡◌, ◌≤◌, true, false, ⊤, Resu
 ghost use Rattle.serde_json.specs.Data.{Data, depth};
 ghost use Rattle.serde_json.specs.View.{view};
 ghost use Rattle.grove_wire.specs.declared.fault.WireFault.{WireFault};
-ghost use Rattle.grove_wire.specs.Forms.{AreArraysShort, HasShortArrays};
 ghost use Rattle.grove_words.specs.CommandLines.{has_place, serves};
 ghost use Rattle.grove_words.specs.Orders.{verb_for};
 ghost use Rattle.grove_answer.specs.Outcomes.{ThenSays};
@@ -56,9 +55,7 @@ fn answer_to<R: Host + Net<Listener = TcpListener, Stream = TcpStream>>(
     command: Command,
     document: &Value,
 ) -> Result<Answer, Stop>
-    requires short { HasShortArrays (view document.now) }
-    requires all_short { AreArraysShort (view document.now) }
-    requires shallow { depth (view document.now) ≤ 127 }
+    requires { depth (view document.now) ≤ 127 }
     ensures said { IfOk result (IsAnswerTo command (Ok (view document.now))) }
     ensures blamed { IfErr result (Blames (has_place (verb_for command) ≡ true) ⊤) }
 {
@@ -108,8 +105,7 @@ pub fn refused(alloc: Global, refusal: Refusal) -> Result<Answer, Stop>
 
 /// What is said of the settled plan: its lines, or the document with it.
 fn plan_for(alloc: Global, document: &Value, in_document: bool) -> Result<String, Refusal>
-    requires short { HasShortArrays (view document.now) }
-    requires shallow { depth (view document.now) ≤ 127 }
+    requires { depth (view document.now) ≤ 127 }
     ensures { Says (MaySay (Command.Plan in_document) (view document.now)) result }
 {
     if in_document {

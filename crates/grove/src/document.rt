@@ -1,7 +1,6 @@
 ghost use Rattle.std.specs.Prelude.{◌≡◌, ◌≢◌, ◌≤◌, ◌⊎◌, true, None, IfOk, IfErr, OnOk};
 ghost use Rattle.serde_json.specs.Data.{depth};
 ghost use Rattle.serde_json.specs.View.{view};
-ghost use Rattle.grove_wire.specs.Forms.{AreArraysShort, HasShortArrays};
 ghost use Rattle.grove_wire.specs.Outcomes.{Gives};
 ghost use Rattle.grove_words.specs.Invocations.{name_in};
 ghost use Rattle.grove.specs.Answers.{most_bytes, IsAsGoodAs};
@@ -73,8 +72,6 @@ fn file_bytes<R: Host + Files>(rt: &R, name: &str, most: usize) -> Result<Vec<u8
 #[tactic(auto, using(crate::proofs::Levels::shallow_document, crate::proofs::Levels::shallow_history))]
 pub fn read_for(alloc: Global, command: Command, bytes: &[u8]) -> Result<Value, WireFault>
     ensures read { Gives (λ document. view document) result (document_for command bytes.now) }
-    ensures short { IfOk result (λ document. HasShortArrays (view document)) }
-    ensures all_short { IfOk result (λ document. AreArraysShort (view document)) }
     ensures shallow { IfOk result (λ document. depth (view document) ≤ 127) }
 {
     match command {

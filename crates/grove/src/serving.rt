@@ -1,7 +1,6 @@
 ghost use Rattle.std.specs.Prelude.{◌≡◌, ◌≤◌, ◌⊎◌, Some, Ok, true, ⊤, IfOk, IfErr, IfSome, IsOkAnd, string_bytes};
 ghost use Rattle.serde_json.specs.View.{view};
 ghost use Rattle.grove_store.specs.StoreStates.{opened};
-ghost use Rattle.grove_wire.specs.Forms.{HasShortArrays};
 ghost use Rattle.grove_wire.specs.Reading.{tree_in};
 ghost use Rattle.grove_words.specs.declared.order.Command.{Command};
 ghost use Rattle.grove_answer.specs.Outcomes.{ThenSays};
@@ -29,7 +28,6 @@ pub fn serve_document<R: Host + Net<Listener = TcpListener, Stream = TcpStream>>
     serving: Serving,
     talk: Talk,
 ) -> Result<Answer, Stop>
-    requires { HasShortArrays (view document.now) }
     ensures { (command : Command) → serving_of command ≡ Some serving
         → IfOk result (IsAnswerTo command (Ok (view document.now))) }
 {
@@ -58,7 +56,6 @@ pub fn serve_document<R: Host + Net<Listener = TcpListener, Stream = TcpStream>>
 
 /// A store of the document's tree and records.
 fn open_store(alloc: Global, document: &Value, workers: Workers) -> Result<Store, Refusal>
-    requires { HasShortArrays (view document.now) }
     ensures opened { IfOk result (IsOpenedFrom (view document.now) workers.number) }
     ensures refused { (place : Place)
         → IfErr result (λ refusal. IfSome (refusal_outcome refusal)

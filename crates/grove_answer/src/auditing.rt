@@ -3,7 +3,6 @@ ghost use Rattle.serde_json.specs.View.{view};
 ghost use Rattle.grove_core.specs.Kept.{past_of};
 ghost use Rattle.grove_core.specs.Runs.{IsFinished};
 ghost use Rattle.grove_core.specs.Openings.{AllFit};
-ghost use Rattle.grove_wire.specs.Forms.{AreArraysShort, HasShortArrays};
 ghost use Rattle.grove_wire.specs.Histories.{said_standing};
 ghost use Rattle.grove_answer.specs.Faults.{standing_text};
 ghost use Rattle.grove_answer.specs.Says.{Says};
@@ -23,8 +22,6 @@ use std::alloc::Global;
 /// The lines of the run that a document's events are, as `run` prints them, where it is a finished one and left what is
 /// said to stand.
 pub fn audit_document(alloc: Global, document: &Value) -> Result<String, Refusal>
-    requires short { HasShortArrays (view document.now) }
-    requires all_short { AreArraysShort (view document.now) }
     ensures { Says (ThenSays (history_in (view document.now)) IsAudited) result }
 {
     let history = or_refuse(alloc, read_history(alloc, document))?;

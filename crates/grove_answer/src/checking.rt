@@ -1,5 +1,4 @@
 ghost use Rattle.serde_json.specs.View.{view};
-ghost use Rattle.grove_wire.specs.Forms.{HasShortArrays};
 ghost use Rattle.grove_answer.specs.Says.{IsFitting, Says};
 ghost use Rattle.grove_answer.specs.Outcomes.{ThenSays, claim_in, IsChecked};
 
@@ -13,7 +12,6 @@ use std::alloc::Global;
 
 /// The line that checks a document's plan by its flow: the cost, below which no legal plan for the list is.
 pub fn check_document(alloc: Global, document: &Value) -> Result<String, Refusal>
-    requires { HasShortArrays (view document.now) }
     ensures { Says (ThenSays (claim_in (view document.now)) IsChecked) result }
 {
     let (task, plan, flow) = or_refuse(alloc, read_claim(alloc, document))?;

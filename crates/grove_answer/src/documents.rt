@@ -3,7 +3,6 @@ ghost use Rattle.serde_json.specs.Data.{Data, depth};
 ghost use Rattle.serde_json.specs.Find.{get};
 ghost use Rattle.serde_json.specs.View.{view};
 ghost use Rattle.grove_build.specs.Batches.{IsPlanned as IsPlannedList};
-ghost use Rattle.grove_wire.specs.Forms.{HasShortArrays};
 ghost use Rattle.grove_wire.specs.Reading.{plan_in, flow_in};
 ghost use Rattle.grove_wire.specs.Writing.{PlanFits, FlowFits, plan_data, flow_data};
 ghost use Rattle.grove_answer.specs.Says.{IsFitting, Says};
@@ -24,8 +23,7 @@ use std::alloc::{AllocError, Global};
 /// The document with the settled plan of its list put in, and the flow that proves it, as a line of JSON.
 /// What else it has stays.
 pub fn planned_document(alloc: Global, document: &Value) -> Result<String, Refusal>
-    requires short { HasShortArrays (view document.now) }
-    requires shallow { depth (view document.now) ≤ 127 }
+    requires { depth (view document.now) ≤ 127 }
     ensures { Says (ThenSays (task_in (view document.now)) (IsPlannedDocument (view document.now))) result }
 {
     let task = or_refuse(alloc, read_task(alloc, document))?;

@@ -4,7 +4,6 @@ ghost use Rattle.grove_access.specs.Lists.{nodes_of, lengths_of};
 ghost use Rattle.grove_build.specs.Settled.{IsSettled};
 ghost use Rattle.grove_draw.specs.Pictures.{IsPictureOf};
 ghost use Rattle.grove_plan.specs.declared.step.Step.{Step};
-ghost use Rattle.grove_wire.specs.Forms.{HasShortArrays};
 ghost use Rattle.grove_answer.specs.Says.{refusal_outcome, IsFitting, Says};
 ghost use Rattle.grove_answer.specs.Outcomes.{ThenSays, sketch_in, IsDrawingOf, IsDrawn, PicturesOwn};
 
@@ -20,7 +19,6 @@ use std::alloc::Global;
 
 /// The text of a document's drawing, in the form that is asked for.
 pub fn draw_document(alloc: Global, document: &Value, form: Form) -> Result<String, Refusal>
-    requires { HasShortArrays (view document.now) }
     ensures { Says (ThenSays (sketch_in (view document.now)) IsDrawn) result }
 {
     let drawing = drawing_of(alloc, document)?;
@@ -29,7 +27,6 @@ pub fn draw_document(alloc: Global, document: &Value, form: Form) -> Result<Stri
 
 /// What is drawn of a document: its list's settled plan and, where it has a plan of its own, that one too.
 pub fn drawing_of(alloc: Global, document: &Value) -> Result<Drawing, Refusal>
-    requires { HasShortArrays (view document.now) }
     ensures drawn { IfOk result (λ drawing. IsOkAnd (sketch_in (view document.now)) (λ sketch. IsDrawingOf sketch.0 sketch.1 drawing)) }
     ensures refused { IfErr result (λ refusal. IfSome (refusal_outcome refusal) (ThenSays (sketch_in (view document.now)) IsDrawn)) }
 {

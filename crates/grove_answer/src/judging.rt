@@ -1,7 +1,6 @@
 ghost use Rattle.std.specs.Prelude.{◌≡◌, IfOk, string_bytes};
 ghost use Rattle.serde_json.specs.View.{view};
 ghost use Rattle.grove_access.specs.Effects.{records_after, replies_to};
-ghost use Rattle.grove_wire.specs.Forms.{HasShortArrays};
 ghost use Rattle.grove_answer.specs.Says.{IsFitting, Says};
 ghost use Rattle.grove_answer.specs.Outcomes.{ThenSays, trial_in, judge_lines, IsJudged};
 
@@ -17,7 +16,6 @@ use std::alloc::Global;
 
 /// The lines that judge a document: the cost of its plan, and the replies and records of its list done alone.
 pub fn judge_document(alloc: Global, document: &Value) -> Result<String, Refusal>
-    requires { HasShortArrays (view document.now) }
     ensures { Says (ThenSays (trial_in (view document.now)) IsJudged) result }
 {
     let (task, plan) = or_refuse(alloc, read_trial(alloc, document))?;

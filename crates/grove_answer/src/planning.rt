@@ -1,7 +1,6 @@
 ghost use Rattle.std.specs.Prelude.{◌≡◌, IfOk, string_bytes};
 ghost use Rattle.serde_json.specs.View.{view};
 ghost use Rattle.grove_build.specs.Batches.{IsPlanned as IsPlannedList};
-ghost use Rattle.grove_wire.specs.Forms.{HasShortArrays};
 ghost use Rattle.grove_answer.specs.Says.{IsFitting, Says};
 ghost use Rattle.grove_answer.specs.Outcomes.{ThenSays, task_in, plan_lines, IsPlannedTask};
 
@@ -17,7 +16,6 @@ use std::alloc::Global;
 
 /// The lines that plan a document's list: the cost, the settled plan, and the flow that proves it.
 pub fn plan_document(alloc: Global, document: &Value) -> Result<String, Refusal>
-    requires { HasShortArrays (view document.now) }
     ensures { Says (ThenSays (task_in (view document.now)) IsPlannedTask) result }
 {
     let task = or_refuse(alloc, read_task(alloc, document))?;

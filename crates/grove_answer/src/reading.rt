@@ -3,7 +3,6 @@ ghost use Rattle.serde_json.specs.Find.{get};
 ghost use Rattle.serde_json.specs.View.{view};
 ghost use Rattle.grove_access.specs.Lists.{nodes_of, AreNodes};
 ghost use Rattle.grove_core.specs.Openings.{AllFit};
-ghost use Rattle.grove_wire.specs.Forms.{AreArraysShort, HasShortArrays};
 ghost use Rattle.grove_wire.specs.Histories.{said_standing};
 ghost use Rattle.grove_wire.specs.Outcomes.{Gives, if_there};
 ghost use Rattle.grove_wire.specs.Reading.{plan_in};
@@ -33,7 +32,6 @@ pub struct Task {
 /// The document's tree and list.
 #[tactic(auto, unfolding(crate::specs::Outcomes::task_in))]
 pub fn read_task(alloc: Global, document: &Value) -> Result<Task, WireFault>
-    requires { HasShortArrays (view document.now) }
     ensures read { Gives (λ task. task) result (task_in (view document.now)) }
     ensures fits { IfOk result IsFitting }
 {
@@ -57,7 +55,6 @@ pub struct Batch {
 /// The document's tree and list, and a plan for them.
 #[tactic(auto, unfolding(crate::specs::Outcomes::trial_in))]
 pub fn read_trial(alloc: Global, document: &Value) -> Result<(Task, Plan), WireFault>
-    requires { HasShortArrays (view document.now) }
     ensures read { Gives (λ trial. (trial.0, trial.1)) result (trial_in (view document.now)) }
     ensures fits { IfOk result (λ trial. IsFitting trial.0) }
 {
@@ -69,7 +66,6 @@ pub fn read_trial(alloc: Global, document: &Value) -> Result<(Task, Plan), WireF
 /// The document's tree, list and plan, and a flow that is to prove the plan least.
 #[tactic(auto, unfolding(crate::specs::Outcomes::claim_in))]
 pub fn read_claim(alloc: Global, document: &Value) -> Result<(Task, Plan, Flow), WireFault>
-    requires { HasShortArrays (view document.now) }
     ensures read { Gives (λ claim. (claim.0, claim.1, claim.2)) result (claim_in (view document.now)) }
     ensures fits { IfOk result (λ claim. IsFitting claim.0) }
 {
@@ -81,7 +77,6 @@ pub fn read_claim(alloc: Global, document: &Value) -> Result<(Task, Plan, Flow),
 /// The document's tree and list, and a plan for them where it has one.
 #[tactic(auto, unfolding(crate::specs::Outcomes::sketch_in))]
 pub fn read_sketch(alloc: Global, document: &Value) -> Result<(Task, Option<Plan>), WireFault>
-    requires { HasShortArrays (view document.now) }
     ensures read { Gives (λ sketch. (sketch.0, sketch.1)) result (sketch_in (view document.now)) }
     ensures fits { IfOk result (λ sketch. IsFitting sketch.0) }
 {
@@ -91,7 +86,6 @@ pub fn read_sketch(alloc: Global, document: &Value) -> Result<(Task, Option<Plan
 }
 
 fn read_own_plan(alloc: Global, tree: &Tree, document: &Value) -> Result<Option<Plan>, WireFault>
-    requires { HasShortArrays (view document.now) }
     ensures { Gives (λ own. own) result
         (if_there (λ plan. plan_in tree.now (view document.now)) (get (codes "plan") (view document.now))) }
 {
@@ -104,7 +98,6 @@ fn read_own_plan(alloc: Global, tree: &Tree, document: &Value) -> Result<Option<
 /// The document's tree and lists.
 #[tactic(auto, unfolding(crate::specs::Outcomes::batch_in))]
 pub fn read_batch(alloc: Global, document: &Value) -> Result<Batch, WireFault>
-    requires { HasShortArrays (view document.now) }
     ensures read { Gives (λ batch. (batch.tree, batch.records, batch.lists.items)) result (batch_in (view document.now)) }
     ensures records { IfOk result (λ batch. length batch.records ≡ length batch.tree) }
     ensures fits { IfOk result (λ batch. All (λ list. AreNodes batch.tree (nodes_of list)) batch.lists.items) }
@@ -132,8 +125,6 @@ pub struct History {
 /// The document's tree, jobs and events, and what is said to stand, if anything.
 #[tactic(auto, unfolding(crate::specs::Outcomes::history_in))]
 pub fn read_history(alloc: Global, document: &Value) -> Result<History, WireFault>
-    requires short { HasShortArrays (view document.now) }
-    requires all_short { AreArraysShort (view document.now) }
     ensures read { Gives (λ history. record {
       tree = history.tree;
       records = history.records;

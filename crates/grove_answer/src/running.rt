@@ -6,7 +6,6 @@ ghost use Rattle.grove_core.specs.Kept.{past_of};
 ghost use Rattle.grove_core.specs.Orders.{placement_order};
 ghost use Rattle.grove_core.specs.Runs.{waits_of};
 ghost use Rattle.grove_build.specs.SettledJobs.{AreSettledJobs};
-ghost use Rattle.grove_wire.specs.Forms.{HasShortArrays};
 ghost use Rattle.grove_answer.specs.Says.{Says};
 ghost use Rattle.grove_answer.specs.Outcomes.{ThenSays, batch_in, batch_lines, run_lines, IsRunBatch};
 
@@ -33,8 +32,7 @@ pub fn run_document<R: Threads + Wait + Sync>(
     document: &Value,
     workers: u32,
 ) -> Result<String, Refusal>
-    requires short { HasShortArrays (view document.now) }
-    requires workers { (1 ≤ workers) × (workers ≤ 16) }
+    requires { (1 ≤ workers) × (workers ≤ 16) }
     ensures { Says (ThenSays (batch_in (view document.now)) IsRunBatch) result }
 {
     let batch = or_refuse(alloc, read_batch(alloc, document))?;

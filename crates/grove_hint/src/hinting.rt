@@ -11,8 +11,8 @@ use grove_base::{Hint, NoMemory};
 use grove_core::ReplayFault;
 use grove_proof::ProofFault;
 use grove_wire::{
-    Fault, MOST_BYTES, MOST_EVENTS, MOST_HISTORY_BYTES, MOST_JOBS, MOST_LISTS, Part, Place,
-    WireFault, wire_fault_name,
+    Fault, MOST_BYTES, MOST_EVENTS, MOST_HISTORY_BYTES, MOST_ITEMS, MOST_JOBS, MOST_LISTS, Part,
+    Place, WireFault, wire_fault_name,
 };
 use serde_json::Value;
 use std::alloc::Global;
@@ -127,7 +127,8 @@ fn beyond(alloc: Global, subject: Subject<'_>, place: Place) -> Told {
         (Part::Lists, None) => (MOST_LISTS, "lists"),
         (Part::Jobs, None) => (MOST_JOBS, "jobs"),
         (Part::Events, _) => (MOST_EVENTS, "events"),
-        _ => (MOST_ACCESSES, "accesses"),
+        (Part::List | Part::Lists | Part::JobList, _) => (MOST_ACCESSES, "accesses"),
+        _ => (MOST_ITEMS, "items"),
     };
     let count = subject.value_at(place).map_or(0, length_of);
     let spot = subject.spot(place);

@@ -101,9 +101,7 @@ fn fault_of(
     paths: &[String],
     line: &[u8],
     error: &str,
-) -> Result<Option<Fault>, AllocError>
-    requires { length line.now ≤ 1048576 }
-{
+) -> Result<Option<Fault>, AllocError> {
     let Ok(tree) = Tree::build(alloc, &rows_of(alloc, paths)?) else {
         return Ok(None);
     };

@@ -1,15 +1,16 @@
 -- Items read in turn, by a loop that has read some of them.
-use Rattle.std.proofs.Common.{◌≡◌, ℕ, zero, suc, ◌+◌, ◌<◌, ◌≤◌, List, [], ◌∷◌, ◌++◌, length, drop, get_or, refl, ap, sym, ◌∙◌, add-one, append_assoc, append-nil, drop-cons, arith}
+use Rattle.std.proofs.Common.{◌≡◌, ℕ, suc, ◌+◌, ◌<◌, ◌≤◌, List, [], ◌∷◌, ◌++◌, length, drop, get_or, cond, refl, ap, sym, ◌∙◌, add-one, append_assoc, append-nil, drop-cons, arith}
 use Rattle.std.specs.Prelude.{Result, Ok, Err, IsErrAnd, map}
-use Rattle.std.specs.List.{All}
 use Rattle.std.proofs.lemmas.List.{drop_all}
-use Rattle.std.proofs.lemmas.List.Elements.{All-head, All-tail}
+use Rattle.std.proofs.lemmas.Bool.{le-ltb}
 use Rattle.serde_json.specs.Data.{Data}
 use Rattle.serde_json.specs.View.{view}
 use Rattle.serde_json.specs.declared.value.Value.{Value}
 use Rattle.grove_wire.specs.declared.fault.WireFault.{WireFault}
 use Rattle.grove_wire.specs.declared.fault.WireFault.TheVariants.{BadJson, Shape, NoPath, BadLength, Limit, Tree, Memory}
-use Rattle.grove_wire.specs.Outcomes.{◌>>=◌, each_from, Fails, Gives}
+use Rattle.grove_wire.specs.declared.place.Place.{Place}
+use Rattle.grove_wire.specs.Outcomes.{◌>>=◌, each_from, each_on, few_on, Fails, Gives}
+use Rattle.grove_wire.specs.Places.{item_on}
 
 -- a call that fails with the fault that is given fails as is said
 pub fails_so : {A : Type 0} (fault : WireFault) (read : Result A WireFault) → read ≡ Err fault → Fails fault read
@@ -53,12 +54,6 @@ with_front-none (Err fault) = refl
 -- what is left of values begins with the value at the place
 drop_turn : (values : List Value) (at : ℕ) (value : Value) → at < length values → value ≡ get_or values at value → drop at values ≡ value ∷ drop (suc at) values
 drop_turn values at value within is = drop-cons values at value within ∙ ap (λ (v : Value). v ∷ drop (suc at) values) (sym is)
-
--- what all values have, the value at the place has
-pub all_turn : (P : Data → Type 0) (values : List Value) (at : ℕ) (value : Value) → All P (map view values) → at < length values → value ≡ get_or values at value → P (view value)
-all_turn P [] at value all within is = absurd (omega arith)
-all_turn P (v ∷ values) zero value all within is = rw is (All-head P (view v) (map view values) all)
-all_turn P (v ∷ values) (suc at) value all within is = all_turn P values at value (All-tail P (view v) (map view values) all) (omega arith) is
 
 module _ {A : Type 0} (read : ℕ → Data → Result A WireFault) (values : List Value) (at : ℕ) where
   -- what is left of the values, read
@@ -107,3 +102,28 @@ each_from-push read d x told at (e ∷ ds) = rw (each_from-push read d x told (s
 pub each_pushed : {A : Type 0} (read : ℕ → Data → Result A WireFault) (d : Data) (x : A) (ds : List Data) (xs : List A) → ((at : ℕ) → read at d ≡ Ok x) → each_from read 0 ds ≡ Ok xs
     → each_from read 0 (ds ++ d ∷ []) ≡ Ok (xs ++ x ∷ [])
 each_pushed read d x ds xs told is = each_from-push read d x told 0 ds ∙ ap (λ result. result >>= λ ys. Ok (ys ++ x ∷ [])) is
+
+-- what items are read as is as long as they are
+
+each_length : {A : Type 0} (read : ℕ → Data → Result A WireFault) (at : ℕ) (ds : List Data) (xs : List A)
+    → each_from read at ds ≡ Ok xs → length ds ≡ length xs
+each_length read at [] [] is = refl
+each_length read at [] (x ∷ xs) is = absurd (cc)
+each_length {A} read at (d ∷ ds) xs is =
+    by_parts (read at d) (each_from read (suc at) ds) (each_length read (suc at) ds) is
+  where
+    by_parts : (first : Result A WireFault) (others : Result (List A) WireFault)
+        → ((ys : List A) → others ≡ Ok ys → length ds ≡ length ys)
+        → (first >>= λ y. others >>= λ ys. Ok (y ∷ ys)) ≡ Ok xs → length (d ∷ ds) ≡ length xs
+    by_parts (Ok y) (Ok ys) rest told =
+        let same : y ∷ ys ≡ xs = cc in ap suc (rest ys refl) ∙ ap length same
+    by_parts (Ok y) (Err fault) rest told = absurd (cc)
+    by_parts (Err fault) others rest told = absurd (cc)
+
+-- so where that is few, they are few
+pub few_read : {A : Type 0} (most : ℕ) (read : Place → Data → Result A WireFault) (place : Place) (ds : List Data)
+    (xs : List A) → length xs ≤ most → each_on read place ds ≡ Ok xs → few_on most read place ds ≡ Ok xs
+few_read most read place ds xs few is =
+    let same : length ds ≡ length xs = each_length (λ at. read (item_on place at)) 0 ds xs is in
+    let within : length ds ≤ most = omega arith in
+    ap (λ test. cond test (Err (Limit place)) (each_on read place ds)) (le-ltb most (length ds) within) ∙ is

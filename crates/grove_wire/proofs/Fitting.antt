@@ -25,7 +25,7 @@ use Rattle.grove_wire.specs.declared.place.Part.{Part}
 use Rattle.grove_wire.specs.declared.place.Part.TheVariants as part
 use Rattle.grove_wire.specs.declared.place.Place.{Place}
 use Rattle.grove_wire.specs.declared.versions.Version.{Version}
-use Rattle.grove_wire.specs.Outcomes.{◌>>=◌, or_fault, each_from, each_on, Gives}
+use Rattle.grove_wire.specs.Outcomes.{◌>>=◌, or_fault, each_from, few_on, Gives}
 use Rattle.grove_wire.specs.Places.{whole_of, item_of, item_on, part_word}
 use Rattle.grove_wire.specs.Forms.{as_list, as_short, items_of, version_of, access_form, flow_form, is_word}
 use Rattle.grove_wire.specs.Histories.{job_at, jobs_of}
@@ -252,10 +252,12 @@ all_at P (y ∷ xs) all (suc place) x at = all_at P xs (All-tail P y xs all) pla
 
 -- the steps of a plan that stands at a place
 pub steps_read : (rows : Rows) (place : Place) (ds : List Data)
-    → Reads (PlanFits rows) (each_on (step_at rows) place ds)
+    → Reads (PlanFits rows) (few_on 4294967295 (step_at rows) place ds)
 steps_read rows place ds =
-    weaker_reads (λ plan. (length plan ≡ length ds) × All (StepFits rows) plan) (PlanFits rows) (each_from (step_in rows place) 0 ds) (λ plan here. all_at (StepFits rows) plan here.1)
-    (each_reads (StepFits rows) (step_in rows place) (λ at d. step_reads rows (item_on place at) d) 0 ds)
+    weaker_reads (λ plan. (length plan ≤ 4294967295) × All (StepFits rows) plan) (PlanFits rows)
+    (few_on 4294967295 (step_at rows) place ds) (λ plan here. all_at (StepFits rows) plan here.1)
+    (few_reads (StepFits rows) 4294967295 place (step_in rows place) ds (nat_lt 4294967295 (length ds))
+    (ltb-false 4294967295 (length ds)) (λ at d. step_reads rows (item_on place at) d))
 
 pub plan_reads : (rows : Rows) (d : Data) → Reads (PlanFits rows) (plan_in rows d)
 unfolding plan_in
@@ -275,7 +277,7 @@ job_reads rows version at d =
     then_reads (λ ds. Unit {0}) (JobFits rows) (items_at (item_of part.JobList at) (codes "list") object) _ (any_reads _ (items_of (codes "list") object) tt) (λ accesses told.
     then_reads (AreListed rows) (JobFits rows) (list_of rows version (item_of part.JobList at) accesses) _ (list_reads rows version (item_of part.JobList at) accesses) (λ list listed.
     then_reads (λ ds. Unit {0}) (JobFits rows) (items_at (item_of part.JobPlan at) (codes "plan") object) _ (any_reads _ (items_of (codes "plan") object) tt) (λ steps told.
-    then_reads (PlanFits rows) (JobFits rows) (each_on (step_at rows) (item_of part.JobPlan at) steps) _
+    then_reads (PlanFits rows) (JobFits rows) (few_on 4294967295 (step_at rows) (item_of part.JobPlan at) steps) _
     (steps_read rows (item_of part.JobPlan at) steps) (λ plan fits. listed)))))
 
 jobs_read : (rows : Rows) (version : Version) (ds : List Data) → Reads (λ jobs. (length jobs ≤ 256) × All (JobFits rows) jobs) (jobs_of rows version ds)
@@ -316,5 +318,7 @@ pub flow_reads : (rows : Rows) (d : Data) → Reads (FlowFits rows) (flow_in row
 unfolding flow_in
 flow_reads rows d =
     then_reads (λ ds. Unit {0}) (FlowFits rows) (items_in part.Flow d) _ (items_read part.Flow d) (λ ds told.
-    weaker_reads (λ flow. (length flow ≡ length ds) × All (RowFits rows) flow) (FlowFits rows) (each_from (flow_row_in rows) 0 ds) (λ flow here. all_at (RowFits rows) flow here.1)
-    (each_reads (RowFits rows) (flow_row_in rows) (λ at d. flow_row_reads rows (item_of part.Flow at) d) 0 ds))
+    weaker_reads (λ flow. (length flow ≤ 4294967295) × All (RowFits rows) flow) (FlowFits rows)
+    (few_on 4294967295 (flow_row_at rows) (whole_of part.Flow) ds) (λ flow here. all_at (RowFits rows) flow here.1)
+    (few_reads (RowFits rows) 4294967295 (whole_of part.Flow) (flow_row_in rows) ds (nat_lt 4294967295 (length ds))
+    (ltb-false 4294967295 (length ds)) (λ at d. flow_row_reads rows (item_of part.Flow at) d)))

@@ -9,8 +9,6 @@ pub mod Floatless
 pub mod Weights
 pub mod Only
 pub mod Fitting
-pub mod Tokens
-pub mod Lengths
 pub mod Requests
 pub mod Slashes
 pub mod Stored

@@ -147,13 +147,18 @@ list_same {A} f look same row = by_text row.text row.whole row.reads
 
 module _ {A : Type 0} (f : Form) (read : ℕ → Data → Result A WireFault)
     (same : (at : ℕ) (row : Row) → read at (drawn f row.text) ≡ read at row.whole) where
-  pub each_same : (at : ℕ) (rows : List Row) → each_from read at (sketches f rows) ≡ each_from read at (wholes rows)
+  each_same : (at : ℕ) (rows : List Row) → each_from read at (sketches f rows) ≡ each_from read at (wholes rows)
   each_same at [] = refl
   each_same at (row ∷ rows) =
       ap₂ (λ first others. first >>= λ x. others >>= λ xs. Ok (x ∷ xs)) (same at row) (each_same (suc at) rows)
 
   abbrev pub limited : ℕ → WireFault → List Data → Result (List A) WireFault
   limited limit fault ds = cond (nat_lt limit (length ds)) (Err fault) (each_from read 0 ds)
+
+  pub whole_same : (limit : ℕ) (fault : WireFault) (rows : List Row)
+      → limited limit fault (sketches f rows) ≡ limited limit fault (wholes rows)
+  whole_same limit fault rows = ap₂ (λ n rest. cond (nat_lt limit n) (Err fault) rest)
+      (map_length (λ row. drawn f row.text) rows ∙ sym (map_length (λ row. row.whole) rows)) (each_same 0 rows)
 
   -- of more than may be it only matters that they are
   pub limited_same : (limit : ℕ) (fault : WireFault) (rows : List Row)
@@ -177,9 +182,7 @@ module _ {A : Type 0} (f : Form) (read : ℕ → Data → Result A WireFault)
           let few : length rows ≤ limit = ltb-false limit (length rows) within in
           let all : take (suc limit) (sketches f rows) ≡ sketches f rows =
           take_all (suc limit) (sketches f rows) (omega (arith, few, map_length (λ row. drawn f row.text) rows)) in
-          ap (limited limit fault) all
-          ∙ ap₂ (λ n rest. cond (nat_lt limit n) (Err fault) rest)
-          (map_length (λ row. drawn f row.text) rows ∙ sym (map_length (λ row. row.whole) rows)) (each_same 0 rows)
+          ap (limited limit fault) all ∙ whole_same limit fault rows
 
 -- ---- scalars
 

@@ -20,7 +20,7 @@ use Rattle.grove_wire.specs.declared.place.Part.TheVariants as part
 use Rattle.grove_wire.specs.declared.versions.Version.TheVariants.{First, Second}
 use Rattle.grove_wire.specs.declared.sketch.Form.{Form}
 use Rattle.grove_wire.specs.declared.sketch.Form.TheVariants as form
-use Rattle.grove_wire.specs.Outcomes.{◌>>=◌, or_fault, each_from, each_on}
+use Rattle.grove_wire.specs.Outcomes.{◌>>=◌, or_fault, few_on}
 use Rattle.grove_wire.specs.Places.{whole_of, item_of, part_word}
 use Rattle.grove_wire.specs.Forms as forms
 use Rattle.grove_wire.specs.Reading as reading
@@ -28,7 +28,7 @@ use Rattle.grove_wire.specs.Requests as requests
 use Rattle.grove_wire.specs.Sketches.{item_form, most_items, member_form, line_member, leaf, number_data, cut, put_kept, drawn, drawn_members, Draft}
 use Rattle.grove_wire.specs.RowParts.{flow_with}
 use Rattle.grove_wire.proofs.Turns.{nth_list, step_in, flow_row_in}
-use Rattle.grove_wire.proofs.SketchedItems.{Row, wholes, sketches, leaf_same, number_same, array_same, object_same, list_same, each_same, limited_same, text_same, unsigned_same, three, applied, list_of_same, list_on_same, step_in_same}
+use Rattle.grove_wire.proofs.SketchedItems.{Row, wholes, sketches, leaf_same, number_same, array_same, object_same, list_same, whole_same, limited_same, text_same, unsigned_same, three, applied, list_of_same, list_on_same, step_in_same}
 
 -- ---- members
 
@@ -195,14 +195,15 @@ module _ (tree : Rows) (row : Row) where
 
   plan_in_same : reading.plan_in tree (drawn form.Check row.text) ≡ reading.plan_in tree row.whole
   unfolding reading.plan_in
-  plan_in_same = part_same part.Plan form.Plan refl (each_on (reading.step_at tree) (whole_of part.Plan))
-      (λ rows. each_same form.Step (step_in tree (whole_of part.Plan))
-      (step_in_same tree (whole_of part.Plan)) 0 rows) row
+  plan_in_same = part_same part.Plan form.Plan refl (few_on 4294967295 (reading.step_at tree) (whole_of part.Plan))
+      (λ rows. whole_same form.Step (step_in tree (whole_of part.Plan))
+      (step_in_same tree (whole_of part.Plan)) 4294967295 (Limit (whole_of part.Plan)) rows) row
 
   flow_in_same : reading.flow_in tree (drawn form.Check row.text) ≡ reading.flow_in tree row.whole
   unfolding reading.flow_in
-  flow_in_same = part_same part.Flow form.Flow refl (each_from (flow_row_in tree) 0)
-      (λ rows. each_same form.Row (flow_row_in tree) (flow_row_in_same tree) 0 rows) row
+  flow_in_same = part_same part.Flow form.Flow refl (few_on 4294967295 (reading.flow_row_at tree) (whole_of part.Flow))
+      (λ rows. whole_same form.Row (flow_row_in tree) (flow_row_in_same tree) 4294967295
+      (Limit (whole_of part.Flow)) rows) row
 
   kind_same : is_some (as_object (drawn form.Check row.text)) ≡ is_some (as_object row.whole)
   kind_same = by_text row.text row.whole row.reads
@@ -360,16 +361,16 @@ line_same tree (json.object ms) d is = object_same (asks tree) (drawn form.Line 
     by_entries (e ∷ f ∷ es) = refl
 
 -- a line asks for what its draft asks for
-draft_asks : (tree : Rows) (line : List ℕ) (n : ℕ) (e : Data) → Draft n (reading.value_of line) e → requests.request_of tree line ≡ asks tree e
+draft_asks : (tree : Rows) (line : List ℕ) (e : Data) → Draft (reading.value_of line) e → requests.request_of tree line ≡ asks tree e
 unfolding requests.request_of
-draft_asks tree line n e draft = ap (λ o. or_fault BadJson o >>= asks tree) draft.is ∙ sym (line_same tree draft.text draft.whole draft.reads) ∙ ap (asks tree) (sym draft.kept)
+draft_asks tree line e draft = ap (λ o. or_fault BadJson o >>= asks tree) draft.is ∙ sym (line_same tree draft.text draft.whole draft.reads) ∙ ap (asks tree) (sym draft.kept)
 
-module _ (tree : Rows) (line : List ℕ) (n : ℕ) (e : Data) (draft : Draft n (reading.value_of line) e) where
+module _ (tree : Rows) (line : List ℕ) (e : Data) (draft : Draft (reading.value_of line) e) where
   pub draft_named : (name : List ℕ) (d : Data) → Some (name, d) ≡ requests.only_member e → requests.request_of tree line ≡ requests.named_of tree name d
-  draft_named name d only = draft_asks tree line n e draft ∙ ap (λ o. or_fault (Shape (whole_of part.Whole)) o >>= λ one. requests.named_of tree one.0 one.1) (sym only)
+  draft_named name d only = draft_asks tree line e draft ∙ ap (λ o. or_fault (Shape (whole_of part.Whole)) o >>= λ one. requests.named_of tree one.0 one.1) (sym only)
 
   pub draft_shapeless : None ≡ requests.only_member e → requests.request_of tree line ≡ Err (Shape (whole_of part.Whole))
-  draft_shapeless none = draft_asks tree line n e draft ∙ ap (λ o. or_fault (Shape (whole_of part.Whole)) o >>= λ one. requests.named_of tree one.0 one.1) (sym none)
+  draft_shapeless none = draft_asks tree line e draft ∙ ap (λ o. or_fault (Shape (whole_of part.Whole)) o >>= λ one. requests.named_of tree one.0 one.1) (sym none)
 
 -- a line that isn't read asks for nothing
 pub unread_asks : (tree : Rows) (line : List ℕ) (fault : WireFault) → or_fault BadJson (reading.value_of line) ≡ Err fault → requests.request_of tree line ≡ Err fault

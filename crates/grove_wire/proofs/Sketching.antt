@@ -1,5 +1,5 @@
 -- A value read while a sketch of it is drawn, an item or a member at a time.
-use Rattle.std.proofs.Common.{◌≡◌, ℕ, zero, suc, ◌-◌, ◌<◌, ◌≤◌, Bool, true, false, List, [], ◌∷◌, ◌++◌, length, take, Option, Some, None, option_map, option_and_then, refl, ap, ap₂, sym, subst, ◌∙◌, append_assoc, append-nil, arith}
+use Rattle.std.proofs.Common.{◌≡◌, ℕ, zero, suc, ◌-◌, ◌<◌, ◌≤◌, Bool, true, false, List, [], ◌∷◌, ◌++◌, length, take, Option, Some, None, option_map, option_and_then, refl, ap, ap₂, sym, ◌∙◌, append_assoc, append-nil, arith}
 use Rattle.std.proofs.lemmas.Bool.{ltb-true, ltb-false}
 use Rattle.json.specs.Token.{Token}
 use Rattle.json.specs.Json as json
@@ -10,8 +10,6 @@ use Rattle.serde_json.specs.Read.{number_of, of_json, of_items, of_members, conv
 use Rattle.serde_json.specs.View.{items_of}
 use Rattle.json.specs.Lex.{tokens}
 use Rattle.serde_json.specs.Read.{read}
-use Rattle.grove_wire.specs.Forms.{AllArraysWithin}
-use Rattle.grove_wire.proofs.Lengths.{drawn_within}
 use Rattle.grove_wire.specs.declared.sketch.Form.{Form}
 use Rattle.grove_wire.specs.declared.sketch.Form.TheVariants.{Line}
 use Rattle.grove_wire.specs.Sketches.{leaf, number_data, item_form, most_items, member_form, cut, is_below, put_kept, drawn, drawn_items, drawn_members, Sketched, ItemsSketched, MembersSketched, Draft}
@@ -344,14 +342,13 @@ whole_lost (Some (j, [])) lost = no_value [] (of_json j) lost
 whole_lost (Some (j, t ∷ r)) lost = refl
 
 module _ (text : List ℕ) (e : Data) (ts r : List Token) (start : ts ≡ tokens text) where
-  pub draft_of_text : Sketched Line 127 ts e r → r ≡ [] → Draft (length text) (read text) e
+  pub draft_of_text : Sketched Line 127 ts e r → r ≡ [] → Draft (read text) e
   draft_of_text sketched end = record {
     text = sketched.text;
     whole = sketched.whole;
     is = ap whole (ap (json.value 127) (sym start) ∙ sketched.is ∙ ap (λ rest. Some (sketched.text, rest)) end) ∙ sketched.reads;
     reads = sketched.reads;
     kept = sketched.kept;
-    short = subst (AllArraysWithin (length text)) (sym sketched.kept) (drawn_within text Line 127 sketched.text r (ap (json.value 127) (sym start) ∙ sketched.is));
   }
 
   pub more_after_text : (t : Token) (rest : List Token) → Sketched Line 127 ts e r → r ≡ t ∷ rest → read text ≡ None
@@ -361,12 +358,11 @@ pub text_lost : (text : List ℕ) (ts : List Token) → ts ≡ tokens text → c
 text_lost text ts start lost = whole_lost (json.value 127 (tokens text)) (ap (λ x. converted of_json (json.value 127 x)) (sym start) ∙ lost)
 
 -- a draft of a text is one of a line that is the text
-pub draft_of_line : (n m : ℕ) (v w : Option Data) (e : Data) → n ≡ m → v ≡ w → Draft n v e → Draft m w e
-draft_of_line n m v w e long same draft = record {
+pub draft_of_line : (v w : Option Data) (e : Data) → v ≡ w → Draft v e → Draft w e
+draft_of_line v w e same draft = record {
   text = draft.text;
   whole = draft.whole;
   is = sym same ∙ draft.is;
   reads = draft.reads;
   kept = draft.kept;
-  short = subst (λ k. AllArraysWithin k e) long draft.short;
 }

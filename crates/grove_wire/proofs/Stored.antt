@@ -8,7 +8,7 @@ use Rattle.serde_json.specs.Data.{Data, string, object, no_members, member}
 use Rattle.serde_json.specs.View.{view}
 use Rattle.serde_json.specs.declared.value.Value.{Value}
 use Rattle.grove_base.specs.Numbers.{numbers_below}
-use Rattle.grove_base.proofs.Lists.{item_there, take_next}
+use Rattle.grove_base.proofs.Lists.{item_there, take_next, map_length}
 use Rattle.grove_tree.specs.Trees.{Rows, NodeRow, parent_of, name_of, weight_of}
 use Rattle.grove_tree.specs.Rules.{AreTreeRows, tree_fault_of}
 use Rattle.grove_tree.specs.declared.fault.TreeFault.{TreeFault}
@@ -20,11 +20,14 @@ use Rattle.grove_wire.specs.Forms.{row_form, as_short}
 use Rattle.grove_wire.specs.RowParts.{row_with}
 use Rattle.grove_wire.specs.Writing.{number_data, count_data}
 use Rattle.grove_wire.specs.Documents.{parent_data, row_data}
-use Rattle.grove_wire.specs.Outcomes.{each_from}
-use Rattle.grove_wire.specs.Reading.{row_at, items_in, tree_in}
+use Rattle.grove_wire.specs.declared.place.Part.TheVariants as part
+use Rattle.grove_wire.specs.Outcomes.{of_form, each_from}
+use Rattle.grove_wire.specs.Places.{whole_of}
+use Rattle.grove_wire.specs.Reading.{items_in, tree_in}
 use Rattle.grove_wire.proofs.Columns.{rows_in, records_in}
-use Rattle.grove_wire.proofs.Each.{each_pushed}
+use Rattle.grove_wire.proofs.Each.{each_pushed, few_read}
 use Rattle.grove_wire.proofs.Shorts.{short_is_read}
+use Rattle.grove_wire.proofs.Turns.{row_in}
 
 -- a list is its items by their numbers
 listed_to : {A : Type 0} (xs : List A) (f : ℕ → A) → ((i : ℕ) (x : A) → slice_get xs i ≡ Some x → f i ≡ x) → (n : ℕ) → n ≤ length xs → map f (numbers_below n) ≡ take n xs
@@ -80,8 +83,8 @@ written_row parent name value weight = object
 
 -- is read as itself
 row_is_read : (parent : Option ℕ) (name : List ℕ) (value : ℤ) (weight : ℕ) → IfSome parent (λ p. p < 2 ^ 32) → FitsSigned w64 value → weight < 2 ^ 32
-    → (place : ℕ) → row_at place (written_row parent name value weight) ≡ Ok (row_with parent name weight value)
-unfolding row_at row_form as_short
+    → (place : ℕ) → row_in place (written_row parent name value weight) ≡ Ok (row_with parent name weight value)
+unfolding row_form as_short
 row_is_read None name (pos n) weight few fits light place = rw (short_is_read weight light, lt-ltb n (2 ^ 63) fits.sfits) refl
 row_is_read None name (negsuc n) weight few fits light place = rw (short_is_read weight light) refl
 row_is_read (Some parent) name (pos n) weight few fits light place = rw (short_is_read parent few, short_is_read weight light, lt-ltb n (2 ^ 63) fits.sfits) refl
@@ -101,13 +104,13 @@ written_next items value data_of n so_far next =
 
 -- and is one more that is read
 pub reads_next : (rows : Rows) (records : List ℤ) → AreTreeRows rows → (items : List Value) (value : Value) (n : ℕ) → n < length rows → FitsSigned w64 (record_at records n) → view value ≡ row_data rows records n
-    → each_from row_at 0 (map view items) ≡ Ok (stored_rows rows records n) → each_from row_at 0 (map view (items ++ value ∷ [])) ≡ Ok (stored_rows rows records (n + 1))
+    → each_from row_in 0 (map view items) ≡ Ok (stored_rows rows records n) → each_from row_in 0 (map view (items ++ value ∷ [])) ≡ Ok (stored_rows rows records (n + 1))
 reads_next rows records fit items value n within fits is so_far =
     let more : suc n ≡ n + 1 = omega arith in
     let light : weight_of rows n < 2 ^ 32 = omega (arith, fit.1.light n) in
-    let read : (place : ℕ) → row_at place (view value) ≡ Ok (stored_row rows records n) = λ place.
-    ap (row_at place) is ∙ row_is_read (parent_of rows n) (name_of rows n) (record_at records n) (weight_of rows n) (parent_few rows fit n within (parent_of rows n) refl) fits light place in
-    ap (λ ds. each_from row_at 0 ds) (map_push view items value) ∙ each_pushed row_at (view value) (stored_row rows records n) (map view items) (stored_rows rows records n) read so_far
+    let read : (place : ℕ) → row_in place (view value) ≡ Ok (stored_row rows records n) = λ place.
+    ap (row_in place) is ∙ row_is_read (parent_of rows n) (name_of rows n) (record_at records n) (weight_of rows n) (parent_few rows fit n within (parent_of rows n) refl) fits light place in
+    ap (λ ds. each_from row_in 0 ds) (map_push view items value) ∙ each_pushed row_in (view value) (stored_row rows records n) (map view items) (stored_rows rows records n) read so_far
     ∙ ap Ok (sym (map_push (stored_row rows records) (numbers_below n) n)) ∙ ap (λ m. Ok (stored_rows rows records m)) more
 
 -- whose record is a number of 64 bits too
@@ -120,6 +123,13 @@ fits_next records n before here node small = elim (cases_eq node n) [
 
 -- a document with these rows reads as the tree with its records
 pub stored_tree : (rows : Rows) (records : List ℤ) → length records ≡ length rows → AreTreeRows rows → (n : ℕ) → n ≡ length rows → (d : Data) (ds : List Data) → form.items_of (codes "nodes") d ≡ Some ds
-    → each_from row_at 0 ds ≡ Ok (stored_rows rows records n) → tree_in d ≡ Ok (rows, records)
+    → each_from row_in 0 ds ≡ Ok (stored_rows rows records n) → tree_in d ≡ Ok (rows, records)
 unfolding tree_in items_in
-stored_tree rows records same fit n all d ds nodes read = rw (nodes, read, all, rows_stored rows records, records_stored rows records same, faultless rows fit) refl
+stored_tree rows records same fit n all d ds nodes read =
+    let stored : List (NodeRow × ℤ) = stored_rows rows records (length rows) in
+    let many : length stored ≡ length rows =
+    sym (map_length (λ (row : NodeRow × ℤ). row.0) stored) ∙ ap length (rows_stored rows records) in
+    let few : length stored ≤ 4294967295 = omega (arith, fit.1.few) in
+    let taken = few_read 4294967295 (of_form row_form) (whole_of part.Nodes) ds stored few
+    (read ∙ ap (λ m. Ok (stored_rows rows records m)) all) in
+    rw (nodes, taken, rows_stored rows records, records_stored rows records same, faultless rows fit) refl

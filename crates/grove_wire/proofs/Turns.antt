@@ -1,7 +1,7 @@
 -- The items of a list, each read at its place by its number.
 use Rattle.std.specs.Prelude.{ℕ, ℤ, List, Result}
 use Rattle.serde_json.specs.Data.{Data}
-use Rattle.grove_tree.specs.Trees.{Rows}
+use Rattle.grove_tree.specs.Trees.{Rows, NodeRow}
 use Rattle.grove_access.specs.declared.access.Access.{Access}
 use Rattle.grove_access.specs.declared.reply.Reply.{Reply}
 use Rattle.grove_plan.specs.declared.step.Step.{Step}
@@ -13,9 +13,12 @@ use Rattle.grove_wire.specs.declared.place.Place.{Place}
 use Rattle.grove_wire.specs.declared.versions.Version.{Version}
 use Rattle.grove_wire.specs.Outcomes.{of_form}
 use Rattle.grove_wire.specs.Places.{whole_of, item_on}
-use Rattle.grove_wire.specs.Forms.{as_signed, event_form, reply_form}
+use Rattle.grove_wire.specs.Forms.{row_form, as_signed, event_form, reply_form}
 use Rattle.grove_wire.specs.Reading.{access_at, list_on, step_at, flow_row_at}
 use Rattle.grove_wire.specs.Histories.{replies_on}
+
+abbrev pub row_in : ℕ → Data → Result (NodeRow × ℤ) WireFault
+row_in = λ at. of_form row_form (item_on (whole_of part.Nodes) at)
 
 abbrev pub access_in : Rows → Version → Place → ℕ → Data → Result Access WireFault
 access_in tree version place = λ at. access_at tree version (item_on place at)

@@ -1,6 +1,6 @@
 -- The forms of rows, accesses and flow rows, as JSON values.
-use Rattle.std.specs.Prelude.{◌≡◌, ℕ, ◌≤◌, length, ◌^◌, ◌==◌, nat_lt, Bool, false, codes, bytes_eq, ℤ, pos, List, [], ◌∷◌, Option, Some, None, is_some, is_none, option_map, option_and_then, unwrap_or, if◌then◌else◌}
-use Rattle.serde_json.specs.Data.{Data, array, object, Items, no_items, item, Members, no_members, member}
+use Rattle.std.specs.Prelude.{ℕ, ◌^◌, ◌==◌, nat_lt, Bool, false, codes, bytes_eq, ℤ, pos, List, [], ◌∷◌, Option, Some, None, is_some, is_none, option_map, option_and_then, unwrap_or, if◌then◌else◌}
+use Rattle.serde_json.specs.Data.{Data, Items, no_items, item}
 use Rattle.serde_json.specs.Find.{get, as_null, as_number, as_str, as_array, as_i64, as_u64}
 use Rattle.grove_tree.specs.Trees.{NodeRow}
 use Rattle.grove_access.specs.declared.access.Op.{Op}
@@ -29,32 +29,6 @@ as_list d = option_map list_items (as_array d)
 -- the items of a member that is an array
 unfoldable pub items_of : List ℕ → Data → Option (List Data)
 items_of name d = get name d >>= as_list
-
--- each member that is an array has at most n items
-pub record HasArraysWithin (n : ℕ) (d : Data) : Type 0 where
-  pub within : (name : List ℕ) (ds : List Data) → items_of name d ≡ Some ds → length ds ≤ n
-
--- and at most as many as the longest document has bytes
-abbrev pub HasShortArrays : Data → Type 0
-HasShortArrays d = HasArraysWithin 67108864 d
-
--- each array in a value, however deep it lies, has at most n items
-abbrev mutual
-  pub AllArraysWithin : ℕ → Data → Type 0
-  AllArraysWithin n (array ds) = (length (list_items ds) ≤ n) × ItemsWithin n ds
-  AllArraysWithin n (object ms) = MembersWithin n ms
-  AllArraysWithin n _ = Unit {0}
-
-  pub ItemsWithin : ℕ → Items → Type 0
-  ItemsWithin n no_items = Unit {0}
-  ItemsWithin n (item d ds) = AllArraysWithin n d × ItemsWithin n ds
-
-  pub MembersWithin : ℕ → Members → Type 0
-  MembersWithin n no_members = Unit {0}
-  MembersWithin n (member name d ms) = AllArraysWithin n d × MembersWithin n ms
-
-abbrev pub AreArraysShort : Data → Type 0
-AreArraysShort d = AllArraysWithin 67108864 d
 
 -- a signed number of 64 bits
 abbrev pub as_signed : Data → Option ℤ

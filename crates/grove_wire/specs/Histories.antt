@@ -12,7 +12,7 @@ use Rattle.grove_wire.specs.declared.place.Part.TheVariants as part
 use Rattle.grove_wire.specs.declared.place.Place.{Place}
 use Rattle.grove_wire.specs.declared.standing.Standing.{Standing as Said}
 use Rattle.grove_wire.specs.declared.versions.Version.{Version}
-use Rattle.grove_wire.specs.Outcomes.{◌>>=◌, of_form, if_there, each_from, each_on, few_on}
+use Rattle.grove_wire.specs.Outcomes.{◌>>=◌, of_form, if_there, each_from, few_on}
 use Rattle.grove_wire.specs.Places.{whole_of, item_of}
 use Rattle.grove_wire.specs.Forms.{as_list, as_signed, event_form, reply_form}
 use Rattle.grove_wire.specs.Reading.{object_at, version_in, items_in, items_at, list_of, step_at}
@@ -25,7 +25,7 @@ job_at tree version at d = do
   accesses ← items_at (item_of part.JobList at) (codes "list") object
   list ← list_of tree version (item_of part.JobList at) accesses
   steps ← items_at (item_of part.JobPlan at) (codes "plan") object
-  plan ← each_on (step_at tree) (item_of part.JobPlan at) steps
+  plan ← few_on 4294967295 (step_at tree) (item_of part.JobPlan at) steps
   Ok (record { list = list; plan = plan })
 
 abbrev pub jobs_of : Rows → Version → List Data → Result (List Job) WireFault
@@ -43,7 +43,7 @@ jobs_in tree d = do
 unfoldable pub events_in : Data → Result (List Event) WireFault
 events_in d = items_in part.Events d >>= few_on 1048576 (of_form event_form) (whole_of part.Events)
 
--- ---- what stands after the last event: the records, and the replies of each job
+-- ---- what stands after the last event: the records, and the replies of each job; no more than 32 bits number
 
 abbrev pub Standing : Type 0
 Standing = List ℤ × List (List Reply)
@@ -53,15 +53,15 @@ said_standing said = (said.records.items, map (λ replies. replies.items) said.r
 
 -- the replies of one job, which stand at a place
 unfoldable pub replies_on : Place → Data → Result (List Reply) WireFault
-replies_on place d = of_form as_list place d >>= each_on (of_form reply_form) place
+replies_on place d = of_form as_list place d >>= few_on 4294967295 (of_form reply_form) place
 
 unfoldable pub standing_at : Data → Result Standing WireFault
 standing_at d = do
   object ← object_at (whole_of part.Standing) d
   numbers ← items_at (whole_of part.StandingRecords) (codes "records") object
-  records ← each_on (of_form as_signed) (whole_of part.StandingRecords) numbers
+  records ← few_on 4294967295 (of_form as_signed) (whole_of part.StandingRecords) numbers
   lists ← items_at (whole_of part.StandingReplies) (codes "replies") object
-  replies ← each_on replies_on (whole_of part.StandingReplies) lists
+  replies ← few_on 4294967295 replies_on (whole_of part.StandingReplies) lists
   Ok (records, replies)
 
 -- nothing need be said of it

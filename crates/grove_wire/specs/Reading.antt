@@ -4,7 +4,7 @@ use Rattle.std.specs.Str.{is_utf8}
 use Rattle.serde_json.specs.Data.{Data}
 use Rattle.serde_json.specs.Find.{get, as_object, as_str}
 use Rattle.serde_json.specs.Read.{read}
-use Rattle.grove_tree.specs.Trees.{Rows, NodeRow}
+use Rattle.grove_tree.specs.Trees.{Rows}
 use Rattle.grove_tree.specs.Paths.{node_at}
 use Rattle.grove_tree.specs.Rules.{tree_fault_of}
 use Rattle.grove_tree.specs.declared.fault.TreeFault.{TreeFault}
@@ -19,8 +19,8 @@ use Rattle.grove_wire.specs.declared.fault.WireFault.TheVariants.{BadJson, Shape
 use Rattle.grove_wire.specs.declared.place.Part.{Part}
 use Rattle.grove_wire.specs.declared.place.Part.TheVariants as part
 use Rattle.grove_wire.specs.declared.place.Place.{Place}
-use Rattle.grove_wire.specs.Outcomes.{◌>>=◌, or_fault, of_form, each_from, each_on, few_on}
-use Rattle.grove_wire.specs.Places.{whole_of, item_of, part_word}
+use Rattle.grove_wire.specs.Outcomes.{◌>>=◌, or_fault, of_form, few_on}
+use Rattle.grove_wire.specs.Places.{whole_of, part_word}
 use Rattle.grove_wire.specs.Forms.{version_of, items_of, as_list, as_short, is_word, row_form, access_form, flow_form}
 
 -- ---- the document: an object in UTF-8, of few bytes and of a version that there is
@@ -57,10 +57,7 @@ items_at place name d = or_fault (Shape place) (items_of name d)
 unfoldable pub items_in : Part → Data → Result (List Data) WireFault
 items_in part d = items_at (whole_of part) (part_word part) d
 
--- ---- the tree: each row's form, then the rules of trees
-
-unfoldable pub row_at : ℕ → Data → Result (NodeRow × ℤ) WireFault
-row_at at d = of_form row_form (item_of part.Nodes at) d
+-- ---- the tree: no more rows than 32 bits number, each of its form, then the rules of trees
 
 abbrev pub unless_fault : {A : Type 0} → Option TreeFault → A → Result A WireFault
 unless_fault None x = Ok x
@@ -68,7 +65,9 @@ unless_fault (Some fault) x = Err (Tree fault)
 
 -- the rows and the records of values, apart
 abbrev pub columns_of : List Data → Result (Rows × List ℤ) WireFault
-columns_of ds = each_from row_at 0 ds >>= λ rows. Ok (map (λ row. row.0) rows, map (λ row. row.1) rows)
+columns_of ds =
+    few_on 4294967295 (of_form row_form) (whole_of part.Nodes) ds
+    >>= λ rows. Ok (map (λ row. row.0) rows, map (λ row. row.1) rows)
 
 unfoldable pub tree_in : Data → Result (Rows × List ℤ) WireFault
 tree_in d = do
@@ -117,7 +116,7 @@ lists_in tree d = do
   ds ← items_in part.Lists d
   lists_of tree version ds
 
--- ---- a plan: its steps, each of its form and then with a path of the tree
+-- ---- a plan: no more steps than 32 bits number, each of its form and then with a path of the tree
 
 abbrev pub path_at : Rows → Place → Data → Result ℕ WireFault
 path_at tree place d = of_form as_str place d >>= node_on tree place
@@ -138,9 +137,9 @@ unfoldable pub step_at : Rows → Place → Data → Result Step WireFault
 step_at tree place d = of_form as_list place d >>= step_on tree place
 
 unfoldable pub plan_in : Rows → Data → Result (List Step) WireFault
-plan_in tree d = items_in part.Plan d >>= each_on (step_at tree) (whole_of part.Plan)
+plan_in tree d = items_in part.Plan d >>= few_on 4294967295 (step_at tree) (whole_of part.Plan)
 
--- ---- a flow: its rows, each of its form and then with a path of the tree
+-- ---- a flow: no more rows than 32 bits number, each of its form and then with a path of the tree
 
 unfoldable pub flow_row_at : Rows → Place → Data → Result FlowRow WireFault
 flow_row_at tree place d = do
@@ -149,4 +148,4 @@ flow_row_at tree place d = do
   Ok (record form.1 { node = node })
 
 unfoldable pub flow_in : Rows → Data → Result (List FlowRow) WireFault
-flow_in tree d = items_in part.Flow d >>= each_on (flow_row_at tree) (whole_of part.Flow)
+flow_in tree d = items_in part.Flow d >>= few_on 4294967295 (flow_row_at tree) (whole_of part.Flow)

@@ -5,7 +5,6 @@ use Rattle.json.specs.Json as json
 use Rattle.serde_json.specs.Data.{Num, Data, null, number, string, array, object, Items, Members, no_members, put}
 use Rattle.serde_json.specs.Read.{number_of, of_json, of_items, of_members}
 use Rattle.serde_json.specs.View.{items_of}
-use Rattle.grove_wire.specs.Forms.{AllArraysWithin}
 use Rattle.grove_wire.specs.declared.sketch.Form.{Form}
 use Rattle.grove_wire.specs.declared.sketch.Form.TheVariants as form
 
@@ -149,11 +148,10 @@ pub record MembersSketched (f : Form) (depth : ℕ) (ts : List Token) (es : Memb
   pub reads : of_members text no_members ≡ Some whole
   pub kept : es ≡ drawn_members f text no_members
 
--- a line has a value, and this is kept of it; its arrays have at most n items
-pub record Draft (n : ℕ) (value : Option Data) (e : Data) : Type 0 where
+-- a line has a value, and this is kept of it
+pub record Draft (value : Option Data) (e : Data) : Type 0 where
   pub text : json.Json
   pub whole : Data
   pub is : value ≡ Some whole
   pub reads : of_json text ≡ Some whole
   pub kept : e ≡ drawn form.Line text
-  pub short : AllArraysWithin n e

@@ -1,9 +1,6 @@
-ghost use Rattle.std.specs.Prelude.{◌≡◌, ◌≤◌, ℕ, List, IfOk, Some, length, map, option_map};
-ghost use Rattle.std.specs.List.{All};
-ghost use Rattle.serde_json.specs.Data.{Data};
-ghost use Rattle.serde_json.specs.Find.{get};
+ghost use Rattle.std.specs.Prelude.{◌≡◌, map, option_map};
 ghost use Rattle.serde_json.specs.View.{view};
-ghost use Rattle.grove_wire.specs.Forms.{items_of, AllArraysWithin, AreArraysShort, HasArraysWithin, HasShortArrays};
+ghost use Rattle.grove_wire.specs.Forms.{items_of};
 ghost use Rattle.grove_wire.specs.Outcomes.{Gives, or_fault};
 ghost use Rattle.grove_wire.specs.Reading.{document_of, document_within, history_of, value_of, items_at, items_in};
 
@@ -18,14 +15,14 @@ pub const MOST_BYTES: usize = 4_194_304;
 /// The greatest number of bytes of a document with a history.
 pub const MOST_HISTORY_BYTES: usize = 67_108_864;
 
+/// No part has more items, so that 32 bits number them.
+pub const MOST_ITEMS: usize = 4_294_967_295;
+
 /// The JSON object that a text of at most 4,194,304 bytes is. More bytes are `Limit`, what isn't UTF-8 or isn't JSON is
-/// `BadJson`, and what is no object, or tells another version than 1 or 2, is `Shape`, of the whole. So few bytes hold no
-/// long arrays.
+/// `BadJson`, and what is no object, or tells another version than 1 or 2, is `Shape`, of the whole.
 #[tactic(auto, unfolding(crate::specs::Reading::document_of))]
 pub fn read_document(alloc: Global, bytes: &[u8]) -> Result<Value, WireFault>
-    ensures read { Gives (λ document. view document) result (document_of bytes.now) }
-    ensures short { IfOk result (λ document. HasShortArrays (view document)) }
-    ensures all_short { IfOk result (λ document. AreArraysShort (view document)) }
+    ensures { Gives (λ document. view document) result (document_of bytes.now) }
 {
     read_within(alloc, MOST_BYTES, bytes)
 }
@@ -33,20 +30,14 @@ pub fn read_document(alloc: Global, bytes: &[u8]) -> Result<Value, WireFault>
 /// The same of a text of at most 67,108,864 bytes, as a document with a history may be.
 #[tactic(auto, unfolding(crate::specs::Reading::history_of))]
 pub fn read_history(alloc: Global, bytes: &[u8]) -> Result<Value, WireFault>
-    ensures read { Gives (λ document. view document) result (history_of bytes.now) }
-    ensures short { IfOk result (λ document. HasShortArrays (view document)) }
-    ensures all_short { IfOk result (λ document. AreArraysShort (view document)) }
+    ensures { Gives (λ document. view document) result (history_of bytes.now) }
 {
     read_within(alloc, MOST_HISTORY_BYTES, bytes)
 }
 
 /// The document that a text of at most so many bytes is.
-#[tactic(auto, using(crate::proofs::Lengths::shorter_arrays, crate::proofs::Lengths::arrays_of_short))]
 fn read_within(alloc: Global, most: usize, bytes: &[u8]) -> Result<Value, WireFault>
-    requires { most ≤ 67108864 }
-    ensures read { Gives (λ document. view document) result (document_within most bytes.now) }
-    ensures short { IfOk result (λ document. HasShortArrays (view document)) }
-    ensures all_short { IfOk result (λ document. AreArraysShort (view document)) }
+    ensures { Gives (λ document. view document) result (document_within most bytes.now) }
 {
     if bytes.len() > most {
         return Err(WireFault::Limit(Place::whole(Part::Whole)));
@@ -59,13 +50,9 @@ fn read_within(alloc: Global, most: usize, bytes: &[u8]) -> Result<Value, WireFa
     Ok(document)
 }
 
-#[tactic(auto, using(crate::proofs::Documents::value_read, crate::proofs::Documents::value_refused, crate::proofs::Lengths::arrays_of_text, crate::proofs::Lengths::all_arrays_of_text, crate::proofs::Lengths::arrays_of_member))]
-pub(crate) fn read_value(alloc: Global, bytes: &[u8]) -> Result<Value, WireFault>
-    ensures read { Gives (λ value. view value) result (or_fault WireFault.BadJson (value_of bytes.now)) }
-    ensures short { IfOk result (λ value. HasArraysWithin (length bytes.now) (view value)) }
-    ensures all_short { IfOk result (λ value. AllArraysWithin (length bytes.now) (view value)) }
-    ensures members { IfOk result (λ value. length bytes.now ≤ 67108864
-        → (name : List ℕ) (member : Data) → get name (view value) ≡ Some member → HasShortArrays member) }
+#[tactic(auto, using(crate::proofs::Documents::value_read, crate::proofs::Documents::value_refused))]
+fn read_value(alloc: Global, bytes: &[u8]) -> Result<Value, WireFault>
+    ensures { Gives (λ value. view value) result (or_fault WireFault.BadJson (value_of bytes.now)) }
 {
     match Value::from_slice(alloc, bytes) {
         Ok(value) => Ok(value),
@@ -85,11 +72,9 @@ fn items_of<'v>(document: &'v Value, name: &str) -> Option<&'v [Value]>
 }
 
 /// The items of a part of the document.
-#[tactic(auto, using(crate::proofs::Lengths::part_within, crate::proofs::Lengths::items_within), unfolding(crate::specs::Reading::items_in))]
+#[tactic(auto, unfolding(crate::specs::Reading::items_in))]
 pub(crate) fn items_in(document: &Value, part: Part) -> Result<&[Value], WireFault>
-    ensures items { Gives (λ items. map view items.now) result (items_in part (view document.now)) }
-    ensures few { IfOk result (λ items. HasShortArrays (view document.now) → length items.now ≤ 67108864) }
-    ensures short { IfOk result (λ items. AreArraysShort (view document.now) → All AreArraysShort (map view items.now)) }
+    ensures { Gives (λ items. map view items.now) result (items_in part (view document.now)) }
 {
     match items_of(document, part.word()) {
         Some(items) => Ok(items),
@@ -98,15 +83,12 @@ pub(crate) fn items_in(document: &Value, part: Part) -> Result<&[Value], WireFau
 }
 
 /// The items of the member of this name, which stands at the place.
-#[tactic(auto, using(crate::proofs::Lengths::items_within))]
 pub(crate) fn items_at<'v>(
     place: Place,
     name: &str,
     object: &'v Value,
 ) -> Result<&'v [Value], WireFault>
-    ensures items { Gives (λ items. map view items.now) result (items_at place name.now (view object.now)) }
-    ensures few { IfOk result (λ items. AreArraysShort (view object.now) → length items.now ≤ 67108864) }
-    ensures short { IfOk result (λ items. AreArraysShort (view object.now) → All AreArraysShort (map view items.now)) }
+    ensures { Gives (λ items. map view items.now) result (items_at place name.now (view object.now)) }
 {
     match items_of(object, name) {
         Some(items) => Ok(items),

@@ -1,12 +1,12 @@
 ghost use Rattle.std.specs.Prelude.{◌≡◌, ◌<◌, ◌^◌, map, option_map, IfOk, length, vec_len};
 ghost use Rattle.serde_json.specs.View.{view};
-ghost use Rattle.grove_wire.specs.Forms.{HasShortArrays, amount_of, flow_form};
+ghost use Rattle.grove_wire.specs.Forms.{amount_of, flow_form};
 ghost use Rattle.grove_wire.specs.Outcomes.{Gives, each_on};
 ghost use Rattle.grove_wire.specs.Places.{whole_of};
 ghost use Rattle.grove_wire.specs.Reading.{flow_row_at, flow_in};
 ghost use Rattle.grove_wire.specs.RowParts.{flow_with};
 
-use crate::document::items_in;
+use crate::document::{MOST_ITEMS, items_in};
 use crate::paths::node_on;
 use crate::{Part, Place, WireFault};
 use grove_proof::{Flow, FlowRow};
@@ -14,18 +14,21 @@ use grove_tree::Tree;
 use serde_json::Value;
 use std::alloc::Global;
 
-/// The rows of the document's `flow`, over the tree. They are read in order, each first for its `Shape` and then for its
-/// `NoPath`.
+/// The rows of the document's `flow`, over the tree. More than 4,294,967,295 are `Limit`; then they are read in order,
+/// each first for its `Shape` and then for its `NoPath`.
 #[tactic(auto, unfolding(crate::specs::Reading::flow_in))]
 pub fn read_flow(alloc: Global, tree: &Tree, document: &Value) -> Result<Flow, WireFault>
-    requires { HasShortArrays (view document.now) }
     ensures { Gives (λ flow. flow) result (flow_in tree.now (view document.now)) }
 {
     let items = items_in(document, Part::Flow)?;
+    if items.len() > MOST_ITEMS {
+        return Err(WireFault::Limit(Place::whole(Part::Flow)));
+    }
     let rows = read_flow_rows(alloc, tree, items)?;
     Ok(Flow::new(rows))
 }
 
+/// The rows of a flow, of which there are few enough.
 fn read_flow_rows(alloc: Global, tree: &Tree, items: &[Value]) -> Result<Vec<FlowRow>, WireFault>
     requires { length items.now < 2 ^ 32 }
     ensures read { Gives (λ rows. rows.items) result

@@ -1,8 +1,6 @@
 ghost use Rattle.std.specs.Prelude.{◌≤◌, map, IfOk, length};
-ghost use Rattle.std.specs.List.{All};
 ghost use Rattle.serde_json.specs.View.{view};
 ghost use Rattle.grove_core.specs.Openings.{AllFit};
-ghost use Rattle.grove_wire.specs.Forms.{AreArraysShort};
 ghost use Rattle.grove_wire.specs.Outcomes.{Gives, each_from};
 ghost use Rattle.grove_wire.specs.Histories.{job_at, jobs_of, jobs_in};
 
@@ -24,7 +22,6 @@ pub const MOST_JOBS: usize = 256;
 /// version than 1 or 2 is `Shape` of the whole, before all this.
 #[tactic(auto, unfolding(crate::specs::Histories::jobs_in))]
 pub fn read_jobs(alloc: Global, tree: &Tree, document: &Value) -> Result<Vec<Job>, WireFault>
-    requires { AreArraysShort (view document.now) }
     ensures read { Gives (λ jobs. jobs.items) result (jobs_in tree.now (view document.now)) }
     ensures fitting { IfOk result (λ jobs. AllFit tree.now jobs.items) }
     ensures few { IfOk result (λ jobs. length jobs.items ≤ 256) }
@@ -41,7 +38,6 @@ fn jobs_of(
     version: Version,
     items: &[Value],
 ) -> Result<Vec<Job>, WireFault>
-    requires { All AreArraysShort (map view items.now) }
     ensures { Gives (λ jobs. jobs.items) result (jobs_of tree.now version (map view items.now)) }
 {
     if items.len() > MOST_JOBS {
@@ -57,8 +53,7 @@ fn read_each_job(
     version: Version,
     items: &[Value],
 ) -> Result<Vec<Job>, WireFault>
-    requires few { length items.now ≤ 256 }
-    requires short { All AreArraysShort (map view items.now) }
+    requires { length items.now ≤ 256 }
     ensures { Gives (λ jobs. jobs.items) result (each_from (job_at tree.now version) 0 (map view items.now)) }
 {
     let mut jobs = Vec::new(alloc);
@@ -78,7 +73,6 @@ fn job_at(
     at: u32,
     value: &Value,
 ) -> Result<Job, WireFault>
-    requires { AreArraysShort (view value.now) }
     ensures { Gives (λ job. job) result (job_at tree.now version at (view value.now)) }
 {
     if !value.is_object() {

@@ -1,7 +1,7 @@
 //! JSON documents and requests, read and written, and the texts of faults.
 #![tactic(auto)]
 
-pub use document::{MOST_BYTES, MOST_HISTORY_BYTES, read_document, read_history};
+pub use document::{MOST_BYTES, MOST_HISTORY_BYTES, MOST_ITEMS, read_document, read_history};
 pub use events::{MOST_EVENTS, read_events};
 pub use fault::WireFault;
 pub use fault_names::{plan_fault_name, proof_fault_name, run_fault_name, wire_fault_name};

@@ -3,12 +3,13 @@ ghost use Rattle.serde_json.specs.View.{view};
 ghost use Rattle.grove_tree.specs.Trees.{Rows};
 ghost use Rattle.grove_tree.specs.Rules.{tree_fault_of};
 ghost use Rattle.grove_tree.specs.BuiltRows.{row_of, rows_of};
-ghost use Rattle.grove_wire.specs.Forms.{HasShortArrays, as_parent, as_record, row_form};
-ghost use Rattle.grove_wire.specs.Outcomes.{Gives};
+ghost use Rattle.grove_wire.specs.Forms.{as_parent, as_record, row_form};
+ghost use Rattle.grove_wire.specs.Outcomes.{Gives, of_form};
+ghost use Rattle.grove_wire.specs.Places.{item_of};
 ghost use Rattle.grove_wire.specs.RowParts.{row_with};
-ghost use Rattle.grove_wire.specs.Reading.{row_at, columns_of, unless_fault, tree_in};
+ghost use Rattle.grove_wire.specs.Reading.{columns_of, unless_fault, tree_in};
 
-use crate::document::items_in;
+use crate::document::{MOST_ITEMS, items_in};
 use crate::forms::short_number;
 use crate::{Part, Place, WireFault};
 use grove_access::Records;
@@ -16,15 +17,17 @@ use grove_tree::{Row, Tree, TreeFault};
 use serde_json::Value;
 use std::alloc::Global;
 
-/// The tree of the document's `nodes`, and the record of each node. Each row's `Shape` comes first, in order, and then what
-/// `Tree::build` says of the rows.
+/// The tree of the document's `nodes`, and the record of each node. More than 4,294,967,295 rows are `Limit`. Then each
+/// row's `Shape` comes first, in order, and then what `Tree::build` says of the rows.
 #[tactic(auto, unfolding(crate::specs::Reading::tree_in))]
 pub fn read_tree(alloc: Global, document: &Value) -> Result<(Tree, Records), WireFault>
-    requires { HasShortArrays (view document.now) }
     ensures read { Gives (λ read. (read.0, read.1)) result (tree_in (view document.now)) }
     ensures fits { IfOk result (λ read. length read.1 ≡ length read.0) }
 {
     let items = items_in(document, Part::Nodes)?;
+    if items.len() > MOST_ITEMS {
+        return Err(WireFault::Limit(Place::whole(Part::Nodes)));
+    }
     let (rows, values) = read_rows(alloc, items)?;
     tree_of(alloc, &rows, &values)
 }
@@ -51,7 +54,7 @@ fn build_tree(alloc: Global, rows: &[Row]) -> Result<Tree, WireFault>
     }
 }
 
-/// The rows and the records of their nodes.
+/// The rows and the records of their nodes. There are few enough.
 fn read_rows(alloc: Global, items: &[Value]) -> Result<(Vec<Row>, Vec<i64>), WireFault>
     requires { length items.now < 2 ^ 32 }
     ensures read { Gives (λ read. (rows_of read.0.items, read.1.items)) result (columns_of (map view items.now)) }
@@ -67,9 +70,8 @@ fn read_rows(alloc: Global, items: &[Value]) -> Result<(Vec<Row>, Vec<i64>), Wir
     Ok((rows, values))
 }
 
-#[tactic(auto, unfolding(crate::specs::Reading::row_at))]
 fn read_row(alloc: Global, at: u32, value: &Value) -> Result<(Row, i64), WireFault>
-    ensures { Gives (λ row. (row_of row.0, row.1)) result (row_at at (view value.now)) }
+    ensures { Gives (λ row. (row_of row.0, row.1)) result (of_form row_form (item_of Part.Nodes at) (view value.now)) }
 {
     let Some(form) = row_form(value) else {
         return Err(WireFault::Shape(Place::item(Part::Nodes, at)));

@@ -1,10 +1,9 @@
 ghost use Rattle.std.specs.Prelude.{◌≡◌, ◌<◌, ◌^◌, map, IfOk, length, vec_len};
 ghost use Rattle.serde_json.specs.View.{view};
-ghost use Rattle.grove_wire.specs.Forms.{HasShortArrays};
-ghost use Rattle.grove_wire.specs.Outcomes.{Gives, each_on};
+ghost use Rattle.grove_wire.specs.Outcomes.{Gives, each_on, few_on};
 ghost use Rattle.grove_wire.specs.Reading.{path_at, step_of, step_at, plan_in};
 
-use crate::document::items_in;
+use crate::document::{MOST_ITEMS, items_in};
 use crate::forms::{is_word, list_items, short_number};
 use crate::paths::node_on;
 use crate::{Part, Place, WireFault};
@@ -13,11 +12,10 @@ use grove_tree::{Node, Tree};
 use serde_json::Value;
 use std::alloc::Global;
 
-/// The steps of the document's `plan`, over the tree. They are read in order, each first for its `Shape` and then for its
-/// `NoPath`.
+/// The steps of the document's `plan`, over the tree. More than 4,294,967,295 are `Limit`; then they are read in order,
+/// each first for its `Shape` and then for its `NoPath`.
 #[tactic(auto, unfolding(crate::specs::Reading::plan_in))]
 pub fn read_plan(alloc: Global, tree: &Tree, document: &Value) -> Result<Plan, WireFault>
-    requires { HasShortArrays (view document.now) }
     ensures { Gives (λ plan. plan) result (plan_in tree.now (view document.now)) }
 {
     let items = items_in(document, Part::Plan)?;
@@ -31,13 +29,16 @@ pub(crate) fn plan_of(
     place: Place,
     items: &[Value],
 ) -> Result<Plan, WireFault>
-    requires { length items.now < 2 ^ 32 }
-    ensures { Gives (λ plan. plan) result (each_on (step_at tree.now) place (map view items.now)) }
+    ensures { Gives (λ plan. plan) result (few_on 4294967295 (step_at tree.now) place (map view items.now)) }
 {
+    if items.len() > MOST_ITEMS {
+        return Err(WireFault::Limit(place));
+    }
     let steps = read_steps(alloc, tree, place, items)?;
     Ok(Plan::new(steps))
 }
 
+/// The steps of a plan, of which there are few enough.
 fn read_steps(
     alloc: Global,
     tree: &Tree,

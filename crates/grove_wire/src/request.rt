@@ -1,7 +1,5 @@
-ghost use Rattle.std.specs.Prelude.{◌≡◌, ◌≤◌, IfOk, IfSome, Some, length, option_map};
-ghost use Rattle.serde_json.specs.Find.{get};
+ghost use Rattle.std.specs.Prelude.{◌≡◌, IfOk, option_map};
 ghost use Rattle.serde_json.specs.View.{view};
-ghost use Rattle.grove_wire.specs.Forms.{HasShortArrays};
 ghost use Rattle.grove_wire.specs.Outcomes.{Gives};
 ghost use Rattle.grove_wire.specs.RequestLaws.{AskedFits, RequestsFit, ReadingNeedsNoRoom};
 ghost use Rattle.grove_wire.specs.Requests.{asked_of, only_member, plan_of, check_of, batch_of, named_of, request_of};
@@ -35,11 +33,10 @@ pub enum Request {
     Reweigh,
 }
 
-/// The request that a line of at most 1,048,576 bytes is, over the tree. What isn't JSON is `BadJson`; what is no object of
-/// just one member with a name that there is, is `Shape` of the whole. A plan's and a batch's accesses may tell lengths, and
-/// a check has a version as a document has. Of the line's value only what a request looks at is kept.
+/// The request that a line is, over the tree. What isn't JSON is `BadJson`; what is no object of just one member with a name
+/// that there is, is `Shape` of the whole. A plan's and a batch's accesses may tell lengths, and a check has a version as a
+/// document has. Of the line's value only what a request looks at is kept.
 pub fn read_request(alloc: Global, tree: &Tree, line: &[u8]) -> Result<Request, WireFault>
-    requires { length line.now ≤ 1048576 }
     ensures read { Gives asked_of result (request_of tree.now line.now) }
     ensures fits { IfOk result (λ request. AskedFits tree.now (asked_of request)) }
 {
@@ -57,10 +54,9 @@ pub fn request_laws()
 {}
 
 /// The one member of an object that has just one, with its name.
-#[tactic(auto, using(crate::proofs::Only::only_entry, crate::proofs::Only::not_only, crate::proofs::Only::entry_is_member))]
+#[tactic(auto, using(crate::proofs::Only::only_entry, crate::proofs::Only::not_only))]
 fn only_member(value: &Value) -> Option<(&str, &Value)>
-    ensures only { option_map (λ only. (only.0.now, view only.1.now)) result ≡ only_member (view value.now) }
-    ensures found { IfSome result (λ only. get only.0.now (view value.now) ≡ Some (view only.1.now)) }
+    ensures { option_map (λ only. (only.0.now, view only.1.now)) result ≡ only_member (view value.now) }
 {
     let members = value.as_object()?;
     if members.len() != 1 {
@@ -78,7 +74,6 @@ fn named_request(
     name: &str,
     value: &Value,
 ) -> Result<Request, WireFault>
-    requires { HasShortArrays (view value.now) }
     ensures { Gives asked_of result (named_of tree.now name.now (view value.now)) }
 {
     match name {
@@ -102,7 +97,6 @@ fn plan_request(alloc: Global, tree: &Tree, value: &Value) -> Result<Request, Wi
 
 #[tactic(auto, unfolding(crate::specs::Requests::check_of))]
 fn check_request(alloc: Global, tree: &Tree, value: &Value) -> Result<Request, WireFault>
-    requires { HasShortArrays (view value.now) }
     ensures { Gives asked_of result (check_of tree.now (view value.now)) }
 {
     if !value.is_object() {

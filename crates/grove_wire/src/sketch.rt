@@ -269,7 +269,7 @@ fn sketch_members(
 /// What is kept of a line, as its value. All of its text is read.
 #[tactic(auto, using(crate::proofs::Documents::value_read, crate::proofs::Documents::value_refused, crate::proofs::Sketching::draft_of_line))]
 pub(crate) fn sketch_of(alloc: Global, line: &[u8]) -> Result<Value, WireFault>
-    ensures drawn { IfOk result (λ kept. Draft (length line.now) (value_of line.now) (view kept)) }
+    ensures drawn { IfOk result (λ kept. Draft (value_of line.now) (view kept)) }
     ensures refused { IfErr result (λ fault. Fails fault (or_fault WireFault.BadJson (value_of line.now))) }
 {
     let Ok(text) = std::str::from_utf8(line) else {
@@ -285,7 +285,7 @@ pub(crate) fn sketch_of(alloc: Global, line: &[u8]) -> Result<Value, WireFault>
 /// The same of a text, after whose value nothing comes.
 #[tactic(auto, using(crate::proofs::Sketching::draft_of_text, crate::proofs::Sketching::more_after_text, crate::proofs::Sketching::text_lost))]
 fn sketch_all(alloc: Global, text: &str) -> Result<Value, Unread>
-    ensures drawn { IfOk result (λ kept. Draft (length text.now) (read text.now) (view kept)) }
+    ensures drawn { IfOk result (λ kept. Draft (read text.now) (view kept)) }
     ensures refused { result ≡ Err Unread.BadJson → read text.now ≡ None }
 {
     let mut scratch = Scratch::new(alloc);

@@ -1,12 +1,11 @@
 ghost use Rattle.std.specs.Prelude.{◌≡◌, ◌<◌, ◌^◌, map, option_map, length};
-ghost use Rattle.std.specs.List.{All};
 ghost use Rattle.serde_json.specs.View.{view};
-ghost use Rattle.grove_wire.specs.Forms.{as_signed, reply_form, AreArraysShort};
-ghost use Rattle.grove_wire.specs.Outcomes.{Gives, of_form, each_on};
+ghost use Rattle.grove_wire.specs.Forms.{as_signed, reply_form};
+ghost use Rattle.grove_wire.specs.Outcomes.{Gives, of_form, each_on, few_on};
 ghost use Rattle.grove_wire.specs.Places.{whole_of, item_of};
 ghost use Rattle.grove_wire.specs.Histories.{replies_on, standing_at, said_standing, standing_in};
 
-use crate::document::items_at;
+use crate::document::{MOST_ITEMS, items_at};
 use crate::forms::{is_word, list_items};
 use crate::{Part, Place, WireFault};
 use grove_access::Reply;
@@ -22,10 +21,10 @@ pub struct Standing {
     pub replies: Vec<Vec<Reply>>,
 }
 
-/// The document's `standing`, if it has one: its `records`, and then its `replies`.
-#[tactic(auto, using(crate::proofs::Lengths::member_within), unfolding(crate::specs::Histories::standing_in))]
+/// The document's `standing`, if it has one: its `records`, and then its `replies`. An array of more than 4,294,967,295
+/// items is `Limit`.
+#[tactic(auto, unfolding(crate::specs::Histories::standing_in))]
 pub fn read_standing(alloc: Global, document: &Value) -> Result<Option<Standing>, WireFault>
-    requires { AreArraysShort (view document.now) }
     ensures { Gives (λ standing. option_map said_standing standing) result (standing_in (view document.now)) }
 {
     match document.get("standing") {
@@ -36,19 +35,30 @@ pub fn read_standing(alloc: Global, document: &Value) -> Result<Option<Standing>
 
 #[tactic(auto, unfolding(crate::specs::Histories::standing_at))]
 fn standing_at(alloc: Global, value: &Value) -> Result<Standing, WireFault>
-    requires { AreArraysShort (view value.now) }
     ensures { Gives said_standing result (standing_at (view value.now)) }
 {
     if !value.is_object() {
         return Err(WireFault::Shape(Place::whole(Part::Standing)));
     }
     let numbers = items_at(Place::whole(Part::StandingRecords), "records", value)?;
-    let records = read_records(alloc, numbers)?;
+    let records = records_of(alloc, numbers)?;
     let lists = items_at(Place::whole(Part::StandingReplies), "replies", value)?;
-    let replies = read_each_replies(alloc, lists)?;
+    let replies = replies_of(alloc, lists)?;
     Ok(Standing { records, replies })
 }
 
+/// The values as the records that are said.
+fn records_of(alloc: Global, items: &[Value]) -> Result<Vec<i64>, WireFault>
+    ensures { Gives (λ records. records.items) result
+        (few_on 4294967295 (of_form as_signed) (whole_of Part.StandingRecords) (map view items.now)) }
+{
+    if items.len() > MOST_ITEMS {
+        return Err(WireFault::Limit(Place::whole(Part::StandingRecords)));
+    }
+    read_records(alloc, items)
+}
+
+/// The records, of which there are few enough.
 fn read_records(alloc: Global, items: &[Value]) -> Result<Vec<i64>, WireFault>
     requires { length items.now < 2 ^ 32 }
     ensures { Gives (λ records. records.items) result
@@ -69,10 +79,20 @@ fn record_at(at: u32, value: &Value) -> Result<i64, WireFault>
     value.as_i64().ok_or(WireFault::Shape(place))
 }
 
-/// The replies to each job.
+/// The values as the replies to each job.
+fn replies_of(alloc: Global, items: &[Value]) -> Result<Vec<Vec<Reply>>, WireFault>
+    ensures { Gives (λ all. map (λ replies. replies.items) all.items) result
+        (few_on 4294967295 replies_on (whole_of Part.StandingReplies) (map view items.now)) }
+{
+    if items.len() > MOST_ITEMS {
+        return Err(WireFault::Limit(Place::whole(Part::StandingReplies)));
+    }
+    read_each_replies(alloc, items)
+}
+
+/// The replies to each job, of which there are few enough.
 fn read_each_replies(alloc: Global, items: &[Value]) -> Result<Vec<Vec<Reply>>, WireFault>
-    requires few { length items.now < 2 ^ 32 }
-    requires short { All AreArraysShort (map view items.now) }
+    requires { length items.now < 2 ^ 32 }
     ensures { Gives (λ all. map (λ replies. replies.items) all.items) result
         (each_on replies_on (whole_of Part.StandingReplies) (map view items.now)) }
 {
@@ -85,17 +105,20 @@ fn read_each_replies(alloc: Global, items: &[Value]) -> Result<Vec<Vec<Reply>>, 
 }
 
 /// A value as the replies to one job, which stand at the place.
-#[tactic(auto, using(crate::proofs::Lengths::list_within), unfolding(crate::specs::Histories::replies_on))]
+#[tactic(auto, unfolding(crate::specs::Histories::replies_on))]
 fn replies_on(alloc: Global, place: Place, value: &Value) -> Result<Vec<Reply>, WireFault>
-    requires { AreArraysShort (view value.now) }
     ensures { Gives (λ replies. replies.items) result (replies_on place (view value.now)) }
 {
-    match list_items(value) {
-        Some(items) => read_replies(alloc, place, items),
-        None => Err(WireFault::Shape(place)),
+    let Some(items) = list_items(value) else {
+        return Err(WireFault::Shape(place));
+    };
+    if items.len() > MOST_ITEMS {
+        return Err(WireFault::Limit(place));
     }
+    read_replies(alloc, place, items)
 }
 
+/// The replies to one job, of which there are few enough.
 fn read_replies(alloc: Global, place: Place, items: &[Value]) -> Result<Vec<Reply>, WireFault>
     requires { length items.now < 2 ^ 32 }
     ensures { Gives (λ replies. replies.items) result (each_on (of_form reply_form) place (map view items.now)) }

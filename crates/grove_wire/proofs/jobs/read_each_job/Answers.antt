@@ -1,14 +1,10 @@
 use Rattle.std.proofs.Common.{◌∙◌, sym}
-use Rattle.grove_wire.specs.Forms.{AreArraysShort}
 use Rattle.grove_wire.specs.Histories.{job_at}
-use Rattle.grove_wire.proofs.Each.{all_turn, with_front-none, each_goes, each_stops, each_ends, fails_as, passes_on}
+use Rattle.grove_wire.proofs.Each.{with_front-none, each_goes, each_stops, each_ends, fails_as, passes_on}
 use Rattle.grove_wire.proofs.jobs.read_each_job.Goals as goal
 
 pub loop-at-init : goal.loop-at-init
 loop-at-init c = rw c.new-jobs.ensures.items (with_front-none _)
-
-pub job_at-requires : goal.job_at-requires
-job_at-requires c = all_turn AreArraysShort c.args.items.now c.loop-at.at c.index-items-at.result c.requires.short c.loop-at-test.true c.index-items-at.is
 
 pub returns-in_err-job : goal.returns-in_err-job
 returns-in_err-job c =

@@ -1,4 +1,8 @@
-use Rattle.grove_wire.specs.Reading.{flow_in, items_in}
+use Rattle.std.proofs.Common.{◌≤◌, length, arith}
+use Rattle.grove_wire.specs.declared.place.Part.TheVariants.{Flow}
+use Rattle.grove_wire.specs.Places.{whole_of}
+use Rattle.grove_wire.specs.Reading.{flow_row_at, flow_in, items_in}
+use Rattle.grove_wire.proofs.Each.{few_read}
 use Rattle.grove_wire.proofs.Turns.{flow_row_in}
 use Rattle.grove_wire.specs.Writing.{flow_row_data}
 use Rattle.grove_wire.proofs.Written.{written_more, reads_more, written_all, reads_all, member_items}
@@ -23,4 +27,7 @@ pub returns-clause-reads_back : goal.returns-clause-reads_back
 unfolding flow_in items_in
 returns-clause-reads_back c document is =
     let beyond = rw c.rows-row-items.ensures.rows at c.loop-row-test.false in
-    rw (member_items _ document c.loop-row.items is) (reads_all c.loop-row.items _ _ (flow_row_in c.args.tree.now) beyond c.loop-row.invariant.reads_back)
+    let few : length c.args.flow.now ≤ 4294967295 = omega (arith, c.rows-row-items.ensures.few) in
+    let all = reads_all c.loop-row.items _ _ (flow_row_in c.args.tree.now) beyond c.loop-row.invariant.reads_back in
+    rw (member_items _ document c.loop-row.items is)
+    (few_read 4294967295 (flow_row_at c.args.tree.now) (whole_of Flow) _ _ few all)

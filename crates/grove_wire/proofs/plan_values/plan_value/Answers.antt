@@ -1,6 +1,8 @@
+use Rattle.std.proofs.Common.{◌≤◌, length, arith}
 use Rattle.grove_wire.specs.declared.place.Part.TheVariants.{Plan}
 use Rattle.grove_wire.specs.Places.{whole_of}
-use Rattle.grove_wire.specs.Reading.{plan_in, items_in}
+use Rattle.grove_wire.specs.Reading.{step_at, plan_in, items_in}
+use Rattle.grove_wire.proofs.Each.{few_read}
 use Rattle.grove_wire.proofs.Turns.{step_in}
 use Rattle.grove_wire.specs.Writing.{step_data}
 use Rattle.grove_wire.proofs.Written.{written_more, reads_more, written_all, reads_all, member_items}
@@ -25,4 +27,8 @@ pub returns-clause-reads_back : goal.returns-clause-reads_back
 unfolding plan_in items_in
 returns-clause-reads_back c document is =
     let beyond = rw c.steps-step-items.ensures.steps at c.loop-step-test.false in
-    rw (member_items _ document c.loop-step.items is) (reads_all c.loop-step.items _ _ (step_in c.args.tree.now (whole_of Plan)) beyond c.loop-step.invariant.reads_back)
+    let few : length c.args.plan.now ≤ 4294967295 = omega (arith, c.steps-step-items.ensures.few) in
+    let read = step_in c.args.tree.now (whole_of Plan) in
+    let all = reads_all c.loop-step.items _ _ read beyond c.loop-step.invariant.reads_back in
+    rw (member_items _ document c.loop-step.items is)
+    (few_read 4294967295 (step_at c.args.tree.now) (whole_of Plan) _ _ few all)

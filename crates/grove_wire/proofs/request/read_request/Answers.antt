@@ -1,11 +1,10 @@
-use Rattle.std.proofs.Common.{◌∙◌, length, sym, ap, Err, arith}
+use Rattle.std.proofs.Common.{◌∙◌, sym, ap, Err}
 use Rattle.serde_json.specs.View.{view}
 use Rattle.grove_wire.specs.declared.fault.WireFault.TheVariants.{Shape}
 use Rattle.grove_wire.specs.RequestLaws.{AskedFits}
 use Rattle.grove_wire.specs.Requests.{asked_of}
 use Rattle.grove_wire.proofs.Each.{fails_as, passes_on}
 use Rattle.grove_wire.proofs.Fitting.{given_reads}
-use Rattle.grove_wire.proofs.Lengths.{member_arrays}
 use Rattle.grove_wire.proofs.Requests.{named_asks}
 use Rattle.grove_wire.proofs.Sketches.{draft_named, draft_shapeless, unread_asks}
 use Rattle.grove_wire.proofs.request.read_request.Goals as goal
@@ -15,13 +14,9 @@ returns-in_err-value-clause-read c =
     let fault = c.in_err-value.field-0.0 in
     passes_on _ c.from_residual.result _ fault c.from_residual.ensures.1 (fails_as fault _ _ (unread_asks c.args.tree.now c.args.line.now fault) c.in_err-value.ensures.refused)
 
-pub named_request-requires : goal.named_request-requires
-named_request-requires c =
-    member_arrays (length c.args.line.now) c.in-Some.name.now (view c.in_ok-value.value) (view c.in-Some.asked.now) (omega (arith, c.requires)) c.in_ok-value.ensures.drawn.short c.in-Some.ensures.found
-
 pub returns-in-Some-clause-read : goal.returns-in-Some-clause-read
 returns-in-Some-clause-read c =
-    rw (draft_named c.args.tree.now c.args.line.now (length c.args.line.now) (view c.in_ok-value.value) c.in_ok-value.ensures.drawn c.in-Some.name.now (view c.in-Some.asked.now) c.in-Some.ensures.only) c.named_request.ensures
+    rw (draft_named c.args.tree.now c.args.line.now (view c.in_ok-value.value) c.in_ok-value.ensures.drawn c.in-Some.name.now (view c.in-Some.asked.now) c.in-Some.ensures) c.named_request.ensures
 
 pub returns-in-Some-clause-fits : goal.returns-in-Some-clause-fits
 returns-in-Some-clause-fits c =
@@ -29,4 +24,4 @@ returns-in-Some-clause-fits c =
 
 pub returns-clause-read : goal.returns-clause-read
 returns-clause-read c =
-    draft_shapeless c.args.tree.now c.args.line.now (length c.args.line.now) (view c.in_ok-value.value) c.in_ok-value.ensures.drawn c.in-None.ensures.only ∙ ap (λ place. Err (Shape place)) (sym c.whole.ensures)
+    draft_shapeless c.args.tree.now c.args.line.now (view c.in_ok-value.value) c.in_ok-value.ensures.drawn c.in-None.ensures ∙ ap (λ place. Err (Shape place)) (sym c.whole.ensures)

@@ -1,16 +1,12 @@
 use Rattle.std.proofs.Common.{◌∙◌, sym}
 use Rattle.std.specs.Prelude.{map}
 use Rattle.std.proofs.lemmas.List.{map_push}
-use Rattle.grove_wire.specs.Forms.{AreArraysShort}
 use Rattle.grove_wire.proofs.Turns.{replies_at}
-use Rattle.grove_wire.proofs.Each.{all_turn, with_front-none, each_goes, each_stops, each_ends, fails_as, passes_on}
+use Rattle.grove_wire.proofs.Each.{with_front-none, each_goes, each_stops, each_ends, fails_as, passes_on}
 use Rattle.grove_wire.proofs.standing.read_each_replies.Goals as goal
 
 pub loop-at-init : goal.loop-at-init
 loop-at-init c = rw c.new-all.ensures.items (with_front-none _)
-
-pub replies_on-requires : goal.replies_on-requires
-replies_on-requires c = all_turn AreArraysShort c.args.items.now c.loop-at.at c.index-items-at.result c.requires.short c.loop-at-test.true c.index-items-at.is
 
 pub returns-in_err-replies : goal.returns-in_err-replies
 returns-in_err-replies c =
