@@ -40,7 +40,7 @@ class Case:
     status: int | None = None
     output: Wanted = field(default_factory=Wanted)
     errors: Wanted | None = None
-    seconds: float = 10.0
+    seconds: float = 60.0
 
 
 def read_case(path):

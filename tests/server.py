@@ -13,7 +13,7 @@ PORTS = range(20000, 32000)
 TURNS = itertools.count(os.getpid() * 97)
 # How long a server may take to start, and to answer. (It serves a few clients at once, and lets the others wait for those,
 # so this is far more than any of them takes.)
-SECONDS = 30.0
+SECONDS = 60.0
 PIECE = 65536
 
 

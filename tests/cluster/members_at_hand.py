@@ -13,7 +13,7 @@ from grove_etcd.members import Credentials, Lost, Members  # noqa: E402
 from server import HOST, free_port  # noqa: E402
 
 # How long a member may take to answer after it was started.
-SECONDS = 30.0
+SECONDS = 120.0
 
 
 class Cluster:
@@ -91,10 +91,12 @@ def openssl(*words):
 
 
 def need_answer(address, credentials=Credentials()):
-    """Waits until the member answers; each try has a connection of its own, since one made too early hangs."""
-    until = time.monotonic() + SECONDS
+    """Waits until the member answers; each try has a connection of its own, since one made too early hangs, and waits
+    longer than the one before."""
+    until, seconds = time.monotonic() + SECONDS, 0.0
     while True:
-        members = Members([address], credentials, seconds=0.5)
+        seconds += 0.5
+        members = Members([address], credentials, seconds=seconds)
         try:
             return members.commit([], [])
         except Lost:

@@ -12,13 +12,16 @@ from grove_etcd.keys import Keys
 from grove_etcd.loading import load
 from grove_etcd.refusals import Refused
 from grove_etcd.seeing import window
+from grove_etcd.standing import Standing
 from grove_etcd.submitting import Submitter
 from grove_etcd.worker import Worker
 from grove_etcd.works import slots
 
 PROGRAMS = TOP / "cluster"
 # How long whatever is awaited may take.
-SECONDS = 60.0
+SECONDS = 120.0
+# How often a trial is made that may be untimely.
+TRIES = 5
 # A slot, in seconds, so that a job's steps are taken in several groups.
 SLOT = 0.001
 SMALL = [
@@ -31,6 +34,20 @@ SMALL = [
 # Its plan locks /, /a and /b and lets / go before the first access, since / is heavy: by slots, that is the first
 # group.
 BOTH = [["add", "/a", 1], ["add", "/b", 1]]
+
+
+class Untimely(Exception):
+    """Nothing is wrong, but things didn't come about at the times at which they had to: so nothing was shown."""
+
+
+def in_time(trial):
+    """What the trial gives, which is told the number of the try: it is made again if it was untimely."""
+    for number in range(TRIES):
+        try:
+            return trial(number)
+        except Untimely as untimely:
+            told = f"{untimely}, or as much in each of {TRIES} tries"
+    return told
 
 
 class Store:
@@ -104,6 +121,7 @@ class Programs:
     """The programs, called on a store of the cluster."""
 
     def __init__(self, cluster, store):
+        self.cluster, self.store = cluster, store
         self.words = ["--members", cluster.addresses, "--store", store, *cluster.credentials]
         self.room = Path(cluster.room.name)
 
@@ -126,6 +144,10 @@ class Programs:
         """How many jobs there are, how many have ended, and how many nodes are held."""
         words = self.lines("status")[0].split()
         return int(words[2]), int(words[4]), int(words[6])
+
+    def standing(self):
+        """The same, read at once, where a program would come too late."""
+        return Standing.read(self.cluster.members(), Keys(self.store), None)
 
     def file(self, name, content):
         path = self.room / name

@@ -4,7 +4,7 @@ import subprocess
 import threading
 from concurrent.futures import ThreadPoolExecutor
 
-from store_at_hand import BOTH, SMALL, Programs, Store, refusal
+from store_at_hand import BOTH, SECONDS, SMALL, Programs, Store, refusal
 
 from grove_etcd.choosing import MOST_JOBS
 from grove_etcd.documents import array_of, parsed, paths_of
@@ -29,7 +29,7 @@ def loads_that_mix_leave_one_document(cluster, grove):
     programs = Programs(cluster, "mix")
     files = [programs.file(f"mix-{n}.json", json.dumps({"nodes": flat(3000, n, "ab"[:n])})) for n in (1, 2)]
     started = [programs.start("load", file, stdout=subprocess.PIPE) for file in files]
-    printed = [each.communicate(timeout=60)[0].strip() for each in started]
+    printed = [each.communicate(timeout=SECONDS)[0].strip() for each in started]
     found = cluster.members().below("mix/r/").entries.values()
     records = {entry.value for entry in found}
     names = {key.rpartition("/")[2][:1] for key in cluster.members().below("mix/m/").entries}
@@ -64,7 +64,7 @@ def what_is_submitted_by_an_id_is_made_once(cluster, grove):
     thread = threading.Thread(target=store.work)
     waits = programs.start(*words, "--wait", file, stdout=subprocess.PIPE)
     thread.start()
-    replies = waits.communicate(timeout=60)[0].splitlines()
+    replies = waits.communicate(timeout=SECONDS)[0].splitlines()
     thread.join()
     other = programs.run(*words, programs.file("other.json", json.dumps({"lists": [BOTH]})))
     came = store.records("/a"), sorted(replies[2:]), {tuple(each) for each in printed}, other

@@ -4,11 +4,12 @@ import os
 import signal
 import subprocess
 from collections import Counter
+from functools import partial
 from pathlib import Path
 
 from members_at_hand import TOP
 from server import HOST, free_port
-from store_at_hand import Programs, Store, await_true
+from store_at_hand import SECONDS, Programs, Store, Untimely, await_true, in_time
 
 HERE = Path(__file__).parent
 ROOT = [["add", "/", 1], ["add", "/a", 1]]
@@ -42,27 +43,39 @@ class Counted:
         return [line.split() for line in file.read_text().splitlines()] if file.exists() else []
 
     def fault(self, accesses, killed=0):
-        """Each access has been done, each try with the node held, and none more often than there was cause."""
+        """Each access has been done, each try with the node held, and none more often than there was cause. A worker
+        without a processor for as long as others are patient is one of those that were killed; then it is untimely."""
         self.store.audit()
         held = Counter(token for token, told in self.tries() if told == "True")
         unheld = [token for token, told in self.tries() if told == "False"]
         begun = Counter(token for token, told in self.tries() if told == "begun")
         more = sum(begun.values()) - len(begun)
-        if unheld or len(held) != accesses or more > killed or (not killed and set(held.values()) != {1}):
-            return f"{unheld} weren't held, {len(held)} of {accesses} were done, {more} more than once; {held}"
-        return None
+        told = f"{unheld} weren't held, {len(held)} of {accesses} were done, {more} more than once; {held}"
+        if len(held) != accesses:
+            return told
+        if more > killed:
+            raise Untimely(told)
+        return told if unheld or (not killed and set(held.values()) != {1}) else None
 
 
 def slow_work_is_done_once(cluster, grove):
     """Work that takes far longer than a worker is patient, by more workers than have anything to do at once."""
-    counted = Counted(cluster, grove, "slow", [ROOT] * 6, 0.8)
-    started = [counted.start("begin", "--patience", "0.4", "--until-ended") for _ in range(4)]
-    statuses = [worker.wait(90) for worker in started]
-    return counted.fault(12) or (None if statuses == [0] * 4 else f"statuses {statuses}")
+    return in_time(partial(slow_work, cluster, grove))
+
+
+def slow_work(cluster, grove, number):
+    counted = Counted(cluster, grove, f"slow-{number}", [ROOT] * 4, 2.0)
+    started = [counted.start("begin", "--patience", "1", "--until-ended") for _ in range(4)]
+    statuses = [worker.wait(SECONDS) for worker in started]
+    return counted.fault(8) or (None if statuses == [0] * 4 else f"statuses {statuses}")
 
 
 def work_of_a_killed_worker_is_done_again(cluster, grove):
-    counted = Counted(cluster, grove, "redone", [ROOT] * 6, 0.3)
+    return in_time(partial(work_again, cluster, grove))
+
+
+def work_again(cluster, grove, number):
+    counted = Counted(cluster, grove, f"redone-{number}", [ROOT] * 6, 0.3)
     killed = 2
     for turn in range(killed):
         worker = counted.start("begin", "--patience", "1")
@@ -72,7 +85,7 @@ def work_of_a_killed_worker_is_done_again(cluster, grove):
         worker.send_signal(signal.SIGKILL)
         worker.wait()
     started = [counted.start("begin", "--patience", "1", "--until-ended") for _ in range(3)]
-    statuses = [worker.wait(90) for worker in started]
+    statuses = [worker.wait(SECONDS) for worker in started]
     return counted.fault(12, killed) or (None if statuses == [0] * 3 else f"statuses {statuses}")
 
 
@@ -82,13 +95,13 @@ def work_that_fails_sets_its_job_aside(cluster, grove):
     (counted.room / "broken").touch()
     aside, other = counted.store.jobs
     worker = counted.start("fail_at_a", "--tries", "3", "--until-ended", stderr=subprocess.PIPE)
-    errors = worker.communicate(timeout=60)[1]
+    errors = worker.communicate(timeout=SECONDS)[1]
     told = counted.programs.lines("status", "--failed")
     tries = Counter(token for token, _ in counted.tries())
     early = counted.programs.run("retry", other)
     (counted.room / "broken").unlink()
     again = counted.programs.lines("retry")
-    counted.start("fail_at_a", "--until-ended").wait(60)
+    counted.start("fail_at_a", "--until-ended").wait(SECONDS)
     counted.store.audit()
     came = worker.returncode, told[-1], tries[f"{aside}/0"], early, again, counted.store.records("/a", "/b")
     failed = f"failed {aside}: RuntimeError: the machine is broken"
@@ -99,17 +112,18 @@ def work_that_fails_sets_its_job_aside(cluster, grove):
 
 
 def a_worker_that_is_told_to_end_ends_after_its_group(cluster, grove):
-    """And another one goes on at once, however patient it is; meanwhile its counts can be read."""
-    counted = Counted(cluster, grove, "ending", [ROOT], 1)
+    """And another one goes on at once, however patient it is; meanwhile its counts can be read. Its first work takes
+    long enough for all that is asked of it."""
+    counted = Counted(cluster, grove, "ending", [ROOT], 5)
     port = free_port()
     worker = counted.start("begin", "--verbose", "--metrics", str(port), stderr=subprocess.PIPE)
     if not await_true(lambda: counted.tries()):
         return "no work was begun"
     metrics = asked(port, "/metrics"), asked(port, "/")
     worker.send_signal(signal.SIGTERM)
-    errors = worker.communicate(timeout=20)[1]
-    another = counted.start("begin", "--patience", "60", "--until-ended")
-    statuses = worker.returncode, another.wait(30)
+    errors = worker.communicate(timeout=SECONDS)[1]
+    another = counted.start("begin", "--patience", str(10 * SECONDS), "--until-ended")
+    statuses = worker.returncode, another.wait(SECONDS)
     if 'grove_worker_events_total{event="work"} 1' not in metrics[0] or metrics[1] != "not found\n":
         return f"its counts were {metrics}"
     if statuses != (0, 0) or f"left job={counted.store.jobs[0]}" not in errors or "stopped" not in errors:
@@ -119,7 +133,7 @@ def a_worker_that_is_told_to_end_ends_after_its_group(cluster, grove):
 
 def asked(port, path):
     """The body of what is answered."""
-    connection = http.client.HTTPConnection(HOST, port, timeout=10)
+    connection = http.client.HTTPConnection(HOST, port, timeout=60)
     connection.request("GET", path)
     body = connection.getresponse().read().decode()
     connection.close()

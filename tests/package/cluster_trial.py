@@ -13,7 +13,7 @@ from server import HOST, free_port
 from sweeps.program import Tally
 
 # How long etcd may take to answer after it was started.
-SECONDS = 30.0
+SECONDS = 120.0
 PLACE = TOP / "tests/package/in_debian"
 DOCUMENT = "/usr/local/share/doc/grove/examples/orders.json"
 

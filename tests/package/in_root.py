@@ -90,7 +90,7 @@ def server_in(root: Root, command: str, example: str) -> Server:
 
 
 def asked(port: int, method: str, path: str, body: str | None = None) -> str:
-    connection = http.client.HTTPConnection(HOST, port, timeout=30)
+    connection = http.client.HTTPConnection(HOST, port, timeout=60)
     try:
         connection.request(method, path, body)
         return connection.getresponse().read().decode()

@@ -20,7 +20,7 @@ from sweeps.talks import lines_of, look, note_replies
 TRIED = "runs of the client, and lines that they asked"
 BAD = b'{"batch":3}\n'
 OK, REFUSED = 0, 1
-SECONDS = 20.0
+SECONDS = 60.0
 
 
 def tries(program: str, room: str) -> list[Try]:

@@ -5,7 +5,7 @@ from __future__ import annotations
 
 import json
 import time
-from contextlib import ExitStack
+from contextlib import ExitStack, suppress
 from functools import partial
 
 from server import Serving, connected
@@ -23,11 +23,11 @@ SEATS = 16
 # How many come too late.
 LATE = 40
 # How long a seat that was left may take to be free.
-LONGEST = 8.0
+LONGEST = 60.0
 
 
 def tries(program: str, room: str) -> list[Try]:
-    others = {"more clients than there are seats": (), "the same with a time to idle": ("--idle", "60")}
+    others = {"more clients than there are seats": (), "the same with a time to idle": ("--idle", "600")}
     return [
         Try(f"{command}, {name}", partial(full, program, command, further))
         for command in COMMANDS
@@ -39,12 +39,12 @@ def told(port: int, text: bytes) -> bytes:
     """What a client that sends this text is told, up to the end."""
     with connected(port) as late:
         came = b""
-        try:
+        # (It may be closed before it has sent, and is told all the same.)
+        with suppress(ConnectionError):
             late.sendall(text)
+        with suppress(ConnectionError):
             while piece := late.recv(100):
                 came += piece
-        except ConnectionError:
-            pass
     return came
 
 

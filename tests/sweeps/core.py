@@ -16,7 +16,7 @@ from sweeps.program import Tally, Try, short
 TRIED = "large runs of the core"
 # Each of 256 jobs locks and unlocks 2,049 nodes and does 64 accesses.
 WANTED = f"256 jobs finished in {256 * (2 * 2049 + 64)} steps"
-SECONDS = 60
+SECONDS = 600
 
 
 def tries(program: str, room: str) -> list[Try]:

@@ -21,7 +21,7 @@ from server import Serving, connected, talk, talk_in_turn
 from store import Store, compact
 
 from sweeps.connections import ADD, GET, TREE, WEIGHTS, flood
-from sweeps.program import Tally, Try
+from sweeps.program import Tally, Try, until_well
 from sweeps.talks import note_replies
 
 TRIED = "lines of clients among others that are broken"
@@ -70,13 +70,18 @@ def crowd(program: str, workers: int, tally: Tally) -> None:
 
 def share_rounds(program: str, tally: Tally) -> None:
     """Sixteen clients with a batch on each line. While a round runs, others wait, and they are in one round then."""
+    until_well(partial(share, program, tally), "rounds", tally)
+
+
+def share(program: str, tally: Tally) -> str | None:
+    """What is wrong where no two of the batches share a round."""
     asked = [[request_of(number % GOOD, 0)] * LINES for number in range(SEATS)]
     with Serving(program, document(), 4) as server, ThreadPoolExecutor(SEATS) as pool:
         came = list(pool.map(good, [server.port] * SEATS, asked, range(SEATS)))
     batches = [pair for number in range(SEATS) for pair in note_client(number, asked[number], came[number], tally)]
     tally.blame("all batches", fault_of_history(json.loads(document()), batches))
     rounds = max(reply["round"] for _, reply in batches)
-    tally.note("rounds", None if rounds < len(batches) else f"{rounds} rounds of {len(batches)} batches")
+    return None if rounds < len(batches) else f"{rounds} rounds of {len(batches)} batches"
 
 
 def add_up(program: str, tally: Tally) -> None:

@@ -301,4 +301,4 @@ class unread(opened):
         os.close(ends)
         poll = select.poll()
         poll.register(self.descriptor, 0)
-        poll.poll(1000)
+        poll.poll(60_000)

@@ -4,11 +4,13 @@ lines those that drip bytes; nobody else does, and a line that comes in pieces, 
 from __future__ import annotations
 
 import json
+import os
 import socket
 import time
 from concurrent.futures import ThreadPoolExecutor
-from contextlib import ExitStack
+from contextlib import ExitStack, suppress
 from functools import partial
+from pathlib import Path
 from typing import BinaryIO
 
 from server import HOST, PIECE, Serving, connected
@@ -16,16 +18,17 @@ from store import MOST_LINE, Store
 from web import post, request, response_of
 
 from sweeps.connections import ADD, TREE, WEIGHTS
-from sweeps.program import Tally, Try
+from sweeps.program import Tally, Try, until_well
 from sweeps.talks import note_replies
 
 TRIED = "connections, and lines beside them"
 COMMANDS = ("serve", "page")
 IDLE = ("--idle", "1")
+IDLE_SECONDS = 1.0
 # A time to idle that no client reaches who means to go on.
-LONG_IDLE = ("--idle", "10")
+LONG_IDLE = ("--idle", "60")
 # A seat is lost after a second. A machine may stand still for a while; but more than this is too long.
-LONGEST = 8.0
+LONGEST = 60.0
 # So much sooner a connection may seem to be closed by the clock here, and no sooner.
 SOONEST = 0.9
 SEATS = 16
@@ -128,17 +131,17 @@ def dripping(program: str, pace: float, idle: int, tally: Tally) -> None:
     store = Store(json.loads(TREE))
     with ThreadPoolExecutor(SEATS) as pool, ExitStack() as room:
         server = room.enter_context(serving(program, "serve", ("--idle", str(idle))))
+        started = time.monotonic()
         clients = [room.enter_context(connected(server.port)) for _ in range(SEATS)]
-        drips = [pool.submit(drip, client, pace) for client in clients]
+        drips = [pool.submit(drip, client, pace, started) for client in clients]
         note_asked(store, "serve", server.port, "the 17th", tally)
         for number, dripped in enumerate(drips):
             has_closed, after = dripped.result()
             note_after(has_closed, after, idle - 0.1, f"client {number}", tally)
 
 
-def drip(client: socket.socket, pace: float) -> tuple[bool, float]:
-    """Sends a byte so often. Has the other side closed before long, and after how long?"""
-    started = time.monotonic()
+def drip(client: socket.socket, pace: float, started: float) -> tuple[bool, float]:
+    """Sends a byte so often. Has the other side closed before long, and how long after the start?"""
     for _ in range(round(LONGEST / pace)):
         try:
             client.sendall(b" ")
@@ -151,21 +154,33 @@ def drip(client: socket.socket, pace: float) -> tuple[bool, float]:
 
 
 def taking_nothing(program: str, command: str, tally: Tally) -> None:
-    """Sixteen take all seats, ask for megabytes and read nothing; the 17th is served. When they read at last, they have
-    a part of what they asked, and then the end."""
+    """Sixteen take all seats, ask for megabytes and read nothing; the 17th is served. When they read at last, after the
+    server has closed all of them, they have a part of what they asked, and then the end."""
     tree = large_tree()
     store = Store(json.loads(tree))
     with serving(program, command, document=tree) as server, ExitStack() as room:
+        before = sockets_of(server.started.pid)
         clients = [room.enter_context(narrow(server.port)) for _ in range(SEATS)]
         for client in clients:
             client.sendall(UNTAKEN[command])
-        ends = time.monotonic() + LONGEST
         note_asked(store, command, server.port, "the 17th", tally)
-        time.sleep(max(0.0, ends - time.monotonic()))
+        ends = time.monotonic() + LONGEST
+        while sockets_of(server.started.pid) > before and time.monotonic() < ends:
+            time.sleep(0.05)
         for number, client in enumerate(clients):
-            came = taken_before(client, ends + LONGEST)
+            came = taken_before(client, time.monotonic() + LONGEST)
             fault = "it has its seat" if came is None else f"it has {came} bytes that it took too late"
             tally.note(f"client {number}", None if came is not None and came < LEAST_UNTAKEN else fault)
+
+
+def sockets_of(process: int) -> int:
+    """How many sockets a process has open."""
+    count = 0
+    for descriptor in Path(f"/proc/{process}/fd").iterdir():
+        # (It may be closed while this looks.)
+        with suppress(FileNotFoundError):
+            count += os.readlink(descriptor).startswith("socket:")
+    return count
 
 
 def large_tree() -> bytes:
@@ -207,18 +222,33 @@ def taken_before(client: socket.socket, ends: float) -> int | None:
 
 def honest(program: str, command: str, tally: Tally) -> None:
     """Clients that send a line each half second, in two pieces, stay for as long as they like, beside fifteen that say
-    nothing."""
+    nothing. It is tried until a machine with other work has sent each line in time."""
+    until_well(partial(go_on, program, command, tally), "lines", tally)
+
+
+def go_on(program: str, command: str, tally: Tally) -> str | None:
+    """Each line is answered. Where a seat is lost, this tells whether it was so late that a client may lose it: the
+    line is waited for since the one before was sent, or later."""
     store = Store(json.loads(TREE))
     with serving(program, command) as server, ExitStack() as room:
+        waited_for = time.monotonic()
         client = room.enter_context(connected(server.port))
         stream = room.enter_context(client.makefile("rb"))
         for _ in range(SEATS - 1):
             room.enter_context(connected(server.port))
         for number in range(6):
-            for half in halves(sent(command, ADD)):
-                time.sleep(0.25)
-                client.sendall(half)
-            note_replies(store, ADD, reply_in(command, stream), f"line {number}", tally)
+            came, last = b"", time.monotonic()
+            with suppress(ConnectionError):
+                for half in halves(sent(command, ADD)):
+                    time.sleep(0.25)
+                    last = time.monotonic()
+                    client.sendall(half)
+                came = reply_in(command, stream)
+            if not came and time.monotonic() - waited_for >= IDLE_SECONDS:
+                return f"line {number} was sent too late"
+            note_replies(store, ADD, came, f"line {number}", tally)
+            waited_for = last
+    return None
 
 
 def halves(text: bytes) -> tuple[bytes, bytes]:

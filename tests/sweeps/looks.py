@@ -28,6 +28,8 @@ ROUND = 0.25
 LINE_AFTER, LOOKS_AFTER = 0.3, 0.3
 # After a round that was over too early, the next one is taken to last so much of what was thought.
 SOONER = 0.7
+# How many times a short line is timed: the least time is what it takes by itself.
+TIMED = 3
 NUMBERED = "/n0/n0"
 
 
@@ -54,7 +56,7 @@ def look_beside(program: str, count: int, tally: Tally) -> None:
 
 def a_round(client: Client, random: Random) -> tuple[int, float]:
     """How many lists make a round of about that length, and how long theirs takes."""
-    first = time_of(client, a_long_line(random, 1))
+    first = min(time_of(client, a_long_line(random, 1)) for _ in range(TIMED))
     lists = min(MOST_LISTS, 1 + int(ROUND / first))
     return lists, time_of(client, a_long_line(random, lists))
 

@@ -1,5 +1,4 @@
-"""Mutilated documents by a seeded generator: an answer, or a refusal in one line with a hint beside it, and in no more
-than two seconds."""
+"""Mutilated documents by a seeded generator: an answer, or a refusal in one line with a hint beside it."""
 
 from __future__ import annotations
 

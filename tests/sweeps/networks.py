@@ -19,7 +19,7 @@ from sweeps.program import Tally, Try, short
 TRIED = "general networks with tight cycles"
 PARTS = 8
 EACH = 250
-SECONDS = 60
+SECONDS = 600
 
 
 def tries(program: str, room: str) -> list[Try]:

@@ -28,7 +28,7 @@ TRIED = "requests, most of them hostile"
 SEEDED = 8
 # How many parts have hostile requests, and how many connections of them each; after so many comes an honest client.
 HOSTILE_PARTS, HOSTILE_EACH, HONEST_EVERY = 4, 1000, 50
-# How long sixteen clients ask.
+# How long sixteen clients ask; each goes on until it has had a batch and a look.
 SECONDS = 3.0
 STATUSES = {100, 200, 400, 403, 404, 405, 413, 414, 431, 501}
 PORT = 0
@@ -273,7 +273,7 @@ def browse(port: int, number: int, ends: float) -> tuple[list, int, str | None]:
     random = Random(f"browser {number}")
     pairs, looks = [], 0
     with Client(port) as client:
-        while time.monotonic() < ends:
+        while time.monotonic() < ends or not (pairs and looks):
             if random.randrange(3) == 0:
                 looks += 1
                 fault = fault_of_moment(client.get(random.choice(["/nodes", "/document"])))

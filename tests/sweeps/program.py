@@ -14,6 +14,8 @@ from hints import split_hint
 SECONDS = 60.0
 # How many wrong runs a try tells before it ends.
 MOST_FAULTS = 3
+# How often something is tried that goes by timing, and so need not be seen the first time.
+MOST_TRIES = 20
 # The statuses of an answer and of a refusal, beside which a hint may stand.
 ANSWERED = (0, 1)
 
@@ -85,6 +87,16 @@ class Tally:
 
     def compare(self, where: str, ran: Ran, wanted: Ran) -> None:
         self.note(where, None if ran == wanted else f"wanted {wanted}; came {ran}")
+
+
+def until_well(look: Callable[[], str | None], where: str, tally: Tally, most: int = MOST_TRIES) -> None:
+    """Looks again as long as there is a fault in what goes by timing, as that no two lines were there at once, and
+    tells it where it is there each time. What has to be right each time is noted by each look."""
+    for _ in range(most):
+        fault = look()
+        if not fault:
+            return
+    tally.blame(where, f"{fault}, in any of {most} tries")
 
 
 @dataclass(frozen=True)

@@ -3,7 +3,8 @@ session, and by rounds that sixteen clients share. Each answer is compared with 
 order that it tells. The threads that the program starts are counted: for these batches, for shorter ones, and for new
 weights.
 
-A run that doesn't answer within a minute, or a server within half of one, hangs, and ends its part.
+A run or a server that doesn't answer within a minute hangs, and ends its part. That somebody waits for a node, and that
+two lines share a round, goes by timing, and is tried until it was seen; all else has to be right in each try.
 """
 
 from __future__ import annotations
@@ -12,6 +13,7 @@ import contextlib
 import json
 import os
 import subprocess
+import threading
 from concurrent.futures import ThreadPoolExecutor
 from dataclasses import dataclass
 from functools import partial
@@ -22,11 +24,11 @@ from typing import Callable, Iterator
 from batches import MOST_WAITS, SHAPES, WORTH_A_THREAD, deep, fault_of_run, fault_of_waits
 from batches import most_waits, of_steps, steps_of
 from history import fault_of_history
-from server import Serving, talk
+from server import SECONDS, Serving, talk
 from store import compact
 from tree import Tree
 
-from sweeps.program import Enough, Tally, Try, run, short
+from sweeps.program import Enough, Tally, Try, run, short, until_well
 
 TRIED = "batches and new weights by some number of workers, with their threads counted"
 WORKERS = (2, 3, 4, 16, 1)
@@ -34,6 +36,7 @@ WORKERS = (2, 3, 4, 16, 1)
 # among others.
 BATCHES, LINES, SHARED = 2, 8, 3
 CLIENTS, SHARES = 16, 8
+NONE_LARGE = "no round has steps enough for a thread"
 WEIGHTS, REWEIGH = b'{"weights":null}\n', b'{"reweigh":null}\n'
 ROOT = {"parent": None, "name": "", "weight": 1}
 STAR = {"nodes": [ROOT] + [{"parent": 0, "name": f"n{number}", "weight": 1} for number in range(16)]}
@@ -113,33 +116,64 @@ class Served:
     told: bytes
 
 
-def note_contention(waits: int, tally: Tally) -> None:
-    """The batches of a part are no good for what they are to show, where nobody waits in any of them."""
-    tally.blame("all batches", None if waits else "nobody waited for a node")
+@dataclass(frozen=True)
+class Seen:
+    """What a round of clients has shown that goes by timing: how often anybody waited for a node, whether a round had
+    steps enough for a thread, and whether two lines shared one."""
+
+    waits: int
+    has_large: bool
+    has_shared: bool
 
 
 def answer_lines(program: str, library: str, shape: str, tally: Tally) -> None:
     """One session sends a batch some times. Its lists are planned once, and run each time."""
+    until_well(partial(answer_by_each, program, library, shape, tally), "all batches", tally)
+
+
+def answer_by_each(program: str, library: str, shape: str, tally: Tally) -> str | None:
     waits = 0
     for workers in WORKERS:
         document = batch_of(shape, workers)
-        waits += note_clients(program, library, workers, document, [[document["lists"]] * LINES], tally)
-    note_contention(waits, tally)
+        seen = note_clients(program, library, workers, document, [[document["lists"]] * LINES], tally)
+        tally.blame(f"by {workers}", None if seen.has_large else NONE_LARGE)
+        waits += seen.waits
+    return fault_of_contention(waits)
+
+
+def fault_of_contention(waits: int) -> str | None:
+    """The batches of a part are no good for what they are to show, where nobody waits in any of them."""
+    return None if waits else "nobody waited for a node"
 
 
 def share_rounds(program: str, library: str, shape: str, tally: Tally) -> None:
     """Sixteen clients send an eighth of the lists each, some times. Who waits while a round runs shares the next one."""
-    waits = 0
-    for workers in WORKERS:
-        document = batch_of(shape, workers)
-        asked = [[document["lists"][number % SHARES :: SHARES]] * SHARED for number in range(CLIENTS)]
-        waits += note_clients(program, library, workers, document, asked, tally)
-    note_contention(waits, tally)
+    until_well(partial(share_by_each, program, library, shape, tally), "all batches", tally)
 
 
-def note_clients(program: str, library: str, workers: int, document: dict, asked: list, tally: Tally) -> int:
-    """Compares what the clients of a server are replied, and gives how often anybody waited. Each round of many steps is
-    run by one thread at least beside its caller; what was planned once is kept."""
+def share_by_each(program: str, library: str, shape: str, tally: Tally) -> str | None:
+    return fault_of_contention(sum(shared_by(program, library, shape, workers, tally) for workers in WORKERS))
+
+
+def shared_by(program: str, library: str, shape: str, workers: int, tally: Tally) -> int:
+    """Has the clients ask until two lines shared a round and a round had steps enough for a thread. Gives how often
+    anybody waited for a node."""
+    document, found = batch_of(shape, workers), []
+    asked = [[document["lists"][number % SHARES :: SHARES]] * SHARED for number in range(CLIENTS)]
+
+    def share() -> str | None:
+        found.append(note_clients(program, library, workers, document, asked, tally))
+        if not any(seen.has_shared for seen in found):
+            return "no two lines share a round"
+        return None if any(seen.has_large for seen in found) else NONE_LARGE
+
+    until_well(share, f"by {workers}", tally)
+    return sum(seen.waits for seen in found)
+
+
+def note_clients(program: str, library: str, workers: int, document: dict, asked: list, tally: Tally) -> Seen:
+    """Compares what the clients of a server are replied. Each round of many steps is run by one thread at least beside
+    its caller; what was planned once is kept."""
     served = serve(program, library, workers, document, asked, tally)
     tree, rounds = Tree(document["nodes"]), rounds_of(served.batches)
     large = [lists for lists in rounds if is_worth_a_thread(tree, lists)]
@@ -151,20 +185,21 @@ def note_clients(program: str, library: str, workers: int, document: dict, asked
         fault_of_history(document, served.batches),
         fault_of_waits(served.waits, [min(MOST_WAITS, waits) for waits in most]),
         fault_of_threads(served.told, len(asked), further, started),
-        None if large else f"none of {len(rounds)} rounds has steps enough for a thread",
-        "no two lines share a round" if len(asked) > 1 and len(rounds) == len(served.batches) else None,
     ]
     for fault in faults:
         tally.blame(f"by {workers}", fault)
-    return sum(served.waits)
+    return Seen(sum(served.waits), bool(large), len(rounds) < len(served.batches))
 
 
 def serve(program: str, library: str, workers: int, document: dict, asked: list, tally: Tally) -> Served:
-    """Each client sends its batches at once, and asks for the waits behind them; those that come last are the most."""
+    """Each client sends its batches at once, and asks for the waits behind them; those that come last are the most. All
+    begin together, with what they send made before, so that lines come while others are answered."""
+    texts = [b"".join(compact({"batch": lists}) + b"\n" for lists in batches) for batches in asked]
+    ready = threading.Barrier(len(asked))
     text = json.dumps({"nodes": document["nodes"]}).encode()
     with counting(library) as (how, told):
         with Serving(program, text, workers, **how) as server, ThreadPoolExecutor(len(asked)) as pool:
-            came = list(pool.map(partial(ask, server.port), asked))
+            came = list(pool.map(partial(ask, server.port, ready), texts))
         threads = told()
     for fault in filter(None, map(fault_of_form, asked, came)):
         tally.note(f"by {workers}", fault)
@@ -173,8 +208,8 @@ def serve(program: str, library: str, workers: int, document: dict, asked: list,
     return Served(batches, max((replies[-1]["waits"] for replies in came), key=sum), threads)
 
 
-def ask(port: int, batches: list) -> list[dict]:
-    text = b"".join(compact({"batch": lists}) + b"\n" for lists in batches)
+def ask(port: int, ready: threading.Barrier, text: bytes) -> list[dict]:
+    ready.wait(SECONDS)
     return [json.loads(reply) for reply in talk(port, text + WEIGHTS).splitlines()]
 
 

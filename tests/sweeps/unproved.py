@@ -23,8 +23,8 @@ TOP = Path(__file__).resolve().parents[2]
 PARTS = ("grove", "crates.txt", "HANDLES", "crates", "tools")
 # The whole of what an unproved run says beside the program's own lines.
 SAYS_SO = re.compile(rb"grove: this answer is unproved [^\n]*; \./grove prove makes [^\n]*\n")
-# How long a run may take to compile, and how long to end.
-COMPILES, ENDS = 1800.0, 60.0
+# How long a run may take to compile, and how long to end. What was told to end may take a moment to be gone.
+COMPILES, ENDS, GONE = 1800.0, 60.0, 10.0
 # The memory that a run takes, in kB.
 MEMORY_EACH = 3_000_000
 
@@ -67,14 +67,17 @@ class Trial:
         """Starts it so that whatever it starts works below the room, and keeps its files there."""
         streams = {"stdin": subprocess.DEVNULL, "stdout": subprocess.PIPE, "stderr": subprocess.PIPE}
         environment = {**os.environ, "TMPDIR": str(self.files)}
-        return subprocess.Popen([program, *words], cwd=self.folder, env=environment, **streams)
+        return subprocess.Popen([program, *words], cwd=self.folder, env=environment, bufsize=0, **streams)
 
     def start_unproved(self, *words: str) -> subprocess.Popen:
         return self.start(self.checkout / "grove", *words)
 
     def note_left(self, tally: Tally) -> None:
         """Nothing is left: no process that works below the room, and no file. What is left is ended here."""
-        processes, files = processes_in(self.room), os.listdir(self.files)
+        ends = time.monotonic() + GONE
+        while (processes := processes_in(self.room)) and time.monotonic() < ends:
+            time.sleep(0.05)
+        files = os.listdir(self.files)
         for process in processes:
             os.kill(process, signal.SIGKILL)
         tally.note("left behind", f"processes {processes}" if processes else None)
@@ -138,10 +141,11 @@ def served(started: subprocess.Popen, port: int, tally: Tally) -> tuple[Ran, byt
     watch.start()
     listening = started.stdout.readline()
     watch.cancel()
+    told = b""
     try:
         replies = talk(port, TEXT) if listening else b""
         # It tells of its client a moment later, and the script passes that on in another.
-        time.sleep(1.0)
+        told = told_up_to(started, b" ended after ") if listening else b""
     finally:
         started.send_signal(signal.SIGTERM)
     try:
@@ -151,4 +155,17 @@ def served(started: subprocess.Popen, port: int, tally: Tally) -> tuple[Ran, byt
         started.kill()
         out, err = started.communicate()
     client = re.compile(rb"\b%s:\d+" % HOST.encode())
-    return Ran(started.returncode, listening + out, client.sub(b"CLIENT", err)), replies
+    return Ran(started.returncode, listening + out, client.sub(b"CLIENT", told + err)), replies
+
+
+def told_up_to(started: subprocess.Popen, last: bytes) -> bytes:
+    """The lines on standard error up to one that has this; if it doesn't come, the program is ended."""
+    watch = threading.Timer(ENDS, started.terminate)
+    watch.start()
+    told = b""
+    while line := started.stderr.readline():
+        told += line
+        if last in line:
+            break
+    watch.cancel()
+    return told
