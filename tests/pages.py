@@ -8,7 +8,7 @@ from store import compact
 from web import HOST, HTML, JSON, values_of
 
 PAGE = Path(__file__).resolve().parents[1] / "crates/grove_page/page/page.html"
-MOST_BODY = 4_194_304
+MOST_BODY, MOST_LINES = 4_194_304, 16_384
 # The methods of each path, as `allow` tells them.
 ALLOWED = {"/": {b"GET", b"HEAD", b"POST"}, "/document": {b"GET", b"HEAD"}, "/nodes": {b"GET", b"HEAD"}}
 
@@ -91,6 +91,8 @@ def fault_of_plain(response, status, bodies, kind=JSON):
 def fault_of_replies(store, body, response):
     if len(body) > MOST_BODY:
         return None if response.status == 413 else f"wanted 413; came {response}"
+    if body.count(b"\n") > MOST_LINES:
+        return fault_of_plain(response, 413, {b'{"error":"lines"}\n'})
     lines, replies = lines_in(body), response.body.split(b"\n")
     if len(replies) != len(lines) + 1 or replies[-1]:
         return f"{len(lines)} lines have the replies {response}"

@@ -14,7 +14,7 @@ from random import Random
 
 from history import fault_of_history
 from hostile import hostile
-from pages import MOST_BODY, document_text, fault_of_response, nodes_text
+from pages import MOST_BODY, MOST_LINES, document_text, fault_of_response, nodes_text
 from server import HOST, PIECE, BadServer, Serving, connected
 from store import MOST_LINE, Store, compact
 from web import BadResponse, Client, chunked, post, request, responses_in
@@ -28,6 +28,8 @@ TRIED = "requests, most of them hostile"
 SEEDED = 8
 # How many parts have hostile requests, and how many connections of them each; after so many comes an honest client.
 HOSTILE_PARTS, HOSTILE_EACH, HONEST_EVERY = 4, 1000, 50
+# How long a body may take on a machine that is busy with other things.
+LONG = 30.0
 # How long sixteen clients ask; each goes on until it has had a batch and a look.
 SECONDS = 3.0
 STATUSES = {100, 200, 400, 403, 404, 405, 413, 414, 431, 501}
@@ -170,6 +172,18 @@ def cut_after_each(program: str, tally: Tally) -> None:
                 tally.note(f"{size} bytes", None if is_well else f"after {whole} requests came {last}")
 
 
+def many_lines(program: str, tally: Tally) -> None:
+    """Bodies of about as many lines as they may have, and as many as they have room for. None takes long."""
+    store = Store(json.loads(TREE))
+    with serving(program, TREE) as server, Client(server.port) as client:
+        for line in (b"\n", ADD, WEIGHTS):
+            for count in (MOST_LINES, MOST_LINES + 1, MOST_BODY // len(line)):
+                where, started = f"{count} lines of {len(line)} bytes", time.monotonic()
+                note_rows(client, store, [("POST", "/", line * count)], where, tally)
+                taken = time.monotonic() - started
+                tally.note(where, None if taken < LONG else f"it took {taken:.1f} s")
+
+
 def bodies(program: str, tally: Tally) -> None:
     """Bodies and lines about as long as they may be, in chunks, and after a `100 Continue`."""
     store = Store(json.loads(TREE))
@@ -187,6 +201,7 @@ def bodies(program: str, tally: Tally) -> None:
         tally.note("100", None if response.status == 100 else f"came {response}")
         client.send(ADD)
         note_row(store, ("POST", "/", ADD), client.next("POST"), "after a 100", tally)
+    many_lines(program, tally)
     for fields in (f"content-length: {MOST_BODY + 1}", "content-length: 99999999999"):
         with serving(program, TREE) as server, Client(server.port) as client:
             response = client.ask("POST", "/", None, fields)

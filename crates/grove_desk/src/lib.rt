@@ -7,6 +7,7 @@ pub use fault::DeskFault;
 pub use journal::JournalEntry;
 pub use opening::Opening;
 pub use receipt::Receipt;
+pub use told::Told;
 pub use visit::{Visit, desk_session};
 
 mod answering;
@@ -20,4 +21,5 @@ mod opening;
 mod receipt;
 mod slot;
 mod standing;
+mod told;
 mod visit;

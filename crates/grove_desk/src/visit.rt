@@ -6,7 +6,7 @@ ghost use Rattle.grove_tree.specs.Weights.{unweighed};
 ghost use Rattle.grove_desk.specs.Desks.{VisitState, IsShared};
 
 use crate::fault::answer_fault;
-use crate::{Desk, Opening, Receipt};
+use crate::{Desk, Opening, Receipt, Told};
 use grove_session::{AnswerFault, Answers, SessionFault, Sink, Source, session};
 use grove_tree::OpenGate;
 use std::alloc::AllocGlobal;
@@ -20,6 +20,7 @@ pub struct Visit<'a, B: Opening> {
     desk: &'a Desk<B>,
     /// What the last line was answered.
     seen: Option<Receipt>,
+    told: Told,
 }
 
 impl<'a, B: Opening> Model for Visit<'a, B> {
@@ -28,15 +29,30 @@ impl<'a, B: Opening> Model for Visit<'a, B> {
 
     ghost Value = { VisitState };
 
-    ghost view = { λ visit. record { names = unweighed visit.desk.now.opening.rows; rounds = rounds_seen visit.seen } };
+    ghost view = { λ visit. record {
+      names = unweighed visit.desk.now.opening.rows;
+      rounds = rounds_seen visit.seen;
+      told = visit.told;
+    } };
 }
 
 impl<'a, B: Opening> Visit<'a, B> {
     /// A visitor who has seen nothing yet.
     pub fn new(desk: &'a Desk<B>) -> Self
-        ensures { result ≡ record { names = unweighed desk.entry.now.opening.rows; rounds = 0 } }
+        ensures { result ≡ record { names = unweighed desk.entry.now.opening.rows; rounds = 0; told = Told.Nothing } }
     {
-        Visit { desk, seen: None }
+        Visit {
+            desk,
+            seen: None,
+            told: Told::Nothing,
+        }
+    }
+
+    /// What the visitor was told last.
+    pub fn told(&self) -> Told
+        ensures { result ≡ self.now.told }
+    {
+        self.told
     }
 }
 
@@ -61,10 +77,15 @@ impl<'a, B: Opening, R: Threads + Wait + Sync + AllocGlobal> Answers<R> for Visi
                 Receipt {
                     number,
                     reply,
+                    refusal,
                     rounds,
                     ..
                 },
             ) => {
+                self.told = match refusal {
+                    Some(refusal) => Told::Refused(refusal),
+                    None => Told::Accepted,
+                };
                 // The next receipt is to come after this one; its line and reply aren't kept for that.
                 self.seen = Some(Receipt {
                     number,
@@ -94,7 +115,8 @@ pub fn desk_session<B: Opening, R: Threads + Wait + Sync + AllocGlobal, I: Sourc
     requires reads { I.read_count source.old < 2 ^ 63 }
     ensures text { (input out : List ℕ) × (new : VisitState) × Consumes (I.remaining source.old) (I.remaining source.new) input
         × Appends (O.contents sink.old) (O.contents sink.new) out
-        × SessionEnds IsShared (record { names = unweighed desk.now.opening.rows; rounds = 0 }) result (I.remaining source.new) input out new }
+        × SessionEnds IsShared (record { names = unweighed desk.now.opening.rows; rounds = 0; told = Told.Nothing })
+        result (I.remaining source.new) input out new }
     ensures source { I.has_failed source.new ≡ is_read result }
     ensures sink { O.has_failed sink.new ≡ is_write result }
     ensures turns { result ≡ Err Turns → I.read_count source.new ≡ I.read_count source.old + 2 ^ 32 }

@@ -3,22 +3,19 @@ use crate::forms::length_of;
 use crate::likeness::stray_member;
 use crate::places::{Subject, Whole};
 use crate::rules::{event_amiss, flow_amiss, plan_amiss, standing_amiss};
-use crate::session::meaning;
 use crate::shown::{Listed, Told};
 use crate::syntax::syntax_amiss;
 use crate::trees::{no_path, tree_amiss};
+use grove_access::MOST_ACCESSES;
 use grove_base::{Hint, NoMemory};
 use grove_core::ReplayFault;
 use grove_proof::ProofFault;
 use grove_wire::{
     Fault, MOST_BYTES, MOST_EVENTS, MOST_HISTORY_BYTES, MOST_ITEMS, MOST_JOBS, MOST_LISTS, Part,
-    Place, WireFault, wire_fault_name,
+    Place, WireFault,
 };
 use serde_json::Value;
 use std::alloc::Global;
-
-/// The greatest number of accesses of a list.
-const MOST_ACCESSES: usize = 64;
 
 /// What a person is told of a refusal: the command has refused these bytes for this fault; `document` is what they were
 /// read as, if they were.
@@ -100,8 +97,16 @@ pub(crate) fn amiss(alloc: Global, subject: Subject<'_>, fault: Fault) -> Told {
             format!(in alloc; "job {job} has steps left after the last event")
         }
         Fault::Standing(fault) => standing_amiss(alloc, subject, fault),
-        Fault::Run(_) | Fault::Replay(ReplayFault::Memory) => meaning(alloc, "unfinished"),
+        Fault::Run(_) | Fault::Replay(ReplayFault::Memory) => nothing_amiss(alloc),
     }
+}
+
+/// What is told where nothing that was asked is amiss.
+pub(crate) fn nothing_amiss(alloc: Global) -> Told {
+    String::from_str(
+        alloc,
+        "it failed, though nothing is known to be wrong with what was asked",
+    )
 }
 
 /// Why what is refused isn't read.
@@ -117,7 +122,7 @@ fn unread(alloc: Global, subject: Subject<'_>, fault: WireFault) -> Told {
         }
         WireFault::Limit(place) => beyond(alloc, subject, place),
         WireFault::Tree(fault) => tree_amiss(alloc, subject.items(Part::Nodes, None), fault),
-        WireFault::BadJson | WireFault::Memory => meaning(alloc, wire_fault_name(&fault)),
+        WireFault::BadJson | WireFault::Memory => nothing_amiss(alloc),
     }
 }
 

@@ -3,7 +3,7 @@
 
 pub use asked::Asked;
 pub use hinting::{awaited, hint, oversight};
-pub use session::{hint_of_line, hint_of_request};
+pub use session::hint_of_request;
 
 mod asked;
 mod differences;

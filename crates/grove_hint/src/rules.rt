@@ -1,12 +1,12 @@
 //! The rules that a plan, its flow or a history breaks.
+use crate::hinting::nothing_amiss;
 use crate::places::{Spot, Subject, member_name};
-use crate::session::meaning;
 use crate::shown::{Quoted, Told};
 use crate::trees::{name_at, path_in};
 use grove_core::StepFault;
 use grove_plan::PlanFault;
 use grove_proof::ProofFault;
-use grove_wire::{Part, Place, StandingFault, proof_fault_name};
+use grove_wire::{Part, Place, StandingFault};
 use serde_json::Value;
 use std::alloc::Global;
 
@@ -17,7 +17,10 @@ pub(crate) fn plan_amiss(
     job: Option<u32>,
     fault: PlanFault,
 ) -> Told {
-    let (part, list) = parts_of(job);
+    let (part, list) = match job {
+        Some(_) => (Part::JobPlan, Part::JobList),
+        None => (Part::Plan, Part::List),
+    };
     let (steps, list) = (subject.items(part, job), subject.items(list, job));
     let (at, item) = (job, None);
     let plan = subject.spot(Place { part, at, item });
@@ -45,15 +48,7 @@ pub(crate) fn plan_amiss(
                 "the {plan} ends while {path} is held; what is locked has to be unlocked"
             )
         }
-        PlanFault::Memory => meaning(alloc, "memory"),
-    }
-}
-
-/// The parts that are the plan and its list.
-fn parts_of(job: Option<u32>) -> (Part, Part) {
-    match job {
-        Some(_) => (Part::JobPlan, Part::JobList),
-        None => (Part::Plan, Part::List),
+        PlanFault::Memory => nothing_amiss(alloc),
     }
 }
 
@@ -120,44 +115,36 @@ fn is_word(step: &Value, word: &str) -> bool {
 
 /// Why a flow doesn't show that its plan is least.
 pub(crate) fn flow_amiss(alloc: Global, fault: ProofFault) -> Told {
-    let name = proof_fault_name(&fault);
-    let broken = row_rule(name).unwrap_or("");
-    match fault {
-        ProofFault::Rows(row)
-        | ProofFault::Sign(row)
-        | ProofFault::TooBig(row)
-        | ProofFault::LockBalance(row)
-        | ProofFault::ReleaseBalance(row) => format!(in alloc; "flow {row} {broken}"),
-        ProofFault::Value { cost, bound } => format!(in alloc;
-            "the plan costs {cost}, but the flow shows only that no plan costs less than {bound}"
-        ),
-        ProofFault::Plan(_) | ProofFault::Memory => meaning(alloc, name),
-    }
-}
-
-/// What is said of a row of a flow that breaks the rule of this name.
-pub(crate) fn row_rule(name: &str) -> Option<&'static str> {
-    let broken = match name {
-        "rows" => {
+    let (row, broken) = match fault {
+        ProofFault::Rows(row) => (
+            row,
             "should be the next forced node, in the tree's order: one that is above an accessed node, \
-             and not above the lowest node that has all the accesses at or below it"
-        }
-        "sign" => {
+             and not above the lowest node that has all the accesses at or below it",
+        ),
+        ProofFault::Sign(row) => (
+            row,
             "has an amount where none may be: the first row has no \"above\" and no \"held\", \
-             and a node that isn't accessed no \"first\" and no \"last\""
-        }
-        "too-big" => "has an amount above 1099511627776",
-        "lock-balance" => {
+             and a node that isn't accessed no \"first\" and no \"last\"",
+        ),
+        ProofFault::TooBig(row) => (row, "has an amount above 1099511627776"),
+        ProofFault::LockBalance(row) => (
+            row,
             "isn't in balance: its \"above\" and its node's weight have to be the \"above\" \
-             of its children and its own \"held\", \"first\" and \"own\", added up"
-        }
-        "release-balance" => {
+             of its children and its own \"held\", \"first\" and \"own\", added up",
+        ),
+        ProofFault::ReleaseBalance(row) => (
+            row,
             "isn't in balance: its node's weight has to be the \"held\" of its children \
-             and its own \"last\" and \"own\", added up"
+             and its own \"last\" and \"own\", added up",
+        ),
+        ProofFault::Value { cost, bound } => {
+            return format!(in alloc;
+                "the plan costs {cost}, but the flow shows only that no plan costs less than {bound}"
+            );
         }
-        _ => return None,
+        ProofFault::Plan(_) | ProofFault::Memory => return nothing_amiss(alloc),
     };
-    Some(broken)
+    format!(in alloc; "flow {row} {broken}")
 }
 
 /// Why an event may not happen.

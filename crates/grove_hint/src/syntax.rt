@@ -79,9 +79,7 @@ fn stopped(alloc: Global, named: &str, front: &str, rest: &str, is_cut: bool) ->
         Some('a'..='z' | 'A'..='Z' | '0'..='9' | '+' | '-' | '.') if takes_value => {
             no_value(alloc, word_of(rest))
         }
-        Some(first @ '!'..='~') => {
-            format!(in alloc; "{awaited} has to come, but {first} is there")
-        }
+        Some(it @ '!'..='~') => format!(in alloc; "{awaited} has to come, but {it} is there"),
         Some(_) => format!(in alloc; "{awaited} has to come"),
     }
 }
@@ -120,11 +118,8 @@ fn word_of(text: &str) -> &str {
 }
 
 fn is_too_large(number: &str) -> bool {
-    let is_number = number.ends_with(|letter: char| letter.is_ascii_digit());
-    is_number
-        && number
-            .parse::<f64>()
-            .is_ok_and(|number| number.is_infinite())
+    number.ends_with(|letter: char| letter.is_ascii_digit())
+        && number.parse::<f64>().is_ok_and(|it| it.is_infinite())
 }
 
 /// What may come after the text.

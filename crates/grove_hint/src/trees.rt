@@ -95,7 +95,7 @@ pub(crate) fn path_in(value: &Value) -> Option<&str> {
 }
 
 /// May a node below the root have the name?
-pub(crate) fn is_name(name: &str) -> bool {
+fn is_name(name: &str) -> bool {
     matches!(name.len(), 1..=32)
         && name.bytes().all(|byte| matches!(byte, b'a'..=b'z' | b'0'..=b'9' | b'_' | b'-'))
 }

@@ -1,4 +1,5 @@
 pub mod Nodes
+pub mod Refused
 pub mod Replied
 pub mod Told
 pub mod Unread

@@ -12,13 +12,15 @@ pub no_line_is_read : (opening : StoreState) (body : List ℕ) (r : Response)
 no_line_is_read opening body r said = (
   Err Memory,
   [],
-  record {
-    input = [];
-    left = body;
-    new = visitor opening;
-    read = refl;
-    ends = (0, omega arith, (refl, refl));
-    cut = λ (written : ℕ) is. search (rules, ap is_write is);
-  },
+  (
+    visitor opening,
+    record {
+      input = [];
+      left = body;
+      read = refl;
+      ends = (0, omega arith, (refl, refl));
+      cut = λ (written : ℕ) is. search (rules, ap is_write is);
+    },
+  ),
   said,
 )

@@ -1,6 +1,5 @@
 -- What is replied to a request: a page, the replies to lines, or what a store holds.
-use Rattle.std.specs.Prelude.{◌≡◌, ℕ, ◌==◌, ◌&&◌, ◌⊎◌, nat_eq, Bool, List, [], ◌∷◌, ◌++◌, Some, Result, Ok, Err, codes, if◌then◌else◌, All}
-use Rattle.std.specs.List.{starts_with}
+use Rattle.std.specs.Prelude.{◌≡◌, ℕ, ◌==◌, ◌&&◌, ◌⊎◌, nat_lt, Bool, true, false, not, count_by, List, [], ◌∷◌, ◌++◌, Some, Result, Ok, Err, codes, if◌then◌else◌, All}
 use Rattle.http.specs.declared.request.Request.{Request}
 use Rattle.http.specs.Request.{head_of, body_of}
 use Rattle.http_uri.specs.Uri.{uri_path}
@@ -12,12 +11,15 @@ use Rattle.http_server.specs.History.{History, IsServed}
 use Rattle.serde_json.specs.Written.{compact_text}
 use Rattle.grove_session.specs.declared.session_fault.SessionFault.{SessionFault}
 use Rattle.grove_session.specs.declared.session_fault.SessionFault.TheVariants.{Read, Write, Memory, Turns, Foreign}
-use Rattle.grove_session.specs.Sessions.{SessionEnds}
+use Rattle.grove_session.specs.Sessions.{Lawful, SessionEnds}
 use Rattle.grove_tree.specs.Weights.{unweighed}
 use Rattle.grove_wire.specs.Documents.{document_text, nodes_data}
 use Rattle.grove_store.specs.StoreStates.{StoreState}
+use Rattle.grove_store.specs.Refusals.{is_refusal}
+use Rattle.grove_desk.specs.declared.told.Told.{Told}
+use Rattle.grove_desk.specs.declared.told.Told.TheVariants.{Nothing}
 use Rattle.grove_desk.specs.Histories.{Led}
-use Rattle.grove_desk.specs.Desks.{VisitState, IsShared}
+use Rattle.grove_desk.specs.Desks.{VisitState, IsShared, is_accepted}
 use Rattle.grove_page.specs.declared.route.Route.{Route}
 use Rattle.grove_page.specs.declared.route.Route.TheVariants.{Page, Lines, Document, Nodes, OnlyLook, LookOrSend, ForeignPage, Nowhere}
 use Rattle.grove_page.specs.Routes.{route_of}
@@ -48,16 +50,22 @@ error_line name = codes "{\"error\":\"" ++ (name ++ codes "\"}\n")
 
 -- a caller who has seen nothing yet
 abbrev pub visitor : StoreState → VisitState
-visitor opening = record { names = unweighed opening.rows; rounds = 0 }
+visitor opening = record { names = unweighed opening.rows; rounds = 0; told = Nothing }
 
--- the replies are a single one, and it is an error
-abbrev pub is_error : ℕ → List ℕ → Bool
-is_error count out = (count == 1) && starts_with nat_eq out (codes "{\"error\":")
+-- the replies are a single one, and it is a refusal
+abbrev pub is_refused : Result ℕ SessionFault → List ℕ → Bool
+is_refused (Ok count) out = (count == 1) && is_refusal out
+is_refused (Err fault) out = false
+
+-- the session was over a single line, after which its visitor was told that it is refused, or nothing of it
+abbrev pub ends_refused : Result ℕ SessionFault → Told → Bool
+ends_refused (Ok count) told = (count == 1) && not (is_accepted told)
+ends_refused (Err fault) told = false
 
 -- the replies to all lines; those before the line for which there was no memory, or whose answer wasn't its; or none, where
 -- they have more bytes than go into a response
 abbrev pub TellsSession : Result ℕ SessionFault → List ℕ → Response → Type 0
-TellsSession (Ok count) out r = IsResponse (if is_error count out then 400 else 200) json out r
+TellsSession (Ok count) out r = IsResponse (if is_refused (Ok count) out then 400 else 200) json out r
 TellsSession (Err Memory) out r = IsResponse 503 json (out ++ error_line (codes "memory")) r
 TellsSession (Err Foreign) out r = IsResponse 500 json (out ++ error_line (codes "foreign")) r
 TellsSession (Err (Write n)) out r = IsResponse 500 json (error_line (codes "replies")) r
@@ -65,19 +73,32 @@ TellsSession (Err Read) out r = IsResponse 500 json (out ++ error_line (codes "d
 TellsSession (Err Turns) out r = IsResponse 500 json (out ++ error_line (codes "device")) r
 
 -- a session over the body, as far as it was read
-pub record VisitsDesk (opening : StoreState) (body : List ℕ) (result : Result ℕ SessionFault) (out : List ℕ) : Type 0 where
+pub record Visits {S : Type 0} (lawful : Lawful S) (old : S) (body : List ℕ) (result : Result ℕ SessionFault)
+    (out : List ℕ) (new : S) : Type 0 where
   pub input : List ℕ
   pub left : List ℕ
-  pub new : VisitState
   pub read : body ≡ input ++ left
-  pub ends : SessionEnds IsShared (visitor opening) result (Some left) input out new
+  pub ends : SessionEnds lawful old result (Some left) input out new
   -- a reply that doesn't go out whole is one that these bytes end in
   pub cut : (written : ℕ) → result ≡ Err (Write written) → written ≡ 16777216
+
+-- by a visitor who has seen nothing yet
+abbrev pub VisitsDesk : StoreState → List ℕ → Result ℕ SessionFault → List ℕ → Type 0
+VisitsDesk opening body result out = (new : VisitState) × Visits IsShared (visitor opening) body result out new
 
 -- the reply tells of a session over the body
 abbrev pub AnswersBody : StoreState → List ℕ → Response → Type 0
 AnswersBody opening body r =
     (result : Result ℕ SessionFault) × (out : List ℕ) × VisitsDesk opening body result out × TellsSession result out r
+
+-- more line feeds than a body may have
+abbrev pub has_many_lines : List ℕ → Bool
+has_many_lines body = nat_lt 16384 (count_by (λ byte. byte == 10) body)
+
+-- of a body with more of them no line is answered
+abbrev pub TakesLines : Bool → StoreState → List ℕ → Response → Type 0
+TakesLines true opening body r = IsResponse 413 json (error_line (codes "lines")) r
+TakesLines false opening body r = AnswersBody opening body r
 
 -- ---- stores
 
@@ -98,7 +119,7 @@ TellsStore line_of opening r =
 
 abbrev pub IsReplyTo : PageState → List ℕ → Route → Response → Type 0
 IsReplyTo state body Page r = IsResponse 200 html state.page r
-IsReplyTo state body Lines r = AnswersBody state.opening body r
+IsReplyTo state body Lines r = TakesLines (has_many_lines body) state.opening body r
 IsReplyTo state body Document r = TellsStore document_line state.opening r
 IsReplyTo state body Nodes r = TellsStore nodes_line state.opening r
 IsReplyTo state body OnlyLook r = IsResponse 405 (json_for (codes "GET, HEAD")) (error_line (codes "method")) r

@@ -1,6 +1,5 @@
-use crate::{Front, RepliesSink};
+use crate::{Front, RepliesSink, Visited, visit};
 use grove_desk::{Desk, Opening, Visit};
-use grove_session::{BytesSource, SessionFault, session};
 use grove_store::Store;
 use grove_tree::NoMemory;
 use std::alloc::AllocGlobal;
@@ -14,10 +13,10 @@ impl<B: Opening, R: Threads + Wait + Sync + AllocGlobal> Front<R> for Desk<B> {
 
     ghost asks = { IsSync R.row };
 
-    fn answer(&self, rt: &R, lines: &[u8], sink: &mut RepliesSink) -> Result<u64, SessionFault> {
-        let mut visit = Visit::new(self);
-        let mut source = BytesSource::new(lines);
-        session(rt, &mut visit, &mut source, sink)
+    fn answer(&self, rt: &R, lines: &[u8], sink: &mut RepliesSink) -> Visited {
+        let mut visitor = Visit::new(self);
+        let ended = visit(rt, &mut visitor, lines, sink);
+        Visited::new(ended, visitor.told())
     }
 
     fn snapshot(&self, rt: &R) -> Result<Store, NoMemory> {

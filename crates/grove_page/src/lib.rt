@@ -1,11 +1,13 @@
 //! The store over HTTP: a page to look at it, replies to lines, and the store as a document.
 #![tactic(auto)]
 
-pub use front::Front;
+pub use front::{Front, Visited};
 pub use page::PAGE;
 pub use replies_sink::{MOST_REPLIES, RepliesSink};
 pub use route::{Route, route_for};
+pub use service::MOST_LINES;
 pub use serving::{MOST_BODY, serve_page};
+pub use visiting::visit;
 
 mod desk_front;
 mod front;
@@ -17,3 +19,4 @@ mod replies_sink;
 mod route;
 mod service;
 mod serving;
+mod visiting;

@@ -1,11 +1,11 @@
-ghost use Rattle.std.specs.Prelude.{◌≡◌, ◌++◌, OnOk, OnErr, IfOk, codes, string_bytes};
+ghost use Rattle.std.specs.Prelude.{◌≡◌, ◌==◌, ◌++◌, count_by, OnOk, OnErr, IfOk, codes, string_bytes};
 ghost use Rattle.http_server.specs.Response.{IsBlank, IsResponse};
-ghost use Rattle.grove_page.specs.Pages.{json, error_line, document_line, nodes_line, AnswersBody, TellsStore, TellsSession};
+ghost use Rattle.grove_page.specs.Pages.{json, error_line, document_line, nodes_line, AnswersBody, TakesLines, TellsStore, TellsSession, has_many_lines, is_refused};
 
 use crate::lines::{document_line, nodes_line};
 use crate::replies::{fill_allowed, fill_json, fill_page};
 use crate::route::{Route, route_for};
-use crate::{Front, RepliesSink};
+use crate::{Front, RepliesSink, Visited};
 use bytes::{BufMut, Bytes};
 use grove_session::SessionFault;
 use grove_tree::NoMemory;
@@ -14,11 +14,16 @@ use http_server::{Response, Service};
 use std::alloc::{AllocError, AllocGlobal};
 use std::marker::Model;
 
+/// So many line feeds may a body have, so that no body keeps its seat for long.
+pub const MOST_LINES: usize = 16_384;
+
 const FAILED: StatusCode = StatusCode::INTERNAL_SERVER_ERROR;
 
 const NO_MEMORY: &[u8] = b"{\"error\":\"memory\"}\n";
 
 const NO_ROOM: &[u8] = b"{\"error\":\"replies\"}\n";
+
+const TOO_MANY_LINES: &[u8] = b"{\"error\":\"lines\"}\n";
 
 const FOREIGN: &[u8] = b"{\"error\":\"foreign\"}\n";
 
@@ -60,7 +65,7 @@ impl<'a, R: AllocGlobal, F: Front<R>> Service for PageService<'a, R, F> {
         let path = request.uri().path();
         match route_for(request.method().as_str(), path, request.headers()) {
             Route::Page => fill_page(response, self.page),
-            Route::Lines => self.answer_lines(request.body().as_slice(), response),
+            Route::Lines => self.take_lines(request.body().as_slice(), response),
             Route::Document => self.tell_document(response),
             Route::Nodes => self.tell_nodes(response),
             Route::OnlyLook => fill_allowed(response, "GET, HEAD"),
@@ -72,6 +77,17 @@ impl<'a, R: AllocGlobal, F: Front<R>> Service for PageService<'a, R, F> {
 }
 
 impl<'a, R: AllocGlobal, F: Front<R>> PageService<'a, R, F> {
+    /// The replies to the lines of a body, if they are few enough.
+    fn take_lines(&self, lines: &[u8], response: &mut Response) -> Result<(), AllocError>
+        requires { IsBlank response.old }
+        ensures { OnOk result (TakesLines (has_many_lines lines.now) self.now.opening lines.now response.new) }
+    {
+        if has_many_lines(lines) {
+            return fill_json(response, StatusCode::PAYLOAD_TOO_LARGE, TOO_MANY_LINES);
+        }
+        self.answer_lines(lines, response)
+    }
+
     /// The replies to the lines of a body.
     #[tactic(auto, using(crate::proofs::Unread::no_line_is_read))]
     fn answer_lines(&self, lines: &[u8], response: &mut Response) -> Result<(), AllocError>
@@ -80,8 +96,8 @@ impl<'a, R: AllocGlobal, F: Front<R>> PageService<'a, R, F> {
     {
         match RepliesSink::new(self.rt.alloc()) {
             Ok(mut sink) => {
-                let ended = self.front.answer(self.rt, lines, &mut sink);
-                fill_replies(response, ended, sink.bytes())
+                let visited = self.front.answer(self.rt, lines, &mut sink);
+                fill_replies(response, visited, sink.bytes())
             }
             Err(NoMemory) => fill_json(response, StatusCode::SERVICE_UNAVAILABLE, NO_MEMORY),
         }
@@ -110,6 +126,19 @@ impl<'a, R: AllocGlobal, F: Front<R>> PageService<'a, R, F> {
     }
 }
 
+/// Are there more line feeds than a body may have?
+fn has_many_lines(lines: &[u8]) -> bool
+    ensures { result ≡ has_many_lines lines.now }
+{
+    count_feeds(lines) > MOST_LINES
+}
+
+fn count_feeds(lines: &[u8]) -> usize
+    ensures { result ≡ count_by (λ byte. byte == 10) lines.now }
+{
+    lines.iter().filter(|byte| **byte == b'\n').count()
+}
+
 /// A line that tells of a store, or that there is no memory for it.
 fn fill_line(response: &mut Response, line: Result<String, NoMemory>) -> Result<(), AllocError>
     requires { IsBlank response.old }
@@ -123,18 +152,13 @@ fn fill_line(response: &mut Response, line: Result<String, NoMemory>) -> Result<
 }
 
 /// What a session over the lines of a body came to.
-fn fill_replies(
-    response: &mut Response,
-    ended: Result<u64, SessionFault>,
-    replies: &[u8],
-) -> Result<(), AllocError>
-    requires { IsBlank response.old }
-    ensures { OnOk result (TellsSession ended replies.now response.new) }
+fn fill_replies(response: &mut Response, visited: Visited, replies: &[u8]) -> Result<(), AllocError>
+    requires blank { IsBlank response.old }
+    requires refused { visited.is_refused ≡ is_refused visited.ended replies.now }
+    ensures { OnOk result (TellsSession visited.ended replies.now response.new) }
 {
-    match ended {
-        Ok(1) if replies.starts_with(b"{\"error\":") => {
-            fill_json(response, StatusCode::BAD_REQUEST, replies)
-        }
+    match visited.ended {
+        Ok(_) if visited.is_refused => fill_json(response, StatusCode::BAD_REQUEST, replies),
         Ok(_) => fill_json(response, StatusCode::OK, replies),
         Err(SessionFault::Memory) => {
             fill_broken(

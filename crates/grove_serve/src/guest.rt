@@ -1,10 +1,20 @@
 use crate::ending::Ending;
 use crate::log::Log;
 use grove_base::NoMemory;
-use grove_hint::hint_of_line;
+use grove_hint::hint_of_request;
+use grove_store::Refusal;
+use grove_wire::Fault;
 use std::alloc::AllocGlobal;
 use std::cell::Cell;
+use std::fmt::Display;
 use std::sync::Wait;
+
+/// What is told beside a refusal that is about no part of its line.
+const LONG_LINE: &str =
+    "hint: the line has more than the 1048576 bytes that are taken, and wasn't looked into";
+
+const NO_MORE_ROUNDS: &str =
+    "hint: the store has counted 18446744073709551615 rounds, and takes no more batches";
 
 /// A connection, as the log tells of it.
 #[derive(Drop)]
@@ -31,22 +41,51 @@ impl<'a> Guest<'a> {
         self.log.count_line();
     }
 
-    /// Tells that the line after those which are answered is refused by this name, with a hint.
-    pub fn tell_refusal<R: Wait + Eprint + AllocGlobal>(&self, rt: &R, line: &[u8], name: &str) {
+    /// Tells that the line after those which are answered is refused, and why, with a hint if there is memory for it.
+    pub fn tell_refusal<R: Wait + Eprint + AllocGlobal>(
+        &self,
+        rt: &R,
+        line: &[u8],
+        refusal: Refusal,
+    ) {
+        let name = refusal.name();
+        match &refusal {
+            Refusal::Fault(fault) => self.tell_fault(rt, line, name, *fault),
+            Refusal::Rounds => self.tell_line(rt, format_args!("{name}; {NO_MORE_ROUNDS}")),
+        }
+    }
+
+    /// Tells that the line is refused for the fault of this name.
+    fn tell_fault<R: Wait + Eprint + AllocGlobal>(
+        &self,
+        rt: &R,
+        line: &[u8],
+        name: &str,
+        fault: Fault,
+    ) {
+        match hint_of_request(rt.alloc(), line, fault) {
+            Ok(hint) => {
+                let hint = hint.as_str();
+                self.tell_line(rt, format_args!("{name}; {hint}"));
+            }
+            Err(NoMemory) => self.tell_line(rt, name),
+        }
+    }
+
+    /// Tells that the line after those which are answered is too long.
+    pub fn tell_long_line<R: Wait + Eprint>(&self, rt: &R) {
+        self.tell_line(rt, format_args!("long-line; {LONG_LINE}"));
+    }
+
+    /// Tells this of the line after those which are answered, which is refused.
+    fn tell_line<R: Wait + Eprint, D: Display + Drop>(&self, rt: &R, told: D) {
         self.log.count_refusal();
         let number = self.number;
         let place = self.lines.get().saturating_add(1);
-        match hint_of_line(rt.alloc(), line, name) {
-            Ok(hint) => {
-                let hint = hint.as_str();
-                let told = format_args!("connection {number}, line {place}: {name}; {hint}");
-                self.log.tell(rt, told);
-            }
-            Err(NoMemory) => {
-                let told = format_args!("connection {number}, line {place}: {name}");
-                self.log.tell(rt, told);
-            }
-        }
+        self.log.tell(
+            rt,
+            format_args!("connection {number}, line {place}: {told}"),
+        );
     }
 
     /// Tells that the connection has ended, and why.

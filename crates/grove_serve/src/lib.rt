@@ -15,5 +15,4 @@ mod seats;
 mod service;
 mod talking;
 mod timed_stream;
-mod watched_sink;
 mod watching;

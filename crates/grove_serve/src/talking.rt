@@ -31,8 +31,8 @@ pub fn serve_caller<B: Opening, R: Host>(rt: &R, desk: &Desk<B>, seats: &Seats, 
     let ending = match (seats.talk(), seats.patience().idle) {
         (Talk::Lines, None) => {
             let mut source = ReaderSource::new(&stream);
-            let sink = WriterSink::new(&stream);
-            Ending::of_session(session_at(rt, desk, guest.as_ref(), &mut source, sink))
+            let mut sink = WriterSink::new(&stream);
+            Ending::of_session(session_at(rt, desk, guest.as_ref(), &mut source, &mut sink))
         }
         (Talk::Lines, Some(idle)) => answer_in_time(rt, desk, &stream, guest.as_ref(), idle),
         (Talk::Requests, idle) => answer_requests(rt, desk, &stream, guest.as_ref(), idle),
@@ -59,8 +59,8 @@ fn answer_in_time<B: Opening, R: Host>(
     }
     let is_late = Cell::new(false);
     let mut source = ReaderSource::new(TimedStream::new(rt, stream, longest, &is_late));
-    let sink = WriterSink::new(stream);
-    match session_at(rt, desk, guest, &mut source, sink) {
+    let mut sink = WriterSink::new(stream);
+    match session_at(rt, desk, guest, &mut source, &mut sink) {
         Err(SessionFault::Read) if is_late.get() => Ending::Idle(seconds),
         ended => Ending::of_session(ended),
     }

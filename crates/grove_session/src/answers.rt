@@ -35,4 +35,7 @@ pub trait Answers<R> {
         ensures ok { IfOk result (λ reply. lawful self.old line.now reply.items self.new) }
         ensures err { OnErr result (self.new ≡ self.old) }
         ensures foreign { result ≡ Err fault.Foreign → is_shared ≡ true };
+
+    /// Learns that the next line was too long, which is replied so without asking for an answer.
+    fn pass_over(&self, _rt: &R) {}
 }

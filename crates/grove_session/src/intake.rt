@@ -105,7 +105,10 @@ impl Intake {
                     Err(_) => self.send(sink, &reply, b"\n"),
                 }
             }
-            None => self.send(sink, LONG_LINE, b""),
+            None => {
+                answers.pass_over(rt);
+                self.send(sink, LONG_LINE, b"")
+            }
         }
     }
 

@@ -1,13 +1,17 @@
--- No reply begins as a refusal does but a refusal: the name of its first member is another.
-use Rattle.std.proofs.Common.{◌≡◌, ℕ, List, false, refl}
+-- A refusal begins as one, and no other reply does: the name of its first member is another.
+use Rattle.std.proofs.Common.{◌≡◌, ℕ, List, true, false, refl}
 use Rattle.json.specs.Print.{escape_byte}
 use Rattle.serde_json.specs.Written.{compact_text}
 use Rattle.grove_tree.specs.Trees.{Rows}
 use Rattle.grove_access.specs.declared.reply.Reply.{Reply}
 use Rattle.grove_plan.specs.declared.step.Step.{Step}
 use Rattle.grove_proof.specs.declared.flow.FlowRow.{FlowRow}
-use Rattle.grove_wire.specs.Replies.{planned_data, cost_data, round_data, weights_data, changed_data}
+use Rattle.grove_wire.specs.Replies.{error_text, planned_data, cost_data, round_data, weights_data, changed_data}
 use Rattle.grove_store.specs.Refusals.{is_refusal}
+
+pub error_refuses : (name : List ℕ) → is_refusal (error_text name) ≡ true
+unfolding escape_byte
+error_refuses name = refl
 
 pub planned_accepted : (rows : Rows) (cost : ℕ) (plan : List Step) (flow : List FlowRow)
     → is_refusal (compact_text (planned_data rows cost plan flow)) ≡ false
