@@ -27,6 +27,8 @@ mod fuse;
 #[cfg(test)]
 mod hold;
 #[cfg(test)]
+mod kept;
+#[cfg(test)]
 mod leftovers;
 #[cfg(test)]
 mod lists;
@@ -34,6 +36,8 @@ mod lists;
 mod loopback;
 #[cfg(test)]
 mod meeting;
+#[cfg(test)]
+mod pages;
 #[cfg(test)]
 mod pieces;
 #[cfg(test)]

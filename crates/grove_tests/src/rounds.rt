@@ -10,7 +10,6 @@ use grove_store::Store;
 use grove_tree::{Node, OpenGate};
 use std::marker::Brand;
 use std::process::Abort;
-use std::sync::Wait;
 use std::thread::{join, yield_now};
 
 const ADD: &[u8] = b"{\"batch\":[[[\"add\",\"/b\",1]]]}";
@@ -24,16 +23,25 @@ const SHARED_ROUND: [&[u8]; 2] = [
 ];
 
 /// Lets the round go once two lines wait for the next one, and looks on until it is over.
-fn let_go<B: Opening, R: Wait>(rt: &R, desk: &Desk<B>, hold: &Hold) {
+fn let_go<B: Opening, R: Host>(rt: &R, desk: &Desk<B>, hold: &Hold) {
     for _ in 0..MOST_LOOKS {
         if desk.waiting(rt) == 2 {
             hold.let_go();
+            look(rt, desk);
         }
         if hold.is_over() {
             return;
         }
         yield_now();
     }
+}
+
+/// A look finds the store after a whole round. Who waits for the next one is served after it.
+fn look<B: Opening, R: Host>(rt: &R, desk: &Desk<B>) {
+    let store = desk.snapshot(rt, rt.alloc()).expect(rt, "a copy");
+    assert!(rt; store.records().len() == 3);
+    let record = store.records().get(Node::new(B));
+    assert!(rt; (store.rounds(), record) == (1, 20) || (store.rounds(), record) == (2, 22));
 }
 
 /// Asks once the round is held.
