@@ -18,7 +18,7 @@ from server import Serving, connected, free_port, talk, talk_in_turn
 from store import Store
 
 from sweeps.documents import EXAMPLES
-from sweeps.program import DEVICE, Tally, Try, run
+from sweeps.program import DEVICE, Tally, Try, run, until_well
 from sweeps.talks import lines_of, look, note_replies
 
 TRIED = "lines and connections of clients that end in every way"
@@ -31,6 +31,8 @@ GET = b'{"batch":[[["get","/a"]]]}\n'
 WEIGHTS = b'{"weights":null}\n'
 # This machine's too, but not the one that is listened at.
 OTHER_HOST = "127.0.0.2"
+# How many pairs of lines are sent at once, and what takes longer than a reply that waits for none to arrive.
+PAIRS, DELAYED = 60, 0.03
 # How long a client that never reads goes on sending, where nothing holds it up.
 SECONDS = 2.0
 
@@ -39,6 +41,7 @@ def tries(program: str, room: str) -> list[Try]:
     return [
         Try("ten lines in pieces", partial(in_pieces, program)),
         Try("ten lines cut after each byte", partial(cut_after_each, program)),
+        Try("two lines at once", partial(two_at_once, program)),
         Try("clients that leave after some bytes", partial(leave_after_some, program)),
         Try("clients that leave after some bytes of a reply", partial(leave_in_a_reply, program)),
         Try("clients that never read", partial(never_read, program)),
@@ -71,6 +74,25 @@ def cut_after_each(program: str, tally: Tally) -> None:
         for size in range(len(TEXT) + 1):
             note_replies(store, TEXT[:size], server.talk(TEXT[:size]), f"{size} bytes", tally)
         note_replies(store, look(store), server.talk(look(store)), "at the end", tally)
+
+
+def two_at_once(program: str, tally: Tally) -> None:
+    """The reply to the second of two lines doesn't wait until the first one's has arrived, which takes some 40 ms."""
+    until_well(partial(answer_pairs, program, tally), "pairs of lines", tally)
+
+
+def answer_pairs(program: str, tally: Tally) -> str | None:
+    """What is wrong where most pairs take long."""
+    slow = 0
+    store = Store(json.loads(TREE))
+    with Serving(program, TREE) as server, connected(server.port) as client, client.makefile("rb") as replies:
+        for number in range(PAIRS):
+            started = time.monotonic()
+            client.sendall(2 * WEIGHTS)
+            came = replies.readline() + replies.readline()
+            slow += time.monotonic() - started > DELAYED
+            note_replies(store, 2 * WEIGHTS, came, f"pair {number}", tally)
+    return None if slow <= PAIRS // 2 else f"{slow} of {PAIRS} pairs were answered late"
 
 
 def leave_after_some(program: str, tally: Tally) -> None:

@@ -16,6 +16,7 @@ from pathlib import Path
 from server import HOST, Serving, connected, free_port
 from store import Store
 
+from sweeps.busy import BUSY, SEATS, told
 from sweeps.connections import TREE, WEIGHTS
 from sweeps.crowds import is_silent
 from sweeps.documents import EXAMPLES
@@ -41,6 +42,7 @@ def tries(program: str, room: str) -> list[Try]:
         Try("no descriptor for a connection", partial(serve_nobody, program)),
         Try("no descriptor of the process for a while", partial(serve_later, program, library, errno.EMFILE)),
         Try("no descriptor of the system for a while", partial(serve_later, program, library, errno.ENFILE)),
+        Try("the same with --busy", partial(serve_busy, program, library)),
         Try("another failure", partial(fail, program, library)),
     ]
 
@@ -103,6 +105,19 @@ def serve_later(program: str, library: str, error: int, tally: Tally) -> None:
     store = Store(json.loads(TREE))
     with Serving(program, TREE, env=failing(library, FAILURES, error)) as server:
         note_replies(store, WEIGHTS, server.talk(WEIGHTS), "the first client", tally)
+
+
+def serve_busy(program: str, library: str, tally: Tally) -> None:
+    """With `--busy`, whoever couldn't be taken leaves no seat: sixteen have one, and the 17th is told so."""
+    store = Store(json.loads(TREE))
+    surroundings = failing(library, FAILURES, errno.EMFILE)
+    with Serving(program, TREE, further=("--busy",), env=surroundings) as server, ExitStack() as room:
+        for number in range(SEATS):
+            client = room.enter_context(connected(server.port))
+            client.sendall(WEIGHTS)
+            note_replies(store, WEIGHTS, client.makefile("rb").readline(), f"client {number}", tally)
+        came = told(server.port, b"")
+        tally.note("the 17th", None if came == BUSY else f"came {came!r}")
 
 
 def fail(program: str, library: str, tally: Tally) -> None:

@@ -7,8 +7,10 @@ import errno
 import json
 import os
 import re
+import resource
 import socket
 import struct
+import subprocess
 import tempfile
 import time
 from contextlib import ExitStack
@@ -16,15 +18,16 @@ from functools import partial
 from pathlib import Path
 from random import Random
 
+from batches import hot
 from server import HOST, NotListening, Serving, connected
-from store import MOST_LINE, Store
-from web import Client
+from store import MOST_LINE, Store, compact
+from web import Client, post
 
 from sweeps.connections import ADD, GET, TREE, WEIGHTS, flood
 from sweeps.connections import library_in as thread_library_in
 from sweeps.descriptors import failing
 from sweeps.descriptors import library_in as accept_library_in
-from sweeps.program import Tally, Try, short
+from sweeps.program import Tally, Try, short, until_well
 from sweeps.talks import lines_of, note_replies
 
 TRIED = "lines on standard error, and replies beside them"
@@ -40,29 +43,53 @@ LINES = (ADD, GET, WEIGHTS, SHAPE, NO_PATH, BAD_JSON, BAD_LENGTH)
 LONGEST = 60.0
 # How long a minute is waited for, and how long after it is late, or what doesn't wait for it.
 MINUTE, LATE = 60.0, 30.0
+# How many times as fast a clock may go, and what is told of minutes by it: the lines of each, and what they come to.
+CLOCK_TIMES = 30
+MINUTES = (
+    (ADD + SHAPE + GET, "3 lines, 1 refused, 2 rounds, 0 waits"),
+    (ADD + NO_PATH, "2 lines, 1 refused, 1 rounds, 0 waits"),
+    (GET + WEIGHTS, "2 lines, 0 refused, 1 rounds, 0 waits"),
+)
+# What is told where there is no descriptor, and with how many there is none for a connection.
+WANTS_DESCRIPTOR = "no descriptor is left for the next connection"
+NO_MORE_DESCRIPTORS = 4
 # Ends a connection by a reset.
 RESET = struct.pack("ii", 1, 0)
 
 
 def tries(program: str, room: str) -> list[Try]:
-    accepts, threads = accept_library_in(room), thread_library_in(room)
+    accepts, threads, clock = accept_library_in(room), thread_library_in(room), clock_library_in(room)
     return [
         Try("one connection after the other", partial(in_turn, program)),
         Try("many connections at once", partial(at_once, program)),
         Try("a line that is too long", partial(long_line, program)),
-        Try("connections that break off", partial(broken_off, program)),
+        Try("connections that break off", partial(broken_off, program, ())),
+        Try("the same with a time to idle", partial(broken_off, program, ("--idle", "60"))),
         Try("connections that idle", partial(idle, program)),
+        Try("a line without end", partial(endless, program)),
         Try("connections without a seat", partial(busy, program)),
         Try("connections without a thread", partial(threadless, program, threads)),
         Try("connections without a descriptor", partial(no_descriptor, program, accepts)),
+        Try("the same for a second time", partial(no_descriptor_again, program)),
         Try("a listener that fails", partial(no_listener, program, accepts)),
         Try("at an address of IPv6", partial(at_another_address, program)),
         Try("hints", partial(hints, program)),
         Try("pages", partial(pages, program)),
+        Try("pages that break off or idle", partial(pages_broken_off, program)),
         Try("minutes", partial(minutes, program)),
+        Try("minutes on end", partial(minutes_on_end, program, clock)),
+        Try("a minute with waits", partial(minute_with_waits, program, clock)),
         Try("standard error that fails", partial(no_errors, program)),
         Try("without --verbose", partial(quiet, program)),
     ]
+
+
+def clock_library_in(room: str) -> str:
+    """Compiles what lets the clock go faster, to be preloaded."""
+    library = f"{room}/fast_clock.so"
+    source = Path(__file__).with_name("fast_clock.c")
+    subprocess.run(["cc", "-O1", "-shared", "-fPIC", "-o", library, source], check=True, stdin=subprocess.DEVNULL)
+    return library
 
 
 class Telling(Serving):
@@ -190,9 +217,9 @@ def long_line(program: str, tally: Tally) -> None:
         compare(wanted, server.told_of(len(wanted)), tally)
 
 
-def broken_off(program: str, tally: Tally) -> None:
+def broken_off(program: str, further: tuple[str, ...], tally: Tally) -> None:
     """A connection that is reset, and one that takes no replies and is closed."""
-    with Telling(program) as server:
+    with Telling(program, further) as server:
         with connected(server.port) as client, client.makefile("rb") as replies:
             client.sendall(ADD + SHAPE)
             came = replies.readline() + replies.readline()
@@ -220,6 +247,19 @@ def idle(program: str, tally: Tally) -> None:
             came = replies.read()
             wanted = [arrival(1, client), ended(1, 1, "it idled for 10 seconds")]
         tally.note("the reply", None if len(lines_of(came)) == 1 else f"came {came!r}")
+        compare(wanted, server.told_of(2), tally)
+
+
+def endless(program: str, tally: Tally) -> None:
+    """A connection that goes on sending, and never a line feed, idles too."""
+    with Telling(program, ("--idle", "1")) as server, connected(server.port) as client:
+        wanted = [arrival(1, client), ended(1, 0, "it idled for 1 second")]
+        ends = time.monotonic() + LONGEST
+        try:
+            while time.monotonic() < ends:
+                client.sendall(b"x" * MOST_LINE)
+        except ConnectionError:
+            pass
         compare(wanted, server.told_of(2), tally)
 
 
@@ -286,10 +326,31 @@ def no_descriptor(program: str, library: str, tally: Tally) -> None:
     """No connection can be taken for a while, for want of a descriptor: this is told once."""
     with Telling(program, env=failing(library, 5, errno.EMFILE)) as server, connected(server.port) as client:
         came = ask(client, ADD)
-        first = "no descriptor is left for the next connection"
-        wanted = [first, arrival(1, client), ended(1, 1, "its input ended")]
+        wanted = [WANTS_DESCRIPTOR, arrival(1, client), ended(1, 1, "its input ended")]
         tally.note("the reply", None if len(lines_of(came)) == 1 else f"came {came!r}")
         compare(wanted, server.told_of(3), tally)
+
+
+def no_descriptor_again(program: str, tally: Tally) -> None:
+    """A descriptor is wanting, then connections are taken, and then one is wanting again: this is told both times."""
+    _, most = resource.getrlimit(resource.RLIMIT_NOFILE)
+    with Telling(program) as server:
+        for times in (1, 2):
+            server.talk(ADD)
+            resource.prlimit(server.started.pid, resource.RLIMIT_NOFILE, (NO_MORE_DESCRIPTORS, most))
+            with connected(server.port) as client:
+                fault = None if wants_descriptor(server, times) else f"it isn't told: {server.told()}"
+                resource.prlimit(server.started.pid, resource.RLIMIT_NOFILE, (most, most))
+                came = ask(client, ADD)
+            tally.note(f"time {times}", fault or (None if len(lines_of(came)) == 1 else f"came {came!r}"))
+
+
+def wants_descriptor(server: Telling, times: int) -> bool:
+    """Is it told so often, before long, that there is no descriptor?"""
+    ends = time.monotonic() + LATE
+    while server.told().count(WANTS_DESCRIPTOR) < times and time.monotonic() < ends:
+        time.sleep(0.02)
+    return server.told().count(WANTS_DESCRIPTOR) == times
 
 
 def no_listener(program: str, library: str, tally: Tally) -> None:
@@ -350,6 +411,21 @@ def pages(program: str, tally: Tally) -> None:
         compare(wanted, server.told_of(len(wanted)), tally)
 
 
+def pages_broken_off(program: str, tally: Tally) -> None:
+    """A connection that is reset after a request, and one that says nothing for too long."""
+    with Telling(program, ("--idle", "60"), command="page") as server:
+        with Client(server.port) as client:
+            client.post(ADD)
+            wanted = [arrival(1, client.connection), ended(1, 1, "it could not be read or written")]
+            # (A part of a request, so that the connection may not end here.)
+            client.send(post(ADD)[:9])
+            client.connection.setsockopt(socket.SOL_SOCKET, socket.SO_LINGER, RESET)
+        compare(wanted, server.told_of(2), tally)
+    with Telling(program, ("--idle", "1"), command="page") as server, connected(server.port) as client:
+        client.recv(1)
+        compare([arrival(1, client), ended(1, 0, "it idled for 1 second")], server.told_of(2), tally)
+
+
 # ---- minutes
 
 
@@ -365,6 +441,52 @@ def minutes(program: str, tally: Tally) -> None:
         after = time.monotonic() - started
         compare([*before, "1 minute: 5 lines, 2 refused, 2 rounds, 0 waits"], told, tally)
         tally.note("the minute", None if MINUTE - 2 < after < MINUTE + LATE else f"it took {after:.1f} s")
+
+
+def minutes_on_end(program: str, library: str, tally: Tally) -> None:
+    """By a clock that goes faster: of each minute just its own lines are told, and of a quiet one nothing. It is tried
+    until a machine with other work has had the lines of each minute in it."""
+    until_well(partial(some_minutes, program, fast(library), tally), "minutes", tally)
+
+
+def fast(library: str) -> dict[str, str]:
+    return {**os.environ, "LD_PRELOAD": library, "CLOCK_TIMES": str(CLOCK_TIMES)}
+
+
+def some_minutes(program: str, surroundings: dict[str, str], tally: Tally) -> str | None:
+    """What is wrong with what is told of minutes with lines, after each of which comes a quiet one."""
+    with Telling(program, env=surroundings) as server:
+        count = 0
+        for text, wanted in MINUTES:
+            with connected(server.port) as client:
+                came = ask(client, text)
+            count += 3 + came.count(b'{"error"')
+            told = server.told_of(count)
+            if len(told) != count or told[-1] != f"1 minute: {wanted}":
+                return f"wanted {wanted!r}; came {told[-2:]}"
+            tally.note(wanted, None)
+            time.sleep(1.5 * MINUTE / CLOCK_TIMES)
+    return None
+
+
+def minute_with_waits(program: str, library: str, tally: Tally) -> None:
+    """A batch in which lists wait for several nodes: of the minute the sum of what `weights` tells then is told."""
+    until_well(partial(some_waits, program, fast(library), tally), "waits", tally)
+
+
+def some_waits(program: str, surroundings: dict[str, str], tally: Tally) -> str | None:
+    batch = hot(Random("waits of a minute"))
+    document = compact({"nodes": batch["nodes"]})
+    with Telling(program, document=document, workers=4, env=surroundings) as server:
+        with connected(server.port) as client:
+            came = ask(client, compact({"batch": batch["lists"]}) + b"\n" + WEIGHTS)
+        waits = json.loads(lines_of(came)[-1])["waits"]
+        wanted = f"1 minute: 2 lines, 0 refused, 1 rounds, {sum(waits)} waits"
+        told = server.told_of(3)
+    if len(told) != 3 or told[-1] != wanted:
+        return f"wanted {wanted!r}; came {told[-1]!r}"
+    tally.note("the minute", None)
+    return None if sum(count > 0 for count in waits) > 1 else f"the waits are {waits}"
 
 
 # ---- standard error itself
