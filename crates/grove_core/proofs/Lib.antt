@@ -26,3 +26,10 @@ pub mod OrderByLevels
 pub mod CarriedCounts
 pub mod CarriedEntries
 pub mod CountChanges
+pub mod AloneSteps
+pub mod AloneRuns
+pub mod AloneDeeds
+pub mod AloneOrder
+pub mod AloneSerial
+pub mod DoneInTurn
+pub mod AloneDone

@@ -15,3 +15,6 @@ pub mod Cores
 pub mod FaultLaws
 pub mod ReplayLaws
 pub mod RunBounds
+pub mod Alone
+pub mod DoneAlone
+pub mod Doing

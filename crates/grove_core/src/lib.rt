@@ -1,6 +1,7 @@
 //! The core: a pure state machine that runs transactions over their lock plans, and the serial order of a finished run.
 #![tactic(auto)]
 
+pub use alone::{DoneAlone, do_alone};
 pub use event::Event;
 pub use fault::{OpenFault, ReplayFault, StepFault};
 pub use fitting::all_fit;
@@ -12,6 +13,7 @@ pub use ordering::{serial_order, serial_order_into};
 pub use replies::replies_of;
 pub use run_fault::RunFault;
 
+mod alone;
 mod event;
 mod fault;
 mod fitting;
@@ -23,6 +25,7 @@ mod machine;
 mod opening;
 mod ordering;
 mod owner;
+mod preceding;
 mod progress;
 mod replies;
 mod run_fault;

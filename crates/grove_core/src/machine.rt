@@ -3,7 +3,6 @@ ghost use Rattle.grove_core.specs.Runs.{plan_of, next_step, AllLegal, IsRun, IsF
 ghost use Rattle.grove_core.specs.RunBounds.{most_events};
 ghost use Rattle.grove_tree.specs.Trees.{IsTree};
 ghost use Rattle.grove_core.specs.Orders.{first_lock, lock_time, earlier};
-ghost use Rattle.grove_core.specs.Depths.{first_depth};
 ghost use Rattle.grove_core.specs.Laws.{CanGoOn};
 ghost use Rattle.grove_core.specs.Openings.{AllFit, IsFirstFault};
 ghost use Rattle.grove_core.specs.Replays.{IsFirstUnfinished};
@@ -279,15 +278,6 @@ impl<'a> Core<'a> {
         ensures within { IfSome result (λ node. node < length self.now.tree) }
     {
         first_lock(self.jobs[txn as usize].plan.steps())
-    }
-
-    /// How deep the node lies that a job locks first.
-    pub(crate) fn first_depth(&self, txn: u32) -> Option<u32>
-        requires { txn < length self.now.jobs }
-        ensures { result ≡ first_depth self.now.tree self.now.jobs txn }
-    {
-        let node = self.first_lock(txn)?;
-        Some(self.tree().depth(node))
     }
 
     /// Is it known that no job locked the node after this one?

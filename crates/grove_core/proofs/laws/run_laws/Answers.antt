@@ -3,6 +3,7 @@ use Rattle.grove_core.proofs.NeverStalls.{runs_go_on}
 use Rattle.grove_core.proofs.NoCircles.{no_circles}
 use Rattle.grove_core.proofs.Refusals.{refused_may_not, refused_for_one, first_fault_is_one}
 use Rattle.grove_core.proofs.ReplayFaults.{replay_fault_is_one, finished_is_faultless}
+use Rattle.grove_core.proofs.AloneRuns.{jobs_alone}
 use Rattle.grove_core.proofs.laws.run_laws.Goals as goal
 
 pub returns-clause-serial : goal.returns-clause-serial
@@ -28,3 +29,6 @@ returns-clause-replayed c = replay_fault_is_one
 
 pub returns-clause-faultless : goal.returns-clause-faultless
 returns-clause-faultless c = finished_is_faultless
+
+pub returns-clause-alone : goal.returns-clause-alone
+returns-clause-alone c = jobs_alone
