@@ -5,6 +5,7 @@ ghost use Rattle.grove_core.specs.Orders.{placement_order};
 ghost use Rattle.grove_core.specs.Laws.{IsEachOnce, IsSerialBy};
 ghost use Rattle.grove_core.specs.Kept.{past_of};
 
+use crate::placing::places_in;
 use grove_access::Records;
 use grove_core::Core;
 use grove_tree::NoMemory;
@@ -80,10 +81,6 @@ impl<'a> Finished<'a> {
         ensures { IfOk result (λ places. places.items ≡ places_of self.now.order (length self.now.core.jobs)) }
     {
         let order = self.order();
-        let mut places = vec![in alloc; 0; self.core().jobs().len()]?;
-        for (place, txn) in order.iter().enumerate() {
-            places[*txn as usize] = place as u32;
-        }
-        Ok(places)
+        places_in(alloc, order, self.core().jobs().len())
     }
 }

@@ -5,7 +5,9 @@ pub use batch::{run_batch, run_legal};
 pub use book::Book;
 pub use finished::Finished;
 pub use grove_core::RunFault;
+pub use placing::places_in;
 pub use steps::{BookStep, CarryStep};
+pub use worth::are_worth_a_thread;
 
 mod alone;
 mod batch;
@@ -13,6 +15,7 @@ mod bells;
 mod book;
 mod carries;
 mod finished;
+mod placing;
 mod register;
 mod sleepers;
 mod steps;

@@ -11,3 +11,4 @@ pub mod Longest
 pub mod Feedless
 pub mod Taking
 pub mod Accepted
+pub mod RoundsAlone

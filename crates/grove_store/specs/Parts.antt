@@ -5,6 +5,7 @@ use Rattle.serde_json.specs.Written.{compact_text}
 use Rattle.grove_tree.specs.Trees.{Rows}
 use Rattle.grove_access.specs.declared.access.Access.{Access}
 use Rattle.grove_access.specs.Lists.{nodes_of, AreNodes}
+use Rattle.grove_build.specs.SettledJobs.{AreSettledJobs}
 use Rattle.grove_core.specs.declared.job.Job.{Job}
 use Rattle.grove_core.specs.declared.event.Event.{Event}
 use Rattle.grove_core.specs.Runs.{IsRun, IsFinished, replies_of, run_records, waits_of}
@@ -62,6 +63,11 @@ AreOldOrNew new before after = (node : ℕ) → (get_or after node 0 ≡ get_or 
 abbrev pub AnswersRound : StoreState → List (List Access) → List ℕ → List (List ℕ) → StoreState → Type 0
 AnswersRound before lists counts replies after = (batches : List (List (List Access))) → joined batches ≡ lists → map length batches ≡ counts
     → RunsRound before batches replies after ⊎ FailsRound before batches replies after
+
+-- the same, over the jobs of the lists
+abbrev pub AnswersJobs : StoreState → List Job → List ℕ → List (List ℕ) → StoreState → Type 0
+AnswersJobs before jobs counts replies after = (lists : List (List Access)) → AreSettledJobs before.rows lists jobs
+    → AnswersRound before lists counts replies after
 
 -- the one reply to a reweighing
 abbrev pub AnswersReweigh : StoreState → List (List ℕ) → StoreState → Type 0

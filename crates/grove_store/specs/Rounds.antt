@@ -1,5 +1,5 @@
 -- Rounds: batches that wait together are answered as one.
-use Rattle.std.specs.Prelude.{◌≡◌, ℕ, ◌+◌, ◌-◌, ◌^◌, ◌<◌, ◌≤◌, ◌⊎◌, min, max, nat_le, codes, ℤ, List, [], ◌∷◌, length, map, take, drop, flat_map, get_or, replicate, Option, Some, None, option_map, option_and_then, Result, Ok, if◌then◌else◌}
+use Rattle.std.specs.Prelude.{◌≡◌, ℕ, ◌+◌, ◌-◌, ◌^◌, ◌<◌, ◌≤◌, ◌⊎◌, min, max, nat_le, codes, List, [], ◌∷◌, length, map, take, drop, flat_map, get_or, replicate, Option, Some, None, option_map, option_and_then, Result, Ok, if◌then◌else◌}
 use Rattle.serde_json.specs.Written.{compact_text}
 use Rattle.grove_base.specs.Numbers.{numbers_below}
 use Rattle.grove_tree.specs.Trees.{Rows}

@@ -30,7 +30,8 @@ impl Store {
     }
 
     /// Answers the first of the lines: where it is a batch without fault, then together with the batches that follow it, as
-    /// long as they have at most 256 lists together, and otherwise alone. The gate is called in the run of such a round.
+    /// long as they have at most 256 lists together, and otherwise alone. Where such a round is worth a thread, the gate is
+    /// called in its run.
     pub fn answer_round<R: Threads + Wait + Sync, G: Gate + Sync>(
         &mut self,
         rt: &R,

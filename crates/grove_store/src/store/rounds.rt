@@ -1,13 +1,15 @@
-ghost use Rattle.std.specs.Prelude.{◌≡◌, ◌≤◌, length, sum, All, IfOk, OnErr};
+ghost use Rattle.std.specs.Prelude.{◌≡◌, ◌-◌, ◌^◌, ◌<◌, ◌≤◌, length, sum, All, IfOk, OnErr};
 ghost use Rattle.grove_access.specs.Lists.{nodes_of, AreNodes};
-ghost use Rattle.grove_store.specs.Parts.{AnswersRound};
+ghost use Rattle.grove_core.specs.Runs.{AllLegal};
+ghost use Rattle.grove_store.specs.Parts.{AnswersJobs, AnswersRound};
 
 use crate::round::Round;
-use crate::running::{RoundOutcome, outcome_of};
+use crate::running::{RoundOutcome, alone_texts, outcome_of};
 use crate::texts::{refusals, run_refusals};
 use crate::{LineReply, Refusal, Store};
 use grove_build::kept_jobs;
-use grove_run::run_legal;
+use grove_core::{Job, do_alone};
+use grove_run::{are_worth_a_thread, run_legal};
 use grove_tree::{Gate, NoMemory};
 use std::alloc::Global;
 use std::sync::Wait;
@@ -35,20 +37,36 @@ impl Store {
         }
         let workers = self.workers;
         let jobs = kept_jobs(rt, alloc, &self.tree, &mut self.plans, lists, workers)?;
-        let run = run_legal(
-            rt,
-            alloc,
-            &self.tree,
-            &self.records,
-            &jobs,
-            workers as usize,
-            gate,
-        );
+        if are_worth_a_thread(&jobs, gate) {
+            self.run_together(rt, alloc, &jobs, &counts, gate)
+        } else {
+            self.run_alone(alloc, &jobs, &counts)
+        }
+    }
+
+    /// Has workers do the jobs over copies of the records.
+    fn run_together<R: Threads + Wait + Sync, G: Gate + Sync>(
+        &mut self,
+        rt: &R,
+        alloc: Global,
+        jobs: &[Job],
+        counts: &[usize],
+        gate: &G,
+    ) -> Result<Vec<LineReply>, NoMemory>
+        requires room { self.old.rounds < 2 ^ 64 - 1 }
+        requires counts { sum counts.now ≡ length jobs.now }
+        requires few { length jobs.now ≤ 256 }
+        requires legal { AllLegal self.old.rows jobs.now }
+        ensures round { IfOk result (λ replies. AnswersJobs self.old jobs.now counts.now replies.items self.new) }
+        ensures err { OnErr result (self.new ≡ self.old) }
+    {
+        let workers = self.workers as usize;
+        let run = run_legal(rt, alloc, &self.tree, &self.records, jobs, workers, gate);
         let finished = match run {
             Ok(finished) => finished,
             Err(fault) => return run_refusals(alloc, fault, counts.len()),
         };
-        let outcome = outcome_of(alloc, finished, self.rounds + 1, &counts, &self.waits)?;
+        let outcome = outcome_of(alloc, finished, self.rounds + 1, counts, &self.waits)?;
         let RoundOutcome {
             replies,
             records,
@@ -58,5 +76,32 @@ impl Store {
         self.waits = waits;
         self.rounds += 1;
         Ok(replies)
+    }
+
+    /// Does the jobs in place, one after the other. Where the replies find no memory, the old records are put back.
+    fn run_alone(
+        &mut self,
+        alloc: Global,
+        jobs: &[Job],
+        counts: &[usize],
+    ) -> Result<Vec<LineReply>, NoMemory>
+        requires room { self.old.rounds < 2 ^ 64 - 1 }
+        requires counts { sum counts.now ≡ length jobs.now }
+        requires few { length jobs.now ≤ 256 }
+        requires legal { AllLegal self.old.rows jobs.now }
+        ensures round { IfOk result (λ replies. AnswersJobs self.old jobs.now counts.now replies.items self.new) }
+        ensures err { OnErr result (self.new ≡ self.old) }
+    {
+        let done = do_alone(alloc, &self.tree, &mut self.records, jobs)?;
+        match alone_texts(alloc, &done, jobs, self.rounds + 1, counts) {
+            Ok(replies) => {
+                self.rounds += 1;
+                Ok(replies)
+            }
+            Err(_) => {
+                done.undo(&mut self.records);
+                Err(NoMemory)
+            }
+        }
     }
 }
