@@ -1,5 +1,6 @@
-"""Sixteen clients that send lines of the longest length, made of the smallest values: what the server takes for them at
-most, what of that it still has a second later, and how long an honest line beside them waits."""
+"""Sixteen clients that send lines of the longest length, made of the smallest values, over TCP or in bodies over HTTP: what
+the server takes for them at most, what of that it still has a second later, and how long an honest line beside them
+waits."""
 
 from __future__ import annotations
 
@@ -9,11 +10,15 @@ import re
 import statistics
 import threading
 import time
+from collections.abc import Callable, Iterator
+from contextlib import AbstractContextManager, contextmanager
 from functools import partial
 from pathlib import Path
+from typing import NamedTuple
 
 from server import PIECE, Serving, connected
 from store import Store
+from web import Client
 
 from sweeps.connections import TREE, WEIGHTS
 from sweeps.program import Tally, Try
@@ -34,14 +39,42 @@ MOST_LARGE_LINES = 3
 SERVER_MEMORY = re.search(r"^server_memory=(\S+)$", (Path(__file__).parents[2] / "grove").read_text(), re.MULTILINE)[1]
 
 
+# A check of a plan, and one of a flow.
+STEPS = b'{"check":{"list":[["get","/a"]],"flow":[],"plan":['
+ROWS = b'{"check":{"list":[["get","/a"]],"plan":[["lock","/a"],["access",0],["unlock","/a"]],"flow":['
+WHOLE_ROW = b'{"above":0,"first":0,"held":0,"last":0,"node":"/","own":0}'
+SHAPE, LIMIT, NO_PATH = (b'{"error":"%s"}' % name for name in (b"shape", b"limit", b"no-path"))
+
+Ask = Callable[[bytes], bytes]
+
+
+class Way(NamedTuple):
+    """How a server is talked to: its command, how a client sends its large lines, and how an honest one asks."""
+
+    command: str
+    send: Callable[[int, bytes, list[bytes], threading.Event], None]
+    honest: Callable[[int], AbstractContextManager[Ask]]
+
+
 def tries(program: str, room: str) -> list[Try]:
-    return [
-        Try("objects that nobody looks at", partial(flood, program, b'{"weights":[', b'{"":0}', b"]}", b'{"waits"')),
-        Try("objects in place of accesses", partial(flood, program, b'{"plan":[', b'{"":0}', b"]}", b'{"error":"limit"}')),
-        Try("objects in place of lists", partial(flood, program, b'{"batch":[', b'{"":0}', b"]}", b'{"error":"limit"}')),
-        Try("arrays in a list", partial(flood, program, b'{"batch":[[', b"[0]", b"]]}", b'{"error":"limit"}')),
-        Try("texts in an access", partial(flood, program, b'{"plan":[[', b'"a"', b"]]}", b'{"error":"shape"}')),
+    """Each line is of one item, again and again."""
+    tcp, http = Way("serve", send_lines, asked_lines), Way("page", send_body, asked_bodies)
+    names = b'{"weights":{' + b",".join(b'"%x":0' % number for number in range(100_000)) + b"}}\n"
+    cases = [
+        ("objects that nobody looks at", tcp, longest(b'{"weights":[', b'{"":0}', b"]}"), b'{"waits"'),
+        ("names that nobody looks at", tcp, names, b'{"waits"'),
+        ("objects in place of accesses", tcp, longest(b'{"plan":[', b'{"":0}', b"]}"), LIMIT),
+        ("objects in place of lists", tcp, longest(b'{"batch":[', b'{"":0}', b"]}"), LIMIT),
+        ("arrays in a list", tcp, longest(b'{"batch":[[', b"[0]", b"]]}"), LIMIT),
+        ("texts in an access", tcp, longest(b'{"plan":[[', b'"a"', b"]]}"), SHAPE),
+        ("arrays in place of steps", tcp, longest(STEPS, b'["",0]', b"]}}"), SHAPE),
+        ("steps at no node", tcp, longest(STEPS, b'["lock",""]', b"]}}"), NO_PATH),
+        ("rows with one member", tcp, longest(ROWS, b'{"own":0}', b"]}}"), SHAPE),
+        ("rows of a flow", tcp, longest(ROWS, WHOLE_ROW, b"]}}"), b'{"error":"flow-'),
+        ("rows with one member, in bodies", http, longest(ROWS, b'{"own":0}', b"]}}"), SHAPE),
+        ("steps at no node, in bodies", http, longest(STEPS, b'["lock",""]', b"]}}"), NO_PATH),
     ]
+    return [Try(what, partial(flood, program, way, line, wanted)) for what, way, line, wanted in cases]
 
 
 def longest(before: bytes, item: bytes, after: bytes) -> bytes:
@@ -56,6 +89,9 @@ def taken(server: Serving, word: str) -> int:
     return int(re.search(rf"{word}:\s*(\d+) kB", status)[1]) << 10
 
 
+# ---- ways to talk
+
+
 def send_lines(port: int, line: bytes, replies: list[bytes], are_measured: threading.Event) -> None:
     """Sends the lines, each once the one before is answered, and stays until all is measured."""
     with connected(port) as client, client.makefile("rb") as came:
@@ -66,19 +102,46 @@ def send_lines(port: int, line: bytes, replies: list[bytes], are_measured: threa
         are_measured.wait()
 
 
-def flood(program: str, before: bytes, item: bytes, after: bytes, wanted: bytes, tally: Tally) -> None:
+def send_body(port: int, line: bytes, replies: list[bytes], are_measured: threading.Event) -> None:
+    """Sends the lines in the body of one request."""
+    with Client(port) as client:
+        replies += client.post(line * LINES).body.splitlines(keepends=True)
+        are_measured.wait()
+
+
+@contextmanager
+def asked_lines(port: int) -> Iterator[Ask]:
+    with connected(port) as client, client.makefile("rb") as came:
+
+        def ask(line: bytes) -> bytes:
+            client.sendall(line)
+            return came.readline()
+
+        yield ask
+
+
+@contextmanager
+def asked_bodies(port: int) -> Iterator[Ask]:
+    with Client(port) as client:
+        yield lambda line: client.post(line).body
+
+
+# ---- a flood
+
+
+def flood(program: str, way: Way, line: bytes, wanted: bytes, tally: Tally) -> None:
     store = Store(json.loads(TREE))
-    line = longest(before, item, after)
-    with Serving(program, TREE, env={**os.environ, "GLIBC_TUNABLES": SERVER_MEMORY}) as server:
-        note_replies(store, WEIGHTS, server.talk(WEIGHTS), "the first", tally)
+    environment = {**os.environ, "GLIBC_TUNABLES": SERVER_MEMORY}
+    with Serving(program, TREE, command=way.command, env=environment) as server, way.honest(server.port) as ask:
+        note_replies(store, WEIGHTS, ask(WEIGHTS), "the first", tally)
         at_first = taken(server, "VmRSS")
         replies: list[bytes] = []
         are_measured = threading.Event()
         arguments = (server.port, line, replies, are_measured)
-        clients = [threading.Thread(target=send_lines, args=arguments, daemon=True) for _ in range(CLIENTS - 1)]
+        clients = [threading.Thread(target=way.send, args=arguments, daemon=True) for _ in range(CLIENTS - 1)]
         for client in clients:
             client.start()
-        waits = honest_waits(store, server, replies, tally)
+        waits = honest_waits(store, server, ask, replies, tally)
         time.sleep(LATER)
         note_memory(taken(server, "VmHWM") - at_first, MOST_AT_ONCE, "at once", tally)
         note_memory(taken(server, "VmRSS") - at_first, MOST_LATER, "a second later", tally)
@@ -87,7 +150,24 @@ def flood(program: str, before: bytes, item: bytes, after: bytes, wanted: bytes,
             client.join()
         is_well = len(replies) == LINES * (CLIENTS - 1) and all(reply.startswith(wanted) for reply in replies)
         tally.note("replies", None if is_well else f"{set(replies)}"[:200])
-        note_waits(waits, time_of_large_line(server, line), tally)
+        note_waits(waits, time_of_large_line(ask, line), tally)
+
+
+def honest_waits(store: Store, server: Serving, ask: Ask, replies: list[bytes], tally: Tally) -> list[float]:
+    """How long each line waits that an honest client sends until the others have all their replies."""
+    waits: list[float] = []
+    while not waits or len(replies) < LINES * (CLIENTS - 1) and server.is_running() and waits[-1] < LONGEST_WAIT:
+        started = time.monotonic()
+        note_replies(store, WEIGHTS, ask(WEIGHTS), f"honest line {len(waits)}", tally)
+        waits.append(time.monotonic() - started)
+    return waits
+
+
+def time_of_large_line(ask: Ask, line: bytes) -> float:
+    """How long a large line takes that nobody else is in the way of."""
+    started = time.monotonic()
+    ask(line)
+    return time.monotonic() - started
 
 
 def note_memory(more: int, most: int, when: str, tally: Tally) -> None:
@@ -99,22 +179,3 @@ def note_waits(waits: list[float], large: float, tally: Tally) -> None:
     tally.note("an honest line", None if longest_wait <= LONGEST_WAIT else f"it waited {longest_wait:.2f} s")
     is_fair = half <= MOST_LARGE_LINES * large
     tally.note("half of the honest lines", None if is_fair else f"{half:.4f} s, and a large line takes {large:.4f} s")
-
-
-def time_of_large_line(server: Serving, line: bytes) -> float:
-    """How long a large line takes that nobody else is in the way of."""
-    started = time.monotonic()
-    server.talk(line)
-    return time.monotonic() - started
-
-
-def honest_waits(store: Store, server: Serving, replies: list[bytes], tally: Tally) -> list[float]:
-    """How long each line waits that an honest client sends until the others have all their replies."""
-    waits = []
-    with connected(server.port) as client, client.makefile("rb") as came:
-        while not waits or len(replies) < LINES * (CLIENTS - 1) and server.is_running() and waits[-1] < LONGEST_WAIT:
-            started = time.monotonic()
-            client.sendall(WEIGHTS)
-            note_replies(store, WEIGHTS, came.readline(), f"honest line {len(waits)}", tally)
-            waits.append(time.monotonic() - started)
-    return waits

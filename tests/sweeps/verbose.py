@@ -39,6 +39,8 @@ TOP = Path(__file__).parents[2]
 SHAPE, NO_PATH, BAD_JSON = b'{"get":"/a"}\n', b'{"plan":[["get","/c"]]}\n', b"\n"
 BAD_LENGTH = b'{"plan":[["get","/a",0]]}\n'
 LINES = (ADD, GET, WEIGHTS, SHAPE, NO_PATH, BAD_JSON, BAD_LENGTH)
+# The most bytes of a line that a hint looks into.
+MOST_HINTED = 65_536
 # How long a line on standard error, or a seat, may be waited for.
 LONGEST = 60.0
 # How long a minute is waited for, and how long after it is late, or what doesn't wait for it.
@@ -63,6 +65,7 @@ def tries(program: str, room: str) -> list[Try]:
         Try("one connection after the other", partial(in_turn, program)),
         Try("many connections at once", partial(at_once, program)),
         Try("a line that is too long", partial(long_line, program)),
+        Try("a line that no hint looks into", partial(line_not_looked_into, program)),
         Try("connections that break off", partial(broken_off, program, ())),
         Try("the same with a time to idle", partial(broken_off, program, ("--idle", "60"))),
         Try("connections that idle", partial(idle, program)),
@@ -215,6 +218,20 @@ def long_line(program: str, tally: Tally) -> None:
         wanted = [arrival(1, client), *refusals(1, came), ended(1, 3, "its input ended")]
         tally.note("the names", None if came.count(b"long-line") == 1 else f"came {came!r}")
         compare(wanted, server.told_of(len(wanted)), tally)
+
+
+def line_not_looked_into(program: str, tally: Tally) -> None:
+    """A hint looks into a line of so many bytes, and of a line of one more it says that it doesn't."""
+    frame = len(b'{"batch":[[[""]]]}')
+    texts = [b'{"batch":[[["' + b"x" * (MOST_HINTED + more - frame) + b'"]]]}\n' for more in (0, 1)]
+    unread = f"connection 1, line 2: shape; hint: the line has more than the {MOST_HINTED} bytes that a hint looks into"
+    with Telling(program) as server, connected(server.port) as client:
+        came = ask(client, b"".join(texts))
+        wanted = [arrival(1, client), refusal(1, 1, "shape"), unread, ended(1, 2, "its input ended")]
+        compare(wanted, server.told_of(len(wanted)), tally)
+        told = server.told()[1]
+    tally.note("the replies", None if came.count(b'{"error":"shape"}') == 2 else f"came {came!r}")
+    tally.note("the first hint", None if "a hint looks into" not in told else f"came {told!r}")
 
 
 def broken_off(program: str, further: tuple[str, ...], tally: Tally) -> None:

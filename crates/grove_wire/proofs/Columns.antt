@@ -1,5 +1,6 @@
 -- Rows read in turn into two lists, one of rows and one of records.
-use Rattle.std.proofs.Common.{◌≡◌, ℕ, ◌+◌, ◌<◌, ◌≤◌, List, [], ◌∷◌, ◌++◌, length, get_or, cond, refl, ap, sym, append_assoc, append-nil}
+use Rattle.std.proofs.Common.{◌≡◌, ℕ, ◌+◌, ◌<◌, ◌≤◌, List, [], ◌∷◌, ◌++◌, length, get_or, cond, refl, ap, sym}
+use Rattle.std.proofs.Common.{append_assoc, append-nil}
 use Rattle.std.specs.Prelude.{Result, Ok, Err, ℤ, map}
 use Rattle.std.proofs.lemmas.Bool.{le-ltb}
 use Rattle.serde_json.specs.Data.{Data}
@@ -44,13 +45,18 @@ columns_begin values few =
 
 -- what a loop has read so far, and then the rest
 module _ (rows : Rows) (records : List ℤ) (values : List Value) (at : ℕ) where
-  pub columns_stop : (value : Value) (fault : WireFault) → at < length values → value ≡ get_or values at value → row_in at (view value) ≡ Err fault
+  pub columns_stop : (value : Value) (fault : WireFault) → at < length values → value ≡ get_or values at value
+      → row_in at (view value) ≡ Err fault
       → with_columns rows records (rest_read row_in values at) ≡ Err fault
   columns_stop value fault within is refused = rw (rest_stops row_in values at value fault within is refused) refl
 
   pub columns_end : length values ≤ at → with_columns rows records (rest_read row_in values at) ≡ Ok (rows, records)
   columns_end beyond = rw (rest_ends row_in values at beyond, append-nil rows, append-nil records) refl
 
-  pub columns_go : (value : Value) (x : NodeRow × ℤ) → at < length values → value ≡ get_or values at value → row_in at (view value) ≡ Ok x
-      → with_columns rows records (rest_read row_in values at) ≡ with_columns (rows ++ x.0 ∷ []) (records ++ x.1 ∷ []) (rest_read row_in values (at + 1))
-  columns_go value x within is told = rw (rest_goes row_in values at value x within is told) (with_columns-more rows records x (rest_read row_in values (at + 1)))
+  pub columns_go : (value : Value) (x : NodeRow × ℤ) → at < length values → value ≡ get_or values at value
+      → row_in at (view value) ≡ Ok x
+      → with_columns rows records (rest_read row_in values at)
+      ≡ with_columns (rows ++ x.0 ∷ []) (records ++ x.1 ∷ []) (rest_read row_in values (at + 1))
+  columns_go value x within is told =
+      rw (rest_goes row_in values at value x within is told)
+      (with_columns-more rows records x (rest_read row_in values (at + 1)))

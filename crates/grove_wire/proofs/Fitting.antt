@@ -29,7 +29,9 @@ use Rattle.grove_wire.specs.Outcomes.{◌>>=◌, or_fault, each_from, few_on, Gi
 use Rattle.grove_wire.specs.Places.{whole_of, item_of, item_on, part_word}
 use Rattle.grove_wire.specs.Forms.{as_list, as_short, items_of, version_of, access_form, flow_form, is_word}
 use Rattle.grove_wire.specs.Histories.{job_at, jobs_of}
-use Rattle.grove_wire.specs.Reading.{object_at, node_on, length_on, access_at, list_of, list_in, list_on, lists_of, version_in, items_at, items_in, path_at, step_of, step_on, step_at, plan_in, flow_row_at, flow_in}
+use Rattle.grove_wire.specs.Reading.{object_at, node_on, length_on, access_at, list_of, list_in, list_on, lists_of}
+use Rattle.grove_wire.specs.Reading.{version_in, items_at, items_in, path_at, step_of, step_on, step_at, plan_in}
+use Rattle.grove_wire.specs.Reading.{flow_row_at, flow_in}
 use Rattle.grove_wire.proofs.Turns.{access_in, nth_list, step_in, flow_row_in}
 use Rattle.grove_wire.specs.Writing.{StepFits, PlanFits, FlowFits}
 

@@ -10,7 +10,8 @@ use Rattle.grove_access.specs.declared.reply.Reply.TheVariants.{Value, Done, Ran
 use Rattle.grove_plan.specs.declared.step.Step.{Step}
 use Rattle.grove_plan.specs.declared.step.Step.TheVariants.{Lock, Unlock, Access}
 use Rattle.grove_proof.specs.declared.flow.FlowRow.{FlowRow}
-use Rattle.grove_wire.specs.Writing.{number_data, reply_data, count_data, step_data, plan_data, flow_row_data, flow_data, array_of}
+use Rattle.grove_wire.specs.Writing.{number_data, reply_data, count_data, step_data, plan_data, flow_row_data}
+use Rattle.grove_wire.specs.Writing.{flow_data, array_of}
 use Rattle.grove_wire.specs.Replies.{planned_data, round_data, weights_data}
 
 -- an array has none where no item has one

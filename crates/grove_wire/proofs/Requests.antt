@@ -15,7 +15,8 @@ use Rattle.grove_wire.specs.Forms.{as_list}
 use Rattle.grove_wire.specs.Reading.{value_of, object_at, list_on, lists_of, list_in, plan_in, flow_in}
 use Rattle.grove_wire.specs.Writing.{PlanFits, FlowFits}
 use Rattle.grove_wire.specs.RequestLaws.{AskedFits, RequestsFit, ReadingNeedsNoRoom}
-use Rattle.grove_wire.specs.Requests.{Plan, Check, Batch, only_member, plan_of, check_of, batch_of, named_of, request_of}
+use Rattle.grove_wire.specs.Requests.{Plan, Check, Batch, only_member, plan_of, check_of, batch_of, named_of}
+use Rattle.grove_wire.specs.Requests.{request_of}
 use Rattle.grove_wire.proofs.Fitting.{Reads, then_reads, any_reads, either_reads, list_on_reads, lists_read, list_in_reads, plan_reads, flow_reads}
 
 plan_asks : (rows : Rows) (d : Data) → Reads (AskedFits rows) (plan_of rows d)

@@ -1,11 +1,13 @@
 -- What is kept of a value's items reads as the items do: scalars, accesses, lists, steps and plans.
-use Rattle.std.proofs.Common.{◌≡◌, ℕ, suc, ◌<◌, ◌≤◌, Bool, true, false, cond, List, [], ◌∷◌, length, take, Option, Some, None, option_map, option_and_then, refl, ap, ap₂, sym, ◌∙◌, arith, codes}
-use Rattle.std.specs.Prelude.{Result, Ok, Err, map, nat_lt, ℤ, ◌^◌}
+use Rattle.std.proofs.Common.{◌≡◌, ℕ, suc, ◌<◌, ◌≤◌, Bool, true, false, cond, List, [], ◌∷◌, length, take, Option, Some}
+use Rattle.std.proofs.Common.{None, option_map, option_and_then, refl, ap, ap₂, sym, ◌∙◌, arith, codes}
+use Rattle.std.specs.Prelude.{Result, Ok, Err, map, nat_lt, ℤ, ◌^◌, ◌||◌}
 use Rattle.std.proofs.lemmas.Bool.{lt-ltb, ltb-true, ltb-false}
 use Rattle.std.proofs.lemmas.List.{take_all, length-take-le}
 use Rattle.std.proofs.lemmas.Option.{same_Some}
 use Rattle.json.specs.Json as json
-use Rattle.serde_json.specs.Data.{Num, Data, null, boolean, number, string, array, object, Items, no_items, item, Members, no_members}
+use Rattle.serde_json.specs.Data.{Num, Data, null, boolean, number, string, array, object, Items, no_items, item}
+use Rattle.serde_json.specs.Data.{Members, no_members}
 use Rattle.serde_json.specs.Find.{as_number, as_str, as_u64}
 use Rattle.serde_json.specs.Read.{number_of, of_json, of_items, of_members}
 use Rattle.serde_json.specs.View.{items_of}
@@ -24,7 +26,8 @@ use Rattle.grove_wire.specs.Outcomes.{◌>>=◌, or_fault, each_from}
 use Rattle.grove_wire.specs.Places.{item_on}
 use Rattle.grove_wire.specs.Forms as forms
 use Rattle.grove_wire.specs.Reading as reading
-use Rattle.grove_wire.specs.Sketches.{item_form, most_items, leaf, number_data, cut, drawn, drawn_items}
+use Rattle.grove_wire.specs.Sketches.{item_form, most_items, leaf, number_data, cut, is_step, fitted, drawn, drawn_item}
+use Rattle.grove_wire.specs.Sketches.{drawn_items}
 use Rattle.grove_wire.proofs.Turns.{access_in, step_in}
 
 -- ---- a value with its text
@@ -38,7 +41,7 @@ abbrev pub wholes : List Row → List Data
 wholes rows = map (λ row. row.whole) rows
 
 abbrev pub sketches : Form → List Row → List Data
-sketches f rows = map (λ row. drawn f row.text) rows
+sketches f rows = map (λ row. drawn_item f row.text) rows
 
 -- the items of an array that is read, each with its text
 pub record ItemRows (js : json.Items) (ds : Items) : Type 0 where
@@ -65,7 +68,7 @@ item_rows (json.item j js) ds is = with_item (of_json j) (of_items js) refl refl
         record {
           rows = row ∷ rest.rows;
           whole = ap forms.list_items (sym (same_Some (item d es) ds is)) ∙ ap (λ xs. d ∷ xs) rest.whole;
-          drawn_so = λ f. ap (λ xs. drawn f j ∷ xs) (rest.drawn_so f);
+          drawn_so = λ f. ap (λ xs. drawn_item f j ∷ xs) (rest.drawn_so f);
         }
 
 pub list_of_items : (ds : List Data) → forms.list_items (items_of ds) ≡ ds
@@ -146,7 +149,7 @@ list_same {A} f look same row = by_text row.text row.whole row.reads
 -- ---- items that read the same
 
 module _ {A : Type 0} (f : Form) (read : ℕ → Data → Result A WireFault)
-    (same : (at : ℕ) (row : Row) → read at (drawn f row.text) ≡ read at row.whole) where
+    (same : (at : ℕ) (row : Row) → read at (drawn_item f row.text) ≡ read at row.whole) where
   each_same : (at : ℕ) (rows : List Row) → each_from read at (sketches f rows) ≡ each_from read at (wholes rows)
   each_same at [] = refl
   each_same at (row ∷ rows) =
@@ -158,7 +161,7 @@ module _ {A : Type 0} (f : Form) (read : ℕ → Data → Result A WireFault)
   pub whole_same : (limit : ℕ) (fault : WireFault) (rows : List Row)
       → limited limit fault (sketches f rows) ≡ limited limit fault (wholes rows)
   whole_same limit fault rows = ap₂ (λ n rest. cond (nat_lt limit n) (Err fault) rest)
-      (map_length (λ row. drawn f row.text) rows ∙ sym (map_length (λ row. row.whole) rows)) (each_same 0 rows)
+      (map_length (λ row. drawn_item f row.text) rows ∙ sym (map_length (λ row. row.whole) rows)) (each_same 0 rows)
 
   -- of more than may be it only matters that they are
   pub limited_same : (limit : ℕ) (fault : WireFault) (rows : List Row)
@@ -171,7 +174,7 @@ module _ {A : Type 0} (f : Form) (read : ℕ → Data → Result A WireFault)
           let many : limit < length rows = ltb-true limit (length rows) beyond in
           let kept : length (take (suc limit) (sketches f rows))
           ≡ suc limit = length-take-le (suc limit) (sketches f rows)
-          (omega (arith, many, map_length (λ row. drawn f row.text) rows)) in
+          (omega (arith, many, map_length (λ row. drawn_item f row.text) rows)) in
           let here : nat_lt limit (length (take (suc limit) (sketches f rows))) ≡ true =
           lt-ltb limit _ (omega (arith, kept)) in
           let there : nat_lt limit (length (wholes rows)) ≡ true =
@@ -181,7 +184,7 @@ module _ {A : Type 0} (f : Form) (read : ℕ → Data → Result A WireFault)
       by_test false within =
           let few : length rows ≤ limit = ltb-false limit (length rows) within in
           let all : take (suc limit) (sketches f rows) ≡ sketches f rows =
-          take_all (suc limit) (sketches f rows) (omega (arith, few, map_length (λ row. drawn f row.text) rows)) in
+          take_all (suc limit) (sketches f rows) (omega (arith, few, map_length (λ row. drawn_item f row.text) rows)) in
           ap (limited limit fault) all ∙ whole_same limit fault rows
 
 -- ---- scalars
@@ -317,9 +320,43 @@ step_on_same tree place (a ∷ []) = refl
 step_on_same tree place (a ∷ b ∷ []) = step_of_same tree place a b
 step_on_same tree place (a ∷ b ∷ c ∷ rows) = refl
 
-pub step_in_same : (tree : Rows) (place : Place) (at : ℕ) (row : Row)
+-- what is no step has no reading, as null has none
+no_step : (tree : Rows) (place : Place) (items : Option (List Data)) → is_step items ≡ false
+    → (or_fault (Shape place) items >>= reading.step_on tree place) ≡ Err (Shape place)
+unfolding reading.step_of
+no_step tree place None is = refl
+no_step tree place (Some []) is = refl
+no_step tree place (Some (word ∷ [])) is = refl
+no_step tree place (Some (word ∷ operand ∷ [])) is =
+    by_words _ _ _ _ (forms.is_word (codes "lock") word) (forms.is_word (codes "unlock") word)
+    (forms.is_word (codes "access") word) is
+  where
+    by_words : {A : Type 0} (a b c d : A) (lock unlock access : Bool) → (lock || unlock || access) ≡ false
+        → cond lock a (cond unlock b (cond access c d)) ≡ d
+    by_words a b c d false false false is = refl
+    by_words a b c d false false true is = absurd (cc)
+    by_words a b c d false true access is = absurd (cc)
+    by_words a b c d true unlock access is = absurd (cc)
+no_step tree place (Some (word ∷ operand ∷ more ∷ items)) is = refl
+
+fitted_step : (tree : Rows) (place : Place) (at : ℕ) (d : Data)
+    → step_in tree place at (fitted form.Step d) ≡ step_in tree place at d
+unfolding reading.step_at
+fitted_step tree place at d = by_test (is_step (forms.as_list d)) refl
+  where
+    by_test : (test : Bool) → is_step (forms.as_list d) ≡ test
+        → step_in tree place at (cond test d null) ≡ step_in tree place at d
+    by_test true is = refl
+    by_test false is = sym (no_step tree (item_on place at) (forms.as_list d) is)
+
+step_drawn : (tree : Rows) (place : Place) (at : ℕ) (row : Row)
     → step_in tree place at (drawn form.Step row.text) ≡ step_in tree place at row.whole
 unfolding reading.step_at
-step_in_same tree place at row = list_same form.Step
+step_drawn tree place at row = list_same form.Step
     (λ o. or_fault (Shape (item_on place at)) o >>= reading.step_on tree (item_on place at))
     (step_on_same tree (item_on place at)) row
+
+pub step_in_same : (tree : Rows) (place : Place) (at : ℕ) (row : Row)
+    → step_in tree place at (drawn_item form.Step row.text) ≡ step_in tree place at row.whole
+step_in_same tree place at row =
+    fitted_step tree place at (drawn form.Step row.text) ∙ step_drawn tree place at row

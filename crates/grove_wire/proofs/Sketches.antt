@@ -1,5 +1,7 @@
 -- What a line asks for is read of a sketch of its value as it is read of the value: members, flows, checks, the line.
-use Rattle.std.proofs.Common.{◌≡◌, ℕ, Bool, true, false, cond, List, [], ◌∷◌, Option, Some, None, option_map, option_and_then, Ordering, Less, Equal, Greater, refl, ap, ap₂, sym, subst, ◌∙◌, bytes_eq, codes, is_eq, true≢false}
+use Rattle.std.proofs.Common.{◌≡◌, ℕ, Bool, true, false, cond, List, [], ◌∷◌, Option, Some, None, option_map}
+use Rattle.std.proofs.Common.{option_and_then, Ordering, Less, Equal, Greater, refl, ap, ap₂, sym, subst, ◌∙◌, bytes_eq}
+use Rattle.std.proofs.Common.{codes, is_eq, true≢false}
 use Rattle.std.specs.Prelude.{Result, Ok, Err, is_some, ◌==◌}
 use Rattle.std.specs.Ordering.{nat_cmp, match_ordering}
 use Rattle.std.specs.Cmp.Lexicographic.{slice_cmp}
@@ -7,7 +9,8 @@ use Rattle.std.proofs.lemmas.Option.{same_Some}
 use Rattle.std.proofs.lemmas.Map.Text.{is_eq-slice_cmp}
 use Rattle.std.proofs.lemmas.Slice.Eq.{bytes_eq-Decides}
 use Rattle.json.specs.Json as json
-use Rattle.serde_json.specs.Data.{Num, Data, null, boolean, number, string, array, object, Items, Members, no_members, member, put}
+use Rattle.serde_json.specs.Data.{Num, Data, null, boolean, number, string, array, object, Items, Members, no_members}
+use Rattle.serde_json.specs.Data.{member, put}
 use Rattle.serde_json.specs.Find.{get, get_member, as_number, as_str, as_object, as_u64}
 use Rattle.serde_json.specs.Read.{number_of, of_json, of_items, of_members}
 use Rattle.serde_json.proofs.Views.{get_member-put, get_member-put_other}
@@ -25,10 +28,13 @@ use Rattle.grove_wire.specs.Places.{whole_of, item_of, part_word}
 use Rattle.grove_wire.specs.Forms as forms
 use Rattle.grove_wire.specs.Reading as reading
 use Rattle.grove_wire.specs.Requests as requests
-use Rattle.grove_wire.specs.Sketches.{item_form, most_items, member_form, line_member, leaf, number_data, cut, put_kept, drawn, drawn_members, Draft}
+use Rattle.grove_wire.specs.Sketches.{item_form, most_items, member_form, line_member, leaf, number_data, cut, put_kept}
+use Rattle.grove_wire.specs.Sketches.{fitted, drawn, drawn_item, drawn_members, Draft}
 use Rattle.grove_wire.specs.RowParts.{flow_with}
 use Rattle.grove_wire.proofs.Turns.{nth_list, step_in, flow_row_in}
-use Rattle.grove_wire.proofs.SketchedItems.{Row, wholes, sketches, leaf_same, number_same, array_same, object_same, list_same, whole_same, limited_same, text_same, unsigned_same, three, applied, list_of_same, list_on_same, step_in_same}
+use Rattle.grove_wire.proofs.SketchedItems.{Row, wholes, sketches, leaf_same, number_same, array_same, object_same}
+use Rattle.grove_wire.proofs.SketchedItems.{list_same, whole_same, limited_same, text_same, unsigned_same, three}
+use Rattle.grove_wire.proofs.SketchedItems.{applied, list_of_same, list_on_same, step_in_same}
 
 -- ---- members
 
@@ -157,12 +163,25 @@ flow_form_same row =
         (λ first. option_and_then
         (λ last. option_and_then (λ own. Some (flow_with path above held first last own)) o) l) f) h) a) p
 
+null_row : forms.flow_form null ≡ None
+unfolding forms.flow_form
+null_row = refl
+
+-- what has no form of a row reads as null does
+fitted_row : (d : Data) → forms.flow_form (fitted form.Row d) ≡ forms.flow_form d
+fitted_row d = by_form (forms.flow_form d) refl
+  where
+    by_form : (o : Option (List ℕ × FlowRow)) → forms.flow_form d ≡ o → forms.flow_form (cond (is_some o) d null) ≡ o
+    by_form None is = null_row
+    by_form (Some row) is = is
+
 flow_row_in_same : (tree : Rows) (at : ℕ) (row : Row)
-    → flow_row_in tree at (drawn form.Row row.text) ≡ flow_row_in tree at row.whole
+    → flow_row_in tree at (drawn_item form.Row row.text) ≡ flow_row_in tree at row.whole
 unfolding reading.flow_row_at
 flow_row_in_same tree at row =
     ap (λ o. or_fault (Shape (item_of part.Flow at)) o >>= λ form. reading.node_on tree
-    (item_of part.Flow at) form.0 >>= λ node. Ok (record form.1 { node = node })) (flow_form_same row)
+    (item_of part.Flow at) form.0 >>= λ node. Ok (record form.1 { node = node }))
+    (fitted_row (drawn form.Row row.text) ∙ flow_form_same row)
 
 -- ---- a check
 
@@ -361,16 +380,20 @@ line_same tree (json.object ms) d is = object_same (asks tree) (drawn form.Line 
     by_entries (e ∷ f ∷ es) = refl
 
 -- a line asks for what its draft asks for
-draft_asks : (tree : Rows) (line : List ℕ) (e : Data) → Draft (reading.value_of line) e → requests.request_of tree line ≡ asks tree e
+draft_asks : (tree : Rows) (line : List ℕ) (e : Data) → Draft (reading.value_of line) e
+    → requests.request_of tree line ≡ asks tree e
 unfolding requests.request_of
-draft_asks tree line e draft = ap (λ o. or_fault BadJson o >>= asks tree) draft.is ∙ sym (line_same tree draft.text draft.whole draft.reads) ∙ ap (asks tree) (sym draft.kept)
+draft_asks tree line e draft = ap (λ o. or_fault BadJson o >>= asks tree) draft.is
+    ∙ sym (line_same tree draft.text draft.whole draft.reads) ∙ ap (asks tree) (sym draft.kept)
 
 module _ (tree : Rows) (line : List ℕ) (e : Data) (draft : Draft (reading.value_of line) e) where
   pub draft_named : (name : List ℕ) (d : Data) → Some (name, d) ≡ requests.only_member e → requests.request_of tree line ≡ requests.named_of tree name d
-  draft_named name d only = draft_asks tree line e draft ∙ ap (λ o. or_fault (Shape (whole_of part.Whole)) o >>= λ one. requests.named_of tree one.0 one.1) (sym only)
+  draft_named name d only = draft_asks tree line e draft
+      ∙ ap (λ o. or_fault (Shape (whole_of part.Whole)) o >>= λ one. requests.named_of tree one.0 one.1) (sym only)
 
   pub draft_shapeless : None ≡ requests.only_member e → requests.request_of tree line ≡ Err (Shape (whole_of part.Whole))
-  draft_shapeless none = draft_asks tree line e draft ∙ ap (λ o. or_fault (Shape (whole_of part.Whole)) o >>= λ one. requests.named_of tree one.0 one.1) (sym none)
+  draft_shapeless none = draft_asks tree line e draft
+      ∙ ap (λ o. or_fault (Shape (whole_of part.Whole)) o >>= λ one. requests.named_of tree one.0 one.1) (sym none)
 
 -- a line that isn't read asks for nothing
 pub unread_asks : (tree : Rows) (line : List ℕ) (fault : WireFault) → or_fault BadJson (reading.value_of line) ≡ Err fault → requests.request_of tree line ≡ Err fault

@@ -1,5 +1,7 @@
 -- A value read while a sketch of it is drawn, an item or a member at a time.
-use Rattle.std.proofs.Common.{◌≡◌, ℕ, zero, suc, ◌-◌, ◌<◌, ◌≤◌, Bool, true, false, List, [], ◌∷◌, ◌++◌, length, take, Option, Some, None, option_map, option_and_then, refl, ap, ap₂, sym, ◌∙◌, append_assoc, append-nil, arith}
+use Rattle.std.proofs.Common.{◌≡◌, ℕ, zero, suc, ◌-◌, ◌<◌, ◌≤◌, Bool, true, false, List, [], ◌∷◌, ◌++◌, length, take}
+use Rattle.std.proofs.Common.{Option, Some, None, option_map, option_and_then, refl, ap, ap₂, sym, ◌∙◌, append_assoc}
+use Rattle.std.proofs.Common.{append-nil, arith}
 use Rattle.std.proofs.lemmas.Bool.{ltb-true, ltb-false}
 use Rattle.json.specs.Token.{Token}
 use Rattle.json.specs.Json as json
@@ -12,7 +14,9 @@ use Rattle.json.specs.Lex.{tokens}
 use Rattle.serde_json.specs.Read.{read}
 use Rattle.grove_wire.specs.declared.sketch.Form.{Form}
 use Rattle.grove_wire.specs.declared.sketch.Form.TheVariants.{Line}
-use Rattle.grove_wire.specs.Sketches.{leaf, number_data, item_form, most_items, member_form, cut, is_below, put_kept, drawn, drawn_items, drawn_members, Sketched, ItemsSketched, MembersSketched, Draft}
+use Rattle.grove_wire.specs.Sketches.{leaf, number_data, item_form, most_items, member_form, cut, is_below, put_kept}
+use Rattle.grove_wire.specs.Sketches.{drawn, drawn_item, drawn_items, drawn_members, Sketched, ItemsSketched}
+use Rattle.grove_wire.specs.Sketches.{MembersSketched, Draft}
 
 -- ---- the first of values, with one more
 
@@ -125,32 +129,37 @@ with_item j d js is = rw is refl
 module _ (f : Form) (p : Parse json.Json) (start ts : List Token) (es : List Data) (so_far : ItemsSoFar f p start ts es) where
   -- one more item
   pub items_turn : (j : json.Json) (d : Data) (r : List Token) (more : List Data) → after_end_array ts ≡ None → p ts ≡ Some (j, r) → of_json j ≡ Some d → length r < length ts
-      → more ≡ cut (most_items f) (so_far.front ++ drawn (item_form f) j ∷ []) → ItemsSoFar f p start r more
+      → more ≡ cut (most_items f) (so_far.front ++ drawn_item (item_form f) j ∷ []) → ItemsSoFar f p start r more
   items_turn j d r more going is read less kept = record {
     turns = so_far.turns - 1;
     enough = omega (arith, so_far.enough);
     wrap = λ js. so_far.wrap (json.item j js);
     wrapped = λ ds. so_far.wrapped (item d ds);
-    front = so_far.front ++ drawn (item_form f) j ∷ [];
+    front = so_far.front ++ drawn_item (item_form f) j ∷ [];
     whole = so_far.whole ∙ ap (parse_map so_far.wrap) (items_more p so_far.turns ts r j (omega (arith, so_far.enough)) going is) ∙ mapped_twice so_far.wrap (json.item j) _;
     reads = λ js. so_far.reads (json.item j js) ∙ ap (option_map so_far.wrapped) (with_item j d js read) ∙ option_map_twice so_far.wrapped (item d) (of_items js);
-    draws = λ js. so_far.draws (json.item j js) ∙ sym (append_assoc so_far.front (drawn (item_form f) j ∷ []) (drawn_items (item_form f) js));
+    draws = λ js. so_far.draws (json.item j js)
+        ∙ sym (append_assoc so_far.front (drawn_item (item_form f) j ∷ []) (drawn_items (item_form f) js));
     kept = kept;
     shorter = omega (arith, so_far.shorter);
   }
 
   -- an item that is kept, and one that is passed over
   pub items_kept : (j : json.Json) (d : Data) (r : List Token) (e : Data) (n : ℕ) → after_end_array ts ≡ None → p ts ≡ Some (j, r) → of_json j ≡ Some d → length r < length ts
-      → e ≡ drawn (item_form f) j → n ≡ length es → is_below (most_items f) n ≡ true → ItemsSoFar f p start r (es ++ e ∷ [])
+      → e ≡ drawn_item (item_form f) j → n ≡ length es → is_below (most_items f) n ≡ true
+      → ItemsSoFar f p start r (es ++ e ∷ [])
   items_kept j d r e n going is read less kept count room =
       let below : is_below (most_items f) (length (cut (most_items f) so_far.front)) ≡ true = ap (λ ds. is_below (most_items f) (length ds)) (sym so_far.kept) ∙ ap (is_below (most_items f)) (sym count) ∙ room in
-      items_turn j d r (es ++ e ∷ []) going is read less (ap₂ (λ ds x. ds ++ x ∷ []) so_far.kept kept ∙ cut_room (most_items f) so_far.front (drawn (item_form f) j) below)
+      items_turn j d r (es ++ e ∷ []) going is read less
+      (ap₂ (λ ds x. ds ++ x ∷ []) so_far.kept kept
+      ∙ cut_room (most_items f) so_far.front (drawn_item (item_form f) j) below)
 
   pub items_passed : (j : json.Json) (d : Data) (r : List Token) (n : ℕ) → after_end_array ts ≡ None → p ts ≡ Some (j, r) → of_json j ≡ Some d → length r < length ts
       → n ≡ length es → is_below (most_items f) n ≡ false → ItemsSoFar f p start r es
   items_passed j d r n going is read less count full =
       let beyond : is_below (most_items f) (length (cut (most_items f) so_far.front)) ≡ false = ap (λ ds. is_below (most_items f) (length ds)) (sym so_far.kept) ∙ ap (is_below (most_items f)) (sym count) ∙ full in
-      items_turn j d r es going is read less (so_far.kept ∙ cut_full (most_items f) so_far.front (drawn (item_form f) j) beyond)
+      items_turn j d r es going is read less
+      (so_far.kept ∙ cut_full (most_items f) so_far.front (drawn_item (item_form f) j) beyond)
 
   wrapped_none : (o : Option (json.Items × List Token)) → converted of_items o ≡ None → converted of_items (parse_map so_far.wrap o) ≡ None
   wrapped_none None is = refl

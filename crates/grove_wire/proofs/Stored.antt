@@ -104,13 +104,17 @@ written_next items value data_of n so_far next =
 
 -- and is one more that is read
 pub reads_next : (rows : Rows) (records : List ℤ) → AreTreeRows rows → (items : List Value) (value : Value) (n : ℕ) → n < length rows → FitsSigned w64 (record_at records n) → view value ≡ row_data rows records n
-    → each_from row_in 0 (map view items) ≡ Ok (stored_rows rows records n) → each_from row_in 0 (map view (items ++ value ∷ [])) ≡ Ok (stored_rows rows records (n + 1))
+    → each_from row_in 0 (map view items) ≡ Ok (stored_rows rows records n)
+    → each_from row_in 0 (map view (items ++ value ∷ [])) ≡ Ok (stored_rows rows records (n + 1))
 reads_next rows records fit items value n within fits is so_far =
     let more : suc n ≡ n + 1 = omega arith in
     let light : weight_of rows n < 2 ^ 32 = omega (arith, fit.1.light n) in
     let read : (place : ℕ) → row_in place (view value) ≡ Ok (stored_row rows records n) = λ place.
-    ap (row_in place) is ∙ row_is_read (parent_of rows n) (name_of rows n) (record_at records n) (weight_of rows n) (parent_few rows fit n within (parent_of rows n) refl) fits light place in
-    ap (λ ds. each_from row_in 0 ds) (map_push view items value) ∙ each_pushed row_in (view value) (stored_row rows records n) (map view items) (stored_rows rows records n) read so_far
+    ap (row_in place) is ∙ row_is_read (parent_of rows n) (name_of rows n) (record_at records n) (weight_of rows n)
+    (parent_few rows fit n within (parent_of rows n) refl) fits light place in
+    ap (λ ds. each_from row_in 0 ds) (map_push view items value)
+    ∙ each_pushed row_in (view value) (stored_row rows records n) (map view items)
+    (stored_rows rows records n) read so_far
     ∙ ap Ok (sym (map_push (stored_row rows records) (numbers_below n) n)) ∙ ap (λ m. Ok (stored_rows rows records m)) more
 
 -- whose record is a number of 64 bits too

@@ -1,5 +1,6 @@
 -- The forms of rows, accesses and flow rows, as JSON values.
-use Rattle.std.specs.Prelude.{ℕ, ◌^◌, ◌==◌, nat_lt, Bool, false, codes, bytes_eq, ℤ, pos, List, [], ◌∷◌, Option, Some, None, is_some, is_none, option_map, option_and_then, unwrap_or, if◌then◌else◌}
+use Rattle.std.specs.Prelude.{ℕ, ◌^◌, ◌==◌, nat_lt, Bool, false, codes, bytes_eq, ℤ, pos, List, [], ◌∷◌, Option, Some}
+use Rattle.std.specs.Prelude.{None, is_some, is_none, option_map, option_and_then, unwrap_or, if◌then◌else◌}
 use Rattle.serde_json.specs.Data.{Data, Items, no_items, item}
 use Rattle.serde_json.specs.Find.{get, as_null, as_number, as_str, as_array, as_i64, as_u64}
 use Rattle.grove_tree.specs.Trees.{NodeRow}

@@ -1,5 +1,6 @@
 -- What a reader answers, want of memory aside.
-use Rattle.std.specs.Prelude.{◌≡◌, ℕ, suc, List, [], ◌∷◌, length, nat_lt, Option, Some, None, Result, Ok, Err, if◌then◌else◌}
+use Rattle.std.specs.Prelude.{◌≡◌, ℕ, suc, List, [], ◌∷◌, length, nat_lt, Option, Some, None, Result, Ok, Err}
+use Rattle.std.specs.Prelude.{if◌then◌else◌}
 use Rattle.serde_json.specs.Data.{Data}
 use Rattle.grove_wire.specs.declared.fault.WireFault.{WireFault}
 use Rattle.grove_wire.specs.declared.fault.WireFault.TheVariants.{Shape, Limit, Memory}

@@ -1,5 +1,6 @@
 -- What a session line asks for: the one member of an object, and what that reads as.
-use Rattle.std.specs.Prelude.{ℕ, codes, bytes_eq, List, Option, Some, None, option_and_then, Result, Ok, Err, if◌then◌else◌}
+use Rattle.std.specs.Prelude.{ℕ, codes, bytes_eq, List, Option, Some, None, option_and_then, Result, Ok, Err}
+use Rattle.std.specs.Prelude.{if◌then◌else◌}
 use Rattle.serde_json.specs.Data.{Data, Members, no_members, member}
 use Rattle.serde_json.specs.Find.{as_object}
 use Rattle.grove_tree.specs.Trees.{Rows}

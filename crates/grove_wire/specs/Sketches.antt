@@ -1,5 +1,6 @@
 -- For the proofs alone: what is kept of a value of which no more is looked at than a form says.
-use Rattle.std.specs.Prelude.{◌≡◌, ℕ, nat_lt, Bool, true, length, take, codes, bytes_eq, List, [], ◌∷◌, Option, Some, None, if◌then◌else◌}
+use Rattle.std.specs.Prelude.{◌≡◌, ℕ, nat_lt, Bool, true, false, ◌||◌, length, take, codes, bytes_eq, is_some}
+use Rattle.std.specs.Prelude.{List, [], ◌∷◌, Option, Some, None, if◌then◌else◌}
 use Rattle.json.specs.Token.{Token}
 use Rattle.json.specs.Json as json
 use Rattle.serde_json.specs.Data.{Num, Data, null, number, string, array, object, Items, Members, no_members, put}
@@ -7,6 +8,7 @@ use Rattle.serde_json.specs.Read.{number_of, of_json, of_items, of_members}
 use Rattle.serde_json.specs.View.{items_of}
 use Rattle.grove_wire.specs.declared.sketch.Form.{Form}
 use Rattle.grove_wire.specs.declared.sketch.Form.TheVariants as form
+use Rattle.grove_wire.specs.Forms.{as_list, is_word, flow_form}
 
 -- what the items of an array are looked at as
 abbrev pub item_form : Form → Form
@@ -106,6 +108,20 @@ abbrev pub put_kept : List ℕ → Option Form → (Form → Data) → Members �
 put_kept name None kept found = found
 put_kept name (Some f) kept found = put name (kept f) found
 
+-- a word of steps, and what it is done to
+abbrev pub is_step_word : Data → Bool
+is_step_word word = is_word (codes "lock") word || is_word (codes "unlock") word || is_word (codes "access") word
+
+abbrev pub is_step : Option (List Data) → Bool
+is_step (Some (word ∷ operand ∷ [])) = is_step_word word
+is_step _ = false
+
+-- a step or a row that can't be read as one is null, which can't be either
+abbrev pub fitted : Form → Data → Data
+fitted form.Step d = if is_step (as_list d) then d else null
+fitted form.Row d = if is_some (flow_form d) then d else null
+fitted _ d = d
+
 -- what is kept of a value
 abbrev mutual
   pub drawn : Form → json.Json → Data
@@ -118,11 +134,15 @@ abbrev mutual
 
   pub drawn_items : Form → json.Items → List Data
   drawn_items f json.no_items = []
-  drawn_items f (json.item j js) = drawn f j ∷ drawn_items f js
+  drawn_items f (json.item j js) = fitted f (drawn f j) ∷ drawn_items f js
 
   pub drawn_members : Form → json.Members → Members → Members
   drawn_members f json.no_members found = found
   drawn_members f (json.member name j ms) found = drawn_members f ms (put_kept name (member_form f name) (λ g. drawn g j) found)
+
+-- what is kept of an item
+abbrev pub drawn_item : Form → json.Json → Data
+drawn_item f j = fitted f (drawn f j)
 
 -- tokens begin with a value that can be read, and this is kept of it
 pub record Sketched (f : Form) (depth : ℕ) (ts : List Token) (e : Data) (rest : List Token) : Type 0 where

@@ -1,5 +1,6 @@
 ghost use Rattle.std.specs.Prelude.{◌≡◌};
-ghost use Rattle.grove_wire.specs.Names.{wire_name, plan_name, proof_name, run_name, event_name, replay_name, standing_name};
+ghost use Rattle.grove_wire.specs.Names.{wire_name, plan_name, proof_name, run_name, event_name, replay_name};
+ghost use Rattle.grove_wire.specs.Names.{standing_name};
 ghost use Rattle.grove_wire.specs.Texts.{tree_said};
 
 use crate::{StandingFault, WireFault};

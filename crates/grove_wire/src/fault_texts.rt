@@ -1,7 +1,8 @@
 ghost use Rattle.std.specs.Prelude.{◌≡◌, ◌<◌, IfOk, ◌++◌, codes, decimal, length, string_bytes};
 ghost use Rattle.std.specs.Fmt.{signed_decimal};
 ghost use Rattle.grove_tree.specs.Paths.{path_of};
-ghost use Rattle.grove_wire.specs.Texts.{place_text, tree_said, wire_text, plan_text, FaultFits, proof_text, ProofFaultFits, run_text, RunFaultFits};
+ghost use Rattle.grove_wire.specs.Texts.{place_text, tree_said, wire_text, plan_text, FaultFits, proof_text};
+ghost use Rattle.grove_wire.specs.Texts.{ProofFaultFits, run_text, RunFaultFits};
 
 use crate::fault_names::{plan_fault_name, proof_fault_name, tree_fault_name, wire_fault_name};
 use crate::{Place, WireFault};

@@ -1,4 +1,4 @@
-ghost use Rattle.std.specs.Prelude.{◌≡◌, ◌<◌, ◌^◌, map, option_map, IfOk, length, vec_len};
+ghost use Rattle.std.specs.Prelude.{◌≡◌, ◌<◌, ◌^◌, map, option_map, is_some, IfOk, length, vec_len};
 ghost use Rattle.serde_json.specs.View.{view};
 ghost use Rattle.grove_wire.specs.Forms.{amount_of, flow_form};
 ghost use Rattle.grove_wire.specs.Outcomes.{Gives, each_on};
@@ -59,6 +59,13 @@ fn flow_row_at(tree: &Tree, place: Place, value: &Value) -> Result<FlowRow, Wire
         last: form.last,
         own: form.own,
     })
+}
+
+/// Does a flow row stand in the value?
+pub(crate) fn is_flow_row(value: &Value) -> bool
+    ensures { result ≡ is_some (flow_form (view value.now)) }
+{
+    flow_form(value).is_some()
 }
 
 /// What stands in a flow row.

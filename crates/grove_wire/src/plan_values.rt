@@ -4,7 +4,8 @@ ghost use Rattle.serde_json.specs.Find.{get};
 ghost use Rattle.serde_json.specs.View.{view, members_view};
 ghost use Rattle.grove_tree.specs.Trees.{Rows};
 ghost use Rattle.grove_wire.specs.Reading.{step_at, flow_row_at, plan_in, flow_in};
-ghost use Rattle.grove_wire.specs.Writing.{StepFits, PlanFits, pair_data, step_data, plan_data, FlowFits, count_data, flow_row_data, flow_data};
+ghost use Rattle.grove_wire.specs.Writing.{StepFits, PlanFits, pair_data, step_data, plan_data, FlowFits, count_data};
+ghost use Rattle.grove_wire.specs.Writing.{flow_row_data, flow_data};
 ghost use Rattle.grove_wire.specs.declared.place.Place.{Place};
 
 use grove_plan::{Plan, Step};

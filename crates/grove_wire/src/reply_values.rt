@@ -1,7 +1,8 @@
 ghost use Rattle.std.specs.Prelude.{◌≡◌, IfOk, map};
 ghost use Rattle.serde_json.specs.View.{view};
 ghost use Rattle.grove_wire.specs.Writing.{PlanFits, FlowFits, array_of, count_data, reply_data};
-ghost use Rattle.grove_wire.specs.Replies.{error_data, planned_data, cost_data, round_data, weights_in_rows, weights_data, changed_data};
+ghost use Rattle.grove_wire.specs.Replies.{error_data, planned_data, cost_data, round_data, weights_in_rows};
+ghost use Rattle.grove_wire.specs.Replies.{weights_data, changed_data};
 
 use crate::plan_values::{flow_value, plan_value};
 use crate::replies::replies_value;

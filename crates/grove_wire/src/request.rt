@@ -33,9 +33,9 @@ pub enum Request {
     Reweigh,
 }
 
-/// The request that a line is, over the tree. What isn't JSON is `BadJson`; what is no object of just one member with a name
-/// that there is, is `Shape` of the whole. A plan's and a batch's accesses may tell lengths, and a check has a version as a
-/// document has. Of the line's value only what a request looks at is kept.
+/// The request that a line is, over the tree. What isn't JSON is `BadJson`; what is no object of just one member with
+/// a name that there is, is `Shape` of the whole. A plan's and a batch's accesses may tell lengths, and a check has a
+/// version as a document has. Of the line's value only what a request looks at is kept.
 pub fn read_request(alloc: Global, tree: &Tree, line: &[u8]) -> Result<Request, WireFault>
     ensures read { Gives asked_of result (request_of tree.now line.now) }
     ensures fits { IfOk result (λ request. AskedFits tree.now (asked_of request)) }

@@ -6,10 +6,14 @@ ghost use Rattle.serde_json.specs.Read.{read, number_of, of_json, of_items, of_m
 ghost use Rattle.serde_json.specs.View.{view, members_view};
 ghost use Rattle.grove_wire.specs.Outcomes.{Fails, or_fault};
 ghost use Rattle.grove_wire.specs.Reading.{value_of};
-ghost use Rattle.grove_wire.specs.Sketches.{leaf, is_below, item_form, most_items, member_form, line_member, check_member, row_member, Sketched, ItemsSketched, MembersSketched, Draft};
+ghost use Rattle.grove_wire.specs.Sketches.{leaf, is_below, item_form, most_items, member_form, line_member};
+ghost use Rattle.grove_wire.specs.Sketches.{check_member, row_member, fitted};
+ghost use Rattle.grove_wire.specs.Sketches.{Sketched, ItemsSketched, MembersSketched, Draft};
 
 use crate::WireFault;
+use crate::flows::is_flow_row;
 use crate::numbers::number_of;
+use crate::plans::is_step;
 use json::{Invalid, Reader, Scratch, Token};
 use serde_json::{Map, Value};
 use std::alloc::{AllocError, AllocFailed, Global};
@@ -216,6 +220,18 @@ fn sketch_text(alloc: Global, text: &str, form: Form) -> Result<Value, Unread>
     }
 }
 
+/// What is kept of an item. A step or a row that can't be read as one gives its memory back at once.
+fn fitted(form: Form, item: Value) -> Value
+    ensures { view result ≡ fitted form (view item) }
+{
+    let fits = match form {
+        Form::Step => is_step(&item),
+        Form::Row => is_flow_row(&item),
+        _ => true,
+    };
+    if fits { item } else { Value::Null }
+}
+
 /// The items of an array that are looked at.
 #[cycle(sketch)]
 fn sketch_items(
@@ -231,8 +247,9 @@ fn sketch_items(
     let mut kept = Vec::new(alloc);
     'items: while !reader.take_end_array() {
         if form.has_room(kept.len()) {
-            let item = sketch(alloc, reader, depth, form.item())?;
-            kept.push(item)?;
+            let looked_at = form.item();
+            let item = sketch(alloc, reader, depth, looked_at)?;
+            kept.push(fitted(looked_at, item))?;
         } else {
             drop(sketch(alloc, reader, depth, Form::Nothing)?);
         }

@@ -17,7 +17,11 @@ loop-at-init c = record {
 
 pub returns-in_err-row-clause-read : goal.returns-in_err-row-clause-read
 returns-in_err-row-clause-read c =
-    let fails = fails_as c.in_err-row.field-0.0 (row_in c.loop-at.at (view c.index-items-at.result)) _ (λ refused. sym c.loop-at.invariant.read ∙ columns_stop (rows_of c.loop-at.rows.items) c.loop-at.values.items c.args.items.now c.loop-at.at c.index-items-at.result c.in_err-row.field-0.0 c.loop-at-test.true c.index-items-at.is refused) c.in_err-row.ensures in
+    let fails = fails_as c.in_err-row.field-0.0 (row_in c.loop-at.at (view c.index-items-at.result)) _
+    (λ refused. sym c.loop-at.invariant.read
+    ∙ columns_stop (rows_of c.loop-at.rows.items) c.loop-at.values.items c.args.items.now c.loop-at.at
+    c.index-items-at.result c.in_err-row.field-0.0 c.loop-at-test.true c.index-items-at.is refused)
+    c.in_err-row.ensures in
     passes_on _ c.from_residual.result _ c.in_err-row.field-0.0 c.from_residual.ensures.1 fails
 
 pub loop-at-preserved : goal.loop-at-preserved

@@ -11,6 +11,7 @@ use Rattle.grove_wire.proofs.nodes.read_rows.Given as goal
 -- what is read so far, and then what is left, is what the whole reads as; there are as many records as rows
 abbrev pub invariant-loop-at : goal.invariant-loop-at
 invariant-loop-at l = record {
-  read : with_columns (rows_of l.rows.items) l.values.items (rest_read row_in l.items l.at) ≡ columns_of (map view l.items);
+  read : with_columns (rows_of l.rows.items) l.values.items (rest_read row_in l.items l.at)
+      ≡ columns_of (map view l.items);
   same : length l.values.items ≡ length l.rows.items;
 }

@@ -16,7 +16,9 @@ returns-in_err-value-clause-read c =
 
 pub returns-in-Some-clause-read : goal.returns-in-Some-clause-read
 returns-in-Some-clause-read c =
-    rw (draft_named c.args.tree.now c.args.line.now (view c.in_ok-value.value) c.in_ok-value.ensures.drawn c.in-Some.name.now (view c.in-Some.asked.now) c.in-Some.ensures) c.named_request.ensures
+    rw (draft_named c.args.tree.now c.args.line.now
+    (view c.in_ok-value.value) c.in_ok-value.ensures.drawn c.in-Some.name.now
+    (view c.in-Some.asked.now) c.in-Some.ensures) c.named_request.ensures
 
 pub returns-in-Some-clause-fits : goal.returns-in-Some-clause-fits
 returns-in-Some-clause-fits c =
@@ -24,4 +26,6 @@ returns-in-Some-clause-fits c =
 
 pub returns-clause-read : goal.returns-clause-read
 returns-clause-read c =
-    draft_shapeless c.args.tree.now c.args.line.now (view c.in_ok-value.value) c.in_ok-value.ensures.drawn c.in-None.ensures ∙ ap (λ place. Err (Shape place)) (sym c.whole.ensures)
+    draft_shapeless c.args.tree.now c.args.line.now
+    (view c.in_ok-value.value) c.in_ok-value.ensures.drawn c.in-None.ensures
+    ∙ ap (λ place. Err (Shape place)) (sym c.whole.ensures)

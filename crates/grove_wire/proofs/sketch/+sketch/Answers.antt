@@ -1,4 +1,5 @@
-use Rattle.std.proofs.Common.{◌≡◌, ◌<◌, ◌∷◌, length, Some, None, string_bytes, inl, inr, sym, ap, ◌∙◌, arith, rules}
+use Rattle.std.proofs.Common.{◌≡◌, ◌<◌, ◌∷◌, length, Some, None, string_bytes, inl, inr, sym, ap, ap₂, ◌∙◌, arith}
+use Rattle.std.proofs.Common.{rules}
 use Rattle.std.specs.Prelude.{map}
 use Rattle.std.proofs.lemmas.List.{map_push}
 use Rattle.grove_base.proofs.Lists.{map_length}
@@ -12,7 +13,7 @@ use Rattle.serde_json.specs.Read.{of_json, converted}
 use Rattle.serde_json.specs.View.{view, members_view}
 use Rattle.serde_json.specs.declared.value.Value.{Null, the_lemmas}
 use Rattle.serde_json.proofs.Views.{view-Array, view-Object, members_view-insert_entry}
-use Rattle.grove_wire.specs.Sketches.{put_kept, drawn}
+use Rattle.grove_wire.specs.Sketches.{put_kept, fitted, drawn}
 use Rattle.grove_wire.proofs.Sketching as sketching
 use Rattle.grove_wire.proofs.sketch.+sketch.Goals as goal
 
@@ -103,10 +104,13 @@ sketch_items-items-preserved-in_ok-push t c =
     let read = c.in_ok-item.ensures.ok in
     let less : length c.sketch.new.reader < length c.items.reader = rw (← going.1) c.in_ok-item.ensures.shorter in
     let is = ap (value c.args.depth) (sym going.1) ∙ read.is in
-    let kept = read.kept ∙ ap (λ f. drawn f read.text) c.item.ensures in
-    let turn = sketching.items_kept c.args.form (value c.args.depth) c.args.reader.now c.items.reader (map view c.items.kept.items) c.items.invariant read.text read.whole c.sketch.new.reader (view c.in_ok-item.item) c.len.result
+    let kept = c.fitted.ensures
+    ∙ ap₂ fitted c.item-looked_at.ensures (read.kept ∙ ap (λ f. drawn f read.text) c.item-looked_at.ensures) in
+    let turn = sketching.items_kept c.args.form (value c.args.depth) c.args.reader.now c.items.reader
+    (map view c.items.kept.items) c.items.invariant read.text read.whole c.sketch.new.reader
+    (view c.fitted.result) c.len.result
     going.0 is read.reads less kept (c.len.ensures ∙ c.items.kept.ok.0 ∙ sym (map_length view c.items.kept.items)) (sym c.if-has_room.ensures) in
-    rw (c.in_ok-push.ensures.items, map_push view c.items.kept.items c.in_ok-item.item) turn
+    rw (c.in_ok-push.ensures.items, map_push view c.items.kept.items c.fitted.result) turn
 
 pub sketch_items-items-preserved : goal.sketch_items-items-preserved
 sketch_items-items-preserved t c =
