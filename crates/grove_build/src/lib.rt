@@ -6,6 +6,7 @@ pub use jobs::{kept_jobs, settled_jobs};
 pub use kept_plans::KeptPlans;
 pub use laws::{cut_laws, settled_laws};
 pub use planning::{Planned, plan, plan_watched};
+pub use targets::{Target, targets_of};
 pub use watch::{Layer, Watch};
 
 mod batch;

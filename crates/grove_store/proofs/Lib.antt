@@ -11,4 +11,6 @@ pub mod Longest
 pub mod Feedless
 pub mod Taking
 pub mod Accepted
+pub mod TextEntries
+pub mod PlanTexts
 pub mod RoundsAlone

@@ -5,3 +5,4 @@ pub mod Rounds
 pub mod Parts
 pub mod Longest
 pub mod Texts
+pub mod KeptTexts

@@ -7,6 +7,7 @@ pub use refusal::Refusal;
 pub use refused::NoStore;
 pub use store::Store;
 
+mod kept_texts;
 mod laws;
 mod line_reply;
 mod refusal;

@@ -2,6 +2,7 @@ ghost use Rattle.std.specs.Prelude.{◌≡◌, ◌≤◌, ◌↔◌, length, IsT
 ghost use Rattle.grove_store.specs.StoreStates.{IsStore, opened};
 
 use crate::NoStore;
+use crate::kept_texts::KeptTexts;
 use crate::same::{same_records, same_trees};
 use grove_access::Records;
 use grove_build::KeptPlans;
@@ -24,17 +25,21 @@ pub struct Store {
     rounds: u64,
     /// What was planned over the tree since its weights changed last.
     plans: KeptPlans,
+    /// The replies that told of it.
+    texts: KeptTexts,
 }
 
 impl Model for Store {
+    ghost use Rattle.std.specs.Prelude.{All};
     ghost use Rattle.grove_build.specs.KeptPlans.{AreSettledFor};
+    ghost use Rattle.grove_store.specs.KeptTexts.{RepliesFor};
     ghost use Rattle.grove_store.specs.StoreStates.{StoreState, IsStore};
 
     ghost Value = { StoreState };
 
     ghost view = { λ store. record { rows = store.tree; records = store.records; waits = store.waits.items; workers = store.workers; rounds = store.rounds } };
 
-    ghost invariant = { λ store. IsStore (record { rows = store.tree; records = store.records; waits = store.waits.items; workers = store.workers; rounds = store.rounds }) × AreSettledFor store.tree store.plans };
+    ghost invariant = { λ store. IsStore (record { rows = store.tree; records = store.records; waits = store.waits.items; workers = store.workers; rounds = store.rounds }) × AreSettledFor store.tree store.plans × All (RepliesFor store.tree) store.texts };
 }
 
 impl Store {
@@ -55,6 +60,7 @@ impl Store {
                 workers,
                 rounds: 0,
                 plans: KeptPlans::new(alloc),
+                texts: KeptTexts::new(alloc),
             }),
             Err(_) => Err(NoStore { tree, records }),
         }
@@ -114,6 +120,7 @@ impl Store {
             workers: self.workers,
             rounds: self.rounds,
             plans: KeptPlans::new(alloc),
+            texts: KeptTexts::new(alloc),
         })
     }
 }

@@ -1,18 +1,20 @@
 //! The replies to lines.
-ghost use Rattle.std.specs.Prelude.{◌≡◌, ◌≢◌, ◌≤◌, [], ◌∷◌, length, map, replicate, sum, IfOk, MatchResult};
+ghost use Rattle.std.specs.Prelude.{◌≡◌, ◌≢◌, ◌≤◌, [], ◌∷◌, length, map, replicate, sum, All, IfOk, MatchResult};
 ghost use Rattle.serde_json.specs.Written.{compact_text};
 ghost use Rattle.grove_access.specs.Lists.{nodes_of, AreNodes};
 ghost use Rattle.grove_build.specs.KeptPlans.{AreSettledFor};
 ghost use Rattle.grove_wire.specs.Names.{wire_name, proof_name, run_name};
 ghost use Rattle.grove_wire.specs.Replies.{error_text, round_data, weights_in_rows, weights_data, changed_data};
 ghost use Rattle.grove_store.specs.Alone.{TellsPlan, TellsCheck};
+ghost use Rattle.grove_store.specs.KeptTexts.{RepliesFor};
 ghost use Rattle.grove_store.specs.Parts.{IsTextOfReply};
 ghost use Rattle.grove_store.specs.Refusals.{refusal_name};
 ghost use Rattle.grove_store.specs.Rounds.{round_texts};
 
+use crate::kept_texts::KeptTexts;
 use crate::{LineReply, Refusal};
 use grove_access::{AccessList, Reply};
-use grove_build::KeptPlans;
+use grove_build::{KeptPlans, targets_of};
 use grove_plan::Plan;
 use grove_proof::{Flow, ProofFault, check};
 use grove_run::RunFault;
@@ -43,8 +45,34 @@ pub fn refusals(alloc: Global, refusal: Refusal, lines: usize) -> Result<Vec<Lin
     Ok(replies)
 }
 
-/// The settled plan of the list, with its cost and its flow, from what is kept.
+/// The settled plan of the list, with its cost and its flow: a copy of the text that is kept for it. Where none is kept, it
+/// is written, and a copy is kept.
 pub fn plan_text(
+    alloc: Global,
+    tree: &Tree,
+    plans: &mut KeptPlans,
+    texts: &mut KeptTexts,
+    list: &AccessList,
+) -> Result<LineReply, NoMemory>
+    requires fits { AreNodes tree.now (nodes_of list.now) }
+    requires plans { AreSettledFor tree.now plans.old }
+    requires texts { All (RepliesFor tree.now) texts.old }
+    ensures text { IfOk result (IsTextOfReply (TellsPlan tree.now list.now)) }
+    ensures plans { AreSettledFor tree.now plans.new }
+    ensures texts { All (RepliesFor tree.now) texts.new }
+{
+    let targets = targets_of(alloc, list)?;
+    if let Some(text) = texts.get(&targets) {
+        return LineReply::copied(alloc, text);
+    }
+    let reply = planned_text(alloc, tree, plans, list)?;
+    let text = Vec::from_slice(alloc, reply.text())?;
+    texts.keep(targets, text)?;
+    Ok(reply)
+}
+
+/// The same, written from the plan that is kept.
+fn planned_text(
     alloc: Global,
     tree: &Tree,
     plans: &mut KeptPlans,

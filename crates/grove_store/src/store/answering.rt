@@ -77,7 +77,10 @@ impl Store {
                 self.run_round(rt, alloc, round, gate)
             }
             Ok(Request::Plan(list)) => {
-                alone(alloc, plan_text(alloc, &self.tree, &mut self.plans, &list))
+                alone(
+                    alloc,
+                    plan_text(alloc, &self.tree, &mut self.plans, &mut self.texts, &list),
+                )
             }
             Ok(Request::Check(list, plan, flow)) => {
                 alone(alloc, check_text(alloc, &self.tree, &list, &plan, &flow))

@@ -9,7 +9,7 @@ use std::alloc::Global;
 use std::thread::Threads;
 
 impl Store {
-    /// Gives each node its new weight by its waits, forgets the plans of the old weights, and begins to count waits anew,
+    /// Gives each node its new weight by its waits, forgets the plans of the old weights and their texts, and begins to count waits anew,
     /// once the reply is made.
     pub(crate) fn reweigh<R: Threads + Sync>(
         &mut self,
@@ -24,6 +24,7 @@ impl Store {
         let replies = alone(alloc, changed_text(alloc, changed))?;
         self.tree = tree;
         self.plans.forget();
+        self.texts.forget();
         self.waits.fill(0);
         Ok(replies)
     }

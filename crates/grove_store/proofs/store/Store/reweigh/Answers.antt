@@ -1,8 +1,11 @@
 use Rattle.std.proofs.Common.{◌≡◌, ℕ, List, ◌∙◌, sym, ap, subst, length, replicate, arith, vec_len}
+use Rattle.std.specs.Prelude.{All}
+use Rattle.std.proofs.lemmas.List.Elements.{All-nil}
 use Rattle.grove_tree.specs.Trees.{Rows}
 use Rattle.grove_meter.specs.Waits.{reweighed}
 use Rattle.grove_build.specs.KeptPlans.{AreSettledFor}
 use Rattle.grove_store.specs.StoreStates.{StoreState}
+use Rattle.grove_store.specs.KeptTexts.{KeptText, RepliesFor}
 use Rattle.grove_store.specs.Parts.{AnswersReweigh}
 use Rattle.grove_build.proofs.NothingKept.{nothing_kept}
 use Rattle.grove_store.proofs.Telling.{text_made}
@@ -18,6 +21,7 @@ invariant_of-self g c =
           (c.reweigh-changed.ensures.rows ∙ ap (λ (ws : List ℕ). reweighed ws c.in_ok-tree.tree) c.deref.ensures.value ∙ ap (λ (rows : Rows). reweighed waits.items rows) c.in_ok-tree.ensures)
           (c.fill.ensures.items (λ y e. e) ∙ ap (λ (n : ℕ). replicate n 0) long),
       subst (AreSettledFor c.reweigh-changed.new.tree) (sym c.forget.ensures) (nothing_kept c.reweigh-changed.new.tree),
+      subst (λ (texts : List KeptText). All (RepliesFor c.reweigh-changed.new.tree) texts) (sym c.forget-2.ensures) (All-nil (RepliesFor c.reweigh-changed.new.tree)),
     )
 
 pub returns-clause-reply : goal.returns-clause-reply

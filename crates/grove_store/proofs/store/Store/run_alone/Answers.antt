@@ -25,7 +25,7 @@ invariant_of-self-in-Ok-1 c =
     before.waits =
     leaves_done before c.args.jobs.now c.args.counts.now c.in_ok-done.done c.in-Ok.replies.items c.do_alone.new.records
     legal c.self.invariant.0.few c.in_ok-done.ensures.done c.in-Ok.ensures in
-    (left_keeps before _ _ _ _ _ c.self.invariant.0 room left, c.self.invariant.1)
+    (left_keeps before _ _ _ _ _ c.self.invariant.0 room left, c.self.invariant.1, c.self.invariant.2)
 
 pub returns-in-Ok-clause-round : goal.returns-in-Ok-clause-round
 returns-in-Ok-clause-round c =

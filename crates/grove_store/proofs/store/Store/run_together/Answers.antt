@@ -23,7 +23,7 @@ invariant_of-self g c =
     let left = leaves_round before c.args.jobs.now c.args.counts.now c.in-Ok.finished _ _ _ _ c.in-Ok.ensures.run
     c.in_ok-outcome.ensures.replies c.in_ok-outcome.ensures.records c.in_ok-outcome.ensures.waits
     c.deref.ensures.value in
-    (left_keeps before _ _ _ _ _ c.self.invariant.0 room left, c.self.invariant.1)
+    (left_keeps before _ _ _ _ _ c.self.invariant.0 room left, c.self.invariant.1, c.self.invariant.2)
 
 pub returns-clause-round : goal.returns-clause-round
 returns-clause-round g c =
