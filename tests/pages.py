@@ -9,6 +9,8 @@ from web import HOST, HTML, JSON, values_of
 
 PAGE = Path(__file__).resolve().parents[1] / "crates/grove_page/page/page.html"
 MOST_BODY, MOST_LINES = 4_194_304, 16_384
+# After a longer body the connection ends.
+MOST_KEPT = 65_536
 # The methods of each path, as `allow` tells them.
 ALLOWED = {"/": {b"GET", b"HEAD", b"POST"}, "/document": {b"GET", b"HEAD"}, "/nodes": {b"GET", b"HEAD"}}
 
@@ -91,6 +93,9 @@ def fault_of_plain(response, status, bodies, kind=JSON):
 def fault_of_replies(store, body, response):
     if len(body) > MOST_BODY:
         return None if response.status == 413 else f"wanted 413; came {response}"
+    told = response.fields.get(b"connection")
+    if len(body) > MOST_KEPT and told != b"close":
+        return f"after {len(body)} bytes the connection is said to stay"
     if body.count(b"\n") > MOST_LINES:
         return fault_of_plain(response, 413, {b'{"error":"lines"}\n'})
     lines, replies = lines_in(body), response.body.split(b"\n")

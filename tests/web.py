@@ -93,11 +93,17 @@ def size_of(fields):
 
 
 class Client:
-    """A connection on which requests are asked one after the other."""
+    """A connection on which requests are asked one after the other. After a response that says that it ends, the next
+    request has one of its own."""
 
     def __init__(self, port, host=HOST):
-        self.connection = connected(port, host)
+        self.place = port, host
+        self.open()
+
+    def open(self):
+        self.connection = connected(*self.place)
         self.stream = self.connection.makefile("rb")
+        self.is_over = False
 
     def __enter__(self):
         return self
@@ -110,10 +116,15 @@ class Client:
         self.connection.close()
 
     def send(self, data):
+        if self.is_over:
+            self.close()
+            self.open()
         self.connection.sendall(data)
 
     def next(self, method="GET"):
-        return response_of(self.stream, method)
+        response = response_of(self.stream, method)
+        self.is_over = response is not None and response.fields.get(b"connection") == b"close"
+        return response
 
     def ask(self, method, path, body=None, *fields):
         self.send(request(method, path, body, *fields))

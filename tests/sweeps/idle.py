@@ -3,6 +3,7 @@ lines those that drip bytes; nobody else does, and a line that comes in pieces, 
 
 from __future__ import annotations
 
+import itertools
 import json
 import os
 import socket
@@ -13,6 +14,7 @@ from functools import partial
 from pathlib import Path
 from typing import BinaryIO
 
+from pages import MOST_KEPT
 from server import HOST, PIECE, Serving, connected
 from store import MOST_LINE, Store
 from web import post, request, response_of
@@ -260,21 +262,34 @@ def in_pieces(program: str, command: str, tally: Tally) -> None:
     store = Store(json.loads(TREE))
     # (of blanks before and behind what is asked)
     lines = [(ADD[:-1].rjust(size) if at % 2 else ADD[:-1].ljust(size)) + b"\n" for at, size in enumerate(SIZES)]
+    last = [line for line in lines if ends_after(command, line)][-1:]
+    ahead = [line for line in lines if not ends_after(command, line)] + last
     with serving(program, command, LONG_IDLE) as server, ExitStack() as room:
-        client = room.enter_context(connected(server.port))
-        stream = room.enter_context(client.makefile("rb"))
-        for line in lines:
-            for piece in PIECES:
-                text = sent(command, line)
-                if len(text) <= MOST_PIECES * piece:
-                    send_apart(client, text, piece)
-                    where = f"{len(line)} bytes in pieces of {piece}"
-                    note_replies(store, line, reply_in(command, stream), where, tally)
+        client, stream = opened(room, server.port)
+        for line, piece in itertools.product(lines, PIECES):
+            text = sent(command, line)
+            if len(text) <= MOST_PIECES * piece:
+                send_apart(client, text, piece)
+                where = f"{len(line)} bytes in pieces of {piece}"
+                note_replies(store, line, reply_in(command, stream), where, tally)
+                if ends_after(command, line):
+                    client, stream = opened(room, server.port)
         with ThreadPoolExecutor(1) as pool:
-            sender = pool.submit(client.sendall, b"".join(sent(command, line) for line in lines))
-            for line in lines:
+            sender = pool.submit(client.sendall, b"".join(sent(command, line) for line in ahead))
+            for line in ahead:
                 note_replies(store, line, reply_in(command, stream), f"{len(line)} bytes of all at once", tally)
             sender.result()
+
+
+def ends_after(command: str, line: bytes) -> bool:
+    """Whether the connection ends after this line: a page's does after a long body."""
+    return command == "page" and len(line) > MOST_KEPT
+
+
+def opened(room: ExitStack, port: int) -> tuple[socket.socket, BinaryIO]:
+    """A new connection, for as long as the room is entered."""
+    client = room.enter_context(connected(port))
+    return client, room.enter_context(client.makefile("rb"))
 
 
 def send_apart(client: socket.socket, text: bytes, piece: int) -> None:

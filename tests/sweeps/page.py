@@ -14,7 +14,7 @@ from random import Random
 
 from history import fault_of_history
 from hostile import hostile
-from pages import MOST_BODY, MOST_LINES, document_text, fault_of_response, nodes_text
+from pages import MOST_BODY, MOST_KEPT, MOST_LINES, document_text, fault_of_response, nodes_text
 from server import HOST, PIECE, BadServer, Serving, connected
 from store import MOST_LINE, Store, compact
 from web import BadResponse, Client, chunked, post, request, responses_in
@@ -192,7 +192,11 @@ def bodies(program: str, tally: Tally) -> None:
         for body in [lines[0], lines[1], lines[1] + b"\n" + ADD, ADD * 500, GET * 1000]:
             note_rows(client, store, [("POST", "/", body)], f"a body of {len(body)} bytes", tally)
         full = b"\n".join([ADD.rstrip(b"\n").ljust(MOST_LINE - 1)] * 4) + b"\n"
-        note_rows(client, store, [("POST", "/", full)], f"{MOST_BODY} bytes", tally)
+        for body, ends in ((ADD.ljust(MOST_KEPT), False), (ADD.ljust(MOST_KEPT + 1), True), (full, True)):
+            where, port = f"{len(body)} bytes", client.connection.getsockname()[1]
+            note_rows(client, store, [("POST", "/", body), ("POST", "/", ADD)], where, tally)
+            stays = client.connection.getsockname()[1] == port
+            tally.blame(where, None if stays is not ends else f"the connection {'stays' if stays else 'ends'}")
         for sizes in (1, 7, 1000):
             client.send(chunked([full[:2000][at : at + sizes] for at in range(0, 2000, sizes)]))
             note_row(store, ("POST", "/", full[:2000]), client.next("POST"), f"chunks of {sizes}", tally)

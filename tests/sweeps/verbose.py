@@ -419,11 +419,11 @@ def pages(program: str, tally: Tally) -> None:
         with Client(server.port) as client:
             wanted = [arrival(1, client.connection)]
             lines = 0
-            for text in (ADD + SHAPE, b"x" * (MOST_LINE + 1) + b"\n" + NO_PATH, BAD_JSON, b""):
+            client.get("/document")
+            for text in (ADD + SHAPE, BAD_JSON, b"", b"x" * (MOST_LINE + 1) + b"\n" + NO_PATH):
                 response = client.post(text)
                 wanted += refusals(1, response.body, lines) if text else []
                 lines += len(lines_of(text)) if text else 0
-            client.get("/document")
         wanted.append(ended(1, lines, "its requests ended"))
         compare(wanted, server.told_of(len(wanted)), tally)
 

@@ -1,5 +1,6 @@
 pub mod Nodes
 pub mod Refused
 pub mod Replied
+pub mod Ending
 pub mod Told
 pub mod Unread

@@ -1,12 +1,13 @@
 -- What is replied to a request: a page, the replies to lines, or what a store holds.
-use Rattle.std.specs.Prelude.{◌≡◌, ℕ, ◌==◌, ◌&&◌, ◌⊎◌, nat_lt, Bool, true, false, not, count_by, List, [], ◌∷◌, ◌++◌, Some, Result, Ok, Err, codes, if◌then◌else◌, All}
+use Rattle.std.specs.Prelude.{◌≡◌, ℕ, ◌==◌, ◌&&◌, ◌⊎◌, nat_lt, Bool, true, false, not, count_by, List, [], ◌∷◌, ◌++◌}
+use Rattle.std.specs.Prelude.{length, Some, Result, Ok, Err, codes, if◌then◌else◌, All}
 use Rattle.http.specs.declared.request.Request.{Request}
 use Rattle.http.specs.Request.{head_of, body_of}
 use Rattle.http_uri.specs.Uri.{uri_path}
 use Rattle.http1.specs.Fields.{Header}
 use Rattle.http_server.specs.declared.response.Response.{Response}
 use Rattle.http_server.specs.declared.state.Config.{Config}
-use Rattle.http_server.specs.Response.{IsResponse}
+use Rattle.http_server.specs.Response.{IsResponse, fields_of}
 use Rattle.http_server.specs.History.{History, IsServed}
 use Rattle.serde_json.specs.Written.{compact_text}
 use Rattle.grove_session.specs.declared.session_fault.SessionFault.{SessionFault}
@@ -100,6 +101,21 @@ abbrev pub TakesLines : Bool → StoreState → List ℕ → Response → Type 0
 TakesLines true opening body r = IsResponse 413 json (error_line (codes "lines")) r
 TakesLines false opening body r = AnswersBody opening body r
 
+-- a body after which the connection ends
+abbrev pub is_long_body : List ℕ → Bool
+is_long_body body = nat_lt 65536 (length body)
+
+-- a reply, and that the connection ends after it
+pub record EndsWith (reply r : Response) : Type 0 where
+  pub status : r.status ≡ reply.status
+  pub fields : fields_of r ≡ fields_of reply ++ (codes "connection", codes "close") ∷ []
+  pub body : r.body ≡ reply.body
+
+abbrev pub TakesBody : Bool → StoreState → List ℕ → Response → Type 0
+TakesBody false opening body r = TakesLines (has_many_lines body) opening body r
+TakesBody true opening body r =
+    (reply : Response) × TakesLines (has_many_lines body) opening body reply × EndsWith reply r
+
 -- ---- stores
 
 -- a store as a document, which opens one of the same tree and records
@@ -119,7 +135,7 @@ TellsStore line_of opening r =
 
 abbrev pub IsReplyTo : PageState → List ℕ → Route → Response → Type 0
 IsReplyTo state body Page r = IsResponse 200 html state.page r
-IsReplyTo state body Lines r = TakesLines (has_many_lines body) state.opening body r
+IsReplyTo state body Lines r = TakesBody (is_long_body body) state.opening body r
 IsReplyTo state body Document r = TellsStore document_line state.opening r
 IsReplyTo state body Nodes r = TellsStore nodes_line state.opening r
 IsReplyTo state body OnlyLook r = IsResponse 405 (json_for (codes "GET, HEAD")) (error_line (codes "method")) r

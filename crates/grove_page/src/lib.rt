@@ -5,7 +5,7 @@ pub use front::{Front, Visited};
 pub use page::PAGE;
 pub use replies_sink::{MOST_REPLIES, RepliesSink};
 pub use route::{Route, route_for};
-pub use service::MOST_LINES;
+pub use service::{MOST_KEPT, MOST_LINES};
 pub use serving::{MOST_BODY, serve_page};
 pub use visiting::visit;
 

@@ -1,6 +1,7 @@
 ghost use Rattle.std.specs.Prelude.{◌≡◌, ◌==◌, ◌++◌, count_by, OnOk, OnErr, IfOk, codes, string_bytes};
 ghost use Rattle.http_server.specs.Response.{IsBlank, IsResponse};
-ghost use Rattle.grove_page.specs.Pages.{json, error_line, document_line, nodes_line, AnswersBody, TakesLines, TellsStore, TellsSession, has_many_lines, is_refused};
+ghost use Rattle.grove_page.specs.Pages.{json, error_line, document_line, nodes_line, has_many_lines, is_long_body};
+ghost use Rattle.grove_page.specs.Pages.{AnswersBody, TakesLines, TakesBody, TellsStore, TellsSession, is_refused};
 
 use crate::lines::{document_line, nodes_line};
 use crate::replies::{fill_allowed, fill_json, fill_page};
@@ -9,13 +10,16 @@ use crate::{Front, RepliesSink, Visited};
 use bytes::{BufMut, Bytes};
 use grove_session::SessionFault;
 use grove_tree::NoMemory;
-use http::{Request, StatusCode};
+use http::{HeaderValue, Request, StatusCode, header};
 use http_server::{Response, Service};
 use std::alloc::{AllocError, AllocGlobal};
 use std::marker::Model;
 
 /// So many line feeds may a body have, so that no body keeps its seat for long.
 pub const MOST_LINES: usize = 16_384;
+
+/// After a body of more bytes the connection ends, since what it took of memory for the body stays with it.
+pub const MOST_KEPT: usize = 65_536;
 
 const FAILED: StatusCode = StatusCode::INTERNAL_SERVER_ERROR;
 
@@ -65,7 +69,7 @@ impl<'a, R: AllocGlobal, F: Front<R>> Service for PageService<'a, R, F> {
         let path = request.uri().path();
         match route_for(request.method().as_str(), path, request.headers()) {
             Route::Page => fill_page(response, self.page),
-            Route::Lines => self.take_lines(request.body().as_slice(), response),
+            Route::Lines => self.take_body(request.body().as_slice(), response),
             Route::Document => self.tell_document(response),
             Route::Nodes => self.tell_nodes(response),
             Route::OnlyLook => fill_allowed(response, "GET, HEAD"),
@@ -77,6 +81,18 @@ impl<'a, R: AllocGlobal, F: Front<R>> Service for PageService<'a, R, F> {
 }
 
 impl<'a, R: AllocGlobal, F: Front<R>> PageService<'a, R, F> {
+    /// The replies to the lines of a body. A long one is the connection's last.
+    fn take_body(&self, lines: &[u8], response: &mut Response) -> Result<(), AllocError>
+        requires { IsBlank response.old }
+        ensures { OnOk result (TakesBody (is_long_body lines.now) self.now.opening lines.now response.new) }
+    {
+        self.take_lines(lines, response)?;
+        if lines.len() > MOST_KEPT {
+            return response.add_header(header::CONNECTION, HeaderValue::from_static("close"));
+        }
+        Ok(())
+    }
+
     /// The replies to the lines of a body, if they are few enough.
     fn take_lines(&self, lines: &[u8], response: &mut Response) -> Result<(), AllocError>
         requires { IsBlank response.old }

@@ -1,6 +1,7 @@
 use crate::log::Log;
 use crate::service::{Manner, Patience, Talk};
-use std::sync::{Condvar, Mutex, Wait};
+use grove_page::MOST_KEPT;
+use std::sync::{Condvar, Mutex, MutexGuard, Wait};
 use std::time::{Clock, Duration};
 
 /// How many connections are served at once.
@@ -15,6 +16,8 @@ pub struct Seats {
     free: Mutex<usize>,
     /// A seat was left.
     left: Condvar,
+    /// Taken by the one long body that is answered.
+    long_body: Mutex<()>,
     talk: Talk,
     patience: Patience,
     log: Option<Log>,
@@ -26,6 +29,7 @@ impl Seats {
         Seats {
             free: Mutex::new(MOST_CONNECTIONS),
             left: Condvar::new(),
+            long_body: Mutex::new(()),
             talk: manner.talk,
             patience: manner.patience,
             log: manner.is_verbose.then(|| Log::new()),
@@ -75,6 +79,15 @@ impl Seats {
         let _left = self
             .left
             .wait_timeout_while(rt, free, most, |free| *free <= before);
+    }
+
+    /// The turn of a body of so many bytes, once no other long one is answered; a short one needs none.
+    pub fn turn_of_body<R: Wait>(&self, rt: &R, bytes: usize) -> Option<MutexGuard<'_, ()>> {
+        if bytes > MOST_KEPT {
+            Some(self.long_body.lock(rt))
+        } else {
+            None
+        }
     }
 
     /// Leaves a seat to the next connection.

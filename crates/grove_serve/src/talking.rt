@@ -4,7 +4,7 @@ use crate::host::Host;
 use crate::seats::Seats;
 use crate::service::Talk;
 use crate::timed_stream::TimedStream;
-use crate::watching::{WatchedDesk, session_at};
+use crate::watching::{SeatedDesk, session_at};
 use grove_desk::{Desk, Opening};
 use grove_page::{PAGE, serve_page};
 use grove_session::{ReaderSource, SessionFault, WriterSink};
@@ -35,7 +35,7 @@ pub fn serve_caller<B: Opening, R: Host>(rt: &R, desk: &Desk<B>, seats: &Seats, 
             Ending::of_session(session_at(rt, desk, guest.as_ref(), &mut source, &mut sink))
         }
         (Talk::Lines, Some(idle)) => answer_in_time(rt, desk, &stream, guest.as_ref(), idle),
-        (Talk::Requests, idle) => answer_requests(rt, desk, &stream, guest.as_ref(), idle),
+        (Talk::Requests, idle) => answer_requests(rt, desk, seats, &stream, guest.as_ref(), idle),
     };
     if let Some(guest) = &guest {
         guest.tell_end(rt, ending);
@@ -70,6 +70,7 @@ fn answer_in_time<B: Opening, R: Host>(
 fn answer_requests<B: Opening, R: Host>(
     rt: &R,
     desk: &Desk<B>,
+    seats: &Seats,
     stream: &TcpStream,
     guest: Option<&Guest<'_>>,
     idle: Option<u32>,
@@ -83,12 +84,7 @@ fn answer_requests<B: Opening, R: Host>(
     }
     let mut reader = stream;
     let mut writer = stream;
-    let ended = match guest {
-        Some(guest) => {
-            let watched = WatchedDesk::new(desk, guest);
-            serve_page(rt, &watched, PAGE, keys, &mut reader, &mut writer)
-        }
-        None => serve_page(rt, desk, PAGE, keys, &mut reader, &mut writer),
-    };
+    let front = SeatedDesk::new(desk, seats, guest);
+    let ended = serve_page(rt, &front, PAGE, keys, &mut reader, &mut writer);
     Ending::of_requests(ended, idle)
 }

@@ -4,6 +4,7 @@ ghost use Rattle.grove_tree.specs.Weights.{unweighed};
 
 use crate::guest::Guest;
 use crate::host::Host;
+use crate::seats::Seats;
 use grove_desk::{Desk, Opening, Told, Visit};
 use grove_page::{Front, RepliesSink, Visited, visit};
 use grove_session::{AnswerFault, Answers, SessionFault, Sink, Source, session};
@@ -91,38 +92,46 @@ pub fn session_at<B: Opening, R: Host, I: Source, O: Sink>(
     }
 }
 
-/// A desk to which a guest's requests go.
+/// A desk to which the requests of a caller go who has a seat, and who is told of if it is a guest. Of all callers' long
+/// bodies one at a time is answered: so only that one's lines are copied.
 #[derive(Drop)]
-pub struct WatchedDesk<'a, B: Opening> {
+pub struct SeatedDesk<'a, B: Opening> {
     desk: &'a Desk<B>,
-    guest: &'a Guest<'a>,
+    seats: &'a Seats,
+    guest: Option<&'a Guest<'a>>,
 }
 
-impl<'a, B: Opening> Model for WatchedDesk<'a, B> {
+impl<'a, B: Opening> Model for SeatedDesk<'a, B> {
     ghost use Rattle.grove_desk.specs.Desks.{DeskState};
 
     ghost Value = { DeskState };
 
-    ghost view = { λ watched. watched.desk.now };
+    ghost view = { λ seated. seated.desk.now };
 }
 
-impl<'a, B: Opening> WatchedDesk<'a, B> {
-    pub fn new(desk: &'a Desk<B>, guest: &'a Guest<'a>) -> Self {
-        WatchedDesk { desk, guest }
+impl<'a, B: Opening> SeatedDesk<'a, B> {
+    pub fn new(desk: &'a Desk<B>, seats: &'a Seats, guest: Option<&'a Guest<'a>>) -> Self {
+        SeatedDesk { desk, seats, guest }
     }
 }
 
-impl<'a, B: Opening, R: Host> Front<R> for WatchedDesk<'a, B> {
+impl<'a, B: Opening, R: Host> Front<R> for SeatedDesk<'a, B> {
     ghost use Rattle.std.specs.Thread.{IsSync};
 
-    ghost opening = { λ watched. watched.opening };
+    ghost opening = { λ seated. seated.opening };
 
     ghost asks = { IsSync R.row };
 
     fn answer(&self, rt: &R, lines: &[u8], sink: &mut RepliesSink) -> Visited {
-        let mut visitor = WatchedVisit::new(self.desk, self.guest);
-        let ended = visit(rt, &mut visitor, lines, sink);
-        Visited::new(ended, visitor.told())
+        let _turn = self.seats.turn_of_body(rt, lines.len());
+        match self.guest {
+            Some(guest) => {
+                let mut visitor = WatchedVisit::new(self.desk, guest);
+                let ended = visit(rt, &mut visitor, lines, sink);
+                Visited::new(ended, visitor.told())
+            }
+            None => Front::answer(self.desk, rt, lines, sink),
+        }
     }
 
     fn snapshot(&self, rt: &R) -> Result<Store, NoMemory> {

@@ -3,10 +3,10 @@ use Rattle.grove_desk.specs.Desks.{DeskState, VisitState, IsShared}
 use Rattle.grove_desk.specs.declared.told.Told.{Told}
 use Rattle.grove_page.specs.Pages.{ends_refused, is_refused, Visits, VisitsDesk}
 use Rattle.grove_page.proofs.Refused.{answered}
-use Rattle.grove_serve.proofs.watching.WatchedDeskFront.answer.Goals as goal
+use Rattle.grove_serve.proofs.watching.SeatedDeskFront.answer.Goals as goal
 
-pub returns : goal.returns
-returns g c =
+pub returns-in-Some : goal.returns-in-Some
+returns-in-Some g c =
     let (out, holds, visits) = c.visit-ended.ensures in
     let Begins : VisitState → Type 0 = λ before.
     Visits IsShared before c.args.lines.now c.visit-ended.result out c.visit-ended.new.answers in
