@@ -41,7 +41,7 @@ from grove_etcd.members import Members  # noqa: E402
 from grove_etcd.refusals import Refused  # noqa: E402
 from grove_etcd.submitting import Submitter  # noqa: E402
 from grove_etcd.tree import names_of, ways_down  # noqa: E402
-from grove_etcd.waiting import wait  # noqa: E402
+from grove_etcd.waiting import Watched, wait  # noqa: E402
 from grove_etcd.wire import absent, deleting, putting, unchanged  # noqa: E402
 from grove_etcd.worker import Worker  # noqa: E402
 from grove_etcd.works import slots  # noqa: E402
@@ -99,7 +99,7 @@ def record_locks(members, keys, lists, slot):
                 told["failed"] += 1
                 found = members.get(owner)
                 if found.value(owner) is not None:
-                    wait(members, owner, found.revision, 5)
+                    wait(members, Watched(owner, there=(owner,)), found.revision, 5)
         _, records = read_records(members, keys, accesses)
         do(keys, accesses, records, slot, told)
         puts = [putting(key, str(record)) for key, record in records.items()]

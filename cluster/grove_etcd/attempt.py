@@ -19,7 +19,7 @@ from .members import MOST_OPERATIONS, Lost, Members, pauses
 from .refusals import Refused
 from .seeing import Seen, contested, reads_for, seen, window
 from .signs import Signs, Stills
-from .waiting import wait
+from .waiting import Watched, wait
 from .wire import Guard, Operation, choosing, deleting, other_than, putting, unchanged
 
 # Does what an access stands for, with its node held: of the access, the record that it finds, and a token, the same
@@ -305,12 +305,16 @@ class Attempt:
         before = older_waiter(self.keys, self.job, path, found.found) if self.limits.queues else None
         revision, seconds = found.found.revision, self.means.beat_seconds
         if before is not None:
-            came = wait(self.members, before, revision, seconds, lambda change: change.value is None)
+            # The node may be handed to the job all the same, by one that hasn't seen those before it.
+            own = self.keys.waiter(path, self.job.age, self.job.name)
+            watched = Watched(before, own + "\0", (before, own))
+            came = wait(self.members, watched, revision, seconds, lambda change: change.value is None)
             return self.look(found.progress.step) if came else self.wait_on(found, path, before)
         if group.turn is not Turn.HELD:
             return self.look(found.progress.step)
         ours = ("", self.job.name)
-        came = wait(self.members, self.keys.owner(path), revision, seconds, lambda change: change.value in ours)
+        owner = Watched(self.keys.owner(path))
+        came = wait(self.members, owner, revision, seconds, lambda change: change.value in ours)
         if came and not came.value and self.limits.works:
             # No record is read before the work, so nothing has to be looked at.
             return found.freed(self.keys, path, came.revision)

@@ -12,7 +12,7 @@ from .keys import JOB_NAME, Keys
 from .members import GIVE_UP_SECONDS, MOST_OPERATIONS, Lost, Members, pauses
 from .planning import Planner, ways_of
 from .refusals import Refused
-from .waiting import changes
+from .waiting import Watched, changes
 from .weights import Weight
 from .wire import Operation, absent, after, putting, reading
 
@@ -123,7 +123,7 @@ class Submitter:
 
     def await_change(self, start: str, end: str, revision: int) -> None:
         """Until one of these jobs has ended; others whose names lie between them may be told of, too."""
-        came = changes(self.members, start, revision, WATCH_SECONDS, end)
+        came = changes(self.members, Watched(start, end), revision, WATCH_SECONDS)
         try:
             for change in came:
                 if change.value is not None and Progress.read(change.value).has_ended():

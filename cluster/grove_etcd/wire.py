@@ -144,12 +144,18 @@ def other_than(key: str, value: str) -> Guard:
     return Guard(etcdrpc.Compare(result="NOT_EQUAL", target="VALUE", key=key.encode(), value=value.encode()))
 
 
-def watching(key: str, revision: int, end: str | None = None) -> Any:
-    """Tells of each change of the key, or of those up to `end`, after the revision."""
-    create = etcdrpc.WatchCreateRequest(key=key.encode(), start_revision=revision + 1)
-    if end is not None:
-        create.range_end = end.encode()
+def watching(key: str, end: str | None = None) -> Any:
+    """Tells of each change of the key, or of those up to `end`, from now on."""
+    create = etcdrpc.WatchCreateRequest(key=key.encode(), range_end=(end or "").encode())
     return etcdrpc.WatchRequest(create_request=create)
+
+
+def looking_back(key: str, end: str | None, since: int) -> Any:
+    """Asks for the key, or for those up to `end`, that were put at this revision or later, as the member that is asked
+    has them."""
+    return etcdrpc.RangeRequest(
+        key=key.encode(), range_end=(end or "").encode(), min_mod_revision=since, serializable=True
+    )
 
 
 @dataclass(frozen=True)
@@ -164,3 +170,12 @@ class Change:
 def change(event: Any) -> Change:
     value = None if event.type == DELETED else event.kv.value.decode()
     return Change(event.kv.key.decode(), value, event.kv.mod_revision)
+
+
+def missed(answer: Any, revision: int, there: Iterable[str] = ()) -> list[Change]:
+    """What was put after the revision, by the answer to `looking_back`, and which of the keys that were there are
+    gone."""
+    put = [Change(pair.key.decode(), pair.value.decode(), pair.mod_revision) for pair in answer.kvs]
+    left = {each.key for each in put}
+    gone = [Change(key, None, answer.header.revision) for key in there if key not in left]
+    return gone + [each for each in put if each.revision > revision]

@@ -18,7 +18,7 @@ from .keys import Keys, last_part
 from .members import Lost, Members, pauses
 from .seeing import Seen
 from .together import Together, reads_together
-from .waiting import wait
+from .waiting import Watched, wait
 from .wire import Found, after, reading_below
 
 # Jobs that are looked at at once, and those whose plans are read at once.
@@ -197,4 +197,5 @@ class Worker:
         """Until jobs are submitted, or it is time to look for those that are left."""
         fresh = self.keys.whole("q")
         seconds = min(1.0, self.means.patience / 4)
-        wait(self.members, fresh, found.revision, seconds, lambda change: change.value is not None, after(fresh))
+        watched = Watched(fresh, after(fresh))
+        wait(self.members, watched, found.revision, seconds, lambda change: change.value is not None)

@@ -218,6 +218,25 @@ def few_commit_in_vain(cluster, grove, number):
     return None if store.records("/") == [40] else f"{store.records('/')}, {counts}"
 
 
+def a_job_is_woken_where_the_node_is_handed_past_an_older_one(cluster, grove):
+    """Whoever lets the node go hasn't seen that an older job has come before the first in line."""
+    store = Store(cluster, grove, "past", [[["add", "/", 1]]] * 3)
+    holds, older, younger = (store.attempt(number, patience=2.5 * SECONDS) for number in range(3))
+    one_group(holds)
+    one_group(younger)
+    found = holds.look(1)
+    one_group(older)
+    waits = younger.look(0)
+    holds.run(found)
+    younger.wait_on = None
+    woken = younger.go_on(waits)
+    younger.run(woken)
+    store.work()
+    store.audit()
+    came = waits.progress.step, woken.progress.step, store.records("/")
+    return None if came == (0, 1, [3]) else f"came {came}"
+
+
 def run_all(workers):
     threads = [threading.Thread(target=worker.run, args=(True,)) for worker in workers]
     for thread in threads:
@@ -293,6 +312,7 @@ TRIALS = [
     two_workers_at_one_job_do_it_once,
     a_job_is_taken_up_by_one_that_waits_for_it,
     one_is_woken_at_each_release,
+    a_job_is_woken_where_the_node_is_handed_past_an_older_one,
     a_forgotten_job_is_not_done_again,
     what_is_submitted_by_an_id_is_made_once,
     a_full_epoch_is_followed_by_the_next,

@@ -1,0 +1,70 @@
+"""Watches, by a member that has been told what to answer."""
+import unittest
+from types import SimpleNamespace
+
+import here  # noqa: F401
+from etcd3 import etcdrpc
+from etcd3.etcdrpc import kv_pb2
+from grove_etcd.waiting import Watched, changes, wait
+from grove_etcd.wire import DELETED, Change
+
+
+def event(key, value, revision):
+    pair = kv_pb2.KeyValue(key=key.encode(), value=(value or "").encode(), mod_revision=revision)
+    return kv_pb2.Event(type=DELETED if value is None else 0, kv=pair)
+
+
+class Answers(list):
+    def cancel(self):
+        self.clear()
+
+
+class Member:
+    """Its watch is there at this revision, at which these keys stand; it then tells of these events."""
+
+    token, calls = (), SimpleNamespace(Range=None)
+
+    def __init__(self, revision, stand=(), *events):
+        header = etcdrpc.ResponseHeader(revision=revision)
+        self.present = etcdrpc.RangeResponse(header=header, kvs=[event(*each).kv for each in stand])
+        told = etcdrpc.WatchResponse(header=header, events=[event(*each) for each in events])
+        self.answers = Answers([etcdrpc.WatchResponse(header=header, created=True), told])
+        self.asked_for = []
+
+    @property
+    def asked(self):
+        return self
+
+    def watch(self, request, **_):
+        self.asked_for.append(request.create_request)
+        return self.answers
+
+    def ask(self, _call, request, _seconds):
+        self.asked_for.append(request)
+        return self.present
+
+
+class Watches(unittest.TestCase):
+    def test_what_was_missed_is_told_first(self):
+        member = Member(12, [("a", "1", 5), ("b", "2", 11)], ("b", "3", 13))
+        told = list(changes(member, Watched("a", "c"), 9, 1))
+        self.assertEqual(told, [Change("b", "2", 11), Change("b", "3", 13)])
+        watch, present = member.asked_for
+        self.assertEqual((watch.start_revision, present.serializable, present.min_mod_revision), (0, True, 10))
+
+    def test_a_key_that_is_gone_is_told(self):
+        member = Member(12, [("a", "1", 5)])
+        self.assertEqual(wait(member, Watched("a", "c", ("a", "b")), 9, 1), Change("b", None, 12))
+
+    def test_where_nothing_was_missed_nothing_is_read(self):
+        member = Member(9, [], ("a", None, 10))
+        self.assertEqual(wait(member, Watched("a"), 9, 1), Change("a", None, 10))
+        self.assertEqual(len(member.asked_for), 1)
+
+    def test_what_is_known_already_isnt_told(self):
+        member = Member(7, [], ("a", "", 8), ("a", "1", 9))
+        self.assertEqual(list(changes(member, Watched("a"), 9, 1)), [])
+
+
+if __name__ == "__main__":
+    unittest.main()
