@@ -17,11 +17,13 @@ from .journal import Journal
 from .keys import Keys, last_part
 from .members import MOST_OPERATIONS, Lost, Members, pauses
 from .refusals import Refused
-from .seeing import Seen, contested, reads_for, seen, window
+from .seeing import MOST_READS, Seen, contested, is_last, reads_for, seen, window
 from .signs import Signs, Stills
 from .waiting import Watched, wait
-from .wire import Guard, Operation, choosing, deleting, other_than, putting, unchanged
+from .wire import Found, Guard, Operation, choosing, deleting, other_than, putting, unchanged
 
+# Of operations of a transaction in which another one finds out whether a node is held.
+MOST_INNER = 3
 # Does what an access stands for, with its node held: of the access, the record that it finds, and a token, the same
 # for each try at this access and for no other one.
 Work = Callable[[Access, int, str], None]
@@ -54,13 +56,32 @@ class Means:
         return self.patience / 2.5
 
 
+@dataclass(frozen=True)
+class Beginning:
+    """A job's first group, for the transaction that ends the one before: taken if the job is still as it was seen. In
+    both cases it reads what comes next."""
+
+    guards: list[Guard]
+    then: list[Operation]
+    otherwise: list[Operation]
+
+    @property
+    def size(self) -> int:
+        """Of operations, as etcd counts them."""
+        return MOST_INNER + max(len(self.guards), len(self.then), len(self.otherwise))
+
+    def operation(self) -> Operation:
+        return choosing(self.guards, self.then, self.otherwise)
+
+
 class Attempt:
-    def __init__(self, means: Means, job: Job, following: Job | None = None) -> None:
-        """With the job's last commit the following one is looked at already."""
+    def __init__(self, means: Means, job: Job) -> None:
         self.means, self.members, self.keys = means, means.members, means.keys
-        self.job, self.following = job, following
-        # The following job as it was seen, and a job that this one waits for and that nobody goes on with.
+        self.job = job
+        # The job that the worker does next, and as it was seen with this one's last commit, which may begin it.
+        self.following: Attempt | None = None
         self.ahead: Seen | None = None
+        # A job that this one waits for and that nobody goes on with.
         self.abandoned: str | None = None
         # Others came to its nodes in between, before anybody had begun it.
         self.stepped_back = False
@@ -68,6 +89,7 @@ class Attempt:
         self.worked_at: int | None = None
         self.waits_since: float | None = None
         self.pauses: Iterator[float] = pauses()
+        self.reads_at: dict[int, list[Operation]] = {}
 
     def run(self, found: Seen | None) -> None:
         """Until the job has ended, is set aside, or is another worker's; or until the worker is to stop."""
@@ -100,10 +122,26 @@ class Attempt:
         group = group_of(self.keys, self.job, steps, progress, found.found, self.limits)
         return self.wait(found, group) if group.does_nothing() else self.commit(found, group)
 
-    def look(self, step: int) -> Seen | None:
-        """Reads the job; `step` is a guess of which comes next."""
-        reads = reads_for(self.keys, self.job, step, self.limits)
-        return self.at(step, seen(self.keys, self.job, self.members.read(reads)))
+    def look(self, step: int, revision: int = 0) -> Seen | None:
+        """Reads the job, at present or at this revision or a later one; `step` is a guess of which comes next."""
+        reads = self.reads_ahead(step)
+        found = self.members.read_since(reads, revision) if revision else self.members.read(reads)
+        return self.at(step, self.found_in(found))
+
+    def reads(self, step: int) -> list[Operation]:
+        """What has to be read before this step."""
+        if step not in self.reads_at:
+            self.reads_at[step] = reads_for(self.keys, self.job, step, self.limits)
+        return self.reads_at[step]
+
+    def reads_ahead(self, step: int) -> list[Operation]:
+        """The same; and where only one group is left, what the next job begins with."""
+        own = self.reads(step)
+        if self.following is None or not self.limits.works or not is_last(self.job, step):
+            return own
+        # Its own last: of those who stand in line only this job needs to know what they wait with.
+        both = self.following.reads(0) + own
+        return both if len(both) <= MOST_READS else own
 
     def at(self, step: int, found: Seen | None) -> Seen | None:
         """The job as it was seen with what the steps from this one on need; anew where its node was handed to it."""
@@ -113,29 +151,60 @@ class Attempt:
 
     def commit(self, found: Seen, group: Group) -> Seen | None:
         """Takes the steps, and looks at what comes next in the same transaction."""
-        after, changes = group.after(), self.changes(found, group)
-        then = self.reads_then(after)
-        if len(changes) + len(then) > MOST_OPERATIONS:
+        after, begins = group.after(), self.beginning(found, group)
+        group.place = int(begins is not None)
+        guards, changes = self.guards(found, group), self.changes(found, group)
+        otherwise, then = self.reads(found.progress.step), self.reads_then(after)
+        if begins and max(len(guards), len(changes) + 1, len(otherwise)) + begins.size <= MOST_OPERATIONS:
+            then = [begins.operation()]
+        elif len(changes) + len(then) > MOST_OPERATIONS - MOST_INNER:
             then = []
-        otherwise = reads_for(self.keys, self.job, found.progress.step, self.limits)
         try:
-            done = self.members.commit(self.guards(found, group), changes, then, otherwise)
+            done = self.members.commit(guards, changes, then, otherwise)
         except Lost as lost:
             return self.look_again(found.progress.step, lost)
-        if not done.succeeded:
-            self.means.journal.tell("commit_failed")
-            now = self.at(found.progress.step, seen(self.keys, self.job, done.found))
-            return self.give_way(group, found, now)
+        if done.succeeded:
+            return self.committed(group, done.found, bool(then))
+        self.means.journal.tell("commit_failed")
+        now = self.at(found.progress.step, self.found_in(done.found))
+        return self.give_way(group, found, now)
+
+    def committed(self, group: Group, found: Found, has_looked: bool) -> Seen | None:
+        after = group.after()
         self.means.journal.tell("commit")
         self.limits = replace(self.limits, contested=None, queues=True)
         self.waits_since = None
         if group.blocked is not None:
             self.means.journal.tell("waits", job=self.job.name, node=group.blocked)
-        if after.has_ended():
-            self.means.journal.tell("ended", job=self.job.name, groups=after.groups)
-            self.ahead = seen(self.keys, self.following, done.found) if self.following and then else None
+        if not after.has_ended():
+            return self.found_in(found) if has_looked else self.look(after.step)
+        self.means.journal.tell("ended", job=self.job.name, groups=after.groups)
+        self.ahead = self.following.found_in(found) if self.following else None
+        return None
+
+    def found_in(self, found: Found) -> Seen | None:
+        return seen(self.keys, self.job, found)
+
+    def beginning(self, found: Seen, group: Group) -> Beginning | None:
+        """How the next job is begun in the group's transaction: where that ends this job, and nobody had begun the
+        next one when it was seen."""
+        following = self.following
+        if following is None or self.means.stopping or not (self.limits.works and group.after().has_ended()):
             return None
-        return seen(self.keys, self.job, done.found) if then else self.look(after.step)
+        ahead = following.found_in(found.found)
+        if ahead is None or ahead.under_way is not None:
+            return None
+        return following.begin_after(ahead, group, set(self.handed(found, group)))
+
+    def begin_after(self, found: Seen, ending: Group, handed: set[str]) -> Beginning | None:
+        """The job's first group. A node that the ending one lets go isn't free yet; where it is handed to a third job,
+        this one stands in line for it."""
+        group = group_of(self.keys, self.job, window(self.job, 0), found.progress, found.found, self.limits)
+        after, free = group.after(), ending.hands.keys() - handed
+        if after.has_ended() or group.blocked in free or ending.hands.keys() & set(group.locked):
+            return None
+        then = [*self.changes(found, group), *self.reads_then(after)]
+        return Beginning(self.guards(found, group), then, self.reads(0))
 
     def give_way(self, group: Group, before: Seen, now: Seen | None) -> Seen | None:
         """Where others came to a node in between, the job stands in line for it; a fresh one is left for later."""
@@ -152,8 +221,8 @@ class Attempt:
 
     def reads_then(self, after: Progress) -> list[Operation]:
         if not after.has_ended():
-            return reads_for(self.keys, self.job, after.step, self.limits)
-        return reads_for(self.keys, self.following, 0, self.limits) if self.following else []
+            return self.reads_ahead(after.step)
+        return self.following.reads(0) if self.following else []
 
     def guards(self, found: Seen, group: Group) -> list[Guard]:
         """What has to hold for the group's steps to be the job's next ones, and to be allowed."""
@@ -183,7 +252,8 @@ class Attempt:
         owners = {path: name if held else "" for path, held in group.hands.items()}
         owners |= {path: last_part(key) for path, (key, _) in handed.items()}
         changes += [putting(keys.owner(path), owner) for path, owner in owners.items()]
-        changes += [each for place, told in enumerate(handed.values(), 1) for each in self.hand_over(place, *told)]
+        places = enumerate(handed.values(), group.place + 1)
+        changes += [each for place, told in places for each in self.hand_over(place, *told)]
         changes += [putting(keys.record(path), str(group.records[path])) for path in sorted(group.changed)]
         if found.progress.waits and group.taken:
             first = self.job.steps[found.progress.step].path
@@ -289,12 +359,12 @@ class Attempt:
         changes = [putting(self.keys.under_way(self.job.name), under_way.text())]
         if found.under_way is None:
             changes.append(deleting(self.keys.fresh(self.job.age, self.job.name)))
-        reads = reads_for(self.keys, self.job, found.progress.step, self.limits)
+        reads = self.reads(found.progress.step)
         try:
             done = self.members.commit([found.claim(self.keys, self.job)], changes, reads, reads)
         except Lost as lost:
             return self.look_again(found.progress.step, lost)
-        return self.at(found.progress.step, seen(self.keys, self.job, done.found))
+        return self.at(found.progress.step, self.found_in(done.found))
 
     # Waiting
 
@@ -309,7 +379,7 @@ class Attempt:
             own = self.keys.waiter(path, self.job.age, self.job.name)
             watched = Watched(before, own + "\0", (before, own))
             came = wait(self.members, watched, revision, seconds, lambda change: change.value is None)
-            return self.look(found.progress.step) if came else self.wait_on(found, path, before)
+            return self.look(found.progress.step, came.revision) if came else self.wait_on(found, path, before)
         if group.turn is not Turn.HELD:
             return self.look(found.progress.step)
         ours = ("", self.job.name)
@@ -319,7 +389,7 @@ class Attempt:
             # No record is read before the work, so nothing has to be looked at.
             return found.freed(self.keys, path, came.revision)
         step = found.progress.step + bool(came and came.value)
-        return self.look(step) if came else self.wait_on(found, path, None)
+        return self.look(step, came.revision) if came else self.wait_on(found, path, None)
 
     def wait_on(self, found: Seen, path: str, before: str | None) -> Seen | None:
         """Gives a sign of life. Where nobody goes on with what the job waits for, the job is left, or goes first."""

@@ -43,6 +43,8 @@ class Group:
     # The node whose lock comes next and isn't for this job yet, and why.
     blocked: str | None = None
     turn: Turn | None = None
+    # Among the groups of one transaction.
+    place: int = 0
 
     def lock(self, path: str) -> None:
         self.locked.append(path)
@@ -93,7 +95,7 @@ class Group:
 
     def event(self, is_held: bool = False) -> Event:
         mark = is_held and self.may_mark
-        return Event(self.taken, mark, {path: self.records[path] for path in sorted(self.changed)})
+        return Event(self.taken, mark, {path: self.records[path] for path in sorted(self.changed)}, self.place)
 
 
 @dataclass(frozen=True)

@@ -2,7 +2,7 @@
 from __future__ import annotations
 
 import json
-from dataclasses import asdict, dataclass, field, replace
+from dataclasses import dataclass, field, replace
 from enum import Enum
 from functools import cached_property
 from typing import Any, Iterable, Union
@@ -93,7 +93,7 @@ class Progress:
         return Progress(**json.loads(text))
 
     def text(self) -> str:
-        return written(asdict(self))
+        return written(vars(self))
 
     def has_ended(self) -> bool:
         return self.step == self.steps
@@ -115,7 +115,7 @@ class UnderWay:
         return UnderWay(**json.loads(text))
 
     def text(self) -> str:
-        return written(asdict(self))
+        return written(vars(self))
 
 
 @dataclass(frozen=True)
@@ -133,7 +133,7 @@ class Event:
         return Event(**json.loads(text))
 
     def text(self) -> str:
-        return written(asdict(self))
+        return written(vars(self))
 
 
 @dataclass(frozen=True)
@@ -147,14 +147,14 @@ class Waiter:
     @staticmethod
     def of(progress: Progress) -> Waiter:
         locked = replace(progress, step=progress.step + 1, groups=progress.groups + 1, marked=False, waits=False)
-        return Waiter(progress.groups, asdict(locked))
+        return Waiter(progress.groups, vars(locked))
 
     @staticmethod
     def read(text: str) -> Waiter:
         return Waiter(**json.loads(text))
 
     def text(self) -> str:
-        return written(asdict(self))
+        return written(vars(self))
 
 
 def nodes_of(jobs: Iterable[Job]) -> set[str]:

@@ -15,7 +15,7 @@ import grpc
 from etcd3 import etcdrpc
 
 from .refusals import Failed
-from .wire import Done, Found, Guard, Operation, after, counting, done, ranging, reading, transaction
+from .wire import Done, Found, Guard, Operation, after, at_hand, counting, done, ranging, reading, transaction
 
 # Of operations in a transaction, and of its compares (etcd's own limit, as it comes).
 MOST_OPERATIONS = 128
@@ -141,6 +141,11 @@ class Members:
         """At most 128 reads, at one revision."""
         request = transaction([], reads, [])
         return done(self.ask_until_told(lambda member: member.ask(member.calls.Txn, request, self.seconds))).found
+
+    def read_since(self, reads: list[Operation], revision: int) -> Found:
+        """The same, at this revision or a later one: where the member that is asked has it, as that has them."""
+        found = self.read(list(map(at_hand, reads)))
+        return found if found.revision >= revision else self.read(reads)
 
     def read_all(self, reads: Sequence[Operation], revision: int) -> Found:
         """Any number of reads, all of which name this revision."""

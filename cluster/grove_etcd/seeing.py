@@ -38,11 +38,17 @@ def window(job: Job, step: int) -> list[Step]:
     steps: list[Step] = []
     reads = 0
     for each in job.steps[step : step + MOST_STEPS]:
-        reads += {Kind.LOCK: 3, Kind.ACCESS: 1, Kind.UNLOCK: 1}[each.kind]
+        reads += 3 if each.kind is Kind.LOCK else 1
         if reads > MOST_READS:
             break
         steps.append(each)
     return steps
+
+
+def is_last(job: Job, step: int) -> bool:
+    """Do the steps from this one on make one group, whoever comes, where each access has work?"""
+    kinds = [each.kind for each in job.steps[step:]]
+    return len(kinds) <= len(window(job, step)) and Kind.LOCK not in kinds and Kind.ACCESS not in kinds[1:]
 
 
 def reads_for(keys: Keys, job: Job, step: int, limits: Limits) -> list[Operation]:

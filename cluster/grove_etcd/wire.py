@@ -71,10 +71,17 @@ def transaction(guards: list[Guard], then: list[Operation], otherwise: list[Oper
 
 def done(answer: Any) -> Done:
     found = Found(answer.header.revision)
-    for response in answer.responses:
-        if response.WhichOneof("response") == "response_range":
-            found.add(response.response_range.kvs)
+    add_all(found, answer.responses)
     return Done(answer.succeeded, found)
+
+
+def add_all(found: Found, responses: Iterable[Any]) -> None:
+    """What was read, also by transactions within the one."""
+    for response in responses:
+        if response.HasField("response_range"):
+            found.add(response.response_range.kvs)
+        elif response.HasField("response_txn"):
+            add_all(found, response.response_txn.responses)
 
 
 def ranging(start: str, end: str, limit: int = 0, revision: int = 0, keys_only: bool = False) -> Any:
@@ -90,6 +97,14 @@ def counting(prefix: str) -> Any:
 
 def reading(key: str, revision: int = 0) -> Operation:
     return Operation(etcdrpc.RequestOp(request_range=etcdrpc.RangeRequest(key=key.encode(), revision=revision)))
+
+
+def at_hand(read: Operation) -> Operation:
+    """The same read, of what the member that is asked has itself, without a word with the others."""
+    request = etcdrpc.RequestOp()
+    request.CopyFrom(read)
+    request.request_range.serializable = True
+    return Operation(request)
 
 
 def reading_below(prefix: str, limit: int = 0, revision: int = 0, keys_only: bool = False) -> Operation:

@@ -130,19 +130,28 @@ class Worker:
         return together.left if done.succeeded else []
 
     def do_one_by_one(self, jobs: list[Job]) -> None:
+        """Where it ends early, it still goes on with a job that was begun with the one before."""
         until = time.monotonic() + self.means.patience
         ahead: Seen | None = None
-        for number, job in enumerate(jobs):
-            following = jobs[number + 1] if number + 1 < len(jobs) else None
-            attempt = self.attempt(self.means, job, following)
+        for attempt in self.attempts(jobs):
             found = ahead or attempt.look(0)
-            if found is None or found.under_way is not None:
+            if found is None or not found.is_for(self.means.name):
                 return
+            if time.monotonic() > until:
+                attempt.following = None
             attempt.run(found)
             ahead = attempt.ahead
             self.step_back(attempt.stepped_back)
-            if self.means.stopping or self.take_up_abandoned(attempt) or time.monotonic() > until:
+            is_begun = ahead is not None and ahead.under_way is not None
+            if not is_begun and (self.means.stopping or self.take_up_abandoned(attempt) or time.monotonic() > until):
                 return
+
+    def attempts(self, jobs: list[Job]) -> list[Attempt]:
+        """At these jobs, one after the other."""
+        attempts = [self.attempt(self.means, job) for job in jobs]
+        for attempt, following in zip(attempts, attempts[1:]):
+            attempt.following = following
+        return attempts
 
     def step_back(self, clashed: bool) -> None:
         """From the second time on that others were at a job's nodes, one after the other, this worker pauses: they get

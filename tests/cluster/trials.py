@@ -10,6 +10,13 @@ from dataclasses import replace
 from functools import partial
 from random import Random
 
+from beginning import (
+    a_job_is_begun_with_the_end_of_the_one_before,
+    one_that_another_worker_has_begun_is_let_be,
+    the_node_of_both_goes_to_whom_stands_in_line,
+    where_its_node_is_held_it_stands_in_line,
+    where_its_node_is_taken_it_is_begun_later,
+)
 from members_at_hand import SecretCluster
 from planted import (
     a_record_that_is_none_sets_its_job_aside,
@@ -313,6 +320,11 @@ TRIALS = [
     a_job_is_taken_up_by_one_that_waits_for_it,
     one_is_woken_at_each_release,
     a_job_is_woken_where_the_node_is_handed_past_an_older_one,
+    a_job_is_begun_with_the_end_of_the_one_before,
+    one_that_another_worker_has_begun_is_let_be,
+    where_its_node_is_taken_it_is_begun_later,
+    where_its_node_is_held_it_stands_in_line,
+    the_node_of_both_goes_to_whom_stands_in_line,
     a_forgotten_job_is_not_done_again,
     what_is_submitted_by_an_id_is_made_once,
     a_full_epoch_is_followed_by_the_next,

@@ -10,7 +10,7 @@ from grove_etcd.jobs import Event, Job, Kind, Progress
 from grove_etcd.keys import Keys
 from grove_etcd.past import Past, Taken, in_order
 from grove_etcd.refusals import Refused
-from grove_etcd.seeing import reads_for, window
+from grove_etcd.seeing import is_last, reads_for, window
 from grove_etcd.wire import Entry, Found
 
 KEYS = Keys("store")
@@ -67,6 +67,11 @@ class Groups(unittest.TestCase):
     def test_what_is_read(self):
         self.assertEqual(len(reads_for(KEYS, JOB, 0, Limits())), 3 + 2 * 3 + 2 + 1)
         self.assertEqual(len(reads_for(KEYS, JOB, 0, Limits(works=True))), 3 + 2 * 3 + 1 + 1)
+
+    def test_which_group_is_the_last(self):
+        self.assertEqual([is_last(JOB, step) for step in range(6)], [False, False, False, True, True, True])
+        long = Job("long", 0, [["get", "/a"]] * 2, [["lock", "/a"], ["access", 0], ["access", 1], ["unlock", "/a"]])
+        self.assertEqual([is_last(long, step) for step in range(4)], [False, False, True, True])
 
     def test_a_record_that_is_none(self):
         with self.assertRaises(Refused):
@@ -128,6 +133,16 @@ class Audits(unittest.TestCase):
         apart[1].go_through(two.taken)
         self.assertEqual(together.hands["/a"], 3)
         self.assertEqual(sum(each.hands["/a"] for each in apart), 3)
+
+    def test_a_job_that_is_begun_with_the_end_of_another(self):
+        """It comes before the end, and its lock isn't one that was handed to it."""
+        plan = [["lock", "/b"], ["unlock", "/b"]]
+        one, two = past("one", HOLD, (1, 1, False), (2, 1, False)), past("two", plan, (2, 1, False), (3, 1, False))
+        one.taken[1] = replace(one.taken[1], event=replace(one.taken[1].event, place=1))
+        passing, order = Passing(), in_order([one, two])
+        passing.go_through(order)
+        self.assertEqual([taken.job.name for taken in order], ["one", "two", "one", "two"])
+        self.assertEqual((passing.hands["/a"], passing.hands["/b"], passing.holders), (2, 2, {}))
 
     def test_a_mark_that_is_left_out(self):
         passing = Passing()
