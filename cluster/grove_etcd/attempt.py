@@ -87,6 +87,8 @@ class Attempt:
         self.stepped_back = False
         self.limits = Limits(works=means.work is not None)
         self.worked_at: int | None = None
+        # When the job's last sign of life was given, or before that; none is given where a node is handed to it.
+        self.signed_at = 0.0
         self.waits_since: float | None = None
         self.pauses: Iterator[float] = pauses()
         self.reads_at: dict[int, list[Operation]] = {}
@@ -159,6 +161,7 @@ class Attempt:
             then = [begins.operation()]
         elif len(changes) + len(then) > MOST_OPERATIONS - MOST_INNER:
             then = []
+        self.signed_at = time.monotonic()
         try:
             done = self.members.commit(guards, changes, then, otherwise)
         except Lost as lost:
@@ -179,7 +182,8 @@ class Attempt:
         if not after.has_ended():
             return self.found_in(found) if has_looked else self.look(after.step)
         self.means.journal.tell("ended", job=self.job.name, groups=after.groups)
-        self.ahead = self.following.found_in(found) if self.following else None
+        if self.following is not None:
+            self.ahead, self.following.signed_at = self.following.found_in(found), self.signed_at
         return None
 
     def found_in(self, found: Found) -> Seen | None:
@@ -303,7 +307,7 @@ class Attempt:
         record = record_of(self.keys, step.path, found.found)
         under_way = found.under_way or UnderWay(self.means.name)
         failure: Exception | None = None
-        self.means.signs.begin(self.job.name, found)
+        self.means.signs.begin(self.job.name, found, self.sign_due())
         try:
             self.perform(self.job.accesses[step.access], record, f"{self.job.name}/{step.access}")
         except Exception as why:  # whatever the work raises, it has failed
@@ -360,6 +364,7 @@ class Attempt:
         if found.under_way is None:
             changes.append(deleting(self.keys.fresh(self.job.age, self.job.name)))
         reads = self.reads(found.progress.step)
+        self.signed_at = time.monotonic()
         try:
             done = self.members.commit([found.claim(self.keys, self.job)], changes, reads, reads)
         except Lost as lost:
@@ -373,7 +378,7 @@ class Attempt:
         takes long."""
         path = str(group.blocked)
         before = older_waiter(self.keys, self.job, path, found.found) if self.limits.queues else None
-        revision, seconds = found.found.revision, self.means.beat_seconds
+        revision, seconds = found.found.revision, max(0.0, self.sign_due() - time.monotonic())
         if before is not None:
             # The node may be handed to the job all the same, by one that hasn't seen those before it.
             own = self.keys.waiter(path, self.job.age, self.job.name)
@@ -390,6 +395,9 @@ class Attempt:
             return found.freed(self.keys, path, came.revision)
         step = found.progress.step + bool(came and came.value)
         return self.look(step, came.revision) if came else self.wait_on(found, path, None)
+
+    def sign_due(self) -> float:
+        return self.signed_at + self.means.beat_seconds
 
     def wait_on(self, found: Seen, path: str, before: str | None) -> Seen | None:
         """Gives a sign of life. Where nobody goes on with what the job waits for, the job is left, or goes first."""

@@ -28,10 +28,10 @@ class Signs:
         self.due = 0.0
         self.thread: threading.Thread | None = None
 
-    def begin(self, name: str, found: Seen) -> None:
+    def begin(self, name: str, found: Seen, due: float) -> None:
+        """For a job whose next sign is due at that time."""
         with self.lock:
-            self.name, self.last, self.taken = name, found, False
-            self.due = time.monotonic() + self.seconds
+            self.name, self.last, self.taken, self.due = name, found, False, due
         if self.thread is None:
             self.thread = threading.Thread(target=self.give, daemon=True)
             self.thread.start()

@@ -244,6 +244,23 @@ def a_job_is_woken_where_the_node_is_handed_past_an_older_one(cluster, grove):
     return None if came == (0, 1, [3]) else f"came {came}"
 
 
+def signs_of_life_are_given_between_waits(cluster, grove):
+    """A job that has waited for one thing after the other gives a sign when that is due, and not only once one of them
+    takes so long. The watch is told to last no time here."""
+    store = Store(cluster, grove, "signs", [[["add", "/", 1]]] * 3)
+    holds, before, waits = (store.attempt(number, patience=2.5 * SECONDS) for number in range(3))
+    one_group(holds)
+    one_group(before)
+    found, lasted, member = one_group(waits), [], waits.members.asked
+    watch = member.watch
+    member.watch = lambda request, timeout, metadata: lasted.append(timeout) or watch(request, 0, metadata)
+    waits.signed_at -= 2 * SECONDS
+    found = waits.go_on(found)
+    key = store.keys.under_way(store.jobs[2])
+    came = lasted, store.members.get(key).version_of(key), waits.sign_due() > time.monotonic()
+    return None if came == ([0], 2, True) else f"came {came}"
+
+
 def run_all(workers):
     threads = [threading.Thread(target=worker.run, args=(True,)) for worker in workers]
     for thread in threads:
@@ -320,6 +337,7 @@ TRIALS = [
     a_job_is_taken_up_by_one_that_waits_for_it,
     one_is_woken_at_each_release,
     a_job_is_woken_where_the_node_is_handed_past_an_older_one,
+    signs_of_life_are_given_between_waits,
     a_job_is_begun_with_the_end_of_the_one_before,
     one_that_another_worker_has_begun_is_let_be,
     where_its_node_is_taken_it_is_begun_later,

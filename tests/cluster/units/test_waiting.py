@@ -5,8 +5,9 @@ from types import SimpleNamespace
 import here  # noqa: F401
 from etcd3 import etcdrpc
 from etcd3.etcdrpc import kv_pb2
+from grove_etcd.members import Members
 from grove_etcd.waiting import Watched, changes, wait
-from grove_etcd.wire import DELETED, Change
+from grove_etcd.wire import DELETED, Change, Found, reading
 
 
 def event(key, value, revision):
@@ -64,6 +65,15 @@ class Watches(unittest.TestCase):
     def test_what_is_known_already_isnt_told(self):
         member = Member(7, [], ("a", "", 8), ("a", "1", 9))
         self.assertEqual(list(changes(member, Watched("a"), 9, 1)), [])
+
+    def test_a_member_that_is_behind_asks_the_others(self):
+        members, told = Members([]), []
+        members.read = lambda reads: told.append(reads) or Found(7 + len(told))
+        for revision, wanted in ((8, [True]), (11, [True, False])):
+            told_before = len(told)
+            found = members.read_since([reading("a")], revision)
+            self.assertEqual([reads[0].request_range.serializable for reads in told[told_before:]], wanted)
+            self.assertEqual(found.revision, 7 + len(told))
 
 
 if __name__ == "__main__":
