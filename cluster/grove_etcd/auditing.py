@@ -83,7 +83,7 @@ class Events:
             self.listed += [["take", number]] * group.event.takes
             if not group.event.mark:
                 continue
-            if step and step.path not in passing.holders and chain.was_held(step.path, group.revision):
+            if step and step.path not in passing.holders and chain.was_held(step.path, group):
                 self.earlier_waits[step.path] += 1
             else:
                 self.listed.append(["mark", number])

@@ -164,10 +164,11 @@ class Chain:
         freed = self.own.freed.get(path, opening.freed)
         return Left(record, revision, opening.hands + self.own.hands[path], freed)
 
-    def was_held(self, path: str, revision: int) -> bool:
-        """Did a job of an earlier epoch let the node go only after this revision?"""
+    def was_held(self, path: str, group: Taken) -> bool:
+        """Did a job of an earlier epoch let the node go only after the group? In one transaction that which begins a
+        job is the first."""
         opening = self.nodes[path].opening
-        return opening is not None and revision < opening.freed
+        return opening is not None and (group.revision, group.event.place) < (opening.freed, 1)
 
     def stands(self, path: str, node: Node) -> bool:
         """Has nobody put the record since, not even a later job in the same transaction?"""

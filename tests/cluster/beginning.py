@@ -98,8 +98,13 @@ def where_its_node_is_held_it_stands_in_line(cluster, grove):
 
 
 def the_node_of_both_goes_to_whom_stands_in_line(cluster, grove):
-    """Three jobs at one node in one transaction: one ends, the third has the node, and the second stands in line."""
-    store = Store(cluster, grove, "of-both", [AT_ROOT] * 3)
+    """Three jobs at one node in one transaction: one ends, the third has the node, and the second stands in line. The
+    one that ends may be in an earlier epoch."""
+    faults = (fault_of_three(Store(cluster, grove, f"three-{epochs}", [AT_ROOT] * 3), epochs) for epochs in (1, 2))
+    return "; ".join(fault for fault in faults if fault) or None
+
+
+def fault_of_three(store, epochs):
     worker = store.worker(work=lambda *_: None)
     first, second = worker.attempts(worker.jobs(store.jobs[:2]))
     one_group(first)
@@ -107,8 +112,12 @@ def the_node_of_both_goes_to_whom_stands_in_line(cluster, grove):
     waits = one_group(third)
     one_group(first, first.do_work(first.look(1)))
     came = places(store, (1, 0), (0, 1), (2, 1)), first.ahead.progress.waits
+    early = store.audit().jobs if epochs == 2 else store.jobs[:1]
     third.run(third.look(waits.progress.step))
     second.run(second.look(0))
-    lines = store.audit().lines
-    is_well = came == ([[0, 1, 2]], True) and store.records("/") == [3] and lines["waits"] == "[2]"
-    return None if is_well else f"came {came}, {store.records('/')}, {lines}"
+    audited = refusal(store.audit)
+    if isinstance(audited, str):
+        return audited
+    count = store.read(store.keys.waits(epochs, "/"))
+    is_well = came == ([[0, 1, 2]], True) and early == store.jobs[:1] and count == "2" and store.records("/") == [3]
+    return None if is_well else f"came {came}, {early}, {count} waits, {store.records('/')}"

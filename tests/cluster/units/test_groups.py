@@ -3,7 +3,7 @@ import unittest
 from dataclasses import replace
 
 import here  # noqa: F401
-from grove_etcd.chain import Passing
+from grove_etcd.chain import Chain, Left, Node, Passing
 from grove_etcd.choosing import choose
 from grove_etcd.groups import Limits, Turn, answer, group_of
 from grove_etcd.jobs import Event, Job, Kind, Progress
@@ -11,6 +11,7 @@ from grove_etcd.keys import Keys
 from grove_etcd.past import Past, Taken, in_order
 from grove_etcd.refusals import Refused
 from grove_etcd.seeing import is_last, reads_for, window
+from grove_etcd.weights import Weight
 from grove_etcd.wire import Entry, Found
 
 KEYS = Keys("store")
@@ -152,6 +153,14 @@ class Audits(unittest.TestCase):
         with self.assertRaises(Refused) as told:
             passing.go_through(past("three", HOLD, (3, 0, False)).taken)
         self.assertEqual(str(told.exception), "left-out three")
+
+    def test_a_wait_for_one_of_an_earlier_epoch(self):
+        """Which let the node go at revision 5, maybe in the transaction that began the one that waits."""
+        chain = Chain.__new__(Chain)
+        chain.nodes = {"/a": Node("/a", None, None, Weight(1, 0, 0), Left(0, 0, 0, 5), None, 1)}
+        for revision, place, wanted in ((4, 2, True), (5, 0, True), (5, 1, False), (6, 0, False)):
+            waits = Taken(revision, JOB, 0, Event(1, True, {}, place))
+            self.assertEqual(chain.was_held("/a", waits), wanted)
 
     def test_a_record_of_a_node_that_isnt_accessed(self):
         job = Job("one", 0, [], HOLD)
