@@ -3,6 +3,9 @@
 The job is the worker's for as long as nobody else has put `u/NAME`: each group, and each sign of life, is guarded by
 that. So of two workers at one job one finds its guard broken and lets the job be. When to take a job up is a guess by
 the clock; if it is wrong, work can have been done twice, and nothing else.
+
+Where there is work, the transaction of a job's last group also begins the worker's next job: a transaction within it
+takes that one's first group, if its guards hold.
 """
 from __future__ import annotations
 
@@ -22,7 +25,7 @@ from .signs import Signs, Stills
 from .waiting import Watched, wait
 from .wire import Found, Guard, Operation, choosing, deleting, other_than, putting, unchanged
 
-# Of operations of a transaction in which another one finds out whether a node is held.
+# Of operations that the transaction within a group's has which finds out whether a node is held.
 MOST_INNER = 3
 # Does what an access stands for, with its node held: of the access, the record that it finds, and a token, the same
 # for each try at this access and for no other one.
@@ -182,9 +185,16 @@ class Attempt:
         if not after.has_ended():
             return self.found_in(found) if has_looked else self.look(after.step)
         self.means.journal.tell("ended", job=self.job.name, groups=after.groups)
-        if self.following is not None:
-            self.ahead, self.following.signed_at = self.following.found_in(found), self.signed_at
+        self.ahead = self.following.found_after(found, self.signed_at) if self.following else None
         return None
+
+    def found_after(self, found: Found, ended_at: float) -> Seen | None:
+        """The job as it is after the transaction, at that time or later, that ended another one and may have begun
+        this one."""
+        self.signed_at, now = ended_at, self.found_in(found)
+        if now is not None and now.under_way is not None and now.under_way.waits and now.is_for(self.means.name):
+            self.means.journal.tell("waits", job=self.job.name, node=now.under_way.waits)
+        return now
 
     def found_in(self, found: Found) -> Seen | None:
         return seen(self.keys, self.job, found)
