@@ -26,7 +26,12 @@ class Locks:
 
 def fault_of_plan(tree, accesses, steps):
     """The name of the plan's first fault; `None` where it is legal for the list."""
-    locks, done = Locks(tree), 0
+    return fault_of_steps(tree, accesses, steps, Locks(tree))
+
+
+def fault_of_steps(tree, accesses, steps, locks):
+    """The same by the rules of these locks."""
+    done = 0
     for kind, what in steps:
         if kind == "access":
             fault = fault_of_access(tree, accesses, locks, done, what)
