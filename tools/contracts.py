@@ -4,6 +4,10 @@ import re
 from definitions import TOP, WORD, crates, imports_of
 
 
+# How a function begins that a static library has for other languages; it reads as any other.
+EXPORT = 'pub extern "C" fn '
+
+
 class Clause:
     """A clause of a function: `requires` or `ensures`, its name, which may be empty, and what it names of specs/."""
 
@@ -16,8 +20,10 @@ def exported(crate):
     root = TOP / "crates" / crate / "src/lib.rt"
     if not root.exists():
         return None
-    names = re.findall(r"pub use [\w:]+::(?:\{([^}]*)\}|(\w+));", root.read_text())
-    return {word.strip() for group in names for word in (group[0] or group[1]).split(",") if word.strip()}
+    text = root.read_text()
+    names = re.findall(r"pub use [\w:]+::(?:\{([^}]*)\}|(\w+));", text)
+    used = {word.strip() for group in names for word in (group[0] or group[1]).split(",") if word.strip()}
+    return used | set(re.findall(rf"{EXPORT}(\w+)", text))
 
 
 def blocks(text):
@@ -58,7 +64,8 @@ def clauses(item):
 def sources(crate):
     """The texts of a crate's sources, but for its tests."""
     paths = sorted((TOP / "crates" / crate / "src").rglob("*.rt"))
-    return [path.read_text() for path in paths if path.name not in ("tests.rt", "examples.rt")]
+    texts = [path.read_text() for path in paths if path.name not in ("tests.rt", "examples.rt")]
+    return [text.replace(EXPORT, "pub fn ") for text in texts]
 
 
 def named(text, imports):

@@ -1,0 +1,39 @@
+"""Where each lock of a transaction is taken and released, so that others wait as little as can be.
+
+    from pickbracken import Access, Tree, plan
+
+    tree = Tree.from_paths({"/": 5, "/a": 1, "/b": 1})
+    planned = plan(tree, [Access.get("/a"), Access.add("/b", 1)])
+    print(planned.cost, planned.steps)
+
+A tree has a weight for each node, which is what it costs others to find the node locked. `plan` gives the settled
+plan of a list of accesses: it obeys the tree protocol, and no legal plan costs less. Its flow proves that, and `check`
+sees it, whoever made plan and flow. The planner and the checker are those of grove, which are proved; this package
+hands documents to its shared library, and reads the answers. `pickbracken.document` has the same calls over the bytes
+of a document.
+"""
+
+from .accesses import Access, Kind, Reply
+from .faults import BadPath, Error, NoMemory, Refused
+from .planning import Drawing, FlowRow, Judgement, Plan, Step, check, draw, judge, plan
+from .tree import Tree
+
+__all__ = [
+    "Access",
+    "BadPath",
+    "Drawing",
+    "Error",
+    "FlowRow",
+    "Judgement",
+    "Kind",
+    "NoMemory",
+    "Plan",
+    "Refused",
+    "Reply",
+    "Step",
+    "Tree",
+    "check",
+    "draw",
+    "judge",
+    "plan",
+]

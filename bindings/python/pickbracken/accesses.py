@@ -1,0 +1,70 @@
+"""The accesses of a list, and what they reply."""
+
+from __future__ import annotations
+
+from dataclasses import dataclass, replace
+from enum import Enum
+from typing import List, Optional, Union
+
+
+class Kind(Enum):
+    """What an access does to the record of its node."""
+
+    GET = "get"
+    SET = "set"
+    ADD = "add"
+    TAKE = "take"
+
+
+class Reply(Enum):
+    """A reply that is no number."""
+
+    # The number is stored.
+    STORED = "ok"
+    # The sum or difference leaves 64 bits; the record is as it was.
+    RANGE = "range"
+    # There is less than was to be taken; the record is as it was.
+    SHORT = "short"
+
+
+def reply_of(value: Union[int, str]) -> Union[int, Reply]:
+    return value if isinstance(value, int) else Reply(value)
+
+
+@dataclass(frozen=True)
+class Access:
+    """An access of the node of a path, with a number unless it gets, which takes so many slots (1 to 1,000)."""
+
+    kind: Kind
+    path: str
+    number: Optional[int] = None
+    length: int = 1
+
+    @staticmethod
+    def get(path: str) -> Access:
+        """Gets the record of a node, in one slot."""
+        return Access(Kind.GET, path)
+
+    @staticmethod
+    def set(path: str, number: int) -> Access:
+        """Sets it."""
+        return Access(Kind.SET, path, number)
+
+    @staticmethod
+    def add(path: str, number: int) -> Access:
+        """Adds to it, and replies the sum."""
+        return Access(Kind.ADD, path, number)
+
+    @staticmethod
+    def take(path: str, number: int) -> Access:
+        """Takes from it, and replies what is left, unless that would be less than zero."""
+        return Access(Kind.TAKE, path, number)
+
+    def lasting(self, length: int) -> Access:
+        """The same access, which takes so many slots."""
+        return replace(self, length=length)
+
+    def form(self) -> List[Union[int, str]]:
+        """The access as a document of version 2 has it."""
+        numbers = [] if self.number is None else [self.number]
+        return [self.kind.value, self.path, *numbers, self.length]

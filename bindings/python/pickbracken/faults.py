@@ -1,0 +1,43 @@
+"""Why a call has no answer."""
+
+from __future__ import annotations
+
+from typing import List
+
+# In how many words of a fault's text what it is told of stands before its name.
+BEFORE = {"row": 2, "step": 2, "access": 2, "node": 2, "event": 2, "tree": 1}
+
+
+class Error(Exception):
+    """A call has no answer."""
+
+
+class Refused(Error):
+    """What was handed in is refused: by the rule of this name, for what stands at this place.
+
+    `name` is a word, as `parent-not-held`; `place` is what breaks the rule, as `step 7`, `list 3` or `node /a`, and
+    empty where the fault is told of nothing; `text` is both, as the program prints them.
+    """
+
+    def __init__(self, text: str) -> None:
+        super().__init__(text)
+        words = text.split(" ")
+        name = words.pop(min(name_at(words), len(words) - 1))
+        self.text = text
+        self.name = "access-missing" if name == "missing" and "access" in words else name
+        self.place = " ".join(words)
+
+
+class NoMemory(Error, MemoryError):
+    """An allocation failed."""
+
+
+class BadPath(Error, ValueError):
+    """This is no path from the root down, as `/` or `/a/b`, or no node has it."""
+
+
+def name_at(words: List[str]) -> int:
+    """Which of the words of a fault's text is its name."""
+    if words[0] == "job":
+        return 2 + name_at(words[2:])
+    return BEFORE.get(words[0], 0)

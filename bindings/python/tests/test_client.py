@@ -1,0 +1,126 @@
+"""The client, at servers that answer as they are told."""
+
+import socket
+import threading
+import unittest
+from contextlib import contextmanager
+from typing import Callable, Iterator, List, Optional
+
+from pickbracken import Access, FlowRow, Plan, Refused, Reply, Step
+from pickbracken.client import AHEAD, Client, Lost
+
+FLOW = b'[{"above":0,"first":1,"held":0,"last":1,"node":"/a","own":0}]'
+PLAN = b'{"cost":1,"flow":%s,"plan":[["lock","/a"],["access",0]]}' % FLOW
+
+
+@contextmanager
+def served(answer: Callable[[socket.socket], None], seconds: Optional[float] = None) -> Iterator[Client]:
+    """A client of a server that takes one connection."""
+    with socket.create_server(("127.0.0.1", 0)) as listener:
+        serving = threading.Thread(target=lambda: serve(listener, answer))
+        serving.start()
+        with Client(listener.getsockname()[1], seconds=seconds) as client:
+            yield client
+        serving.join()
+
+
+def serve(listener: socket.socket, answer: Callable[[socket.socket], None]) -> None:
+    connection, _ = listener.accept()
+    with connection:
+        answer(connection)
+
+
+def replying(*replies: bytes, seen: List[bytes]) -> Callable[[socket.socket], None]:
+    """Answers each line with the next reply, and then closes."""
+
+    def answer(connection: socket.socket) -> None:
+        source = connection.makefile("rb")
+        for reply in replies:
+            seen.append(source.readline())
+            connection.sendall(reply + b"\n")
+
+    return answer
+
+
+class Clients(unittest.TestCase):
+    def test_requests_and_replies(self) -> None:
+        seen: List[bytes] = []
+        round_ = b'{"places":[1,0],"replies":[[7,"ok"],["short"]],"round":3}'
+        weights = b'{"waits":[0,2],"weights":[5,1]}'
+        replies = [round_, PLAN, b'{"cost":1}', weights, b'{"changed":2}', b'{"error":"no-path"}']
+        with served(replying(*replies, seen=seen)) as client:
+            told = client.batch([Access.get("/a"), Access.set("/a", 1)], [Access.take("/b", 9).lasting(2)])
+            self.assertEqual((told.places, told.replies, told.round), ((1, 0), ((7, Reply.STORED), (Reply.SHORT,)), 3))
+            plan = client.plan([Access.get("/a")])
+            row = FlowRow("/a", above=0, held=0, first=1, last=1, own=0)
+            self.assertEqual(plan, Plan(1, (Step.lock("/a"), Step.access(0)), (row,)))
+            self.assertEqual(client.check([Access.get("/a")], plan), 1)
+            self.assertEqual(client.weights(), ((5, 1), (0, 2)))
+            self.assertEqual(client.reweigh(), 2)
+            with self.assertRaises(Refused) as caught:
+                client.plan([Access.get("/c")])
+            self.assertEqual((caught.exception.name, caught.exception.place), ("no-path", ""))
+        self.assertEqual(seen[0], b'{"batch":[[["get","/a",1],["set","/a",1,1]],[["take","/b",9,2]]]}\n')
+        self.assertEqual(seen[3:5], [b'{"weights":null}\n', b'{"reweigh":null}\n'])
+
+    def test_lines_are_sent_ahead(self) -> None:
+        """So many that a server whose replies nobody read would stop reading."""
+        seen: List[bytes] = []
+        lines = [b"%d" % number + b"x" * 1000 for number in range(2000)]
+        with served(replying(*(line * 3 for line in lines), seen=seen)) as client:
+            ahead = 0
+            for line, reply in zip(lines, client.send_all(lines)):
+                self.assertEqual(reply, line * 3)
+                ahead = max(ahead, len(client.sent))
+        self.assertEqual(len(seen), 2000)
+        self.assertTrue(1 < ahead <= AHEAD // 1000)
+
+    def test_what_has_no_reply_is_told(self) -> None:
+        def answer(connection: socket.socket) -> None:
+            source = connection.makefile("rb")
+            for _ in range(5):
+                source.readline()
+            connection.sendall(b"1\n2\n")
+
+        with served(answer) as client:
+            replies = client.send_all([b"a", b"b", b"c", b"d", b"e"])
+            self.assertEqual([next(replies), next(replies)], [b"1", b"2"])
+            with self.assertRaises(Lost) as caught:
+                next(replies)
+            self.assertEqual(caught.exception.unanswered, 3)
+            with self.assertRaises(Lost) as caught:
+                client.send(b"f")
+            self.assertEqual(caught.exception.unanswered, 1)
+
+    def test_replies_come_that_came_before_the_end(self) -> None:
+        """A server that takes no more lines has its replies read."""
+        seen: List[bytes] = []
+        with served(replying(b"1", b"2", seen=seen)) as client:
+            told = []
+            with self.assertRaises(Lost) as caught:
+                for reply in client.send_all(b"%d" % number for number in range(1_000_000)):
+                    told.append(reply)
+            self.assertEqual(told, [b"1", b"2"])
+            self.assertGreater(caught.exception.unanswered, 0)
+
+    def test_a_server_that_takes_too_long_is_lost(self) -> None:
+        ended = threading.Event()
+
+        def wait(_: socket.socket) -> None:
+            ended.wait(10)
+
+        with served(wait, seconds=0.05) as client:
+            with self.assertRaises(Lost) as caught:
+                client.reweigh()
+            self.assertEqual(caught.exception.unanswered, 1)
+            ended.set()
+
+    def test_there_may_be_no_server(self) -> None:
+        with socket.create_server(("127.0.0.1", 0)) as listener:
+            port = listener.getsockname()[1]
+        with self.assertRaises(Lost):
+            Client(port)
+
+
+if __name__ == "__main__":
+    unittest.main()

@@ -1,0 +1,36 @@
+//! Where each lock of a transaction is taken and released, so that others wait as little as can be.
+//!
+//! A [`Tree`] has a weight for each node, which is what it costs others to find the node locked. For a list of
+//! accesses [`Tree::plan`] gives the settled plan: it obeys the tree protocol, and no legal plan costs less. Its
+//! [`Certificate`] proves that, and [`Tree::check`] sees it, whoever made plan and certificate. The planner and the
+//! checker are those of grove, which are proved; this crate hands documents to them, and reads their answers.
+//!
+//! ```
+//! use pickbracken::{Access, Step, Tree};
+//!
+//! # fn main() -> Result<(), pickbracken::Error> {
+//! let tree = Tree::from_weights([("/", 5), ("/a", 1), ("/b", 1)])?;
+//! let list = [Access::get("/a"), Access::add("/b", 1)];
+//! let plan = tree.plan(&list)?;
+//! assert_eq!(plan.steps[0], Step::Lock("/".into()));
+//! assert_eq!(tree.check(&list, &plan)?, plan.cost);
+//! # Ok(())
+//! # }
+//! ```
+//!
+//! [`document`] has the same calls over the bytes of a document.
+
+pub use access::{Access, Op, Reply};
+pub use error::{Error, Fault};
+pub use plan::{Certificate, FlowRow, Judgement, Plan, Step};
+pub use planning::Form;
+pub use tree::Tree;
+
+mod access;
+pub mod document;
+mod error;
+mod json;
+mod library;
+mod plan;
+mod planning;
+mod tree;

@@ -1,0 +1,136 @@
+use crate::access::{Access, Reply};
+use crate::document;
+use crate::error::Error;
+use crate::json::Value;
+use crate::plan::{Certificate, FlowRow, Judgement, Plan, Step};
+use crate::tree::Tree;
+
+/// How a drawing is written.
+#[derive(Clone, Copy, Debug, PartialEq, Eq)]
+pub enum Form {
+    /// An SVG document.
+    Svg,
+    /// Lines for a terminal.
+    Text,
+}
+
+/// What can't be: an answer that isn't of the form that docs/FORMATS.md has.
+const STRANGE: &str = "the library answers in grove's formats";
+
+impl Tree {
+    /// The settled plan of a list: no legal plan costs less, and of all that cost as little it is the latest.
+    pub fn plan(&self, list: &[Access]) -> Result<Plan, Error> {
+        let answer = document::plan(self.document(list, None, None).as_bytes())?;
+        Ok(read_plan(&answer).expect(STRANGE))
+    }
+
+    /// What a plan costs that its certificate proves to be least; or why that isn't so, whoever made the two. The cost
+    /// that the plan tells isn't looked at.
+    pub fn check(&self, list: &[Access], plan: &Plan) -> Result<u64, Error> {
+        let certificate = Some(&plan.certificate);
+        let answer = document::check(
+            self.document(list, Some(&plan.steps), certificate)
+                .as_bytes(),
+        )?;
+        Ok(cost_of(&answer).expect(STRANGE))
+    }
+
+    /// What some steps cost, if they are a legal plan of the list, and what the list replies and leaves.
+    pub fn judge(&self, list: &[Access], steps: &[Step]) -> Result<Judgement, Error> {
+        let answer = document::judge(self.document(list, Some(steps), None).as_bytes())?;
+        Ok(read_judgement(&answer).expect(STRANGE))
+    }
+
+    /// The settled plan of a list as a picture.
+    pub fn draw(&self, list: &[Access], form: Form) -> Result<String, Error> {
+        drawn(form, &self.document(list, None, None))
+    }
+
+    /// The same, and above it the picture of some steps, if they are a legal plan of the list.
+    pub fn draw_beside(
+        &self,
+        list: &[Access],
+        steps: &[Step],
+        form: Form,
+    ) -> Result<String, Error> {
+        drawn(form, &self.document(list, Some(steps), None))
+    }
+}
+
+fn drawn(form: Form, document: &str) -> Result<String, Error> {
+    match form {
+        Form::Svg => document::draw_svg(document.as_bytes()),
+        Form::Text => document::draw_text(document.as_bytes()),
+    }
+}
+
+/// What an answer tells in the line of a name.
+fn told<'a>(answer: &'a str, name: &str) -> Option<&'a str> {
+    let mut lines = answer.lines();
+    lines.find_map(|line| line.strip_prefix(name)?.strip_prefix(' '))
+}
+
+/// The items that it tells there.
+fn items<T>(answer: &str, name: &str, item: impl Fn(&Value) -> Option<T>) -> Option<Vec<T>> {
+    Value::read(told(answer, name)?)?
+        .items()?
+        .iter()
+        .map(item)
+        .collect()
+}
+
+fn cost_of(answer: &str) -> Option<u64> {
+    told(answer, "cost")?.parse().ok()
+}
+
+fn read_plan(answer: &str) -> Option<Plan> {
+    Some(Plan {
+        cost: cost_of(answer)?,
+        steps: items(answer, "plan", read_step)?,
+        certificate: Certificate {
+            rows: items(answer, "flow", read_row)?,
+        },
+    })
+}
+
+fn read_step(value: &Value) -> Option<Step> {
+    let [kind, of] = value.items()? else {
+        return None;
+    };
+    match kind.text()? {
+        "lock" => Some(Step::Lock(of.text()?.to_owned())),
+        "unlock" => Some(Step::Unlock(of.text()?.to_owned())),
+        "access" => Some(Step::Access(of.number()?)),
+        _ => None,
+    }
+}
+
+fn read_row(value: &Value) -> Option<FlowRow> {
+    let amount = |name| value.member(name)?.number();
+    Some(FlowRow {
+        node: value.member("node")?.text()?.to_owned(),
+        above: amount("above")?,
+        held: amount("held")?,
+        first: amount("first")?,
+        last: amount("last")?,
+        own: amount("own")?,
+    })
+}
+
+fn read_judgement(answer: &str) -> Option<Judgement> {
+    Some(Judgement {
+        cost: cost_of(answer)?,
+        replies: items(answer, "replies", read_reply)?,
+        records: items(answer, "records", Value::number)?,
+    })
+}
+
+fn read_reply(value: &Value) -> Option<Reply> {
+    match value.text() {
+        Some("ok") => Some(Reply::Stored),
+        Some("range") => Some(Reply::Range),
+        Some("short") => Some(Reply::Short),
+        Some(_) => None,
+        None => value.number().map(Reply::Number),
+    }
+}

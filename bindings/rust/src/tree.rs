@@ -1,0 +1,195 @@
+use crate::access::Access;
+use crate::error::Error;
+use crate::json::quoted;
+use crate::plan::{Certificate, Step};
+use std::fmt::Write;
+
+/// The version of documents in which accesses tell their lengths.
+const VERSION: u32 = 2;
+
+/// Nodes with a weight and a record each, in preorder. Whether they are a tree as grove takes it is seen by each call.
+#[derive(Clone, Debug, PartialEq, Eq)]
+pub struct Tree {
+    nodes: Vec<Node>,
+}
+
+#[derive(Clone, Debug, PartialEq, Eq)]
+struct Node {
+    parent: Option<usize>,
+    name: String,
+    weight: u32,
+    record: i64,
+}
+
+impl Tree {
+    /// A tree of the nodes of these paths, each with its weight; each node above one of them has weight 1 unless it is
+    /// one of them too. The records are 0. Of a path that comes twice the later weight counts.
+    pub fn from_weights<'p>(
+        weights: impl IntoIterator<Item = (&'p str, u32)>,
+    ) -> Result<Tree, Error> {
+        let mut top = Branch::new("");
+        for (path, weight) in weights {
+            let branch = names_of(path)?.fold(&mut top, Branch::child);
+            branch.weight = weight;
+        }
+        let mut tree = Tree { nodes: Vec::new() };
+        tree.append(None, top);
+        Ok(tree)
+    }
+
+    /// The same tree with another record at the node of a path, if there is such a node.
+    pub fn with_record(mut self, path: &str, record: i64) -> Result<Tree, Error> {
+        let at = self.at(path).ok_or_else(|| Error::Path(path.to_owned()))?;
+        self.nodes[at].record = record;
+        Ok(self)
+    }
+
+    /// How many nodes there are.
+    #[allow(clippy::len_without_is_empty, reason = "there is a root")]
+    pub fn len(&self) -> usize {
+        self.nodes.len()
+    }
+
+    /// The path of each node, in the tree's order: that of records.
+    pub fn paths(&self) -> Vec<String> {
+        let mut paths: Vec<String> = Vec::with_capacity(self.nodes.len());
+        for node in &self.nodes {
+            let path = match node.parent {
+                None => "/".to_owned(),
+                Some(0) => format!("/{}", node.name),
+                Some(parent) => format!("{}/{}", paths[parent], node.name),
+            };
+            paths.push(path);
+        }
+        paths
+    }
+
+    fn at(&self, path: &str) -> Option<usize> {
+        self.paths().iter().position(|it| it == path)
+    }
+
+    fn append(&mut self, parent: Option<usize>, branch: Branch) {
+        let at = self.nodes.len();
+        self.nodes.push(Node {
+            parent,
+            name: branch.name,
+            weight: branch.weight,
+            record: 0,
+        });
+        for child in branch.children {
+            self.append(Some(at), child);
+        }
+    }
+
+    /// The document of the tree, a list, and a plan and a certificate where there are any.
+    pub(crate) fn document(
+        &self,
+        list: &[Access],
+        steps: Option<&[Step]>,
+        certificate: Option<&Certificate>,
+    ) -> String {
+        let mut text = format!("{{\"version\":{VERSION},\"nodes\":[");
+        join(&mut text, &self.nodes, write_node);
+        text.push_str("],\"list\":[");
+        join(&mut text, list, write_access);
+        if let Some(steps) = steps {
+            text.push_str("],\"plan\":[");
+            join(&mut text, steps, write_step);
+        }
+        if let Some(certificate) = certificate {
+            text.push_str("],\"flow\":[");
+            join(&mut text, &certificate.rows, |text, row| {
+                let node = quoted(&row.node);
+                write!(
+                    text,
+                    "{{\"node\":{node},\"above\":{},\"held\":{},\"first\":{},\"last\":{},\"own\":{}}}",
+                    row.above, row.held, row.first, row.last, row.own
+                )
+            });
+        }
+        text.push_str("]}");
+        text
+    }
+}
+
+/// A node of a tree that isn't laid out yet.
+struct Branch {
+    name: String,
+    weight: u32,
+    children: Vec<Branch>,
+}
+
+impl Branch {
+    fn new(name: &str) -> Branch {
+        Branch {
+            name: name.to_owned(),
+            weight: 1,
+            children: Vec::new(),
+        }
+    }
+
+    /// The child of this name, which is made where there is none.
+    fn child(&mut self, name: &str) -> &mut Branch {
+        let found = self.children.iter().position(|it| it.name == name);
+        let at = found.unwrap_or(self.children.len());
+        if found.is_none() {
+            self.children.push(Branch::new(name));
+        }
+        &mut self.children[at]
+    }
+}
+
+/// The names on the way down a path.
+fn names_of(path: &str) -> Result<impl Iterator<Item = &str>, Error> {
+    match path.strip_prefix('/') {
+        Some("") => Ok("".split_terminator('/')),
+        Some(names) if names.split('/').all(|name| !name.is_empty()) => {
+            Ok(names.split_terminator('/'))
+        }
+        _ => Err(Error::Path(path.to_owned())),
+    }
+}
+
+/// Writes the items, with commas between them.
+fn join<T>(text: &mut String, items: &[T], write: impl Fn(&mut String, &T) -> std::fmt::Result) {
+    for (at, item) in items.iter().enumerate() {
+        if at > 0 {
+            text.push(',');
+        }
+        write(text, item).expect("a string takes what is written");
+    }
+}
+
+fn write_node(text: &mut String, node: &Node) -> std::fmt::Result {
+    let name = quoted(&node.name);
+    match node.parent {
+        Some(parent) => write!(text, "{{\"parent\":{parent}")?,
+        None => text.push_str("{\"parent\":null"),
+    }
+    let (weight, record) = (node.weight, node.record);
+    write!(
+        text,
+        ",\"name\":{name},\"weight\":{weight},\"value\":{record}}}"
+    )
+}
+
+fn write_access(text: &mut String, access: &Access) -> std::fmt::Result {
+    use crate::access::Op;
+
+    let path = quoted(&access.path);
+    match access.op {
+        Op::Get => write!(text, "[\"get\",{path}")?,
+        Op::Set(number) => write!(text, "[\"set\",{path},{number}")?,
+        Op::Add(number) => write!(text, "[\"add\",{path},{number}")?,
+        Op::Take(number) => write!(text, "[\"take\",{path},{number}")?,
+    }
+    write!(text, ",{}]", access.length)
+}
+
+fn write_step(text: &mut String, step: &Step) -> std::fmt::Result {
+    match step {
+        Step::Lock(path) => write!(text, "[\"lock\",{}]", quoted(path)),
+        Step::Unlock(path) => write!(text, "[\"unlock\",{}]", quoted(path)),
+        Step::Access(number) => write!(text, "[\"access\",{number}]"),
+    }
+}

@@ -1,0 +1,72 @@
+//! What a command says of a document's bytes, in a caller's buffer: a static library for programs in other languages.
+//!
+//! Each export takes the bytes of a document and a buffer. The header include/grove.h says what a caller owes.
+#![tactic(auto, using(crate::proofs::Tellings::tells))]
+
+ghost use Rattle.grove_c.specs.Sayings.{AuditSays, CheckSays, DocumentSays, DrawSays, JudgeSays, PlanSays};
+ghost use Rattle.grove_c.specs.Tellings.{Tells};
+
+use grove_draw::Form;
+use sayings::{audited, checked, drawn, judged, planned, planned_in_document};
+use std::alloc::Global;
+pub use telling::Told;
+use telling::tell;
+
+mod sayings;
+mod telling;
+
+/// The cost of the settled plan of the document's list, the plan, and the flow that proves it.
+#[unsafe(no_mangle)]
+pub extern "C" fn grove_c_plan(alloc: Global, document: &[u8], text: &mut [u8]) -> Told
+    ensures { Tells (PlanSays document.now) text.old text.new result }
+{
+    tell(&planned(alloc, document), text)
+}
+
+/// The document with that plan and that flow in it, as a line.
+#[unsafe(no_mangle)]
+pub extern "C" fn grove_c_plan_document(alloc: Global, document: &[u8], text: &mut [u8]) -> Told
+    ensures { Tells (DocumentSays document.now) text.old text.new result }
+{
+    tell(&planned_in_document(alloc, document), text)
+}
+
+/// The cost of the document's plan, where its flow proves the plan least.
+#[unsafe(no_mangle)]
+pub extern "C" fn grove_c_check(alloc: Global, document: &[u8], text: &mut [u8]) -> Told
+    ensures { Tells (CheckSays document.now) text.old text.new result }
+{
+    tell(&checked(alloc, document), text)
+}
+
+/// The cost of the document's plan, and what its list replies and leaves.
+#[unsafe(no_mangle)]
+pub extern "C" fn grove_c_judge(alloc: Global, document: &[u8], text: &mut [u8]) -> Told
+    ensures { Tells (JudgeSays document.now) text.old text.new result }
+{
+    tell(&judged(alloc, document), text)
+}
+
+/// The drawing of the document's plans, as SVG.
+#[unsafe(no_mangle)]
+pub extern "C" fn grove_c_draw_svg(alloc: Global, document: &[u8], text: &mut [u8]) -> Told
+    ensures { Tells (DrawSays document.now) text.old text.new result }
+{
+    tell(&drawn(alloc, document, Form::Svg), text)
+}
+
+/// The drawing of the document's plans, as lines for a terminal.
+#[unsafe(no_mangle)]
+pub extern "C" fn grove_c_draw_text(alloc: Global, document: &[u8], text: &mut [u8]) -> Told
+    ensures { Tells (DrawSays document.now) text.old text.new result }
+{
+    tell(&drawn(alloc, document, Form::Text), text)
+}
+
+/// What the run replies and leaves that the document's events are, where it is a finished one.
+#[unsafe(no_mangle)]
+pub extern "C" fn grove_c_audit(alloc: Global, document: &[u8], text: &mut [u8]) -> Told
+    ensures { Tells (AuditSays document.now) text.old text.new result }
+{
+    tell(&audited(alloc, document), text)
+}

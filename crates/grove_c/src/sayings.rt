@@ -1,0 +1,73 @@
+ghost use Rattle.std.specs.Prelude.{◌≤◌, IfOk};
+ghost use Rattle.serde_json.specs.Data.{depth};
+ghost use Rattle.serde_json.specs.View.{view};
+ghost use Rattle.grove_answer.specs.Says.{Says};
+ghost use Rattle.grove_wire.specs.Outcomes.{Gives};
+ghost use Rattle.grove_wire.specs.Reading.{document_of};
+ghost use Rattle.grove_c.specs.Sayings.{AuditSays, CheckSays, DocumentSays, DrawSays, JudgeSays, PlanSays};
+
+use grove_answer::{
+    Refusal, audit_document, check_document, draw_document, judge_document, or_refuse,
+    plan_document, planned_document,
+};
+use grove_draw::Form;
+use grove_wire::{WireFault, read_document, read_history};
+use serde_json::Value;
+use std::alloc::Global;
+
+/// What `plan` says of a document's bytes.
+pub fn planned(alloc: Global, bytes: &[u8]) -> Result<String, Refusal>
+    ensures { Says (PlanSays bytes.now) result }
+{
+    let document = or_refuse(alloc, read_document(alloc, bytes))?;
+    plan_document(alloc, &document)
+}
+
+/// What `plan --document` says of them.
+pub fn planned_in_document(alloc: Global, bytes: &[u8]) -> Result<String, Refusal>
+    ensures { Says (DocumentSays bytes.now) result }
+{
+    let document = or_refuse(alloc, read_shallow(alloc, bytes))?;
+    planned_document(alloc, &document)
+}
+
+/// The document that the bytes are. It nests no deeper than what can be read again.
+#[tactic(auto, using(crate::proofs::Levels::shallow))]
+fn read_shallow(alloc: Global, bytes: &[u8]) -> Result<Value, WireFault>
+    ensures read { Gives (λ document. view document) result (document_of bytes.now) }
+    ensures shallow { IfOk result (λ document. depth (view document) ≤ 127) }
+{
+    read_document(alloc, bytes)
+}
+
+/// What `check` says of them.
+pub fn checked(alloc: Global, bytes: &[u8]) -> Result<String, Refusal>
+    ensures { Says (CheckSays bytes.now) result }
+{
+    let document = or_refuse(alloc, read_document(alloc, bytes))?;
+    check_document(alloc, &document)
+}
+
+/// What `judge` says of them.
+pub fn judged(alloc: Global, bytes: &[u8]) -> Result<String, Refusal>
+    ensures { Says (JudgeSays bytes.now) result }
+{
+    let document = or_refuse(alloc, read_document(alloc, bytes))?;
+    judge_document(alloc, &document)
+}
+
+/// What `draw` says of them, in a form.
+pub fn drawn(alloc: Global, bytes: &[u8], form: Form) -> Result<String, Refusal>
+    ensures { Says (DrawSays bytes.now) result }
+{
+    let document = or_refuse(alloc, read_document(alloc, bytes))?;
+    draw_document(alloc, &document, form)
+}
+
+/// What `audit` says of them.
+pub fn audited(alloc: Global, bytes: &[u8]) -> Result<String, Refusal>
+    ensures { Says (AuditSays bytes.now) result }
+{
+    let document = or_refuse(alloc, read_history(alloc, bytes))?;
+    audit_document(alloc, &document)
+}

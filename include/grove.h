@@ -1,0 +1,70 @@
+/* What the commands of grove say of a document, in a C program: docs/LIBRARY.md tells how to link it.
+ *
+ * Each call takes the bytes of a document (docs/FORMATS.md) and a buffer, and puts the text there that the command of
+ * its name prints. A call keeps nothing, reads no file and starts no thread, so calls may run in any number of threads
+ * at once, each with a buffer of its own.
+ *
+ * What a caller owes, which nothing tests:
+ * - `document_length` bytes stand at `document`, and nobody writes to them during the call;
+ * - `room` bytes at `text` may be written, they are none of the document's, and nobody else reads or writes them then;
+ * - either pointer may be NULL where its length is 0, and neither length is above PTRDIFF_MAX;
+ * - `malloc`, `realloc` and `free` are those of one allocator, and align a block to each power of two up to 16 that
+ *   divides its size;
+ * - no call is made from a signal handler, or in the forked child of a process with threads;
+ * - the stack has 1 MiB left.
+ */
+#ifndef GROVE_H
+#define GROVE_H
+
+#include <stddef.h>
+#include <stdint.h>
+
+#ifdef __cplusplus
+extern "C" {
+#endif
+
+/* How a call ended. */
+enum {
+    /* `text` begins with the lines that the command prints. */
+    GROVE_DONE = 0,
+    /* The document is refused: `text` begins with the fault, without `refused` and without a line feed. */
+    GROVE_REFUSED = 1,
+    /* There is no room for lines or a fault of `length` bytes, and `text` is as it was. */
+    GROVE_ROOM = 2,
+    /* An allocation failed, and `text` is as it was; `length` is 0. */
+    GROVE_MEMORY = 3
+};
+
+/* How a call ended, and how long its text is. The text isn't ended by a NUL, and behind it `text` is as it was. */
+typedef struct grove_told {
+    uint32_t status;
+    size_t length;
+} grove_told;
+
+/* `grove plan`: the cost of the settled plan of the document's list, the plan, and a flow that proves it least. */
+grove_told grove_c_plan(const uint8_t *document, size_t document_length, uint8_t *text, size_t room);
+
+/* `grove plan --document`: the document, with the settled plan and that flow in it, as a line. */
+grove_told grove_c_plan_document(const uint8_t *document, size_t document_length, uint8_t *text, size_t room);
+
+/* `grove check`: the cost of the document's plan, below which no legal plan for its list is. The document's flow has
+ * to prove that; whoever made the two need not be believed. */
+grove_told grove_c_check(const uint8_t *document, size_t document_length, uint8_t *text, size_t room);
+
+/* `grove judge`: the cost of the document's plan, if it is legal, and the replies and the records of its list. */
+grove_told grove_c_judge(const uint8_t *document, size_t document_length, uint8_t *text, size_t room);
+
+/* `grove draw`: the settled plan, and above it the document's own, if it has one, as an SVG document. */
+grove_told grove_c_draw_svg(const uint8_t *document, size_t document_length, uint8_t *text, size_t room);
+
+/* `grove draw --text`: the same as lines for a terminal. */
+grove_told grove_c_draw_text(const uint8_t *document, size_t document_length, uint8_t *text, size_t room);
+
+/* `grove audit`: what the run of the document's jobs replies and leaves that its events are, if that is finished. */
+grove_told grove_c_audit(const uint8_t *document, size_t document_length, uint8_t *text, size_t room);
+
+#ifdef __cplusplus
+}
+#endif
+
+#endif
