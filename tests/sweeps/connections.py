@@ -29,6 +29,8 @@ REPLIES = TEN_LINES.connections[0].replies
 ADD = b'{"batch":[[["add","/a",1]]]}\n'
 GET = b'{"batch":[[["get","/a"]]]}\n'
 WEIGHTS = b'{"weights":null}\n'
+# More lines than 16 bits count; and how many lists a batch has at most, and accesses each list.
+MANY, MOST_LISTS, MOST_ACCESSES = 70_000, 256, 64
 # This machine's too, but not the one that is listened at.
 OTHER_HOST = "127.0.0.2"
 # How many pairs of lines are sent at once, and what takes longer than a reply that waits for none to arrive.
@@ -42,6 +44,8 @@ def tries(program: str, room: str) -> list[Try]:
         Try("ten lines in pieces", partial(in_pieces, program)),
         Try("ten lines cut after each byte", partial(cut_after_each, program)),
         Try("two lines at once", partial(two_at_once, program)),
+        Try("lines by the ten thousand", partial(many_lines, program)),
+        Try("long replies", partial(long_replies, program)),
         Try("clients that leave after some bytes", partial(leave_after_some, program)),
         Try("clients that leave after some bytes of a reply", partial(leave_in_a_reply, program)),
         Try("clients that never read", partial(never_read, program)),
@@ -93,6 +97,27 @@ def answer_pairs(program: str, tally: Tally) -> str | None:
             slow += time.monotonic() - started > DELAYED
             note_replies(store, 2 * WEIGHTS, came, f"pair {number}", tally)
     return None if slow <= PAIRS // 2 else f"{slow} of {PAIRS} pairs were answered late"
+
+
+def many_lines(program: str, tally: Tally) -> None:
+    """One client with very many lines, each a batch of no lists. The rounds are counted."""
+    with Serving(program, TREE) as server:
+        came = lines_of(server.talk(MANY * b'{"batch":[]}\n'))
+    for number, reply in enumerate(came, 1):
+        wanted = b'{"places":[],"replies":[],"round":%d}' % number
+        tally.note(f"line {number}", None if reply == wanted else f"wanted {wanted!r}; came {reply!r}")
+    tally.blame("all lines", None if len(came) == MANY else f"{MANY} lines have {len(came)} replies")
+
+
+def long_replies(program: str, tally: Tally) -> None:
+    """Replies of up to some hundred thousand bytes."""
+    least = [["set", "/a", -(2**63)]]
+    store = Store(json.loads(TREE))
+    with Serving(program, TREE) as server:
+        for count in (1, 40, 100, MOST_LISTS - 1):
+            lists = [least] + count * [MOST_ACCESSES * [["get", "/a"]]]
+            line = json.dumps({"batch": lists}).encode() + b"\n"
+            note_replies(store, line, server.talk(line), f"{count} lists", tally)
 
 
 def leave_after_some(program: str, tally: Tally) -> None:

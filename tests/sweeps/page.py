@@ -4,6 +4,7 @@ opened again, and hostile requests by a seeded generator, after which honest one
 from __future__ import annotations
 
 import json
+import re
 import socket
 import struct
 import time
@@ -14,7 +15,8 @@ from random import Random
 
 from history import fault_of_history
 from hostile import hostile
-from pages import MOST_BODY, MOST_KEPT, MOST_LINES, document_text, fault_of_response, nodes_text
+from pages import MOST_BODY, MOST_KEPT, MOST_LINES, PAGE, after, document_text, fault_of_plain, fault_of_response
+from pages import nodes_text
 from server import HOST, PIECE, BadServer, Serving, connected
 from store import MOST_LINE, Store, compact
 from web import BadResponse, Client, chunked, post, request, responses_in
@@ -22,12 +24,23 @@ from web import BadResponse, Client, chunked, post, request, responses_in
 from sweeps.connections import ADD, GET, TEXT, TREE, WEIGHTS
 from sweeps.crowds import SEATS, is_silent
 from sweeps.documents import seeded
+from sweeps.hostile_lines import note_memory, taken
 from sweeps.program import Tally, Try
 
 TRIED = "requests, most of them hostile"
 SEEDED = 8
 # How many parts have hostile requests, and how many connections of them each; after so many comes an honest client.
 HOSTILE_PARTS, HOSTILE_EACH, HONEST_EVERY = 4, 1000, 50
+# A list as the page writes one.
+LIST = '[["get","/a"],["add","/b",-3],["take","/a",2,20],["set","/",9,1]]'
+# How many fields of a head, and how long a part of each is.
+FIELDS = [(1, 8000), (50, 1), (50, 200)]
+# Extensions of chunks, and fields behind them.
+BESIDE_CHUNKS = [(b"", b""), (b";a=b", b""), (b"", b"x-sum: 1\r\n"), (b' ; a="b c"', b"a: b\r\nc: d\r\n")]
+# How many nodes a tree has at most, how often all are asked for ahead, and how many bytes more that may take.
+MOST_NODES, AHEAD, MOST_MORE = 4096, 800, 32 << 20
+# How many bytes of replies a response has at most, and nodes enough for so many by few lines.
+MOST_REPLIES, SOME_NODES = 16_777_216, 401
 # How long a body may take on a machine that is busy with other things.
 LONG = 30.0
 # How long sixteen clients ask; each goes on until it has had a batch and a look.
@@ -100,6 +113,10 @@ def tries(program: str, room: str) -> list[Try]:
         Try("each row in pieces", partial(in_pieces, program)),
         Try("requests cut after each byte", partial(cut_after_each, program)),
         Try("bodies", partial(bodies, program)),
+        Try("heads and trailers", partial(heads_and_trailers, program)),
+        Try("as many nodes as there may be", partial(many_nodes, program)),
+        Try("as many replies as a response may have", partial(most_replies, program)),
+        Try("what the page asks", partial(what_the_page_asks, program)),
         Try("connections", partial(connections, program)),
         Try("sixteen at once", partial(sixteen_at_once, program, SECONDS)),
         Try("seventeen at once", partial(seventeen_at_once, program)),
@@ -215,6 +232,91 @@ def bodies(program: str, tally: Tally) -> None:
         data = chunked([full, b"x"])
         came = asked_and_ended(server.port, data, False)
         tally.note("too many chunks", fault_of_answers(*came, data))
+
+
+def heads_and_trailers(program: str, tally: Tally) -> None:
+    """Heads as browsers send them that have kept much of other servers on this machine. What chunks may have beside
+    their bytes means nothing."""
+    store = Store(json.loads(TREE))
+    with serving(program, TREE) as server, Client(server.port) as client:
+        for count, size in FIELDS:
+            fields = [f"cookie: {number}={'a' * size}" for number in range(count)]
+            for row in (LOOK, ("GET", "/", None), ("POST", "/", ADD)):
+                note_rows(client, store, [(*row, *fields)], f"{count} fields of {size} bytes and more", tally)
+        head = request("POST", "/", None, "transfer-encoding: chunked")
+        for extension, trailer in BESIDE_CHUNKS:
+            client.send(head + b"%x%s\r\n%s\r\n0%s\r\n%s\r\n" % (len(ADD), extension, ADD, extension, trailer))
+            note_row(store, ("POST", "/", ADD), client.next("POST"), f"{extension!r}, {trailer!r}", tally)
+
+
+def many_nodes(program: str, tally: Tally) -> None:
+    """They are asked for many times ahead of the responses, which the server doesn't make all at once."""
+    document = json.dumps(flat(MOST_NODES)).encode()
+    add = compact({"batch": [[["add", f"/n{MOST_NODES - 1}", 5]]]})
+    store = Store(json.loads(document))
+    with serving(program, document) as server, Client(server.port) as client, ThreadPoolExecutor(1) as pool:
+        rows = [("POST", "/", add), LOOK, ("GET", "/document", None), ("POST", "/", WEIGHTS)]
+        note_rows(client, store, rows, "alone", tally)
+        before, wanted = taken(server, "VmHWM"), nodes_text(store)
+        sender = pool.submit(client.send, AHEAD * request(*LOOK))
+        for number in range(AHEAD):
+            response = client.next()
+            is_well = response and (response.status, response.body) == (200, wanted)
+            tally.note(f"request {number} of those ahead", None if is_well else f"came {response}")
+        sender.result()
+        note_memory(taken(server, "VmHWM") - before, MOST_MORE, "with requests ahead", tally)
+
+
+def most_replies(program: str, tally: Tally) -> None:
+    """Replies that fill a response to the last byte, and then more of them: no line behind those is answered."""
+    document = json.dumps(flat(SOME_NODES)).encode()
+    store = Store(json.loads(document))
+    body, add = filling(store), compact({"batch": [[["add", "/n1", 1]]]})
+    with serving(program, document) as server:
+        with Client(server.port) as client:
+            note_rows(client, store, [("POST", "/", body)], "all that there may be", tally)
+        with Client(server.port) as client:
+            response = client.post(add + b"\n" + body + add)
+            fault = fault_of_plain(response, 500, {b'{"error":"replies"}\n'}) if response else "there is no response"
+            tally.note("more", fault)
+        with Client(server.port) as client:
+            note_rows(client, after(store, [add]), [LOOK], "after more", tally)
+
+
+def flat(count: int) -> dict:
+    rows = [{"parent": 0, "name": f"n{number}", "weight": number % 1000 + 1} for number in range(1, count)]
+    return {"nodes": [{"parent": None, "name": "", "weight": 7}, *rows]}
+
+
+def filling(store: Store) -> bytes:
+    """A body whose replies have as many bytes as there may be: some lines ask for the weights, others for no node."""
+    long, short = len(compact(store.weights(None))) + 1, len(b'{"error":"no-path"}\n')
+    many = next(many for many in range(MOST_REPLIES // long, 0, -1) if (MOST_REPLIES - many * long) % short == 0)
+    return many * WEIGHTS + (MOST_REPLIES - many * long) // short * (REFUSED + b"\n")
+
+
+def what_the_page_asks(program: str, tally: Tally) -> None:
+    """The lines that the page's script puts together, each once, and the paths that it has in it: none is refused."""
+    script = PAGE.read_text()
+    lines = {name: line for line, name in re.findall(r"""[`'](\{"([a-z]+)":[^`']*)[`']""", script)}
+    tally.note("the lines", None if lines.keys() == {"plan", "batch", "reweigh", "check"} else f"they are {lines}")
+    paths = re.findall(r'(?:answerOf\(|href=)"(/[a-z]*)"', script)
+    tally.note("the paths", None if {*paths} == {"/", "/nodes", "/document"} else f"they are {paths}")
+    store = Store(json.loads(TREE))
+    filled = {"${jsonOf(list)}": LIST, '${lists.map(jsonOf).join(",")}': f"{LIST},{LIST}"}
+    with serving(program, TREE) as server, Client(server.port) as client:
+        for path in paths:
+            note_rows(client, store, [("GET", path, None)], "a path", tally)
+        for name in ("plan", "check", "batch", "reweigh"):
+            line = lines.get(name, "")
+            for hole, text in filled.items():
+                line = line.replace(hole, text)
+            response = client.post(line.encode())
+            note_row(store, ("POST", "/", line.encode()), response, name, tally)
+            tally.blame(name, None if response.status == 200 else f"{line!r} is refused: {response}")
+            if name == "plan":
+                planned = json.loads(response.body)
+                filled["${check}"] = json.dumps({"flow": planned.get("flow"), "plan": planned.get("plan")})[1:-1]
 
 
 def connections(program: str, tally: Tally) -> None:
