@@ -28,9 +28,7 @@ TRIED = "lines of the longest length, and honest ones beside them"
 LONGEST_LINE = 1_048_576
 CLIENTS = 16
 LINES = 3
-# In bytes, above what the server took before; and so many seconds after the last reply.
-MOST_AT_ONCE = 64 << 20
-MOST_LATER = 16 << 20
+# How many seconds after the last reply is looked once more.
 LATER = 1.0
 # In seconds. Without other work an honest line takes a fraction of a millisecond; half of them wait for three large lines at most.
 LONGEST_WAIT = 2.0
@@ -42,10 +40,22 @@ SERVER_MEMORY = re.search(r"^server_memory=(\S+)$", (Path(__file__).parents[2] /
 # A check of a plan, and one of a flow.
 STEPS = b'{"check":{"list":[["get","/a"]],"flow":[],"plan":['
 ROWS = b'{"check":{"list":[["get","/a"]],"plan":[["lock","/a"],["access",0],["unlock","/a"]],"flow":['
+BATCH = b'{"batch":[%s]}\n' % b",".join([b"[%s]" % b",".join([b'["get","/a"]'] * 64)] * 256)
 WHOLE_ROW = b'{"above":0,"first":0,"held":0,"last":0,"node":"/","own":0}'
 SHAPE, LIMIT, NO_PATH = (b'{"error":"%s"}' % name for name in (b"shape", b"limit", b"no-path"))
 
 Ask = Callable[[bytes], bytes]
+
+
+class Room(NamedTuple):
+    """How many MB more than before a server may take at once, and later."""
+
+    at_once: int
+    later: int
+
+
+# Of lines that have many steps or rows of a form, or many names, more is kept while they are read; and bodies are kept whole.
+LITTLE, MUCH = Room(64, 16), Room(96, 32)
 
 
 class Way(NamedTuple):
@@ -59,22 +69,24 @@ class Way(NamedTuple):
 def tries(program: str, room: str) -> list[Try]:
     """Each line is of one item, again and again."""
     tcp, http = Way("serve", send_lines, asked_lines), Way("page", send_body, asked_bodies)
-    names = b'{"weights":{' + b",".join(b'"%x":0' % number for number in range(100_000)) + b"}}\n"
+    names = b"{" + b",".join(b'"%x":0' % number for number in range(100_000)) + b"}"
     cases = [
-        ("objects that nobody looks at", tcp, longest(b'{"weights":[', b'{"":0}', b"]}"), b'{"waits"'),
-        ("names that nobody looks at", tcp, names, b'{"waits"'),
-        ("objects in place of accesses", tcp, longest(b'{"plan":[', b'{"":0}', b"]}"), LIMIT),
-        ("objects in place of lists", tcp, longest(b'{"batch":[', b'{"":0}', b"]}"), LIMIT),
-        ("arrays in a list", tcp, longest(b'{"batch":[[', b"[0]", b"]]}"), LIMIT),
-        ("texts in an access", tcp, longest(b'{"plan":[[', b'"a"', b"]]}"), SHAPE),
-        ("arrays in place of steps", tcp, longest(STEPS, b'["",0]', b"]}}"), SHAPE),
-        ("steps at no node", tcp, longest(STEPS, b'["lock",""]', b"]}}"), NO_PATH),
-        ("rows with one member", tcp, longest(ROWS, b'{"own":0}', b"]}}"), SHAPE),
-        ("rows of a flow", tcp, longest(ROWS, WHOLE_ROW, b"]}}"), b'{"error":"flow-'),
-        ("rows with one member, in bodies", http, longest(ROWS, b'{"own":0}', b"]}}"), SHAPE),
-        ("steps at no node, in bodies", http, longest(STEPS, b'["lock",""]', b"]}}"), NO_PATH),
+        ("objects that nobody looks at", tcp, longest(b'{"weights":[', b'{"":0}', b"]}"), b'{"waits"', LITTLE),
+        ("names that nobody looks at", tcp, b'{"weights":%s}\n' % names, b'{"waits"', LITTLE),
+        ("names in place of one request", tcp, names + b"\n", SHAPE, MUCH),
+        ("objects in place of accesses", tcp, longest(b'{"plan":[', b'{"":0}', b"]}"), LIMIT, LITTLE),
+        ("objects in place of lists", tcp, longest(b'{"batch":[', b'{"":0}', b"]}"), LIMIT, LITTLE),
+        ("arrays in a list", tcp, longest(b'{"batch":[[', b"[0]", b"]]}"), LIMIT, LITTLE),
+        ("texts in an access", tcp, longest(b'{"plan":[[', b'"a"', b"]]}"), SHAPE, LITTLE),
+        ("lists that are done", tcp, BATCH, b'{"places"', LITTLE),
+        ("arrays in place of steps", tcp, longest(STEPS, b'["",0]', b"]}}"), SHAPE, LITTLE),
+        ("steps at no node", tcp, longest(STEPS, b'["lock",""]', b"]}}"), NO_PATH, MUCH),
+        ("rows with one member", tcp, longest(ROWS, b'{"own":0}', b"]}}"), SHAPE, LITTLE),
+        ("rows of a flow", tcp, longest(ROWS, WHOLE_ROW, b"]}}"), b'{"error":"rows"}', MUCH),
+        ("rows with one member, in bodies", http, longest(ROWS, b'{"own":0}', b"]}}"), SHAPE, LITTLE),
+        ("steps at no node, in bodies", http, longest(STEPS, b'["lock",""]', b"]}}"), NO_PATH, MUCH),
     ]
-    return [Try(what, partial(flood, program, way, line, wanted)) for what, way, line, wanted in cases]
+    return [Try(what, partial(flood, program, way, line, wanted, most)) for what, way, line, wanted, most in cases]
 
 
 def longest(before: bytes, item: bytes, after: bytes) -> bytes:
@@ -129,7 +141,7 @@ def asked_bodies(port: int) -> Iterator[Ask]:
 # ---- a flood
 
 
-def flood(program: str, way: Way, line: bytes, wanted: bytes, tally: Tally) -> None:
+def flood(program: str, way: Way, line: bytes, wanted: bytes, most: Room, tally: Tally) -> None:
     store = Store(json.loads(TREE))
     environment = {**os.environ, "GLIBC_TUNABLES": SERVER_MEMORY}
     with Serving(program, TREE, command=way.command, env=environment) as server, way.honest(server.port) as ask:
@@ -143,8 +155,8 @@ def flood(program: str, way: Way, line: bytes, wanted: bytes, tally: Tally) -> N
             client.start()
         waits = honest_waits(store, server, ask, replies, tally)
         time.sleep(LATER)
-        note_memory(taken(server, "VmHWM") - at_first, MOST_AT_ONCE, "at once", tally)
-        note_memory(taken(server, "VmRSS") - at_first, MOST_LATER, "a second later", tally)
+        note_memory(taken(server, "VmHWM") - at_first, most.at_once << 20, "at once", tally)
+        note_memory(taken(server, "VmRSS") - at_first, most.later << 20, "a second later", tally)
         are_measured.set()
         for client in clients:
             client.join()
