@@ -1,5 +1,6 @@
 -- A document that is read of bytes nests no deeper than what is read again.
-use Rattle.std.proofs.Common.{◌≡◌, ℕ, ◌≤◌, nat_lt, Bool, true, false, List, length, Option, Some, None, is_some, ap, IfOk}
+use Rattle.std.proofs.Common.{◌≡◌, ℕ, ◌≤◌, nat_lt, Bool, true, false, List, length, Option, Some, None, is_some, ap}
+use Rattle.std.proofs.Common.{IfOk}
 use Rattle.std.specs.Prelude.{Result, Ok, Err, if◌then◌else◌}
 use Rattle.std.specs.Str.{is_utf8}
 use Rattle.serde_json.specs.Data.{Data, depth}
@@ -22,7 +23,8 @@ past_version : (x d : Data) (version : Result Version WireFault) → (version >>
 past_version x d (Ok v) is = cc
 past_version x d (Err fault) is = absurd (cc)
 
-past_object : (x d : Data) (test : Bool) → ((if test then Ok x else Err (Shape (whole_of Whole))) >>= versioned) ≡ Ok d → x ≡ d
+past_object : (x d : Data) (test : Bool) → ((if test then Ok x else Err (Shape (whole_of Whole))) >>= versioned) ≡ Ok d
+    → x ≡ d
 past_object x d true is = past_version x d (version_in x) is
 past_object x d false is = absurd (cc)
 
@@ -31,7 +33,8 @@ past_value : (value : Option Data) (d : Data)
 past_value None d is = absurd (cc)
 past_value (Some x) d is = ap Some (past_object x d (is_some (as_object x)) is)
 
-past_limit : (test : Bool) (d : Data) (rest : Result Data WireFault) → (if test then Err (Limit (whole_of Whole)) else rest) ≡ Ok d → rest ≡ Ok d
+past_limit : (test : Bool) (d : Data) (rest : Result Data WireFault)
+    → (if test then Err (Limit (whole_of Whole)) else rest) ≡ Ok d → rest ≡ Ok d
 past_limit true d rest is = absurd (cc)
 past_limit false d rest is = is
 
@@ -48,7 +51,8 @@ shallow_document bytes d is =
     ((or_fault BadJson (value_of bytes) >>= object_at (whole_of Whole)) >>= versioned) is)))
 
 -- so of what a reader gives
-pub shallow : {T : Type 0} (seen : T → Data) (bytes : List ℕ) (result : Result T WireFault) → Gives seen result (document_of bytes)
+pub shallow : {T : Type 0} (seen : T → Data) (bytes : List ℕ) (result : Result T WireFault)
+    → Gives seen result (document_of bytes)
     → IfOk result (λ (x : T). depth (seen x) ≤ 127)
 shallow seen bytes (Ok x) gives = shallow_document bytes (seen x) gives
 shallow seen bytes (Err fault) gives = tt

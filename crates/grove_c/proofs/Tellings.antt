@@ -11,7 +11,8 @@ use Rattle.grove_c.specs.Tellings.{text_of, Holds, Tells}
 use Rattle.grove_c.specs.Endings.{outcome_of, IsPut, IsTold}
 
 module _ (MaySay : Outcome → Type 0) (before after : List ℕ) (told : Told) where
-  tells_lines : (lines : List ℕ) → MaySay (Ok lines) → (told.status ≡ 0) × Holds lines before after told → Tells MaySay before after told
+  tells_lines : (lines : List ℕ) → MaySay (Ok lines) → (told.status ≡ 0) × Holds lines before after told
+      → Tells MaySay before after told
   tells_lines lines may (status, holds) = record {
     done = λ _. (lines, may, holds);
     refused = λ one. absurd (omega arith);
@@ -20,7 +21,8 @@ module _ (MaySay : Outcome → Type 0) (before after : List ℕ) (told : Told) w
     known = omega arith;
   }
 
-  tells_fault : (fault : List ℕ) → MaySay (Err fault) → (told.status ≡ 1) × Holds fault before after told → Tells MaySay before after told
+  tells_fault : (fault : List ℕ) → MaySay (Err fault) → (told.status ≡ 1) × Holds fault before after told
+      → Tells MaySay before after told
   tells_fault fault may (status, holds) = record {
     done = λ zero. absurd (omega arith);
     refused = λ _. (fault, may, holds);
@@ -50,13 +52,20 @@ module _ (MaySay : Outcome → Type 0) (before after : List ℕ) (told : Told) w
 
   tells_text : (lines : List ℕ) → IsPut 0 lines before after told → MaySay (Ok lines) → Tells MaySay before after told
   tells_text lines is may =
-      elim (cases_lt (length before) (length lines)) [ inl small ↦ tells_room (Ok lines) may small (is.room small) | inr fits ↦ tells_lines lines may (is.fits fits) ]
+      elim (cases_lt (length before) (length lines)) [
+        | inl small ↦ tells_room (Ok lines) may small (is.room small)
+        | inr fits ↦ tells_lines lines may (is.fits fits)
+      ]
 
   tells_why : (fault : List ℕ) → IsPut 1 fault before after told → MaySay (Err fault) → Tells MaySay before after told
   tells_why fault is may =
-      elim (cases_lt (length before) (length fault)) [ inl small ↦ tells_room (Err fault) may small (is.room small) | inr fits ↦ tells_fault fault may (is.fits fits) ]
+      elim (cases_lt (length before) (length fault)) [
+        | inl small ↦ tells_room (Err fault) may small (is.room small)
+        | inr fits ↦ tells_fault fault may (is.fits fits)
+      ]
 
-  pub tells : {Z : Type 0} (said : Result (String Z) Refusal) → IsTold (outcome_of said) before after told → Says MaySay said → Tells MaySay before after told
+  pub tells : {Z : Type 0} (said : Result (String Z) Refusal) → IsTold (outcome_of said) before after told
+      → Says MaySay said → Tells MaySay before after told
   tells (Ok lines) is may = tells_text (string_bytes lines) is may
   tells (Err (Fault fault text)) is may = tells_why (string_bytes text) is may
   tells (Err Memory) is may = tells_memory is

@@ -1,7 +1,8 @@
--- What each call may say of bytes: what the command of its name says of the document that they are, or the fault of no document.
+-- What each call may say of bytes: what the command of its name says of their document, or why they are none.
 use Rattle.std.specs.Prelude.{ℕ, List}
 use Rattle.grove_wire.specs.Reading.{document_of, history_of}
-use Rattle.grove_answer.specs.Outcomes.{Outcome, ThenSays, task_in, trial_in, claim_in, sketch_in, history_in, IsJudged, IsChecked, IsPlannedTask, IsDrawn, IsAudited}
+use Rattle.grove_answer.specs.Outcomes.{Outcome, ThenSays, task_in, trial_in, claim_in, sketch_in, history_in}
+use Rattle.grove_answer.specs.Outcomes.{IsJudged, IsChecked, IsPlannedTask, IsDrawn, IsAudited}
 use Rattle.grove_answer.specs.PlannedDocuments.{IsPlannedDocument}
 
 abbrev pub PlanSays : List ℕ → Outcome → Type 0
