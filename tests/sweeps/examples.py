@@ -3,6 +3,8 @@ session of examples/, by its client; each call of that client, and how it ends w
 
 from __future__ import annotations
 
+import json
+import re
 import socket
 import sys
 import threading
@@ -23,6 +25,8 @@ def tries(program: str, room: str) -> list[Try]:
         Try("a session", partial(ask_lines, program)),
         Try("the client's calls", partial(call_client, program)),
         Try("a client without a server", lose_server),
+        Try("the plans of hot_root.json", partial(plan_again, program)),
+        Try("hot_root.py", run_hot_root),
     ]
 
 
@@ -68,6 +72,23 @@ def call_client(program: str, tally: Tally) -> None:
         equal("weights", store.weights(), ([5, 1, 1], [0, 0, 0]))
         equal("reweigh", store.reweigh(), 1)
         equal("a refusal", refusal([["get", "/c"]]), "refused no-path")
+
+
+def plan_again(program: str, tally: Tally) -> None:
+    """The plan of each job is the one that `grove plan` prints for its list."""
+    found = json.loads((EXAMPLES / "hot_root.json").read_text())
+    for at, job in enumerate(found["jobs"]):
+        asked = json.dumps({"nodes": found["nodes"], "list": job["list"]}).encode()
+        lines = run(program, "plan", text=asked).out.decode().splitlines()
+        planned = [json.loads(line.removeprefix("plan ")) for line in lines if line.startswith("plan ")]
+        tally.note(f"job {at}", None if planned == [job["plan"]] else f"its plan is {planned}")
+
+
+def run_hot_root(tally: Tally) -> None:
+    """The example runs, and its last line has both times."""
+    ran = run(sys.executable, str(EXAMPLES / "hot_root.py"), "1")
+    told = re.search(rb"\nrecord locks [\d.]+ s, settled plans [\d.]+ s: [\d.]+ times as fast\n$", ran.out)
+    tally.note("its last line", None if ran.status == 0 and told else f"came {ran}")
 
 
 def lose_server(tally: Tally) -> None:
