@@ -301,6 +301,8 @@ def what_the_page_asks(program: str, tally: Tally) -> None:
     lines = {name: line for line, name in re.findall(r"""[`'](\{"([a-z]+)":[^`']*)[`']""", script)}
     tally.note("the lines", None if lines.keys() == {"plan", "batch", "reweigh", "check"} else f"they are {lines}")
     paths = re.findall(r'(?:answerOf\(|href=)"(/[a-z]*)"', script)
+    queries = set(re.findall(r"\?[a-z]+=[^`]*", script))
+    tally.note("the queries", None if queries == {"?after=${rounds}"} else f"they are {queries}")
     tally.note("the paths", None if {*paths} == {"/", "/nodes", "/document"} else f"they are {paths}")
     store = Store(json.loads(TREE))
     filled = {"${jsonOf(list)}": LIST, '${lists.map(jsonOf).join(",")}': f"{LIST},{LIST}"}
@@ -317,6 +319,8 @@ def what_the_page_asks(program: str, tally: Tally) -> None:
             if name == "plan":
                 planned = json.loads(response.body)
                 filled["${check}"] = json.dumps({"flow": planned.get("flow"), "plan": planned.get("plan")})[1:-1]
+        # A round has been done since there were none.
+        note_row(store, LOOK, client.get("/nodes?after=0"), "a look that waits", tally)
 
 
 def connections(program: str, tally: Tally) -> None:

@@ -22,8 +22,8 @@ pub const PAGE: &str = r##"<!DOCTYPE html>
 }
 * { box-sizing: border-box; }
 body { margin: 0; padding: 1rem 1.25rem 3rem; background: var(--paper); color: var(--ink); }
-body, button, select { font: 15px/1.45 system-ui, "Segoe UI", Roboto, sans-serif; }
-textarea, code, td, tbody th, svg text { font-family: ui-monospace, Menlo, Consolas, monospace; font-size: 13px; }
+body, button, select, input, thead th { font: 15px/1.45 system-ui, "Segoe UI", Roboto, sans-serif; }
+textarea, pre, code, table, svg text { font-family: ui-monospace, Menlo, Consolas, monospace; font-size: 13px; }
 header { display: flex; flex-wrap: wrap; gap: .5rem 1.25rem; align-items: baseline; margin-bottom: 1rem; }
 h1 { font-size: 1.3rem; margin: 0; }
 h2 { font-size: 1.05rem; margin: 0 0 .5rem; }
@@ -32,23 +32,30 @@ p { margin: .4rem 0; max-width: 46rem; }
 main { display: grid; grid-template-columns: minmax(24rem, 2fr) minmax(0, 3fr); gap: 1.5rem; align-items: start; }
 @media (max-width: 62rem) { main { grid-template-columns: minmax(0, 1fr); } }
 a { color: var(--link); }
-button, select {
-  color: inherit; background: var(--panel); border: 1px solid var(--line); border-radius: 4px;
-  padding: .25rem .7rem; cursor: pointer;
+button, select, input {
+  color: inherit; background: var(--panel); border: 1px solid var(--line); border-radius: 4px; padding: .25rem .7rem;
 }
+button, select, summary, .fold, .path { cursor: pointer; }
 button:hover { border-color: var(--ink); }
+::placeholder { color: var(--quiet); opacity: 1; }
+button[aria-pressed="true"] { background: var(--bar); border-color: var(--ink); }
+input[type="search"] { width: 12rem; max-width: 100%; }
 :focus-visible { outline: 3px solid var(--link); outline-offset: 1px; }
-textarea {
-  width: 100%; min-height: 11rem; padding: .5rem; resize: vertical; tab-size: 4; line-height: 1.5;
-  color: inherit; background: var(--panel); border: 1px solid var(--line); border-radius: 4px;
-}
+textarea, pre { padding: .5rem; line-height: 1.5; border: 1px solid var(--line); border-radius: 4px; }
+textarea { width: 100%; min-height: 11rem; resize: vertical; tab-size: 4; color: inherit; background: var(--panel); }
+pre { margin: .5rem 0; overflow-x: auto; }
 .row { display: flex; flex-wrap: wrap; gap: .5rem 1rem; align-items: baseline; margin: .5rem 0; }
+.row.top { margin-top: 0; }
+.top h2 { margin: 0; }
 .quiet { color: var(--quiet); }
 .bad { color: var(--bad); font-weight: 600; }
+.anew { font-weight: 600; }
 .wide { overflow-x: auto; max-width: 100%; }
-.tall { max-height: 78vh; overflow: auto; border: 1px solid var(--line); border-radius: 4px; }
-table { border-collapse: collapse; }
-.tall table { width: 100%; }
+.tall {
+  max-height: max(24rem, 100vh - 21rem); overflow: auto; overflow-anchor: none;
+  border: 1px solid var(--line); border-radius: 4px;
+}
+table { border-collapse: separate; border-spacing: 0; }
 thead th { font-weight: 600; background: var(--panel); position: sticky; top: 0; z-index: 1; }
 th, td { padding: .15rem .6rem; border-bottom: 1px solid var(--line); text-align: right; white-space: nowrap; }
 th:first-child, td:first-child, .texts :is(th, td) { text-align: left; }
@@ -60,8 +67,38 @@ tfoot td { border-bottom: 0; font-weight: 600; }
 }
 td[data-change]::before { content: attr(data-change) " "; color: var(--quiet); }
 td[data-change] { font-weight: 700; }
-button.path { font: inherit; padding: 0 .2rem; border: 0; background: none; text-align: left; }
-button.path:hover { text-decoration: underline; }
+#table {
+  --gaps: 1.2rem; --indent: 2ch; --most: 110ch; table-layout: fixed; width: 100%;
+  --numbers: calc(var(--weight) + var(--waits) + var(--record) + 4 * var(--gaps));
+  min-width: calc(min(var(--node), var(--most)) + var(--numbers) + var(--before, 0px));
+}
+#table.ranked { --most: 26ch; }
+#table.reweighed { --before: calc(var(--was) + var(--gaps)); }
+#table tr { height: 26px; }
+#table :is(th, td) { padding-block: 0; overflow: hidden; text-overflow: ellipsis; vertical-align: middle; }
+#table .gap :is(th, td), #table .gap { height: 0; padding: 0; border: 0; }
+.at-weight { width: calc(var(--weight) + var(--gaps)); }
+.at-was { width: calc(var(--was) + var(--gaps)); }
+.at-waits { width: calc(var(--waits) + var(--gaps)); }
+.at-record { width: calc(var(--record) + var(--gaps)); }
+#table:not(.reweighed) :is(.was, .at-was) { display: none; }
+.was { color: var(--quiet); }
+thead button { font: inherit; padding: 0; border: 0; background: none; }
+thead button:hover { text-decoration: underline; }
+[aria-sort="descending"] button::after { content: " ↓"; }
+tbody th div { display: flex; align-items: baseline; padding-left: calc(var(--indent) * var(--depth, 0)); }
+.fold { flex: none; width: 1.6rem; margin-left: -.4rem; text-align: center; user-select: none; }
+.ranked .fold { display: none; }
+.above { flex: 0 1 auto; overflow: hidden; text-overflow: ellipsis; color: var(--quiet); }
+.name, .within { flex: none; }
+.path:hover, .path:hover + .path { text-decoration: underline; }
+.within { padding-left: .6rem; color: var(--quiet); }
+.beside { color: var(--quiet); }
+#table:focus { outline: none; }
+#table:focus .active > * { background-color: var(--bar); }
+#table:focus .active > th { box-shadow: inset 4px 0 var(--link); }
+#table:focus-visible .active { outline: 2px solid var(--link); outline-offset: -2px; }
+[hidden] { display: none !important; }
 svg { display: block; }
 svg text { fill: var(--ink); }
 svg .end { text-anchor: end; }
@@ -73,6 +110,14 @@ svg .work { fill: var(--work); }
 svg .word { fill: var(--word); font-weight: 600; font-size: 12px; text-anchor: middle; }
 details { margin: .5rem 0; }
 summary { cursor: pointer; }
+@media (max-width: 62rem) { .tall { max-height: 60vh; } }
+@media (max-width: 30rem) {
+  body { padding: .75rem .5rem 2rem; }
+  #table { --gaps: .5rem; --indent: 1ch; }
+  #table.ranked { --most: 15ch; }
+  th, td { padding-inline: .25rem; }
+  thead th { font-size: 13px; }
+}
 @media print {
   .asks, .hint { display: none !important; }
   main { display: block; }
@@ -88,6 +133,7 @@ summary { cursor: pointer; }
   <h1>Pickbracken</h1>
   <span id="state" class="quiet">asking for the nodes</span>
   <span id="trouble" class="bad" role="alert"></span>
+  <span id="anew" class="anew" role="status"></span>
   <span class="row asks">
     <button id="follow" type="button">Pause</button>
     <a href="/document" download="document.json">Save the document</a>
@@ -97,33 +143,53 @@ summary { cursor: pointer; }
   <a href="/document">/document</a> tell what the store has.</p></noscript>
 <main>
 <section aria-labelledby="tree-title">
-  <h2 id="tree-title">Nodes</h2>
+  <div class="row top">
+    <h2 id="tree-title">Nodes</h2>
+    <span id="count" class="quiet" role="status"></span>
+  </div>
+  <div class="row asks">
+    <label>Filter <input id="filter" type="search" placeholder="a part of a path" autocomplete="off" spellcheck="false"
+      aria-describedby="count"></label>
+    <button id="fold" type="button">Fold all</button>
+    <button id="unfold" type="button">Unfold all</button>
+  </div>
   <div class="row asks">
     <label>Heat by <select id="by"><option>weight</option><option>waits</option></select></label>
     <button id="reweigh" type="button">Reweigh</button>
     <span id="reweighed" role="status"></span>
+    <button id="only" type="button" aria-pressed="false" hidden>Only those</button>
   </div>
   <p class="quiet" id="legend"></p>
-  <div class="tall"><table id="table">
-    <thead><tr><th scope="col">node</th><th scope="col">weight</th><th scope="col">waits</th>
+  <div class="tall" id="box"><table id="table" role="treegrid" tabindex="0" aria-labelledby="tree-title"
+    aria-describedby="keys">
+    <colgroup><col><col class="at-weight"><col class="at-was"><col class="at-waits"><col class="at-record"></colgroup>
+    <thead><tr aria-rowindex="1">
+      <th scope="col"><button type="button" data-order="tree" title="in the tree's order">node</button></th>
+      <th scope="col"><button type="button" data-order="weight" title="the greatest weight first">weight</button></th>
+      <th scope="col" class="was" title="the weight before the last reweighing">was</th>
+      <th scope="col"><button type="button" data-order="waits" title="the most waits first">waits</button></th>
       <th scope="col">record</th></tr></thead>
     <tbody id="nodes"></tbody>
   </table></div>
-  <p class="quiet hint">A click on a node, or Enter, writes <code>get</code> of it into the lists; the arrow keys go
-    from node to node.</p>
+  <p class="quiet hint" id="keys">A click on a node, or Enter, writes <code>get</code> of it into the lists. The arrow
+    keys go up and down, and fold and unfold; a click on <em>weight</em>, <em>waits</em> or <em>node</em> orders.</p>
 </section>
 <section aria-labelledby="lists-title">
   <div class="asks">
   <h2 id="lists-title">Lists</h2>
-  <p id="help">One access a line: <code>get /a</code>, <code>set /a 5</code>, <code>add /a 1</code> or
-    <code>take /a 2</code>, and behind it how many slots it takes, if more than one. An empty line begins another list,
-    and <code>#</code> a comment.</p>
-  <textarea id="lists" spellcheck="false" aria-labelledby="lists-title" aria-describedby="help"
-    placeholder="get /a&#10;add /a 1"></textarea>
+  <p id="help">One access a line: <code>get</code> and a path, or <code>set</code>, <code>add</code> or
+    <code>take</code>, a path and a number; behind it how many slots it takes, if more than one. An empty line begins
+    another list, and <code>#</code> a comment.</p>
+  <textarea id="lists" spellcheck="false" aria-labelledby="lists-title" aria-describedby="help"></textarea>
   <div class="row">
     <button id="plan" type="button">Plan each list</button>
     <button id="batch" type="button">Run them as a batch</button>
     <span class="quiet">Ctrl and Enter plans</span>
+  </div>
+  <div id="example" hidden>
+    <p>The lists are empty. Here are two for this tree:</p>
+    <pre id="example-text"></pre>
+    <button id="example-plan" type="button">Write and plan them</button>
   </div>
   </div>
   <div id="answers" aria-live="polite"></div>
@@ -132,14 +198,19 @@ summary { cursor: pointer; }
 <script>
 "use strict";
 const byId = (id) => document.getElementById(id);
-// How long the page waits between two looks at the nodes, and for an answer, in milliseconds.
-const PAUSE = 1000, PATIENCE = 30000;
+// How long the page waits between two looks at the nodes, and for an answer, in milliseconds. The server answers a look
+// that waits for a round within 30 seconds.
+const PAUSE = 1000, PATIENCE = 45000;
 
 // ---- what the server is asked
 
 /** JSON, in which a whole number that JavaScript would round stays a text. (No text of the server's has one in it.) */
 function parsed(text) {
-  return JSON.parse(text.replace(/([[:,])(-?\d{16,})(?=[,\]}])/g, '$1"$2"'));
+  try {
+    return JSON.parse(text.replace(/([[:,])(-?\d{16,})(?=[,\]}])/g, '$1"$2"'));
+  } catch {
+    throw new Refused("What came isn't an answer of the server's.");
+  }
 }
 
 class Refused extends Error {}
@@ -150,10 +221,14 @@ async function answerOf(path, how) {
     response = await fetch(path, { cache: "no-store", signal: AbortSignal.timeout(PATIENCE), ...how });
     text = await response.text();
   } catch {
-    throw new Refused("The server doesn't answer. Whether it did what it was asked isn't known.");
+    const isAsked = how.method === "POST" ? " Whether it did what it was asked isn't known." : "";
+    throw new Refused(`The server doesn't answer.${isAsked}`);
   }
   if (response.ok || (response.status === 400 && text !== "")) return text;
-  throw new Refused(`The server answered ${response.status}: ${text.trim() || response.statusText}`);
+  // What stands between may answer too, with a page of its own.
+  const isTold = response.headers.get("content-type")?.startsWith("application/json");
+  const told = isTold ? text.trim() : response.statusText;
+  throw new Refused(`The server answered ${response.status}${told && `: ${told}`}`);
 }
 
 /** The reply to each line, as a value. */
@@ -172,8 +247,8 @@ const FAULTS = {
   "rounds": "the store can count no further round",
 };
 
-function faultText(name) {
-  return `refused: ${name}${FAULTS[name] ? ` (${FAULTS[name]})` : ""}`;
+function faultText({ error, hint }) {
+  return `refused: ${error}${FAULTS[error] ? ` (${FAULTS[error]})` : ""}${hint ? `; hint: ${hint}` : ""}`;
 }
 
 // ---- elements
@@ -197,105 +272,446 @@ function tableOf(heads, rows, foot, name = "") {
   return make("div", { class: "wide", tabindex: "0" }, table);
 }
 
+// These leave be what is as it should be, so that a look at many nodes that are as they were costs little.
+function write(element, text) {
+  if (element.textContent !== text) element.textContent = text;
+}
+
+function put(element, name, value) {
+  if (value === null) element.removeAttribute(name);
+  else if (element.getAttribute(name) !== String(value)) element.setAttribute(name, value);
+}
+
+function setStyle(element, name, value) {
+  if (element.style.getPropertyValue(name) !== String(value)) element.style.setProperty(name, value);
+}
+
 function bad(text) {
   return make("p", { class: "bad", role: "alert" }, text);
 }
 
-// ---- the nodes
+// ---- looking
 
-let nodes = [], rows = [], isFollowing = true, current = 0;
+/** How many rounds the last look found, if the server counts them, and when it was. */
+let rounds, lookedAt;
+/** How many looks have begun, and the last one of those that were shown. */
+let begun = 0, latest = 0;
+let isFollowing = true, following = new AbortController();
+
+const timeOf = (date) => date.toLocaleTimeString();
+const timeNow = () => timeOf(new Date());
+const counted = (count, word) => `${count} ${word}${String(count) === "1" ? "" : "s"}`;
+
+/** Looks at the nodes; what comes later than the answer to a look that began after it is let be. */
+async function look(query = "", how = {}) {
+  const number = (begun += 1);
+  try {
+    const found = parsed(await answerOf("/nodes" + query, how));
+    if (number < latest) return;
+    latest = number;
+    if (found.error) throw new Refused(faultText(found));
+    takeLook(found);
+    write(byId("trouble"), "");
+  } catch (error) {
+    if (isFollowing || !how.signal) write(byId("trouble"), error.message);
+  }
+}
+
+function takeLook({ nodes, round }) {
+  const isAnew = isOfAnother(nodes, round);
+  const when = timeNow();
+  if (isAnew) {
+    byId("anew").textContent = `The server was started anew between ${lookedAt} and ${when}; before, it had done`
+      + ` ${counted(rounds ?? 0, "round")}.`;
+  }
+  [rounds, lookedAt] = [round, when];
+  takeNodes(nodes, isAnew);
+  const told = rounds === undefined ? "" : `, ${counted(rounds, "round")}`;
+  byId("state").textContent = `${counted(tree.length, "node")}${told}, at ${when}`;
+}
+
+/** Was the server started anew since the last look? A server's tree doesn't change, and its rounds only rise. */
+function isOfAnother(nodes, round) {
+  return tree.length > 0 && (!isKnown(nodes) || BigInt(round ?? 0) < BigInt(rounds ?? 0));
+}
+
+/** One look after the other, while the page is in view. One waits for the next round; the first, and one after trouble,
+    doesn't. */
+async function follow() {
+  for (;;) {
+    if (isFollowing && !document.hidden) {
+      const isWell = byId("trouble").textContent === "" && rounds !== undefined;
+      const signal = AbortSignal.any([following.signal, AbortSignal.timeout(PATIENCE)]);
+      await look(isWell ? `?after=${rounds}` : "", { signal });
+    }
+    await new Promise((done) => setTimeout(done, PAUSE));
+  }
+}
+
+function toggleFollowing() {
+  isFollowing = !isFollowing;
+  if (isFollowing) following = new AbortController();
+  else following.abort();
+  byId("follow").textContent = isFollowing ? "Pause" : "Follow";
+}
+
+// ---- the tree
+
+const NUMBERS = ["weight", "waits", "record"];
+// A tree of more nodes than these begins folded below this depth.
+const MANY = 200, DEEP = 2;
+const UNMARKED = {};
+
+/** The nodes by their places in the tree's order, each with what the last look found of it. */
+let tree = [];
+
+/** Parents and ends of subtrees are places; `marks` tells what rose and what fell, `was` the weight before. */
+function treeOf(nodes) {
+  const places = new Map(nodes.map((node, at) => [node.path, at]));
+  const planted = nodes.map((node, at) => {
+    const cut = node.path.lastIndexOf("/");
+    const parent = at ? places.get(node.path.slice(0, cut) || "/") : -1;
+    const name = node.path.slice(cut + 1) || "/";
+    return { path: node.path, name, depth: depthOf(node.path), parent, end: at + 1, node, marks: UNMARKED };
+  });
+  for (let at = planted.length - 1; at > 0; at -= 1) {
+    const above = planted[planted[at].parent];
+    above.end = Math.max(above.end, planted[at].end);
+  }
+  return planted;
+}
 
 function depthOf(path) {
   return path === "/" ? 0 : path.split("/").length - 1;
 }
 
-function rowOf(node, at) {
-  const name = node.path === "/" ? "/" : node.path.slice(node.path.lastIndexOf("/") + 1);
-  const button = make("button", { class: "path", type: "button", title: node.path, tabindex: at ? "-1" : "0" }, name);
-  button.style.marginLeft = `${depthOf(node.path) * 1.1}rem`;
-  button.addEventListener("click", () => writeAccess(node.path));
-  const cells = ["weight", "waits", "record"].map((name) => [name, make("td", { class: name })]);
-  const row = { button, cells: Object.fromEntries(cells), path: node.path, shown: {}, marked: new Set() };
-  row.element = make("tr", {}, make("th", { scope: "row" }, button), ...cells.map(([, cell]) => cell));
-  return row;
+const hasBelow = (place) => tree[place].end > place + 1;
+
+function isKnown(nodes) {
+  return nodes.length === tree.length && nodes.every(({ path }, at) => path === tree[at].path);
 }
 
-function showNodes(found) {
-  if (found.length !== rows.length || found.some((node, at) => node.path !== rows[at].path)) {
-    rows = found.map(rowOf);
-    byId("nodes").replaceChildren(...rows.map((row) => row.element));
+/** Takes what a look found; of a tree that the page knows it marks what rose and what fell. */
+function takeNodes(nodes, isAnew) {
+  if (!isKnown(nodes)) plant(nodes);
+  if (isAnew) forgetReweighing("");
+  else noteReweighing(nodes);
+  tree.forEach((entry, at) => renew(entry, nodes[at], isAnew));
+  showTree();
+}
+
+function plant(nodes) {
+  tree = treeOf(nodes);
+  forgetReweighing("");
+  view.folded = tree.length > MANY ? foldsFrom(DEEP) : new Set();
+  view.active = 0;
+  drawn = new Map();
+  showExample();
+}
+
+function renew(entry, node, isAnew) {
+  entry.marks = UNMARKED;
+  for (const name of NUMBERS) {
+    if (isAnew || node[name] === entry.node[name]) continue;
+    entry.marks = { ...entry.marks, [name]: BigInt(node[name]) > BigInt(entry.node[name]) ? "▲" : "▼" };
   }
-  nodes = found;
-  nodes.forEach((node, at) => showNumbers(rows[at], node));
-  showHeat();
+  entry.node = node;
 }
 
-/** Writes the numbers that have changed, with a mark, and takes the marks of the last look away. */
-function showNumbers(row, node) {
-  for (const [name, cell] of Object.entries(row.cells)) {
-    const before = row.shown[name], now = node[name];
-    if (row.marked.delete(name)) delete cell.dataset.change;
-    if (now === before) continue;
-    cell.textContent = row.shown[name] = now;
-    if (before === undefined) continue;
-    cell.dataset.change = BigInt(now) > BigInt(before) ? "▲" : "▼";
-    row.marked.add(name);
-  }
-}
-
-function showHeat() {
-  const by = byId("by").value;
-  const most = nodes.reduce((most, node) => Math.max(most, Number(node[by])), 0);
-  byId("table").dataset.by = by;
-  nodes.forEach((node, at) => {
-    const heat = Number(node[by]) / Math.max(1, most);
-    if (heat !== rows[at].heat) rows[at].element.style.setProperty("--heat", heat);
-    rows[at].heat = heat;
+/** Only new weights change weights: where some differ, those before them are kept until the next ones. */
+function noteReweighing(nodes) {
+  const changed = tree.filter((entry, at) => entry.node.weight !== nodes[at].weight).length;
+  if (!changed) return;
+  tree.forEach((entry, at) => {
+    entry.was = entry.node.weight === nodes[at].weight ? undefined : entry.node.weight;
   });
-  byId("legend").textContent = `The longer the bar and the deeper the colour, the greater its ${by}; the greatest`
-    + ` is ${most}. ▲ and ▼ mark what rose and what fell since the last look.`;
+  byId("reweighed").textContent = `${counted(changed, "weight")} changed, seen at ${timeNow()}`;
+  byId("only").hidden = false;
 }
 
-async function look() {
-  try {
-    showNodes(parsed(await answerOf("/nodes", {})).nodes);
-    byId("state").textContent = `${nodes.length} nodes at ${new Date().toLocaleTimeString()}`;
-    byId("trouble").textContent = "";
-  } catch (error) {
-    byId("trouble").textContent = error.message;
-  }
-}
-
-async function follow() {
-  if (isFollowing && !document.hidden) await look();
-  setTimeout(follow, PAUSE);
-}
-
-function toggleFollowing() {
-  isFollowing = !isFollowing;
-  byId("follow").textContent = isFollowing ? "Pause" : "Follow";
-}
-
-/** The arrow keys go from node to node, of which the tab key finds one. */
-function moveIn(event) {
-  const moves = { ArrowDown: 1, ArrowUp: -1, PageDown: 20, PageUp: -20, Home: -rows.length, End: rows.length };
-  if (!(event.key in moves)) return;
-  event.preventDefault();
-  rows[current].button.tabIndex = -1;
-  const at = rows.findIndex((row) => row.button === document.activeElement);
-  current = Math.min(rows.length - 1, Math.max(0, at + moves[event.key]));
-  rows[current].button.tabIndex = 0;
-  rows[current].button.focus();
+function forgetReweighing(words) {
+  for (const entry of tree) entry.was = undefined;
+  byId("reweighed").textContent = words;
+  byId("only").hidden = true;
+  setOnly(false);
 }
 
 async function reweigh() {
   try {
-    const [reply] = await repliesTo(['{"reweigh":null}']);
-    byId("reweighed").textContent = reply.error ? faultText(reply.error) : `${reply.changed} weights changed`;
     await look();
+    const [reply] = await repliesTo(['{"reweigh":null}']);
+    if (reply.error) throw new Refused(faultText(reply));
+    forgetReweighing("no weight changed");
+    await look();
+    if (reply.changed) byId("reweighed").textContent = `${counted(reply.changed, "weight")} changed at ${timeNow()}`;
   } catch (error) {
     byId("reweighed").textContent = error.message;
   }
+}
+
+// ---- which nodes the table has
+
+/** How the table shows the tree: its order, its filter, the folded places without and with a filter, and one place
+    that the keys are about. */
+const view = { order: "tree", filter: "", isOnlyChanged: false, folded: new Set(), foldedHits: new Set(), active: 0 };
+/** The places that the table has by these, in its order, and those of them that the filter doesn't ask for. */
+let shown = [], beside = new Set();
+
+const isFiltered = () => view.filter !== "" || view.isOnlyChanged;
+const folds = () => (isFiltered() ? view.foldedHits : view.folded);
+const isHit = (entry) => entry.path.includes(view.filter) && (!view.isOnlyChanged || entry.was !== undefined);
+
+function foldsFrom(depth) {
+  return new Set([...tree.keys()].filter((place) => tree[place].depth >= depth && hasBelow(place)));
+}
+
+/** The places of the nodes asked for, the greatest first. */
+function ranked(order) {
+  const hits = [...tree.keys()].filter((place) => isHit(tree[place]));
+  const rank = (place) => Number(tree[place].node[order]);
+  return hits.sort((one, other) => rank(other) - rank(one) || one - other);
+}
+
+/** The places of the nodes asked for and of those above them, without what is folded. */
+function unfolded() {
+  const hits = tree.map(isHit), kept = [...hits], found = [];
+  for (let at = tree.length - 1; at > 0; at -= 1) if (kept[at]) kept[tree[at].parent] = true;
+  for (let at = 0; at < tree.length; at = kept[at] && !folds().has(at) ? at + 1 : tree[at].end) {
+    if (kept[at]) found.push(at);
+  }
+  beside = new Set(found.filter((place) => !hits[place]));
+  return found;
+}
+
+function arrange() {
+  beside = new Set();
+  shown = view.order === "tree" ? unfolded() : ranked(view.order);
+  const there = new Set(shown);
+  while (view.active > 0 && !there.has(view.active)) view.active = tree[view.active].parent;
+  if (!there.has(view.active)) view.active = shown[0] ?? 0;
+  noteSiblings();
+}
+
+/** Of each shown place its number among those with the same parent, and how many these are. */
+function noteSiblings() {
+  const counts = new Map();
+  for (const place of shown) {
+    const { parent } = tree[place];
+    counts.set(parent, (counts.get(parent) ?? 0) + 1);
+    tree[place].number = counts.get(parent);
+  }
+  for (const place of shown) tree[place].among = counts.get(tree[place].parent);
+}
+
+// ---- the table
+
+// So many rows beyond those in view are in the document, on both sides.
+const SPARE = 12;
+// As in the style.
+const NARROW = matchMedia("(max-width: 30rem)");
+/** The rows in the document by their places, how high a row is, and the greatest number that the heat is by. */
+let drawn = new Map(), rowHeight = 26, most = 1, isPrinting = false;
+/** Which part of the shown nodes these rows are. */
+let part = "";
+
+function showTree() {
+  arrange();
+  const by = byId("by").value, table = byId("table");
+  most = tree.reduce((most, { node }) => Math.max(most, Number(node[by])), 0);
+  table.dataset.by = by;
+  table.classList.toggle("ranked", view.order !== "tree");
+  table.classList.toggle("reweighed", tree.some((entry) => entry.was !== undefined));
+  put(table, "aria-rowcount", shown.length + 1);
+  for (const button of document.querySelectorAll("[data-order]")) {
+    const isOrder = view.order !== "tree" && button.dataset.order === view.order;
+    put(button.parentElement, "aria-sort", isOrder ? "descending" : "none");
+  }
+  write(byId("legend"), `The longer the bar, the greater its ${by}, up to ${most}. ▲ and ▼ mark what rose and`
+    + " what fell since the last look.");
+  write(byId("count"), countText());
+  fitColumns(table);
+  drawRows();
+}
+
+function countText() {
+  const hits = isFiltered() ? tree.filter(isHit).length : tree.length;
+  const hidden = hits + beside.size - shown.length;
+  const found = isFiltered() ? `${hits || "none"} of ${counted(tree.length, "node")}` : "";
+  return [found, hidden > 0 ? `${hidden} folded away` : ""].filter(Boolean).join(", ");
+}
+
+/** Gives each column room for the longest that it has, with a mark, and for its head, with an arrow if it orders. */
+function fitColumns(table) {
+  const longest = (sizes) => sizes.reduce((most, size) => Math.max(most, size), 0);
+  const sizes = { was: 5, node: 5 + longest(shown.map((place) => nameOf(tree[place]).length)) };
+  for (const name of NUMBERS) {
+    const head = name.length + (NARROW.matches ? 1 : 2) + (view.order === name ? 2 : 0);
+    sizes[name] = Math.max(head, 2 + longest(tree.map(({ node }) => String(node[name]).length)));
+  }
+  for (const [name, size] of Object.entries(sizes)) table.style.setProperty(`--${name}`, `${size}ch`);
+}
+
+/** What stands for a node: its path, of which the tree's order leaves out what is above, but for the room. */
+function nameOf(entry) {
+  return view.order === "tree" ? " ".repeat((NARROW.matches ? 1 : 2) * entry.depth) + entry.name : entry.path;
+}
+
+/** Puts the rows in view into the document, and room in place of those before and behind them. */
+function drawRows() {
+  const inView = Math.ceil(window.innerHeight / rowHeight) + 2 * SPARE;
+  const wanted = Math.floor(byId("box").scrollTop / rowHeight) - SPARE;
+  const first = isPrinting ? 0 : Math.max(0, Math.min(wanted, shown.length - inView));
+  const places = shown.slice(first, isPrinting ? shown.length : first + inView);
+  const rows = places.map((place) => drawn.get(place) ?? rowOf(place));
+  rows.forEach((row, at) => fill(row, places[at], first + at));
+  drawn = new Map(places.map((place, at) => [place, rows[at]]));
+  const partNow = [shown.length, first, ...places].join();
+  if (partNow !== part) {
+    const behind = shown.length - first - rows.length;
+    byId("nodes").replaceChildren(gap(first), ...rows.map((row) => row.element), gap(behind));
+  }
+  part = partNow;
+  put(byId("table"), "aria-activedescendant", drawn.has(view.active) ? `node-${view.active}` : null);
+}
+
+function gap(count) {
+  const row = make("tr", { class: "gap", "aria-hidden": "true" }, make("td"));
+  row.style.height = `${count * rowHeight}px`;
+  return row;
+}
+
+function rowOf(place) {
+  const spans = ["fold", "above path", "name path", "within"].map((name) => make("span", { class: name }));
+  const cells = ["weight", "was", "waits", "record"].map((name) => make("td", { class: name }));
+  const head = make("th", { scope: "row", title: tree[place].path }, make("div", {}, ...spans));
+  put(spans[0], "aria-hidden", "true");
+  const element = make("tr", { id: `node-${place}`, "data-place": place }, head, ...cells);
+  const [weight, was, waits, record] = cells;
+  return { element, spans, was, cells: { weight, waits, record } };
+}
+
+/** Writes into a row what is to be seen of a node, at this place of the table. */
+function fill({ element, spans, was, cells }, place, at) {
+  const entry = tree[place], isTree = view.order === "tree", isFolded = isTree && folds().has(place);
+  put(element, "aria-rowindex", at + 2);
+  put(element, "aria-level", isTree ? entry.depth + 1 : 1);
+  put(element, "aria-posinset", isTree ? entry.number : at + 1);
+  put(element, "aria-setsize", isTree ? entry.among : shown.length);
+  put(element, "aria-expanded", isTree && hasBelow(place) ? !isFolded : null);
+  put(element, "class", `${place === view.active ? "active" : ""} ${beside.has(place) ? "beside" : ""}`.trim());
+  const sign = isFolded ? "▸" : "▾";
+  const above = isTree ? "" : entry.path.slice(0, entry.path.length - entry.name.length);
+  const within = isFolded ? `+${entry.end - place - 1}` : "";
+  [isTree && hasBelow(place) ? sign : "", above, entry.name, within].forEach((text, at) => write(spans[at], text));
+  setStyle(element, "--depth", isTree ? entry.depth : 0);
+  setStyle(element, "--heat", Number(entry.node[byId("by").value]) / Math.max(1, most));
+  for (const [name, cell] of Object.entries(cells)) {
+    write(cell, String(entry.node[name]));
+    put(cell, "data-change", entry.marks[name] ?? null);
+  }
+  write(was, String(entry.was ?? ""));
+}
+
+// ---- going about in the table
+
+function activate(place) {
+  view.active = place;
+  const box = byId("box"), top = shown.indexOf(place) * rowHeight;
+  const room = box.clientHeight - box.querySelector("thead").offsetHeight;
+  if (top < box.scrollTop) box.scrollTop = top;
+  else if (top + rowHeight > box.scrollTop + room) box.scrollTop = top + rowHeight - room;
+  drawRows();
+}
+
+function toggleFold(place) {
+  if (!folds().delete(place)) folds().add(place);
+  showTree();
+}
+
+/** To the right a folded node unfolds, and another one is left for the first below; to the left the other way round. */
+function goIn() {
+  if (view.order !== "tree" || !hasBelow(view.active)) return;
+  if (folds().has(view.active)) toggleFold(view.active);
+  else activate(shown[Math.min(shown.length - 1, shown.indexOf(view.active) + 1)]);
+}
+
+function goOut() {
+  if (view.order !== "tree") return;
+  if (hasBelow(view.active) && !folds().has(view.active)) toggleFold(view.active);
+  else if (view.active > 0) activate(tree[view.active].parent);
+}
+
+function onTableKey(event) {
+  if (event.target !== byId("table") || event.altKey || event.ctrlKey || event.metaKey || !shown.length) return;
+  const moves = { ArrowDown: 1, ArrowUp: -1, PageDown: 20, PageUp: -20, Home: -shown.length, End: shown.length };
+  const acts = { ArrowRight: goIn, ArrowLeft: goOut, Enter: () => writeAccess(tree[view.active].path) };
+  if (event.key in moves) {
+    const at = shown.indexOf(view.active) + moves[event.key];
+    activate(shown[Math.max(0, Math.min(shown.length - 1, at))]);
+  } else if (event.key in acts) acts[event.key]();
+  else return;
+  event.preventDefault();
+}
+
+function onTableClick(event) {
+  const row = event.target.closest("[data-place]");
+  if (!row) return;
+  view.active = Number(row.dataset.place);
+  if (event.target.closest(".fold") && hasBelow(view.active)) toggleFold(view.active);
+  else drawRows();
+  if (event.target.closest(".path")) writeAccess(tree[view.active].path);
+}
+
+/** The keys begin where the table is looked at. */
+function onTableFocus() {
+  if (drawn.has(view.active) || !shown.length) return;
+  view.active = shown[Math.min(shown.length - 1, Math.ceil(byId("box").scrollTop / rowHeight))];
+  drawRows();
+}
+
+/** Another order, filter or fold is seen from its beginning. */
+function showFromTop() {
+  byId("box").scrollTop = 0;
+  showTree();
+}
+
+function setOrder(event) {
+  const { order } = event.target.closest("[data-order]")?.dataset ?? {};
+  if (!order) return;
+  view.order = order;
+  showFromTop();
+}
+
+function setFilter() {
+  view.filter = byId("filter").value.trim().toLowerCase();
+  view.foldedHits = new Set();
+  showFromTop();
+}
+
+function setOnly(isOnly) {
+  view.isOnlyChanged = isOnly;
+  view.foldedHits = new Set();
+  put(byId("only"), "aria-pressed", isOnly);
+}
+
+function setFolds(folded) {
+  if (isFiltered()) view.foldedHits = folded;
+  else view.folded = folded;
+  view.order = "tree";
+  showFromTop();
+}
+
+function setPrinting(isNow) {
+  isPrinting = isNow;
+  drawRows();
+}
+
+/** How high a row is follows from the letters. */
+function measure() {
+  const [row] = drawn.values();
+  rowHeight = row?.element.getBoundingClientRect().height || rowHeight;
+  part = "";
+  drawRows();
 }
 
 // ---- the lists
@@ -307,6 +723,31 @@ function writeAccess(path) {
   const before = lists.value === "" || lists.value.endsWith("\n") ? "" : "\n";
   lists.value += `${before}get ${path}\n`;
   lists.scrollTop = lists.scrollHeight;
+  showExample();
+}
+
+/** Two lists about nodes that have none below them, far from each other. */
+function exampleText() {
+  const leaves = tree.filter((entry, place) => !hasBelow(place)).map((entry) => entry.path);
+  const [first, middle, last] = [0, Math.floor(leaves.length / 2), leaves.length - 1].map((at) => leaves[at]);
+  return `get ${first}\nadd ${middle} 1\nget ${last}\n\nget ${middle}\n`;
+}
+
+/** Where the lists are empty, there is an example to click. */
+function showExample() {
+  const lists = byId("lists"), isEmpty = lists.value.trim() === "";
+  byId("example").hidden = !isEmpty || !tree.length;
+  if (!isEmpty || !tree.length) return;
+  const text = exampleText();
+  put(lists, "placeholder", text.split("\n", 2).join("\n"));
+  write(byId("example-text"), text.trim());
+}
+
+function planExample() {
+  byId("lists").value = exampleText();
+  showExample();
+  byId("lists").focus();
+  answer(planned);
 }
 
 /** An access as its line tells it, and its JSON. */
@@ -357,7 +798,7 @@ async function planned(lists) {
 
 async function batched(lists) {
   const [reply] = await repliesTo([`{"batch":[${lists.map(jsonOf).join(",")}]}`]);
-  if (reply.error) return [bad(`The batch is ${faultText(reply.error)}; nothing has changed.`)];
+  if (reply.error) return [bad(`Nothing has changed; the batch is ${faultText(reply)}`)];
   const rows = lists.flatMap((list, at) =>
     list.map((access, number) => [at + 1, reply.places[at], access.text, reply.replies[at][number]]));
   await look();
@@ -404,7 +845,7 @@ function weightsOf(flow) {
 function planSection(list, reply, at) {
   const section = make("section", { class: "plan" }, make("h3", {}, `List ${at + 1}`));
   if (reply.error) {
-    section.append(bad(faultText(reply.error)));
+    section.append(bad(faultText(reply)));
     return section;
   }
   const weights = weightsOf(reply.flow), bars = barsOf(reply.plan), slots = slotsOf(list);
@@ -503,7 +944,7 @@ function certificate(list, slots, weights, { plan, flow, cost }) {
 async function checked(line) {
   try {
     const [reply] = await repliesTo([line]);
-    if (reply.error) return `${faultText(reply.error)}. The weights may have changed since it was planned.`;
+    if (reply.error) return `${faultText(reply)}. The weights may have changed since it was planned.`;
     return `The server's checker accepts it: cost ${reply.cost}.`;
   } catch (error) {
     return error.message;
@@ -514,8 +955,30 @@ async function checked(line) {
 
 byId("follow").addEventListener("click", toggleFollowing);
 byId("reweigh").addEventListener("click", reweigh);
-byId("by").addEventListener("change", showHeat);
-byId("nodes").addEventListener("keydown", moveIn);
+byId("only").addEventListener("click", () => {
+  setOnly(!view.isOnlyChanged);
+  showFromTop();
+});
+byId("by").addEventListener("change", showTree);
+byId("filter").addEventListener("input", setFilter);
+byId("filter").addEventListener("keydown", (event) => {
+  if (event.key !== "Escape") return;
+  byId("filter").value = "";
+  setFilter();
+});
+byId("fold").addEventListener("click", () => setFolds(foldsFrom(1)));
+byId("unfold").addEventListener("click", () => setFolds(new Set()));
+byId("table").addEventListener("click", setOrder);
+byId("table").addEventListener("keydown", onTableKey);
+byId("table").addEventListener("focus", onTableFocus);
+byId("nodes").addEventListener("click", onTableClick);
+byId("box").addEventListener("scroll", () => requestAnimationFrame(drawRows));
+addEventListener("resize", measure);
+NARROW.addEventListener("change", showTree);
+addEventListener("beforeprint", () => setPrinting(true));
+addEventListener("afterprint", () => setPrinting(false));
+byId("lists").addEventListener("input", showExample);
+byId("example-plan").addEventListener("click", planExample);
 byId("plan").addEventListener("click", () => answer(planned));
 byId("batch").addEventListener("click", () => answer(batched));
 byId("lists").addEventListener("keydown", (event) => {
