@@ -16,6 +16,7 @@ from at_hand import completed_by_bash, completed_by_zsh, manual, names_of_manual
 from cluster_trial import cluster, is_absent
 from in_root import commands_of_readme, commands_on_examples, paged, served
 from looking import below, note_equal, note_silent, with_manual
+from nginx_trial import behind_nginx
 from packages import PROGRAM, Packages, called, copy_of_checkout, package
 from sweeps.program import Tally
 
@@ -136,6 +137,7 @@ TRIALS = [
     Trial("commands_on_examples", commands_on_examples, ("chroot", "ldd")),
     Trial("served", served, ("chroot", "ldd")),
     Trial("paged", paged, ("chroot", "ldd")),
+    Trial("behind_nginx", behind_nginx, ("nginx", "openssl")),
     Trial("moved", moved),
     Trial("owned", owned),
     Trial("cluster", cluster, ("etcd", "chroot", "unshare"), is_absent),
