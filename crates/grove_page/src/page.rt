@@ -298,8 +298,7 @@ let rounds, lookedAt;
 let begun = 0, latest = 0;
 let isFollowing = true, following = new AbortController();
 
-const timeOf = (date) => date.toLocaleTimeString();
-const timeNow = () => timeOf(new Date());
+const timeNow = () => new Date().toLocaleTimeString();
 const counted = (count, word) => `${count} ${word}${String(count) === "1" ? "" : "s"}`;
 
 /** Looks at the nodes; what comes later than the answer to a look that began after it is let be. */
@@ -327,7 +326,7 @@ function takeLook({ nodes, round }) {
   [rounds, lookedAt] = [round, when];
   takeNodes(nodes, isAnew);
   const told = rounds === undefined ? "" : `, ${counted(rounds, "round")}`;
-  byId("state").textContent = `${counted(tree.length, "node")}${told}, at ${when}`;
+  byId("state").textContent = `${counted(tree.length, "node")}${told}, as of ${when}`;
 }
 
 /** Was the server started anew since the last look? A server's tree doesn't change, and its rounds only rise. */
@@ -393,11 +392,13 @@ function isKnown(nodes) {
 
 /** Takes what a look found; of a tree that the page knows it marks what rose and what fell. */
 function takeNodes(nodes, isAnew) {
-  if (!isKnown(nodes)) plant(nodes);
+  const isOther = !isKnown(nodes);
+  if (isOther) plant(nodes);
   if (isAnew) forgetReweighing("");
   else noteReweighing(nodes);
   tree.forEach((entry, at) => renew(entry, nodes[at], isAnew));
   showTree();
+  if (isOther) measure();
 }
 
 function plant(nodes) {
@@ -451,8 +452,8 @@ async function reweigh() {
 
 // ---- which nodes the table has
 
-/** How the table shows the tree: its order, its filter, the folded places without and with a filter, and one place
-    that the keys are about. */
+/** How the table shows the tree: its order, its filter, the folded places without and with a filter, and the place that
+    the keys are about. */
 const view = { order: "tree", filter: "", isOnlyChanged: false, folded: new Set(), foldedHits: new Set(), active: 0 };
 /** The places that the table has by these, in its order, and those of them that the filter doesn't ask for. */
 let shown = [], beside = new Set();
@@ -522,15 +523,19 @@ function showTree() {
   table.classList.toggle("ranked", view.order !== "tree");
   table.classList.toggle("reweighed", tree.some((entry) => entry.was !== undefined));
   put(table, "aria-rowcount", shown.length + 1);
+  write(byId("legend"), `The longer the bar, the greater its ${by}, up to ${most}. ▲ and ▼ mark what rose and`
+    + " what fell since the last look.");
+  write(byId("count"), countText());
+  showHeads();
+  fitColumns(table);
+  drawRows();
+}
+
+function showHeads() {
   for (const button of document.querySelectorAll("[data-order]")) {
     const isOrder = view.order !== "tree" && button.dataset.order === view.order;
     put(button.parentElement, "aria-sort", isOrder ? "descending" : "none");
   }
-  write(byId("legend"), `The longer the bar, the greater its ${by}, up to ${most}. ▲ and ▼ mark what rose and`
-    + " what fell since the last look.");
-  write(byId("count"), countText());
-  fitColumns(table);
-  drawRows();
 }
 
 function countText() {
