@@ -1,5 +1,5 @@
--- The one member of an object that has just one.
-use Rattle.std.proofs.Common.{◌≡◌, List, [], ◌∷◌, length, Some, None, String, Global, refl, sym, ◌∙◌, ap, arith}
+-- The one member of an object that has just one, and how many there are.
+use Rattle.std.proofs.Common.{◌≡◌, List, [], ◌∷◌, length, Some, None, String, Global, refl, sym, ◌∙◌, ap, arith, suc}
 use Rattle.std.specs.Prelude.{slice_get, string_bytes, option_and_then}
 use Rattle.std.proofs.lemmas.Option.{same_Some}
 use Rattle.serde_json.specs.Data.{Data}
@@ -8,6 +8,11 @@ use Rattle.serde_json.specs.View.{view, members_view}
 use Rattle.serde_json.specs.declared.value.Value.{Value}
 use Rattle.serde_json.proofs.Views.{Entry}
 use Rattle.grove_wire.specs.Requests.{only_of, only_member}
+use Rattle.grove_wire.specs.Sketches.{count}
+
+pub count_view : (entries : List Entry) → length entries ≡ count (members_view entries)
+count_view [] = refl
+count_view (e ∷ entries) = ap suc (count_view entries)
 
 -- the first entry of one
 first_of_one : (entries : List Entry) (e : Entry) → length entries ≡ 1 → slice_get entries 0 ≡ Some e → only_of (members_view entries) ≡ Some (string_bytes e.0, view e.1)

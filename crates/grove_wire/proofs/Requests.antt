@@ -42,7 +42,7 @@ batch_asks rows d =
     then_reads (λ ds. Unit {0}) (AskedFits rows) (or_fault (Shape (whole_of part.Lists)) (as_list d)) _ (any_reads (Shape (whole_of part.Lists)) (as_list d) tt) (λ ds told.
     then_reads (λ lists. (length lists ≤ 256) × All (AreListed rows) lists) (AskedFits rows) (lists_of rows Second ds) (λ lists. Ok (Batch lists)) (lists_read rows Second ds) (λ lists fit. fit))
 
-pub named_asks : (rows : Rows) (name : List ℕ) (d : Data) → Reads (AskedFits rows) (named_of rows name d)
+named_asks : (rows : Rows) (name : List ℕ) (d : Data) → Reads (AskedFits rows) (named_of rows name d)
 unfolding named_of
 named_asks rows name d =
     either_reads (AskedFits rows) (bytes_eq name (codes "plan")) _ _ (plan_asks rows d)
@@ -52,7 +52,7 @@ named_asks rows name d =
     (either_reads (AskedFits rows) (bytes_eq name (codes "reweigh")) _ _ tt tt))))
 
 -- each line asks for what fits, or is refused, but not for want of memory
-line_asks : (rows : Rows) (line : List ℕ) → Reads (AskedFits rows) (request_of rows line)
+pub line_asks : (rows : Rows) (line : List ℕ) → Reads (AskedFits rows) (request_of rows line)
 unfolding request_of
 line_asks rows line =
     then_reads (λ d. Unit {0}) (AskedFits rows) (or_fault BadJson (value_of line)) _ (any_reads BadJson (value_of line) tt) (λ d told.

@@ -1,7 +1,7 @@
 -- What is kept of a value's items reads as the items do: scalars, accesses, lists, steps and plans.
 use Rattle.std.proofs.Common.{◌≡◌, ℕ, suc, ◌<◌, ◌≤◌, Bool, true, false, cond, List, [], ◌∷◌, length, take, Option, Some}
 use Rattle.std.proofs.Common.{None, option_map, option_and_then, refl, ap, ap₂, sym, ◌∙◌, arith, codes}
-use Rattle.std.specs.Prelude.{Result, Ok, Err, map, nat_lt, ℤ, ◌^◌, ◌||◌}
+use Rattle.std.specs.Prelude.{Result, Ok, Err, map, nat_lt, ℤ, ◌^◌, is_some}
 use Rattle.std.proofs.lemmas.Bool.{lt-ltb, ltb-true, ltb-false}
 use Rattle.std.proofs.lemmas.List.{take_all, length-take-le}
 use Rattle.std.proofs.lemmas.Option.{same_Some}
@@ -15,20 +15,24 @@ use Rattle.grove_base.proofs.Lists.{map_length}
 use Rattle.grove_tree.specs.Trees.{Rows}
 use Rattle.grove_access.specs.declared.access.Op.{Op}
 use Rattle.grove_access.specs.declared.access.Op.TheVariants.{Get, Set, Add, Take}
+use Rattle.grove_plan.specs.declared.step.Step.{Step}
 use Rattle.grove_plan.specs.declared.step.Step.TheVariants as step
 use Rattle.grove_wire.specs.declared.fault.WireFault.{WireFault}
 use Rattle.grove_wire.specs.declared.fault.WireFault.TheVariants.{Shape, Limit}
 use Rattle.grove_wire.specs.declared.place.Place.{Place}
 use Rattle.grove_wire.specs.declared.versions.Version.{Version}
+use Rattle.grove_wire.specs.declared.versions.Version.TheVariants.{Second}
 use Rattle.grove_wire.specs.declared.sketch.Form.{Form}
 use Rattle.grove_wire.specs.declared.sketch.Form.TheVariants as form
 use Rattle.grove_wire.specs.Outcomes.{◌>>=◌, or_fault, each_from}
 use Rattle.grove_wire.specs.Places.{item_on}
 use Rattle.grove_wire.specs.Forms as forms
 use Rattle.grove_wire.specs.Reading as reading
-use Rattle.grove_wire.specs.Sketches.{item_form, most_items, leaf, number_data, cut, is_step, fitted, drawn, drawn_item}
-use Rattle.grove_wire.specs.Sketches.{drawn_items}
-use Rattle.grove_wire.proofs.Turns.{access_in, step_in}
+use Rattle.grove_wire.specs.Sketches.{item_form, most_items, leaf, number_data, cut, text_kept, count_kept, step_kept}
+use Rattle.grove_wire.specs.Sketches.{operand_kept, access_kept, kept_step_at, drawn, drawn_item, drawn_items}
+use Rattle.grove_wire.specs.Places.{whole_of}
+use Rattle.grove_wire.specs.declared.place.Part.TheVariants as part
+use Rattle.grove_wire.proofs.Turns.{access_in, step_in, kept_step_in}
 
 -- ---- a value with its text
 
@@ -123,69 +127,106 @@ module _ {A : Type 0} (look : Data → A) where
       by_text (json.object ms) d is =
           object_same (drawn form.Scalar (json.object ms)) (of_members ms no_members) d is (λ ns at. objects _ ns)
 
--- of an array
-pub list_same : {A : Type 0} (f : Form) (look : Option (List Data) → A)
-    → ((rows : List Row) → look (Some (cut (most_items f) (sketches (item_form f) rows))) ≡ look (Some (wholes rows)))
-    → (row : Row) → look (forms.as_list (drawn f row.text)) ≡ look (forms.as_list row.whole)
-list_same {A} f look same row = by_text row.text row.whole row.reads
-  where
-    seen : Data → A
-    seen d = look (forms.as_list d)
+-- an array's items, each with its text, if it is an array
+record Listed (f : Form) (x y : Option (List Data)) : Type 0 where
+  pub rows : Option (List Row)
+  pub kept : x ≡ option_map (λ rs. cut (most_items f) (sketches (item_form f) rs)) rows
+  pub whole : y ≡ option_map wholes rows
 
-    by_text : (j : json.Json) (d : Data) → of_json j ≡ Some d → seen (drawn f j) ≡ seen d
-    by_text json.null d is = ap seen (same_Some null d is)
-    by_text (json.boolean b) d is = ap seen (same_Some (boolean b) d is)
-    by_text (json.number s) d is = number_same seen f (number_of s) d is (λ n. leaf_same seen f (number n) refl)
-    by_text (json.string s) d is = leaf_same seen f (string s) refl ∙ ap seen (same_Some (string s) d is)
-    by_text (json.array js) d is = array_same seen (drawn f (json.array js)) (of_items js) d is (λ ds at.
-        let items = item_rows js ds at in
-        ap (λ xs. look (Some xs))
-        (list_of_items (cut (most_items f) (drawn_items (item_form f) js))
-        ∙ ap (cut (most_items f)) (items.drawn_so (item_form f)))
-        ∙ same items.rows ∙ ap (λ xs. look (Some xs)) (sym items.whole))
-    by_text (json.object ms) d is =
-        object_same seen (drawn f (json.object ms)) (of_members ms no_members) d is (λ ns at. refl)
+module _ (f : Form) where
+  no_list : (x y : Option (List Data)) → x ≡ None → y ≡ None → Listed f x y
+  no_list x y here there = record { rows = None; kept = here; whole = there }
+
+  listed_in : (row : Row) → Listed f (forms.as_list (drawn f row.text)) (forms.as_list row.whole)
+  listed_in row = by_text row.text row.whole row.reads
+    where
+      of_number : (o : Option Num) (d : Data) → option_map number o ≡ Some d
+          → Listed f (forms.as_list (leaf f (number_data o))) (forms.as_list d)
+      of_number None d is = absurd (cc)
+      of_number (Some n) d is = no_list _ _ (leaf_same forms.as_list f (number n) refl)
+          (ap forms.as_list (sym (same_Some (number n) d is)))
+
+      of_array : (js : json.Items) (o : Option Items) (d : Data) → of_items js ≡ o → option_map array o ≡ Some d
+          → Listed f (forms.as_list (drawn f (json.array js))) (forms.as_list d)
+      of_array js None d reads is = absurd (cc)
+      of_array js (Some ds) d reads is =
+          let items = item_rows js ds reads in
+          record {
+            rows = Some items.rows;
+            kept = ap Some (list_of_items (cut (most_items f) (drawn_items (item_form f) js))
+                ∙ ap (cut (most_items f)) (items.drawn_so (item_form f)));
+            whole = ap forms.as_list (sym (same_Some (array ds) d is)) ∙ ap Some items.whole;
+          }
+
+      of_object : (e : Data) (o : Option Members) (d : Data) → forms.as_list e ≡ None → option_map object o ≡ Some d
+          → Listed f (forms.as_list e) (forms.as_list d)
+      of_object e None d none is = absurd (cc)
+      of_object e (Some ms) d none is = no_list _ _ none (ap forms.as_list (sym (same_Some (object ms) d is)))
+
+      by_text : (j : json.Json) (d : Data) → of_json j ≡ Some d
+          → Listed f (forms.as_list (drawn f j)) (forms.as_list d)
+      by_text json.null d is = no_list _ _ refl (ap forms.as_list (sym (same_Some null d is)))
+      by_text (json.boolean b) d is = no_list _ _ refl (ap forms.as_list (sym (same_Some (boolean b) d is)))
+      by_text (json.number s) d is = of_number (number_of s) d is
+      by_text (json.string s) d is = no_list _ _ (leaf_same forms.as_list f (string s) refl)
+          (ap forms.as_list (sym (same_Some (string s) d is)))
+      by_text (json.array js) d is = of_array js (of_items js) d refl is
+      by_text (json.object ms) d is =
+          of_object (drawn f (json.object ms)) (of_members ms no_members) d refl is
+
+  -- what is kept of an array is looked at as the whole is
+  pub list_same : {A : Type 0} (kept look : Option (List Data) → A) → kept None ≡ look None
+      → ((rows : List Row) → kept (Some (cut (most_items f) (sketches (item_form f) rows))) ≡ look (Some (wholes rows)))
+      → (row : Row) → kept (forms.as_list (drawn f row.text)) ≡ look (forms.as_list row.whole)
+  list_same kept look none same row =
+      let listed = listed_in row in
+      ap kept listed.kept ∙ by_rows listed.rows ∙ sym (ap look listed.whole)
+    where
+      by_rows : (o : Option (List Row)) → kept (option_map (λ rs. cut (most_items f) (sketches (item_form f) rs)) o)
+          ≡ look (option_map wholes o)
+      by_rows None = none
+      by_rows (Some rows) = same rows
 
 -- ---- items that read the same
 
-module _ {A : Type 0} (f : Form) (read : ℕ → Data → Result A WireFault)
-    (same : (at : ℕ) (row : Row) → read at (drawn_item f row.text) ≡ read at row.whole) where
-  each_same : (at : ℕ) (rows : List Row) → each_from read at (sketches f rows) ≡ each_from read at (wholes rows)
+module _ {A : Type 0} (f : Form) (kept read : ℕ → Data → Result A WireFault)
+    (same : (at : ℕ) (row : Row) → kept at (drawn_item f row.text) ≡ read at row.whole) where
+  each_same : (at : ℕ) (rows : List Row) → each_from kept at (sketches f rows) ≡ each_from read at (wholes rows)
   each_same at [] = refl
   each_same at (row ∷ rows) =
       ap₂ (λ first others. first >>= λ x. others >>= λ xs. Ok (x ∷ xs)) (same at row) (each_same (suc at) rows)
 
-  abbrev pub limited : ℕ → WireFault → List Data → Result (List A) WireFault
-  limited limit fault ds = cond (nat_lt limit (length ds)) (Err fault) (each_from read 0 ds)
+  abbrev pub limited : (ℕ → Data → Result A WireFault) → ℕ → WireFault → List Data → Result (List A) WireFault
+  limited reading limit fault ds = cond (nat_lt limit (length ds)) (Err fault) (each_from reading 0 ds)
 
   pub whole_same : (limit : ℕ) (fault : WireFault) (rows : List Row)
-      → limited limit fault (sketches f rows) ≡ limited limit fault (wholes rows)
+      → limited kept limit fault (sketches f rows) ≡ limited read limit fault (wholes rows)
   whole_same limit fault rows = ap₂ (λ n rest. cond (nat_lt limit n) (Err fault) rest)
       (map_length (λ row. drawn_item f row.text) rows ∙ sym (map_length (λ row. row.whole) rows)) (each_same 0 rows)
 
   -- of more than may be it only matters that they are
   pub limited_same : (limit : ℕ) (fault : WireFault) (rows : List Row)
-      → limited limit fault (take (suc limit) (sketches f rows)) ≡ limited limit fault (wholes rows)
+      → limited kept limit fault (take (suc limit) (sketches f rows)) ≡ limited read limit fault (wholes rows)
   limited_same limit fault rows = by_test (nat_lt limit (length rows)) refl
     where
       by_test : (test : Bool) → nat_lt limit (length rows) ≡ test
-          → limited limit fault (take (suc limit) (sketches f rows)) ≡ limited limit fault (wholes rows)
+          → limited kept limit fault (take (suc limit) (sketches f rows)) ≡ limited read limit fault (wholes rows)
       by_test true beyond =
           let many : limit < length rows = ltb-true limit (length rows) beyond in
-          let kept : length (take (suc limit) (sketches f rows))
+          let many_kept : length (take (suc limit) (sketches f rows))
           ≡ suc limit = length-take-le (suc limit) (sketches f rows)
           (omega (arith, many, map_length (λ row. drawn_item f row.text) rows)) in
           let here : nat_lt limit (length (take (suc limit) (sketches f rows))) ≡ true =
-          lt-ltb limit _ (omega (arith, kept)) in
+          lt-ltb limit _ (omega (arith, many_kept)) in
           let there : nat_lt limit (length (wholes rows)) ≡ true =
           ap (nat_lt limit) (map_length (λ row. row.whole) rows) ∙ beyond in
-          ap (λ test. cond test (Err fault) (each_from read 0 (take (suc limit) (sketches f rows)))) here
+          ap (λ test. cond test (Err fault) (each_from kept 0 (take (suc limit) (sketches f rows)))) here
           ∙ sym (ap (λ test. cond test (Err fault) (each_from read 0 (wholes rows))) there)
       by_test false within =
           let few : length rows ≤ limit = ltb-false limit (length rows) within in
           let all : take (suc limit) (sketches f rows) ≡ sketches f rows =
           take_all (suc limit) (sketches f rows) (omega (arith, few, map_length (λ row. drawn_item f row.text) rows)) in
-          ap (limited limit fault) all ∙ whole_same limit fault rows
+          ap (limited kept limit fault) all ∙ whole_same limit fault rows
 
 -- ---- scalars
 
@@ -274,28 +315,43 @@ pub access_same : (version : Version) (row : Row)
 unfolding forms.access_form
 access_same version row = list_same form.Access
     (λ o. option_and_then (forms.allowed version) (option_and_then forms.form_of o))
+    (λ o. option_and_then (forms.allowed version) (option_and_then forms.form_of o)) refl
     (λ rows. ap (option_and_then (forms.allowed version)) (form_same rows)) row
 
+-- an access reads the same from what is kept of it
+access_fitted : (version : Version) (d : Data)
+    → forms.access_form version (access_kept d) ≡ forms.access_form version d
+unfolding forms.access_form
+access_fitted version d = by_form (option_and_then forms.form_of (forms.as_list d)) refl
+  where
+    by_form : (o : Option forms.AccessForm) → option_and_then forms.form_of (forms.as_list d) ≡ o
+        → forms.access_form version (cond (is_some (option_and_then (forms.allowed Second) o)) d null)
+        ≡ option_and_then (forms.allowed version) o
+    by_form None is = refl
+    by_form (Some form) is = ap (option_and_then (forms.allowed version)) is
+
 pub access_in_same : (tree : Rows) (version : Version) (place : Place) (at : ℕ) (row : Row)
-    → access_in tree version place at (drawn form.Access row.text) ≡ access_in tree version place at row.whole
+    → access_in tree version place at (drawn_item form.Access row.text) ≡ access_in tree version place at row.whole
 unfolding reading.access_at
 access_in_same tree version place at row =
     ap (λ o. or_fault (Shape (item_on place at)) o >>= λ form. reading.node_on tree
     (item_on place at) form.0 >>= λ node. reading.length_on (item_on place at) form.2 >>= λ slots. Ok
     (record { node = node; op = form.1; length = slots }))
-    (access_same version row)
+    (access_fitted version (drawn form.Access row.text) ∙ access_same version row)
 
 pub list_of_same : (tree : Rows) (version : Version) (place : Place) (rows : List Row)
     → reading.list_of tree version place (take 65 (sketches form.Access rows))
     ≡ reading.list_of tree version place (wholes rows)
 list_of_same tree version place rows =
-    limited_same form.Access (access_in tree version place) (access_in_same tree version place) 64 (Limit place) rows
+    limited_same form.Access (access_in tree version place) (access_in tree version place)
+    (access_in_same tree version place) 64 (Limit place) rows
 
 pub list_on_same : (tree : Rows) (version : Version) (place : Place) (row : Row)
     → reading.list_on tree version place (drawn form.List row.text) ≡ reading.list_on tree version place row.whole
 unfolding reading.list_on
 list_on_same tree version place row = list_same form.List
-    (λ o. or_fault (Shape place) o >>= reading.list_of tree version place) (list_of_same tree version place) row
+    (λ o. or_fault (Shape place) o >>= reading.list_of tree version place)
+    (λ o. or_fault (Shape place) o >>= reading.list_of tree version place) refl (list_of_same tree version place) row
 
 -- ---- steps and plans
 
@@ -320,43 +376,73 @@ step_on_same tree place (a ∷ []) = refl
 step_on_same tree place (a ∷ b ∷ []) = step_of_same tree place a b
 step_on_same tree place (a ∷ b ∷ c ∷ rows) = refl
 
--- what is no step has no reading, as null has none
-no_step : (tree : Rows) (place : Place) (items : Option (List Data)) → is_step items ≡ false
-    → (or_fault (Shape place) items >>= reading.step_on tree place) ≡ Err (Shape place)
-unfolding reading.step_of
-no_step tree place None is = refl
-no_step tree place (Some []) is = refl
-no_step tree place (Some (word ∷ [])) is = refl
-no_step tree place (Some (word ∷ operand ∷ [])) is =
-    by_words _ _ _ _ (forms.is_word (codes "lock") word) (forms.is_word (codes "unlock") word)
-    (forms.is_word (codes "access") word) is
-  where
-    by_words : {A : Type 0} (a b c d : A) (lock unlock access : Bool) → (lock || unlock || access) ≡ false
-        → cond lock a (cond unlock b (cond access c d)) ≡ d
-    by_words a b c d false false false is = refl
-    by_words a b c d false false true is = absurd (cc)
-    by_words a b c d false true access is = absurd (cc)
-    by_words a b c d true unlock access is = absurd (cc)
-no_step tree place (Some (word ∷ operand ∷ more ∷ items)) is = refl
+-- a step reads the same from what is kept of it
+kept_lock : (tree : Rows) (place : Place) (path : Option (List ℕ))
+    → kept_step_at tree place (text_kept path)
+    ≡ ((or_fault (Shape place) path >>= reading.node_on tree place) >>= λ node. Ok (step.Lock node))
+unfolding forms.as_short
+kept_lock tree place None = refl
+kept_lock tree place (Some path) = refl
 
-fitted_step : (tree : Rows) (place : Place) (at : ℕ) (d : Data)
-    → step_in tree place at (fitted form.Step d) ≡ step_in tree place at d
-unfolding reading.step_at
-fitted_step tree place at d = by_test (is_step (forms.as_list d)) refl
+kept_unlock : (tree : Rows) (place : Place) (path : Option (List ℕ))
+    → kept_step_at tree place (array (item (text_kept path) no_items))
+    ≡ ((or_fault (Shape place) path >>= reading.node_on tree place) >>= λ node. Ok (step.Unlock node))
+kept_unlock tree place None = refl
+kept_unlock tree place (Some path) = refl
+
+kept_access : (tree : Rows) (place : Place) (number : Option ℕ)
+    → kept_step_at tree place (count_kept number)
+    ≡ (or_fault (Shape place) (option_and_then (λ n. cond (nat_lt n (2 ^ 32)) (Some n) None) number)
+    >>= λ access. Ok (step.Access access))
+unfolding forms.as_short
+kept_access tree place None = refl
+kept_access tree place (Some n) = refl
+
+kept_operand : (tree : Rows) (place : Place) (word operand : Data)
+    → kept_step_at tree place (operand_kept word operand) ≡ reading.step_of tree place word operand
+unfolding reading.step_of forms.as_short
+kept_operand tree place word operand = by_words (forms.is_word (codes "lock") word)
+    (forms.is_word (codes "unlock") word) (forms.is_word (codes "access") word)
   where
-    by_test : (test : Bool) → is_step (forms.as_list d) ≡ test
-        → step_in tree place at (cond test d null) ≡ step_in tree place at d
-    by_test true is = refl
-    by_test false is = sym (no_step tree (item_on place at) (forms.as_list d) is)
+    read : Option ℕ → Result Step WireFault
+    read short = or_fault (Shape place) short >>= λ access. Ok (step.Access access)
+
+    by_words : (lock unlock access : Bool)
+        → kept_step_at tree place (cond lock (text_kept (as_str operand))
+        (cond unlock (array (item (text_kept (as_str operand)) no_items))
+        (cond access (count_kept (option_and_then as_u64 (as_number operand))) null)))
+        ≡ cond lock (reading.path_at tree place operand >>= λ node. Ok (step.Lock node))
+        (cond unlock (reading.path_at tree place operand >>= λ node. Ok (step.Unlock node))
+        (cond access (read (forms.as_short operand)) (Err (Shape place))))
+    by_words true unlock access = kept_lock tree place (as_str operand)
+    by_words false true access = kept_unlock tree place (as_str operand)
+    by_words false false true = kept_access tree place (option_and_then as_u64 (as_number operand))
+    by_words false false false = refl
+
+kept_items : (tree : Rows) (place : Place) (items : Option (List Data))
+    → kept_step_at tree place (step_kept items) ≡ (or_fault (Shape place) items >>= reading.step_on tree place)
+unfolding forms.as_short
+kept_items tree place None = refl
+kept_items tree place (Some []) = refl
+kept_items tree place (Some (word ∷ [])) = refl
+kept_items tree place (Some (word ∷ operand ∷ [])) = kept_operand tree place word operand
+kept_items tree place (Some (word ∷ operand ∷ more ∷ items)) = refl
+
+kept_step : (tree : Rows) (place : Place) (d : Data)
+    → kept_step_at tree place (step_kept (forms.as_list d)) ≡ reading.step_at tree place d
+unfolding reading.step_at
+kept_step tree place d = kept_items tree place (forms.as_list d)
 
 step_drawn : (tree : Rows) (place : Place) (at : ℕ) (row : Row)
     → step_in tree place at (drawn form.Step row.text) ≡ step_in tree place at row.whole
 unfolding reading.step_at
 step_drawn tree place at row = list_same form.Step
     (λ o. or_fault (Shape (item_on place at)) o >>= reading.step_on tree (item_on place at))
+    (λ o. or_fault (Shape (item_on place at)) o >>= reading.step_on tree (item_on place at)) refl
     (step_on_same tree (item_on place at)) row
 
-pub step_in_same : (tree : Rows) (place : Place) (at : ℕ) (row : Row)
-    → step_in tree place at (drawn_item form.Step row.text) ≡ step_in tree place at row.whole
-step_in_same tree place at row =
-    fitted_step tree place at (drawn form.Step row.text) ∙ step_drawn tree place at row
+pub step_in_same : (tree : Rows) (at : ℕ) (row : Row)
+    → kept_step_in tree at (drawn_item form.Step row.text) ≡ step_in tree (whole_of part.Plan) at row.whole
+step_in_same tree at row =
+    kept_step tree (item_on (whole_of part.Plan) at) (drawn form.Step row.text)
+    ∙ step_drawn tree (whole_of part.Plan) at row

@@ -1,8 +1,9 @@
 -- What a line asks for is read of a sketch of its value as it is read of the value: members, flows, checks, the line.
-use Rattle.std.proofs.Common.{◌≡◌, ℕ, Bool, true, false, cond, List, [], ◌∷◌, Option, Some, None, option_map}
+use Rattle.std.proofs.Common.{◌≡◌, ℕ, suc, ◌≤◌, Bool, true, false, cond, List, [], ◌∷◌, Option, Some, None, option_map}
 use Rattle.std.proofs.Common.{option_and_then, Ordering, Less, Equal, Greater, refl, ap, ap₂, sym, subst, ◌∙◌, bytes_eq}
-use Rattle.std.proofs.Common.{codes, is_eq, true≢false}
-use Rattle.std.specs.Prelude.{Result, Ok, Err, is_some, ◌==◌}
+use Rattle.std.proofs.Common.{codes, is_eq, true≢false, arith}
+use Rattle.std.specs.Prelude.{Result, Ok, Err, is_some, ◌==◌, nat_lt}
+use Rattle.std.proofs.lemmas.Bool.{le-ltb}
 use Rattle.std.specs.Ordering.{nat_cmp, match_ordering}
 use Rattle.std.specs.Cmp.Lexicographic.{slice_cmp}
 use Rattle.std.proofs.lemmas.Option.{same_Some}
@@ -15,7 +16,10 @@ use Rattle.serde_json.specs.Find.{get, get_member, as_number, as_str, as_object,
 use Rattle.serde_json.specs.Read.{number_of, of_json, of_items, of_members}
 use Rattle.serde_json.proofs.Views.{get_member-put, get_member-put_other}
 use Rattle.grove_tree.specs.Trees.{Rows}
+use Rattle.grove_access.specs.declared.access.Access.{Access}
+use Rattle.grove_plan.specs.declared.step.Step.{Step}
 use Rattle.grove_proof.specs.declared.flow.FlowRow.{FlowRow}
+use Rattle.grove_wire.specs.declared.place.Place.{Place}
 use Rattle.grove_wire.specs.declared.fault.WireFault.{WireFault}
 use Rattle.grove_wire.specs.declared.fault.WireFault.TheVariants.{BadJson, Shape, Limit}
 use Rattle.grove_wire.specs.declared.place.Part.{Part}
@@ -29,9 +33,11 @@ use Rattle.grove_wire.specs.Forms as forms
 use Rattle.grove_wire.specs.Reading as reading
 use Rattle.grove_wire.specs.Requests as requests
 use Rattle.grove_wire.specs.Sketches.{item_form, most_items, member_form, line_member, leaf, number_data, cut, put_kept}
-use Rattle.grove_wire.specs.Sketches.{fitted, drawn, drawn_item, drawn_members, Draft}
+use Rattle.grove_wire.specs.Sketches.{count, row_member, check_member, row_kept, kept_form_of, row_with_node, kept_step_at, kept_row_at}
+use Rattle.grove_wire.specs.Sketches.{kept_plan_in, kept_flow_in, kept_check_of, kept_named_of}
+use Rattle.grove_wire.specs.Sketches.{drawn, drawn_item, drawn_members, Draft}
 use Rattle.grove_wire.specs.RowParts.{flow_with}
-use Rattle.grove_wire.proofs.Turns.{nth_list, step_in, flow_row_in}
+use Rattle.grove_wire.proofs.Turns.{nth_list, step_in, flow_row_in, kept_step_in, kept_row_in}
 use Rattle.grove_wire.proofs.SketchedItems.{Row, wholes, sketches, leaf_same, number_same, array_same, object_same}
 use Rattle.grove_wire.proofs.SketchedItems.{list_same, whole_same, limited_same, text_same, unsigned_same, three}
 use Rattle.grove_wire.proofs.SketchedItems.{applied, list_of_same, list_on_same, step_in_same}
@@ -44,20 +50,20 @@ pub record Found (f : Form) (x y : Option Data) : Type 0 where
   pub whole : x ≡ option_map (λ r. r.whole) row
   pub kept : y ≡ option_map (λ r. drawn f r.text) row
 
-module _ (f g : Form) (k : List ℕ) (looked_at : member_form f k ≡ Some g)
-    (others : (name : List ℕ) → (k ≡ name → ⊥) → (kept : Form → Data) (found : Members) → get_member k (put_kept name (member_form f name) kept found) ≡ get_member k found) where
+module _ (f g : Form) (k : List ℕ) (looked_at : (n : ℕ) → member_form f k n ≡ Some g)
+    (others : (name : List ℕ) → (k ≡ name → ⊥) → (kept : Form → Data) (found : Members) → get_member k (put_kept name (member_form f name (count found)) kept found) ≡ get_member k found) where
   put_found : (name : List ℕ) (j : json.Json) (d : Data) (ms ns : Members) → of_json j ≡ Some d → Found g (get_member k ms) (get_member k ns)
-      → Found g (get_member k (put name d ms)) (get_member k (put_kept name (member_form f name) (λ h. drawn h j) ns))
+      → Found g (get_member k (put name d ms)) (get_member k (put_kept name (member_form f name (count ns)) (λ h. drawn h j) ns))
   put_found name j d ms ns reads before = by_test (bytes_eq k name) refl
     where
-      by_test : (test : Bool) → bytes_eq k name ≡ test → Found g (get_member k (put name d ms)) (get_member k (put_kept name (member_form f name) (λ h. drawn h j) ns))
+      by_test : (test : Bool) → bytes_eq k name ≡ test → Found g (get_member k (put name d ms)) (get_member k (put_kept name (member_form f name (count ns)) (λ h. drawn h j) ns))
       by_test true is =
           let same : k ≡ name = (bytes_eq-Decides k name).0 is in
           let row : Row = record { text = j; whole = d; reads = reads } in
-          subst (λ n. Found g (get_member k (put n d ms)) (get_member k (put_kept n (member_form f n) (λ h. drawn h j) ns))) same (record {
+          subst (λ n. Found g (get_member k (put n d ms)) (get_member k (put_kept n (member_form f n (count ns)) (λ h. drawn h j) ns))) same (record {
             row = Some row;
             whole = get_member-put k d ms;
-            kept = ap (λ o. get_member k (put_kept k o (λ h. drawn h j) ns)) looked_at ∙ get_member-put k (drawn g j) ns;
+            kept = ap (λ o. get_member k (put_kept k o (λ h. drawn h j) ns)) (looked_at (count ns)) ∙ get_member-put k (drawn g j) ns;
           })
       by_test false is =
           let apart = λ (same : k ≡ name). differs same is in
@@ -73,7 +79,7 @@ module _ (f g : Form) (k : List ℕ) (looked_at : member_form f k ≡ Some g)
   members_found : (js : json.Members) (ms ns out : Members) → of_members js ms ≡ Some out → Found g (get_member k ms) (get_member k ns) → Found g (get_member k out) (get_member k (drawn_members f js ns))
   members_found json.no_members ms ns out is before = subst (λ x. Found g (get_member k x) (get_member k ns)) (same_Some ms out is) before
   members_found (json.member name j js) ms ns out is before = with_value (of_json j) refl is
-      (λ d reads told. members_found js (put name d ms) (put_kept name (member_form f name) (λ h. drawn h j) ns) out told (put_found name j d ms ns reads before))
+      (λ d reads told. members_found js (put name d ms) (put_kept name (member_form f name (count ns)) (λ h. drawn h j) ns) out told (put_found name j d ms ns reads before))
     where
       with_value : (o : Option Data) → of_json j ≡ o → option_and_then (λ d. of_members js (put name d ms)) o ≡ Some out
           → ((d : Data) → of_json j ≡ Some d → of_members js (put name d ms) ≡ Some out → Found g (get_member k out) (get_member k (drawn_members f (json.member name j js) ns)))
@@ -108,14 +114,16 @@ module _ (f g : Form) (k : List ℕ) (looked_at : member_form f k ≡ Some g)
       by_text (json.array js) d is = of_array (drawn f (json.array js)) (of_items js) d refl is
       by_text (json.object ms) d is = of_object ms (of_members ms no_members) d refl is
 
-  -- what looks at this member alone reads the same
-  pub member_same : {A : Type 0} (look : Option Data → A) → ((row : Row) → look (Some (drawn g row.text)) ≡ look (Some row.whole)) → (row : Row) → look (get k (drawn f row.text)) ≡ look (get k row.whole)
-  member_same look same row =
+  -- what is kept of this member is looked at as the whole is
+  pub member_same : {A : Type 0} (kept look : Option Data → A) → kept None ≡ look None
+      → ((row : Row) → kept (Some (drawn g row.text)) ≡ look (Some row.whole))
+      → (row : Row) → kept (get k (drawn f row.text)) ≡ look (get k row.whole)
+  member_same kept look none same row =
       let found = found_in row in
-      ap look found.kept ∙ by_row found.row ∙ sym (ap look found.whole)
+      ap kept found.kept ∙ by_row found.row ∙ sym (ap look found.whole)
     where
-      by_row : (r : Option Row) → look (option_map (λ r. drawn g r.text) r) ≡ look (option_map (λ r. r.whole) r)
-      by_row None = refl
+      by_row : (r : Option Row) → kept (option_map (λ r. drawn g r.text) r) ≡ look (option_map (λ r. r.whole) r)
+      by_row None = none
       by_row (Some r) = same r
 
 -- a name that isn't put stays as it was
@@ -124,14 +132,14 @@ other_kept : (k name : List ℕ) (kept : Form → Data) (found : Members) → (k
 other_kept k name kept found apart true g o rest = get_member-put_other k name (kept g) found apart
 other_kept k name kept found apart false g o rest = rest
 
-check_others : (k name : List ℕ) → (k ≡ name → ⊥) → (kept : Form → Data) (found : Members) → get_member k (put_kept name (member_form form.Check name) kept found) ≡ get_member k found
+check_others : (k name : List ℕ) → (k ≡ name → ⊥) → (kept : Form → Data) (found : Members) → get_member k (put_kept name (member_form form.Check name (count found)) kept found) ≡ get_member k found
 check_others k name apart kept found =
     other_kept k name kept found apart (bytes_eq name (codes "version")) form.Scalar _
     (other_kept k name kept found apart (bytes_eq name (codes "list")) form.List _
     (other_kept k name kept found apart (bytes_eq name (codes "plan")) form.Plan _
     (other_kept k name kept found apart (bytes_eq name (codes "flow")) form.Flow None refl)))
 
-row_others : (k name : List ℕ) → (k ≡ name → ⊥) → (kept : Form → Data) (found : Members) → get_member k (put_kept name (member_form form.Row name) kept found) ≡ get_member k found
+row_others : (k name : List ℕ) → (k ≡ name → ⊥) → (kept : Form → Data) (found : Members) → get_member k (put_kept name (member_form form.Row name (count found)) kept found) ≡ get_member k found
 row_others k name apart kept found =
     other_kept k name kept found apart (bytes_eq name (codes "node")) form.Scalar _
     (other_kept k name kept found apart (bytes_eq name (codes "above")) form.Scalar _
@@ -142,12 +150,15 @@ row_others k name apart kept found =
 
 -- ---- flows
 
-amount_same : (k : List ℕ) → member_form form.Row k ≡ Some form.Scalar → (row : Row) → forms.amount_of k (drawn form.Row row.text) ≡ forms.amount_of k row.whole
+amount_same : (k : List ℕ) → row_member k ≡ Some form.Scalar → (row : Row) → forms.amount_of k (drawn form.Row row.text) ≡ forms.amount_of k row.whole
 unfolding forms.amount_of
-amount_same k looked_at row = member_same form.Row form.Scalar k looked_at (row_others k) (λ o. option_and_then as_u64 (option_and_then as_number o)) unsigned_same row
+amount_same k looked_at row = member_same form.Row form.Scalar k (λ n. looked_at) (row_others k)
+    (λ o. option_and_then as_u64 (option_and_then as_number o))
+    (λ o. option_and_then as_u64 (option_and_then as_number o)) refl unsigned_same row
 
 node_same : (row : Row) → option_and_then as_str (get (codes "node") (drawn form.Row row.text)) ≡ option_and_then as_str (get (codes "node") row.whole)
-node_same row = member_same form.Row form.Scalar (codes "node") refl (row_others (codes "node")) (option_and_then as_str) text_same row
+node_same row = member_same form.Row form.Scalar (codes "node") (λ n. refl) (row_others (codes "node"))
+    (option_and_then as_str) (option_and_then as_str) refl text_same row
 
 flow_form_same : (row : Row) → forms.flow_form (drawn form.Row row.text) ≡ forms.flow_form row.whole
 unfolding forms.flow_form
@@ -163,25 +174,19 @@ flow_form_same row =
         (λ first. option_and_then
         (λ last. option_and_then (λ own. Some (flow_with path above held first last own)) o) l) f) h) a) p
 
-null_row : forms.flow_form null ≡ None
-unfolding forms.flow_form
-null_row = refl
-
--- what has no form of a row reads as null does
-fitted_row : (d : Data) → forms.flow_form (fitted form.Row d) ≡ forms.flow_form d
-fitted_row d = by_form (forms.flow_form d) refl
-  where
-    by_form : (o : Option (List ℕ × FlowRow)) → forms.flow_form d ≡ o → forms.flow_form (cond (is_some o) d null) ≡ o
-    by_form None is = null_row
-    by_form (Some row) is = is
+-- a row reads the same from what is kept of it
+kept_row : (tree : Rows) (place : Place) (o : Option (List ℕ × FlowRow))
+    → kept_row_at tree place (row_kept o) ≡ (or_fault (Shape place) o >>= row_with_node tree place)
+kept_row tree place None = refl
+kept_row tree place (Some (path, row)) = refl
 
 flow_row_in_same : (tree : Rows) (at : ℕ) (row : Row)
-    → flow_row_in tree at (drawn_item form.Row row.text) ≡ flow_row_in tree at row.whole
+    → kept_row_in tree at (drawn_item form.Row row.text) ≡ flow_row_in tree at row.whole
 unfolding reading.flow_row_at
 flow_row_in_same tree at row =
-    ap (λ o. or_fault (Shape (item_of part.Flow at)) o >>= λ form. reading.node_on tree
-    (item_of part.Flow at) form.0 >>= λ node. Ok (record form.1 { node = node }))
-    (fitted_row (drawn form.Row row.text) ∙ flow_form_same row)
+    kept_row tree (item_of part.Flow at) (forms.flow_form (drawn form.Row row.text))
+    ∙ ap (λ o. or_fault (Shape (item_of part.Flow at)) o >>= row_with_node tree (item_of part.Flow at))
+    (flow_form_same row)
 
 -- ---- a check
 
@@ -193,35 +198,46 @@ both_same : {A B : Type 0} (x y : Result A WireFault) (f g : A → Result B Wire
 both_same x y f g first same = ap (λ z. z >>= f) first ∙ bound_same y f g same
 
 -- the items of a part of a check
-part_same : {A : Type 0} (part : Part) (g : Form) → member_form form.Check (part_word part) ≡ Some g → (next : List Data → Result A WireFault)
-    → ((rows : List Row) → next (cut (most_items g) (sketches (item_form g) rows)) ≡ next (wholes rows)) → (row : Row) → (reading.items_in part (drawn form.Check row.text) >>= next) ≡ (reading.items_in part row.whole >>= next)
+part_same : {A : Type 0} (part : Part) (g : Form) → check_member (part_word part) ≡ Some g
+    → (kept next : List Data → Result A WireFault)
+    → ((rows : List Row) → kept (cut (most_items g) (sketches (item_form g) rows)) ≡ next (wholes rows)) → (row : Row)
+    → (reading.items_in part (drawn form.Check row.text) >>= kept) ≡ (reading.items_in part row.whole >>= next)
 unfolding reading.items_in forms.items_of
-part_same part g looked_at next same row =
-    member_same form.Check g (part_word part) looked_at (check_others (part_word part)) (λ o. or_fault (Shape (whole_of part)) (option_and_then forms.as_list o) >>= next)
-    (list_same g (λ o. or_fault (Shape (whole_of part)) o >>= next) same) row
+part_same part g looked_at kept next same row =
+    member_same form.Check g (part_word part) (λ n. looked_at) (check_others (part_word part))
+    (λ o. or_fault (Shape (whole_of part)) (option_and_then forms.as_list o) >>= kept)
+    (λ o. or_fault (Shape (whole_of part)) (option_and_then forms.as_list o) >>= next) refl
+    (list_same g (λ o. or_fault (Shape (whole_of part)) o >>= kept)
+    (λ o. or_fault (Shape (whole_of part)) o >>= next) refl same) row
 
 module _ (tree : Rows) (row : Row) where
   version_same : reading.version_in (drawn form.Check row.text) ≡ reading.version_in row.whole
   unfolding reading.version_in
-  version_same = member_same form.Check form.Scalar (codes "version") refl (check_others (codes "version")) (λ o. or_fault (Shape (whole_of part.Whole)) (forms.version_of o))
+  version_same = member_same form.Check form.Scalar (codes "version") (λ n. refl) (check_others (codes "version"))
+      (λ o. or_fault (Shape (whole_of part.Whole)) (forms.version_of o))
+      (λ o. or_fault (Shape (whole_of part.Whole)) (forms.version_of o)) refl
       (λ r. ap (λ o. or_fault (Shape (whole_of part.Whole))
       (option_and_then (λ n. cond (n == 1) (Some First) (cond (n == 2) (Some Second) None)) o))
       (unsigned_same r)) row
 
   list_in_same : reading.list_in tree (drawn form.Check row.text) ≡ reading.list_in tree row.whole
   unfolding reading.list_in
-  list_in_same = both_same _ _ _ _ version_same (λ version. part_same part.List form.List refl (reading.list_of tree version (whole_of part.List)) (list_of_same tree version (whole_of part.List)) row)
+  list_in_same = both_same _ _ _ _ version_same (λ version. part_same part.List form.List refl
+      (reading.list_of tree version (whole_of part.List)) (reading.list_of tree version (whole_of part.List))
+      (list_of_same tree version (whole_of part.List)) row)
 
-  plan_in_same : reading.plan_in tree (drawn form.Check row.text) ≡ reading.plan_in tree row.whole
+  plan_in_same : kept_plan_in tree (drawn form.Check row.text) ≡ reading.plan_in tree row.whole
   unfolding reading.plan_in
-  plan_in_same = part_same part.Plan form.Plan refl (few_on 4294967295 (reading.step_at tree) (whole_of part.Plan))
-      (λ rows. whole_same form.Step (step_in tree (whole_of part.Plan))
-      (step_in_same tree (whole_of part.Plan)) 4294967295 (Limit (whole_of part.Plan)) rows) row
+  plan_in_same = part_same part.Plan form.Plan refl (few_on 4294967295 (kept_step_at tree) (whole_of part.Plan))
+      (few_on 4294967295 (reading.step_at tree) (whole_of part.Plan))
+      (λ rows. whole_same form.Step (kept_step_in tree) (step_in tree (whole_of part.Plan))
+      (step_in_same tree) 4294967295 (Limit (whole_of part.Plan)) rows) row
 
-  flow_in_same : reading.flow_in tree (drawn form.Check row.text) ≡ reading.flow_in tree row.whole
+  flow_in_same : kept_flow_in tree (drawn form.Check row.text) ≡ reading.flow_in tree row.whole
   unfolding reading.flow_in
-  flow_in_same = part_same part.Flow form.Flow refl (few_on 4294967295 (reading.flow_row_at tree) (whole_of part.Flow))
-      (λ rows. whole_same form.Row (flow_row_in tree) (flow_row_in_same tree) 4294967295
+  flow_in_same = part_same part.Flow form.Flow refl (few_on 4294967295 (kept_row_at tree) (whole_of part.Flow))
+      (few_on 4294967295 (reading.flow_row_at tree) (whole_of part.Flow))
+      (λ rows. whole_same form.Row (kept_row_in tree) (flow_row_in tree) (flow_row_in_same tree) 4294967295
       (Limit (whole_of part.Flow)) rows) row
 
   kind_same : is_some (as_object (drawn form.Check row.text)) ≡ is_some (as_object row.whole)
@@ -239,21 +255,30 @@ module _ (tree : Rows) (row : Row) where
       by_text (json.object ms) d is = object_same kind (drawn form.Check (json.object ms)) (of_members ms no_members) d is (λ ns at. refl)
 
   -- the three parts of a check
+  abbrev asked : Result (List Access) WireFault → Result (List Step) WireFault → Result (List FlowRow) WireFault
+      → Result requests.Asked WireFault
+  asked x y z = x >>= λ list. y >>= λ plan. z >>= λ flow. Ok (requests.Check list plan flow)
+
+  abbrev kept_checked : Data → Result requests.Asked WireFault
+  kept_checked d = asked (reading.list_in tree d) (kept_plan_in tree d) (kept_flow_in tree d)
+
   abbrev checked : Data → Result requests.Asked WireFault
-  checked d = reading.list_in tree d >>= λ list. reading.plan_in tree d >>= λ plan. reading.flow_in tree d >>= λ flow. Ok (requests.Check list plan flow)
+  checked d = asked (reading.list_in tree d) (reading.plan_in tree d) (reading.flow_in tree d)
 
-  checked_same : checked (drawn form.Check row.text) ≡ checked row.whole
-  checked_same = three (λ x y z. x >>= λ list. y >>= λ plan. z >>= λ flow. Ok (requests.Check list plan flow)) list_in_same plan_in_same flow_in_same
+  checked_same : kept_checked (drawn form.Check row.text) ≡ checked row.whole
+  checked_same = three asked list_in_same plan_in_same flow_in_same
 
-  if_object : (test : Bool) (d : Data) → (cond test (Ok d) (Err (Shape (whole_of part.Whole))) >>= checked) ≡ cond test (checked d) (Err (Shape (whole_of part.Whole)))
-  if_object true d = refl
-  if_object false d = refl
+  if_object : (look : Data → Result requests.Asked WireFault) (test : Bool) (d : Data)
+      → (cond test (Ok d) (Err (Shape (whole_of part.Whole))) >>= look)
+      ≡ cond test (look d) (Err (Shape (whole_of part.Whole)))
+  if_object look true d = refl
+  if_object look false d = refl
 
-  check_same : requests.check_of tree (drawn form.Check row.text) ≡ requests.check_of tree row.whole
+  check_same : kept_check_of tree (drawn form.Check row.text) ≡ requests.check_of tree row.whole
   unfolding requests.check_of
-  check_same = if_object (is_some (as_object (drawn form.Check row.text))) (drawn form.Check row.text)
+  check_same = if_object kept_checked (is_some (as_object (drawn form.Check row.text))) (drawn form.Check row.text)
       ∙ ap₂ (λ test answer. cond test answer (Err (Shape (whole_of part.Whole)))) kind_same checked_same
-      ∙ sym (if_object (is_some (as_object row.whole)) row.whole)
+      ∙ sym (if_object checked (is_some (as_object row.whole)) row.whole)
 
   plan_same : requests.plan_of tree (drawn form.List row.text) ≡ requests.plan_of tree row.whole
   unfolding requests.plan_of
@@ -261,9 +286,11 @@ module _ (tree : Rows) (row : Row) where
 
   batch_same : requests.batch_of tree (drawn form.Batch row.text) ≡ requests.batch_of tree row.whole
   unfolding requests.batch_of
-  batch_same = list_same form.Batch (λ o. or_fault (Shape (whole_of part.Lists)) o >>= λ ds. (reading.lists_of tree Second ds >>= λ lists. Ok (requests.Batch lists)))
-      (λ rows. ap (λ read. read >>= λ lists. Ok (requests.Batch lists))
-      (limited_same form.List (nth_list tree Second) (λ at r. list_on_same tree Second _ r) 256
+  batch_same = list_same form.Batch
+      (λ o. or_fault (Shape (whole_of part.Lists)) o >>= λ ds. (reading.lists_of tree Second ds >>= λ lists. Ok (requests.Batch lists)))
+      (λ o. or_fault (Shape (whole_of part.Lists)) o >>= λ ds. (reading.lists_of tree Second ds >>= λ lists. Ok (requests.Batch lists)))
+      refl (λ rows. ap (λ read. read >>= λ lists. Ok (requests.Batch lists))
+      (limited_same form.List (nth_list tree Second) (nth_list tree Second) (λ at r. list_on_same tree Second _ r) 256
       (Limit (whole_of part.Lists)) rows)) row
 
 -- ---- a line
@@ -281,7 +308,8 @@ line_form_is name = by_tests (bytes_eq name (codes "plan")) (bytes_eq name (code
     by_tests false false true = refl
     by_tests false false false = refl
 
-named_same : (tree : Rows) (name : List ℕ) (row : Row) → requests.named_of tree name (drawn (line_form name) row.text) ≡ requests.named_of tree name row.whole
+named_same : (tree : Rows) (name : List ℕ) (row : Row)
+    → kept_named_of tree name (drawn (line_form name) row.text) ≡ requests.named_of tree name row.whole
 unfolding requests.named_of
 named_same tree name row = by_tests (bytes_eq name (codes "plan")) (bytes_eq name (codes "check")) (bytes_eq name (codes "batch"))
   where
@@ -291,7 +319,12 @@ named_same tree name row = by_tests (bytes_eq name (codes "plan")) (bytes_eq nam
     named : (p c b : Bool) → Data → Result requests.Asked WireFault
     named p c b d = cond p (requests.plan_of tree d) (cond c (requests.check_of tree d) (cond b (requests.batch_of tree d) others))
 
-    by_tests : (p c b : Bool) → named p c b (drawn (cond p form.List (cond c form.Check (cond b form.Batch form.Nothing))) row.text) ≡ named p c b row.whole
+    kept_named : (p c b : Bool) → Data → Result requests.Asked WireFault
+    kept_named p c b d = cond p (requests.plan_of tree d) (cond c (kept_check_of tree d) (cond b (requests.batch_of tree d) others))
+
+    by_tests : (p c b : Bool)
+        → kept_named p c b (drawn (cond p form.List (cond c form.Check (cond b form.Batch form.Nothing))) row.text)
+        ≡ named p c b row.whole
     by_tests true c b = plan_same tree row
     by_tests false true b = check_same tree row
     by_tests false false true = batch_same tree row
@@ -339,61 +372,125 @@ kept_put e (x ∷ xs) = by_order (slice_cmp nat_cmp e.name x.name) refl (kept_pu
         ap (λ name. member x.name (drawn (line_form name) e.row.text) (kept_members xs)) (sym same)
     by_order Greater is rest = ap (member x.name (drawn (line_form x.name) x.row.text)) rest
 
-record Entries (js : json.Members) (es : List Entry) (out : Members) : Type 0 where
-  pub entries : List Entry
-  pub whole : out ≡ whole_members entries
-  pub kept : drawn_members form.Line js (kept_members es) ≡ kept_members entries
-
-entries_of : (js : json.Members) (es : List Entry) (out : Members) → of_members js (whole_members es) ≡ Some out → Entries js es out
-entries_of json.no_members es out is = record { entries = es; whole = sym (same_Some (whole_members es) out is); kept = refl }
-entries_of (json.member name j js) es out is = with_value (of_json j) refl is (λ e told. entries_of js (put_entry e es) out told)
+-- members are at least so many, whatever is put
+put_count : (k : List ℕ) (d : Data) (ms : Members) → count ms ≤ count (put k d ms)
+put_count k d no_members = omega arith
+put_count k d (member l e ms) = by_order (slice_cmp nat_cmp k l) (put_count k d ms)
   where
-    with_value : (o : Option Data) → of_json j ≡ o → option_and_then (λ d. of_members js (put name d (whole_members es))) o ≡ Some out
-        → ((e : Entry) → of_members js (whole_members (put_entry e es)) ≡ Some out → Entries js (put_entry e es) out) → Entries (json.member name j js) es out
-    with_value None reads is again = absurd (cc)
-    with_value (Some d) reads is again =
-        let e : Entry = record { name = name; row = record { text = j; whole = d; reads = reads } } in
-        let rest = again e (ap (of_members js) (whole_put e es) ∙ is) in
-        record {
-          entries = rest.entries;
-          whole = rest.whole;
-          kept = ap (λ o. drawn_members form.Line js (put_kept name o (λ g. drawn g j) (kept_members es))) (line_form_is name) ∙ ap (drawn_members form.Line js) (sym (kept_put e es)) ∙ rest.kept;
-        }
+    by_order : (o : Ordering) → count ms ≤ count (put k d ms) → suc (count ms)
+        ≤ count (match_ordering o (member k d (member l e ms)) (member l d ms) (member l e (put k d ms)))
+    by_order Less rest = omega arith
+    by_order Equal rest = omega arith
+    by_order Greater rest = omega (arith, rest)
 
--- what a value asks for that a line is
+more_members : (js : json.Members) (ms out : Members) → of_members js ms ≡ Some out → count ms ≤ count out
+more_members json.no_members ms out is = subst (λ x. count ms ≤ count x) (same_Some ms out is) (omega arith)
+more_members (json.member name j js) ms out is = with_value (of_json j) is
+    (λ d told. omega (arith, put_count name d ms, more_members js (put name d ms) out told))
+  where
+    with_value : (o : Option Data) → option_and_then (λ d. of_members js (put name d ms)) o ≡ Some out
+        → ((d : Data) → of_members js (put name d ms) ≡ Some out → count ms ≤ count out) → count ms ≤ count out
+    with_value None is again = absurd (cc)
+    with_value (Some d) is again = again d is
+
+-- beside two members nothing is kept
+kept_two : (js : json.Members) (ms : Members) → 2 ≤ count ms → drawn_members form.Line js ms ≡ ms
+kept_two json.no_members ms two = refl
+kept_two (json.member name j js) ms two =
+    ap (λ (test : Bool). drawn_members form.Line js
+    (put_kept name (cond test (line_member name) None) (λ g. drawn g j) ms)) (le-ltb (count ms) 2 two)
+    ∙ kept_two js ms two
+
+several : (ms : Members) → 2 ≤ count ms → requests.only_of ms ≡ None
+several no_members two = absurd (omega arith)
+several (member name d no_members) two = absurd (omega arith)
+several (member name d (member other e ms)) two = refl
+
+-- what a value asks for that a line is, and what is kept of one
 abbrev pub asks : Rows → Data → Result requests.Asked WireFault
-asks tree d = or_fault (Shape (whole_of part.Whole)) (requests.only_member d) >>= λ only. requests.named_of tree only.0 only.1
+asks tree d = or_fault (Shape (whole_of part.Whole)) (requests.only_member d)
+    >>= λ only. requests.named_of tree only.0 only.1
 
-pub line_same : (tree : Rows) (j : json.Json) (d : Data) → of_json j ≡ Some d → asks tree (drawn form.Line j) ≡ asks tree d
-line_same tree json.null d is = ap (asks tree) (same_Some null d is)
-line_same tree (json.boolean b) d is = ap (asks tree) (same_Some (boolean b) d is)
-line_same tree (json.number s) d is = number_same (asks tree) form.Line (number_of s) d is (λ n. refl)
-line_same tree (json.string s) d is = ap (asks tree) (same_Some (string s) d is)
-line_same tree (json.array js) d is = array_same (asks tree) (drawn form.Line (json.array js)) (of_items js) d is (λ ds at. refl)
-line_same tree (json.object ms) d is = object_same (asks tree) (drawn form.Line (json.object ms)) (of_members ms no_members) d is (λ ns at.
-    let all = entries_of ms [] ns at in
-    ap (λ es. asks tree (object es)) all.kept ∙ by_entries all.entries ∙ ap (λ es. asks tree (object es)) (sym all.whole))
-  where
-    by_entries : (es : List Entry) → asks tree (object (kept_members es)) ≡ asks tree (object (whole_members es))
-    by_entries [] = refl
-    by_entries (e ∷ []) = named_same tree e.name e.row
-    by_entries (e ∷ f ∷ es) = refl
+abbrev kept_asks : Rows → Data → Result requests.Asked WireFault
+kept_asks tree d = or_fault (Shape (whole_of part.Whole)) (requests.only_member d)
+    >>= λ only. kept_named_of tree only.0 only.1
+
+module _ (tree : Rows) where
+  by_entries : (es : List Entry) → kept_asks tree (object (kept_members es)) ≡ asks tree (object (whole_members es))
+  by_entries [] = refl
+  by_entries (e ∷ []) = named_same tree e.name e.row
+  by_entries (e ∷ f ∷ es) = refl
+
+  -- one more member, where there are few
+  next_member : (name : List ℕ) (j : json.Json) (js : json.Members) (es : List Entry) (out : Members)
+      → nat_lt (count (kept_members es)) 2 ≡ true → of_members (json.member name j js) (whole_members es) ≡ Some out
+      → ((e : Entry) → of_members js (whole_members (put_entry e es)) ≡ Some out
+      → kept_asks tree (object (drawn_members form.Line js (kept_members (put_entry e es)))) ≡ asks tree (object out))
+      → kept_asks tree (object (drawn_members form.Line (json.member name j js) (kept_members es)))
+      ≡ asks tree (object out)
+  next_member name j js es out few is again = with_value (of_json j) refl is
+    where
+      seen : Option Form → Result requests.Asked WireFault
+      seen o = kept_asks tree (object (drawn_members form.Line js
+          (put_kept name o (λ g. drawn g j) (kept_members es))))
+
+      with_value : (o : Option Data) → of_json j ≡ o
+          → option_and_then (λ d. of_members js (put name d (whole_members es))) o ≡ Some out
+          → seen (member_form form.Line name (count (kept_members es))) ≡ asks tree (object out)
+      with_value None reads told = absurd (cc)
+      with_value (Some d) reads told =
+          let e : Entry = record { name = name; row = record { text = j; whole = d; reads = reads } } in
+          ap (λ (test : Bool). seen (cond test (line_member name) None)) few ∙ ap seen (line_form_is name)
+          ∙ ap (λ ms. kept_asks tree (object (drawn_members form.Line js ms))) (sym (kept_put e es))
+          ∙ again e (ap (of_members js) (whole_put e es) ∙ told)
+
+  members_same : (js : json.Members) (es : List Entry) (out : Members) → of_members js (whole_members es) ≡ Some out
+      → kept_asks tree (object (drawn_members form.Line js (kept_members es))) ≡ asks tree (object out)
+  members_same json.no_members es out is =
+      by_entries es ∙ ap (λ ms. asks tree (object ms)) (same_Some (whole_members es) out is)
+  members_same (json.member name j js) [] out is =
+      next_member name j js [] out refl is (λ e told. members_same js (put_entry e []) out told)
+  members_same (json.member name j js) (x ∷ []) out is =
+      next_member name j js (x ∷ []) out refl is (λ e told. members_same js (put_entry e (x ∷ [])) out told)
+  members_same (json.member name j js) (x ∷ y ∷ es) out is =
+      let all : List Entry = x ∷ y ∷ es in
+      let two : 2 ≤ count (kept_members all) = omega arith in
+      let more : 2 ≤ count out = omega (arith, more_members (json.member name j js) (whole_members all) out is) in
+      ap (λ ms. kept_asks tree (object ms)) (kept_two (json.member name j js) (kept_members all) two)
+      ∙ sym (ap (λ o. or_fault (Shape (whole_of part.Whole)) o >>= λ only. requests.named_of tree only.0 only.1)
+      (several out more))
+
+  of_object : (kept : Result requests.Asked WireFault) (o : Option Members) (d : Data) → option_map object o ≡ Some d
+      → ((ms : Members) → o ≡ Some ms → kept ≡ asks tree (object ms)) → kept ≡ asks tree d
+  of_object kept None d is same = absurd (cc)
+  of_object kept (Some ms) d is same = same ms refl ∙ ap (asks tree) (same_Some (object ms) d is)
+
+  line_same : (j : json.Json) (d : Data) → of_json j ≡ Some d → kept_asks tree (drawn form.Line j) ≡ asks tree d
+  line_same json.null d is = ap (asks tree) (same_Some null d is)
+  line_same (json.boolean b) d is = ap (asks tree) (same_Some (boolean b) d is)
+  line_same (json.number s) d is = number_same (asks tree) form.Line (number_of s) d is (λ n. refl)
+  line_same (json.string s) d is = ap (asks tree) (same_Some (string s) d is)
+  line_same (json.array js) d is =
+      array_same (asks tree) (drawn form.Line (json.array js)) (of_items js) d is (λ ds at. refl)
+  line_same (json.object ms) d is = of_object _ (of_members ms no_members) d is (members_same ms [])
 
 -- a line asks for what its draft asks for
 draft_asks : (tree : Rows) (line : List ℕ) (e : Data) → Draft (reading.value_of line) e
-    → requests.request_of tree line ≡ asks tree e
+    → requests.request_of tree line ≡ kept_asks tree e
 unfolding requests.request_of
 draft_asks tree line e draft = ap (λ o. or_fault BadJson o >>= asks tree) draft.is
-    ∙ sym (line_same tree draft.text draft.whole draft.reads) ∙ ap (asks tree) (sym draft.kept)
+    ∙ sym (line_same tree draft.text draft.whole draft.reads) ∙ ap (kept_asks tree) (sym draft.kept)
 
 module _ (tree : Rows) (line : List ℕ) (e : Data) (draft : Draft (reading.value_of line) e) where
-  pub draft_named : (name : List ℕ) (d : Data) → Some (name, d) ≡ requests.only_member e → requests.request_of tree line ≡ requests.named_of tree name d
+  pub draft_named : (name : List ℕ) (d : Data) → Some (name, d) ≡ requests.only_member e
+      → requests.request_of tree line ≡ kept_named_of tree name d
   draft_named name d only = draft_asks tree line e draft
-      ∙ ap (λ o. or_fault (Shape (whole_of part.Whole)) o >>= λ one. requests.named_of tree one.0 one.1) (sym only)
+      ∙ ap (λ o. or_fault (Shape (whole_of part.Whole)) o >>= λ one. kept_named_of tree one.0 one.1) (sym only)
 
-  pub draft_shapeless : None ≡ requests.only_member e → requests.request_of tree line ≡ Err (Shape (whole_of part.Whole))
+  pub draft_shapeless : None ≡ requests.only_member e
+      → requests.request_of tree line ≡ Err (Shape (whole_of part.Whole))
   draft_shapeless none = draft_asks tree line e draft
-      ∙ ap (λ o. or_fault (Shape (whole_of part.Whole)) o >>= λ one. requests.named_of tree one.0 one.1) (sym none)
+      ∙ ap (λ o. or_fault (Shape (whole_of part.Whole)) o >>= λ one. kept_named_of tree one.0 one.1) (sym none)
 
 -- a line that isn't read asks for nothing
 pub unread_asks : (tree : Rows) (line : List ℕ) (fault : WireFault) → or_fault BadJson (reading.value_of line) ≡ Err fault → requests.request_of tree line ≡ Err fault

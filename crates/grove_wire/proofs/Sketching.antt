@@ -14,7 +14,8 @@ use Rattle.json.specs.Lex.{tokens}
 use Rattle.serde_json.specs.Read.{read}
 use Rattle.grove_wire.specs.declared.sketch.Form.{Form}
 use Rattle.grove_wire.specs.declared.sketch.Form.TheVariants.{Line}
-use Rattle.grove_wire.specs.Sketches.{leaf, number_data, item_form, most_items, member_form, cut, is_below, put_kept}
+use Rattle.grove_wire.specs.Sketches.{leaf, number_data, item_form, most_items, member_form, count, cut, is_below}
+use Rattle.grove_wire.specs.Sketches.{put_kept}
 use Rattle.grove_wire.specs.Sketches.{drawn, drawn_item, drawn_items, drawn_members, Sketched, ItemsSketched}
 use Rattle.grove_wire.specs.Sketches.{MembersSketched, Draft}
 
@@ -214,7 +215,7 @@ with_member k j d ms found is = rw is refl
 module _ (f : Form) (p : Parse json.Json) (start ts : List Token) (es : Members) (so_far : MembersSoFar f p start ts es) where
   -- one more member
   pub members_turn : (k : List ℕ) (j : json.Json) (d : Data) (s r : List Token) (more : Members) → read_key ts ≡ Some (Some k, s) → p s ≡ Some (j, r) → of_json j ≡ Some d → length s < length ts → length r < length s
-      → more ≡ put_kept k (member_form f k) (λ g. drawn g j) es → MembersSoFar f p start r more
+      → more ≡ put_kept k (member_form f k (count es)) (λ g. drawn g j) es → MembersSoFar f p start r more
   members_turn k j d s r more key is read less lesser kept = record {
     turns = so_far.turns - 1;
     enough = omega (arith, so_far.enough);

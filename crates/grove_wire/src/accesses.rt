@@ -1,4 +1,4 @@
-ghost use Rattle.std.specs.Prelude.{◌≡◌, ◌∷◌, [], Some, None, codes, if◌then◌else◌, map, option_map};
+ghost use Rattle.std.specs.Prelude.{◌≡◌, ◌∷◌, [], Some, None, codes, if◌then◌else◌, map, option_map, is_some};
 ghost use Rattle.serde_json.specs.View.{view};
 ghost use Rattle.grove_wire.specs.Forms.{is_word, numbered_op, form_with, with_length, form_of, access_form};
 ghost use Rattle.grove_wire.specs.Reading.{length_on, access_at};
@@ -54,6 +54,13 @@ struct AccessForm<'v> {
     op: Op,
     /// The length that it tells, if it tells one.
     length: Option<u64>,
+}
+
+/// Does an access stand in the value, of either version?
+pub(crate) fn is_access(value: &Value) -> bool
+    ensures { result ≡ is_some (access_form Version.Second (view value.now)) }
+{
+    access_form(Version::Second, value).is_some()
 }
 
 /// What stands in a value that is an access of this version.

@@ -1,10 +1,11 @@
-ghost use Rattle.std.specs.Prelude.{◌≡◌, ◌<◌, ◌^◌, map, option_map, is_some, IfOk, length, vec_len};
+ghost use Rattle.std.specs.Prelude.{◌≡◌, ◌<◌, ◌^◌, map, option_map, IfOk, length, vec_len};
 ghost use Rattle.serde_json.specs.View.{view};
 ghost use Rattle.grove_wire.specs.Forms.{amount_of, flow_form};
 ghost use Rattle.grove_wire.specs.Outcomes.{Gives, each_on};
 ghost use Rattle.grove_wire.specs.Places.{whole_of};
 ghost use Rattle.grove_wire.specs.Reading.{flow_row_at, flow_in};
 ghost use Rattle.grove_wire.specs.RowParts.{flow_with};
+ghost use Rattle.grove_wire.specs.Sketches.{row_with_node};
 
 use crate::document::{MOST_ITEMS, items_in};
 use crate::paths::node_on;
@@ -50,6 +51,18 @@ fn flow_row_at(tree: &Tree, place: Place, value: &Value) -> Result<FlowRow, Wire
     let Some(form) = flow_form(value) else {
         return Err(WireFault::Shape(place));
     };
+    flow_row_of(tree, place, &form)
+}
+
+/// What stands in a flow row, with the node of its path.
+pub(crate) fn flow_row_of(
+    tree: &Tree,
+    place: Place,
+    form: &FlowForm<'_>,
+) -> Result<FlowRow, WireFault>
+    ensures { result ≡ row_with_node tree.now place
+        (flow_with form.now.path.now form.now.above form.now.held form.now.first form.now.last form.now.own) }
+{
     let node = node_on(tree, place, form.path)?;
     Ok(FlowRow {
         node,
@@ -61,26 +74,19 @@ fn flow_row_at(tree: &Tree, place: Place, value: &Value) -> Result<FlowRow, Wire
     })
 }
 
-/// Does a flow row stand in the value?
-pub(crate) fn is_flow_row(value: &Value) -> bool
-    ensures { result ≡ is_some (flow_form (view value.now)) }
-{
-    flow_form(value).is_some()
-}
-
 /// What stands in a flow row.
 #[derive(Drop)]
-struct FlowForm<'v> {
-    path: &'v str,
-    above: u64,
-    held: u64,
-    first: u64,
-    last: u64,
-    own: u64,
+pub(crate) struct FlowForm<'v> {
+    pub(crate) path: &'v str,
+    pub(crate) above: u64,
+    pub(crate) held: u64,
+    pub(crate) first: u64,
+    pub(crate) last: u64,
+    pub(crate) own: u64,
 }
 
 #[tactic(auto, unfolding(crate::specs::Forms::flow_form))]
-fn flow_form(value: &Value) -> Option<FlowForm<'_>>
+pub(crate) fn flow_form(value: &Value) -> Option<FlowForm<'_>>
     ensures { option_map (λ form. flow_with form.path.now form.above form.held form.first form.last form.own) result
         ≡ flow_form (view value.now) }
 {

@@ -35,6 +35,7 @@ mod faults;
 mod flows;
 mod forms;
 mod jobs;
+mod kept;
 mod lists;
 mod node_values;
 mod nodes;

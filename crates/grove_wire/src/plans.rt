@@ -1,9 +1,7 @@
 ghost use Rattle.std.specs.Prelude.{◌≡◌, ◌<◌, ◌^◌, map, IfOk, length, vec_len};
 ghost use Rattle.serde_json.specs.View.{view};
-ghost use Rattle.grove_wire.specs.Forms.{as_list};
 ghost use Rattle.grove_wire.specs.Outcomes.{Gives, each_on, few_on};
 ghost use Rattle.grove_wire.specs.Reading.{path_at, step_of, step_at, plan_in};
-ghost use Rattle.grove_wire.specs.Sketches.{is_step, is_step_word};
 
 use crate::document::{MOST_ITEMS, items_in};
 use crate::forms::{is_word, list_items, short_number};
@@ -72,25 +70,6 @@ fn step_at(tree: &Tree, place: Place, value: &Value) -> Result<Step, WireFault>
     }
 }
 
-/// Are these a word of steps, and one value more?
-pub(crate) fn is_step(value: &Value) -> bool
-    ensures { result ≡ is_step (as_list (view value.now)) }
-{
-    let Some(items) = list_items(value) else {
-        return false;
-    };
-    match items {
-        [word, _] => is_step_word(word),
-        _ => false,
-    }
-}
-
-fn is_step_word(word: &Value) -> bool
-    ensures { result ≡ is_step_word (view word.now) }
-{
-    is_word(word, "lock") || is_word(word, "unlock") || is_word(word, "access")
-}
-
 #[tactic(auto, unfolding(crate::specs::Reading::step_of))]
 fn step_of(tree: &Tree, place: Place, word: &Value, operand: &Value) -> Result<Step, WireFault>
     ensures { result ≡ step_of tree.now place (view word.now) (view operand.now) }
@@ -107,7 +86,7 @@ fn step_of(tree: &Tree, place: Place, word: &Value, operand: &Value) -> Result<S
     }
 }
 
-fn path_at(tree: &Tree, place: Place, value: &Value) -> Result<Node, WireFault>
+pub(crate) fn path_at(tree: &Tree, place: Place, value: &Value) -> Result<Node, WireFault>
     ensures { result ≡ path_at tree.now place (view value.now) }
 {
     match value.as_str() {

@@ -2,12 +2,12 @@ ghost use Rattle.std.specs.Prelude.{◌≡◌, IfOk, option_map};
 ghost use Rattle.serde_json.specs.View.{view};
 ghost use Rattle.grove_wire.specs.Outcomes.{Gives};
 ghost use Rattle.grove_wire.specs.RequestLaws.{AskedFits, RequestsFit, ReadingNeedsNoRoom};
-ghost use Rattle.grove_wire.specs.Requests.{asked_of, only_member, plan_of, check_of, batch_of, named_of, request_of};
+ghost use Rattle.grove_wire.specs.Requests.{asked_of, only_member, plan_of, batch_of, request_of};
+ghost use Rattle.grove_wire.specs.Sketches.{kept_check_of, kept_named_of};
 
-use crate::flows::read_flow;
 use crate::forms::list_items;
+use crate::kept::{kept_flow, kept_plan};
 use crate::lists::{list_on, lists_of, read_list};
-use crate::plans::read_plan;
 use crate::sketch::sketch_of;
 use crate::versions::Version;
 use crate::{Part, Place, WireFault};
@@ -66,15 +66,14 @@ fn only_member(value: &Value) -> Option<(&str, &Value)>
     Some((name.as_str(), member))
 }
 
-/// What the name asks for, with its value.
-#[tactic(auto, unfolding(crate::specs::Requests::named_of))]
+/// What the name asks for, with what is kept of its value.
 fn named_request(
     alloc: Global,
     tree: &Tree,
     name: &str,
     value: &Value,
 ) -> Result<Request, WireFault>
-    ensures { Gives asked_of result (named_of tree.now name.now (view value.now)) }
+    ensures { Gives asked_of result (kept_named_of tree.now name.now (view value.now)) }
 {
     match name {
         "plan" => plan_request(alloc, tree, value),
@@ -95,16 +94,15 @@ fn plan_request(alloc: Global, tree: &Tree, value: &Value) -> Result<Request, Wi
     Ok(Request::Plan(list))
 }
 
-#[tactic(auto, unfolding(crate::specs::Requests::check_of))]
 fn check_request(alloc: Global, tree: &Tree, value: &Value) -> Result<Request, WireFault>
-    ensures { Gives asked_of result (check_of tree.now (view value.now)) }
+    ensures { Gives asked_of result (kept_check_of tree.now (view value.now)) }
 {
     if !value.is_object() {
         return Err(WireFault::Shape(Place::whole(Part::Whole)));
     }
     let list = read_list(alloc, tree, value)?;
-    let plan = read_plan(alloc, tree, value)?;
-    let flow = read_flow(alloc, tree, value)?;
+    let plan = kept_plan(alloc, tree, value)?;
+    let flow = kept_flow(alloc, tree, value)?;
     Ok(Request::Check(list, plan, flow))
 }
 

@@ -11,9 +11,9 @@ ghost use Rattle.grove_wire.specs.Sketches.{check_member, row_member, fitted};
 ghost use Rattle.grove_wire.specs.Sketches.{Sketched, ItemsSketched, MembersSketched, Draft};
 
 use crate::WireFault;
-use crate::flows::is_flow_row;
+use crate::accesses::is_access;
+use crate::kept::{kept_row, kept_step};
 use crate::numbers::number_of;
-use crate::plans::is_step;
 use json::{Invalid, Reader, Scratch, Token};
 use serde_json::{Map, Value};
 use std::alloc::{AllocError, AllocFailed, Global};
@@ -29,6 +29,9 @@ const ACCESSES: usize = 65;
 const ACCESS_ITEMS: usize = 5;
 
 const STEP_ITEMS: usize = 3;
+
+/// The same of a line, whose members may be one.
+const LINE_MEMBERS: usize = 2;
 
 /// What of a value is looked at.
 #[derive(Clone, Copy)]
@@ -86,12 +89,13 @@ impl Form {
         }
     }
 
-    /// What a member is looked at as, if it is looked at. Of a line it counts that there is one.
-    fn member(self, name: &str) -> Option<Form>
-        ensures { result ≡ member_form self name.now }
+    /// What a member is looked at as that comes after so many, if it is looked at. Of a line it counts that there is one,
+    /// and with two it is no request.
+    fn member(self, name: &str, members: usize) -> Option<Form>
+        ensures { result ≡ member_form self name.now members }
     {
         match self {
-            Form::Line => Some(line_member(name)),
+            Form::Line if members < LINE_MEMBERS => Some(line_member(name)),
             Form::Check => check_member(name),
             Form::Row => row_member(name),
             _ => None,
@@ -220,16 +224,16 @@ fn sketch_text(alloc: Global, text: &str, form: Form) -> Result<Value, Unread>
     }
 }
 
-/// What is kept of an item. A step or a row that can't be read as one gives its memory back at once.
-fn fitted(form: Form, item: Value) -> Value
-    ensures { view result ≡ fitted form (view item) }
+/// What is kept of an item. What is no access, and what is more of a step or a row, gives its memory back at once.
+fn fitted(alloc: Global, form: Form, item: Value) -> Result<Value, AllocError>
+    ensures { IfOk result (λ kept. view kept ≡ fitted form (view item)) }
 {
-    let fits = match form {
-        Form::Step => is_step(&item),
-        Form::Row => is_flow_row(&item),
-        _ => true,
-    };
-    if fits { item } else { Value::Null }
+    match form {
+        Form::Access if !is_access(&item) => Ok(Value::Null),
+        Form::Step => kept_step(alloc, &item),
+        Form::Row => kept_row(alloc, &item),
+        _ => Ok(item),
+    }
 }
 
 /// The items of an array that are looked at.
@@ -249,7 +253,8 @@ fn sketch_items(
         if form.has_room(kept.len()) {
             let looked_at = form.item();
             let item = sketch(alloc, reader, depth, looked_at)?;
-            kept.push(fitted(looked_at, item))?;
+            let fit = fitted(alloc, looked_at, item)?;
+            kept.push(fit)?;
         } else {
             drop(sketch(alloc, reader, depth, Form::Nothing)?);
         }
@@ -272,7 +277,7 @@ fn sketch_members(
 {
     let mut kept = Map::new(alloc);
     'members: while let Some(name) = reader.next_key()? {
-        if let Some(looked_at) = form.member(name) {
+        if let Some(looked_at) = form.member(name, kept.len()) {
             let key = String::from_str(alloc, name)?;
             let member = sketch(alloc, reader, depth, looked_at)?;
             drop(kept.insert(key, member)?);

@@ -5,7 +5,7 @@ use Rattle.grove_wire.specs.RequestLaws.{AskedFits}
 use Rattle.grove_wire.specs.Requests.{asked_of}
 use Rattle.grove_wire.proofs.Each.{fails_as, passes_on}
 use Rattle.grove_wire.proofs.Fitting.{given_reads}
-use Rattle.grove_wire.proofs.Requests.{named_asks}
+use Rattle.grove_wire.proofs.Requests.{line_asks}
 use Rattle.grove_wire.proofs.Sketches.{draft_named, draft_shapeless, unread_asks}
 use Rattle.grove_wire.proofs.request.read_request.Goals as goal
 
@@ -22,7 +22,10 @@ returns-in-Some-clause-read c =
 
 pub returns-in-Some-clause-fits : goal.returns-in-Some-clause-fits
 returns-in-Some-clause-fits c =
-    given_reads asked_of (AskedFits c.args.tree.now) c.named_request.result _ c.named_request.ensures (named_asks c.args.tree.now c.in-Some.name.now (view c.in-Some.asked.now))
+    let named = draft_named c.args.tree.now c.args.line.now (view c.in_ok-value.value) c.in_ok-value.ensures.drawn
+    c.in-Some.name.now (view c.in-Some.asked.now) c.in-Some.ensures in
+    given_reads asked_of (AskedFits c.args.tree.now) c.named_request.result _ (rw named c.named_request.ensures)
+    (line_asks c.args.tree.now c.args.line.now)
 
 pub returns-clause-read : goal.returns-clause-read
 returns-clause-read c =

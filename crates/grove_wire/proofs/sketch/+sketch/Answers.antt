@@ -13,7 +13,8 @@ use Rattle.serde_json.specs.Read.{of_json, converted}
 use Rattle.serde_json.specs.View.{view, members_view}
 use Rattle.serde_json.specs.declared.value.Value.{Null, the_lemmas}
 use Rattle.serde_json.proofs.Views.{view-Array, view-Object, members_view-insert_entry}
-use Rattle.grove_wire.specs.Sketches.{put_kept, fitted, drawn}
+use Rattle.grove_wire.specs.Sketches.{member_form, put_kept, fitted, drawn}
+use Rattle.grove_wire.proofs.Only.{count_view}
 use Rattle.grove_wire.proofs.Sketching as sketching
 use Rattle.grove_wire.proofs.sketch.+sketch.Goals as goal
 
@@ -104,13 +105,13 @@ sketch_items-items-preserved-in_ok-push t c =
     let read = c.in_ok-item.ensures.ok in
     let less : length c.sketch.new.reader < length c.items.reader = rw (← going.1) c.in_ok-item.ensures.shorter in
     let is = ap (value c.args.depth) (sym going.1) ∙ read.is in
-    let kept = c.fitted.ensures
+    let kept = c.in_ok-fit.ensures
     ∙ ap₂ fitted c.item-looked_at.ensures (read.kept ∙ ap (λ f. drawn f read.text) c.item-looked_at.ensures) in
     let turn = sketching.items_kept c.args.form (value c.args.depth) c.args.reader.now c.items.reader
     (map view c.items.kept.items) c.items.invariant read.text read.whole c.sketch.new.reader
-    (view c.fitted.result) c.len.result
+    (view c.in_ok-fit.fit) c.len.result
     going.0 is read.reads less kept (c.len.ensures ∙ c.items.kept.ok.0 ∙ sym (map_length view c.items.kept.items)) (sym c.if-has_room.ensures) in
-    rw (c.in_ok-push.ensures.items, map_push view c.items.kept.items c.fitted.result) turn
+    rw (c.in_ok-push.ensures.items, map_push view c.items.kept.items c.in_ok-fit.fit) turn
 
 pub sketch_items-items-preserved : goal.sketch_items-items-preserved
 sketch_items-items-preserved t c =
@@ -147,11 +148,12 @@ sketch_members-members-preserved-in-Some-member t c =
     let k = c.in-Some.name.now in
     let s = c.next_key.new.self in
     let old = members_view c.members.kept.entries in
+    let counted = ap (member_form c.args.form k) (grind arith ∙ count_view c.members.kept.entries) in
     let named : read_key c.members.reader ≡ Some (Some k, s) = grind arith in
     let read = c.in_ok-member.ensures.ok in
     let copied : string_bytes c.in_ok-key.key ≡ k = search rules in
     let inserted = ap members_view c.in_ok-insert.ensures.entries ∙ members_view-insert_entry c.members.kept.entries c.in_ok-key.key c.in_ok-member.member ∙ ap (λ name. put name (view c.in_ok-member.member) old) copied in
-    let kept = inserted ∙ ap (λ d. put k d old) read.kept ∙ ap (λ o. put_kept k o (λ f. drawn f read.text) old) c.in-Some-member.ensures in
+    let kept = inserted ∙ ap (λ d. put k d old) read.kept ∙ ap (λ o. put_kept k o (λ f. drawn f read.text) old) (c.in-Some-member.ensures ∙ counted) in
     sketching.members_turn c.args.form (value c.args.depth) c.args.reader.now c.members.reader old c.members.invariant k read.text read.whole s c.sketch.new.reader (members_view c.insert.new.self.entries)
     named read.is read.reads (read_key-shorter c.members.reader (Some k) s named) c.in_ok-member.ensures.shorter kept
 
@@ -160,10 +162,11 @@ sketch_members-members-preserved t c =
     let k = c.in-Some.name.now in
     let s = c.next_key.new.self in
     let old = members_view c.members.kept.entries in
+    let counted = ap (member_form c.args.form k) (grind arith ∙ count_view c.members.kept.entries) in
     let named : read_key c.members.reader ≡ Some (Some k, s) = grind arith in
     let read = c.in_ok-sketch.ensures.ok in
     sketching.members_turn c.args.form (value c.args.depth) c.args.reader.now c.members.reader old c.members.invariant k read.text read.whole s c.sketch-in_default-member.new.reader old
-    named read.is read.reads (read_key-shorter c.members.reader (Some k) s named) c.in_ok-sketch.ensures.shorter (ap (λ o. put_kept k o (λ f. drawn f read.text) old) c.in_default-member.ensures)
+    named read.is read.reads (read_key-shorter c.members.reader (Some k) s named) c.in_ok-sketch.ensures.shorter (ap (λ o. put_kept k o (λ f. drawn f read.text) old) (c.in_default-member.ensures ∙ counted))
 
 pub sketch_members-returns-clause-ok : goal.sketch_members-returns-clause-ok
 sketch_members-returns-clause-ok t c =
