@@ -51,7 +51,7 @@ lines_told opening (line ∷ next ∷ lines) out new answered =
     ne_eqb (length (line ∷ next ∷ lines)) 1 (λ one. omega arith) in rw several refl
 
 refused_told : (opening : StoreState) (result : Result ℕ SessionFault) (left : Option (List ℕ)) (input out : List ℕ)
-    (new : VisitState) → SessionEnds IsShared (visitor opening) result left input out new
+    (new : VisitState) → SessionEnds true IsShared (visitor opening) result left input out new
     → ends_refused result new.told ≡ is_refused result out
 refused_told opening (Ok count) left input out new (at_end, counts, answered) =
     subst (λ (n : ℕ). ((n == 1) && not (is_accepted new.told)) ≡ ((n == 1) && is_refusal out)) (sym counts)
@@ -61,7 +61,7 @@ refused_told opening (Err fault) left input out new ends = refl
 -- what is said of a visit is so of what it ended with
 pub answered : (opening : StoreState) (lines : List ℕ) (result : Result ℕ SessionFault) (out : List ℕ)
     (new : VisitState) (visited : Visited) → visited.ended ≡ result
-    → visited.is_refused ≡ ends_refused result new.told → Visits IsShared (visitor opening) lines result out new
+    → visited.is_refused ≡ ends_refused result new.told → Visits true IsShared (visitor opening) lines result out new
     → VisitsDesk opening lines visited.ended out × (visited.is_refused ≡ is_refused visited.ended out)
 answered opening lines result out new visited ended refused visits =
     let Holds : Result ℕ SessionFault → Type 0 = λ result.

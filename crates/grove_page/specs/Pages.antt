@@ -74,18 +74,18 @@ TellsSession (Err Read) out r = IsResponse 500 json (out ++ error_line (codes "d
 TellsSession (Err Turns) out r = IsResponse 500 json (out ++ error_line (codes "device")) r
 
 -- a session over the body, as far as it was read
-pub record Visits {S : Type 0} (lawful : Lawful S) (old : S) (body : List ℕ) (result : Result ℕ SessionFault)
+pub record Visits {S : Type 0} (shared : Bool) (lawful : Lawful S) (old : S) (body : List ℕ) (result : Result ℕ SessionFault)
     (out : List ℕ) (new : S) : Type 0 where
   pub input : List ℕ
   pub left : List ℕ
   pub read : body ≡ input ++ left
-  pub ends : SessionEnds lawful old result (Some left) input out new
+  pub ends : SessionEnds shared lawful old result (Some left) input out new
   -- a reply that doesn't go out whole is one that these bytes end in
   pub cut : (written : ℕ) → result ≡ Err (Write written) → written ≡ 16777216
 
 -- by a visitor who has seen nothing yet
 abbrev pub VisitsDesk : StoreState → List ℕ → Result ℕ SessionFault → List ℕ → Type 0
-VisitsDesk opening body result out = (new : VisitState) × Visits IsShared (visitor opening) body result out new
+VisitsDesk opening body result out = (new : VisitState) × Visits true IsShared (visitor opening) body result out new
 
 -- the reply tells of a session over the body
 abbrev pub AnswersBody : StoreState → List ℕ → Response → Type 0

@@ -57,6 +57,10 @@ impl Sink for RepliesSink {
         }
     }
 
+    fn has_costly_writes(&self) -> bool {
+        false
+    }
+
     fn failed(&self) -> bool {
         self.failed
     }

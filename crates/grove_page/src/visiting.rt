@@ -16,7 +16,7 @@ pub fn visit<R: AllocGlobal, A: Answers<R>>(
     requires empty { ⟦<RepliesSink as Sink>⟧.contents sink.old ≡ Some [] }
     requires sound { ⟦<RepliesSink as Sink>⟧.has_failed sink.old ≡ false }
     ensures { (out : List ℕ) × (⟦<RepliesSink as Sink>⟧.contents sink.new ≡ Some out)
-        × Visits A.lawful answers.old lines.now result out answers.new }
+        × Visits A.is_shared A.lawful answers.old lines.now result out answers.new }
 {
     let mut source = BytesSource::new(lines);
     session(rt, answers, &mut source, sink)

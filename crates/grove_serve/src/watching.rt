@@ -68,6 +68,10 @@ impl<'a, B: Opening, R: Host> Answers<R> for WatchedVisit<'a, B> {
         Ok(reply)
     }
 
+    fn may_hold(&self) -> bool {
+        true
+    }
+
     fn pass_over(&self, rt: &R) {
         self.guest.tell_long_line(rt);
         self.guest.count_line();

@@ -1,5 +1,5 @@
 -- Texts that answer lines, and what is added to them.
-use Rattle.std.proofs.Common.{◌≡◌, ℕ, ◌<◌, ◌≤◌, List, [], ◌∷◌, ◌++◌, Some, length, take, Result, Ok, Err, refl, sym, ap, subst, ◌∙◌, append_assoc, arith, length-append}
+use Rattle.std.proofs.Common.{◌≡◌, ℕ, ◌<◌, ◌≤◌, Bool, List, [], ◌∷◌, ◌++◌, Some, length, take, Result, Ok, Err, refl, sym, ap, subst, ◌∙◌, append_assoc, arith, length-append}
 use Rattle.std.specs.Prelude.{slice_get}
 use Rattle.std.proofs.lemmas.List.{take-append-le}
 use Rattle.std.proofs.Math.Seq.{take-append_seam, take-append-add}
@@ -54,10 +54,10 @@ module _ {S : Type 0} (lawful : Lawful S) where
       (length lines, let e = length-append lines others in omega arith, take_before lines others old new text answered)
 
   -- a reply that was cut, to the line behind lines that are answered
-  pub stops_within : (lines others : List (List ℕ)) (line : List ℕ) (old between new : S) (text more reply : List ℕ) → IsAnswered lawful old lines text between
+  pub stops_within : (shared : Bool) (lines others : List (List ℕ)) (line : List ℕ) (old between new : S) (text more reply : List ℕ) → IsAnswered lawful old lines text between
       → IsReplied lawful between line reply new → length more < length (reply ++ 10 ∷ []) → more ≡ take (length more) (reply ++ 10 ∷ [])
-      → StopsWithin lawful old (lines ++ line ∷ others) (text ++ more) new
-  stops_within lines others line old between new text more reply answered replied unfinished cut = record {
+      → StopsWithin shared lawful old (lines ++ line ∷ others) (text ++ more) new
+  stops_within shared lines others line old between new text more reply answered replied unfinished cut = record {
     done = length lines;
     line = line;
     next = get_here lines others line;
@@ -66,7 +66,7 @@ module _ {S : Type 0} (lawful : Lawful S) where
     answered = take_before lines (line ∷ others) old between text answered;
     reply = reply;
     replied = replied;
-    begun = let e = length-append text more in omega arith;
+    begun = λ alone. (let e = length-append text more in omega arith);
     unfinished = rw append_assoc (let e = length-append text more in let f = length-append text (reply ++ 10 ∷ []) in omega arith);
     cut = ap (λ (t : List ℕ). text ++ t) cut ∙ sym (take-append-add text (reply ++ 10 ∷ []) (length more))
         ∙ ap (λ (n : ℕ). take n (text ++ (reply ++ 10 ∷ []))) (sym (length-append text more))
@@ -74,8 +74,9 @@ module _ {S : Type 0} (lawful : Lawful S) where
   }
 
   -- what was cut among lines was cut among them and more lines
-  within_among : (lines others : List (List ℕ)) (old new : S) (text : List ℕ) → StopsWithin lawful old lines text new → StopsWithin lawful old (lines ++ others) text new
-  within_among lines others old new text h =
+  pub within_among : (shared : Bool) (lines others : List (List ℕ)) (old new : S) (text : List ℕ) → StopsWithin shared lawful old lines text new
+      → StopsWithin shared lawful old (lines ++ others) text new
+  within_among shared lines others old new text h =
       let here = slice_get_within lines h.done h.line h.next in
       record {
         done = h.done;
@@ -92,16 +93,16 @@ module _ {S : Type 0} (lawful : Lawful S) where
       }
 
   -- a fault among lines is one among them and more lines
-  pub ends_among : (lines others : List (List ℕ)) (old new : S) (fault : SessionFault) (text : List ℕ) → EndsAmong lawful old lines fault text new
-      → EndsAmong lawful old (lines ++ others) fault text new
-  ends_among lines others old new Memory text (done, le, answered) =
+  pub ends_among : (shared : Bool) (lines others : List (List ℕ)) (old new : S) (fault : SessionFault) (text : List ℕ) → EndsAmong shared lawful old lines fault text new
+      → EndsAmong shared lawful old (lines ++ others) fault text new
+  ends_among shared lines others old new Memory text (done, le, answered) =
       (done, let e = length-append lines others in omega arith, take_among lines others done old new text le answered)
-  ends_among lines others old new (Write n) text (counted, within) = (counted, within_among lines others old new text within)
-  ends_among lines others old new Foreign text (line, done, next, answered) =
+  ends_among shared lines others old new (Write n) text within = within_among shared lines others old new text within
+  ends_among shared lines others old new Foreign text (line, done, next, answered) =
       let here = slice_get_within lines done line next in
       (line, done, get_append_left lines others done here ∙ next, take_among lines others done old new text (omega arith) answered)
-  ends_among lines others old new Read text h = absurd h
-  ends_among lines others old new Turns text h = absurd h
+  ends_among shared lines others old new Read text h = absurd h
+  ends_among shared lines others old new Turns text h = absurd h
 
 -- what is sent is the reply to the line that is held, with its line feed
 pub answers_next : {S T : Type 0} (lawful : Lawful S) (old new : S) (before after : Intake) (reply text : List ℕ) (result : Result T SessionFault) (more : List ℕ)
@@ -110,7 +111,7 @@ pub answers_next : {S T : Type 0} (lawful : Lawful S) (old new : S) (before afte
 answers_next lawful old new before after reply text (Ok done) more replied is sends =
     record { reply = reply; replied = replied; sends = subst (λ (t : List ℕ). SendsWhole before t more after) is sends }
 answers_next lawful old new before after reply text (Err (Write n)) more replied is sends =
-    record { reply = reply; replied = replied; sends = subst (λ (t : List ℕ). SendsInPart before t n more) is sends }
+    record { reply = reply; replied = replied; sends = subst (λ (t : List ℕ). SendsInPart t more) is sends }
 answers_next lawful old new before after reply text (Err Memory) more replied is sends = absurd sends
 answers_next lawful old new before after reply text (Err Foreign) more replied is sends = absurd sends
 answers_next lawful old new before after reply text (Err Read) more replied is sends = absurd sends

@@ -1,6 +1,6 @@
 -- For the proofs alone: what a session has between two reads, and how bytes that are read take it on.
-use Rattle.std.specs.Prelude.{◌≡◌, ℕ, ◌+◌, ◌<◌, List, [], ◌∷◌, ◌++◌, Option, None, Some, Result, Ok, Err, length, take, slice_get, nat_lt, if◌then◌else◌}
-use Rattle.std.specs.Io.KnownBytes.{IsAtEnd}
+use Rattle.std.specs.Prelude.{◌≡◌, ℕ, ◌+◌, ◌<◌, Bool, List, [], ◌∷◌, ◌++◌, Option, None, Some, Result, Ok, Err, length, take, slice_get, nat_lt, if◌then◌else◌}
+use Rattle.std.specs.Io.KnownBytes.{Appends, IsAtEnd}
 use Rattle.grove_session.specs.declared.open_line.OpenLine.{OpenLine}
 use Rattle.grove_session.specs.declared.intake.Intake.{Intake}
 use Rattle.grove_session.specs.declared.session_fault.SessionFault.{SessionFault}
@@ -25,33 +25,49 @@ abbrev pub IsHeldReplied : {S : Type 0} → Lawful S → S → Option (List ℕ)
 IsHeldReplied lawful old None reply new = (reply ≡ long_line_text) × (new ≡ old)
 IsHeldReplied lawful old (Some line) reply new = lawful old line reply new
 
--- neither the source is blamed nor the number of reads
-abbrev pub IsApart : {T : Type 0} → Result T SessionFault → Type 0
-IsApart (Ok _) = Unit {0}
-IsApart (Err (Write n)) = Unit {0}
-IsApart (Err Memory) = Unit {0}
-IsApart (Err Foreign) = Unit {0}
-IsApart (Err Read) = ⊥
-IsApart (Err Turns) = ⊥
+-- neither the source is blamed nor the number of reads; a sink is blamed with what went out
+abbrev pub IsApart : {T : Type 0} → Result T SessionFault → Intake → Type 0
+IsApart (Ok _) after = Unit {0}
+IsApart (Err (Write n)) after = n ≡ after.written
+IsApart (Err Memory) after = Unit {0}
+IsApart (Err Foreign) after = Unit {0}
+IsApart (Err Read) after = ⊥
+IsApart (Err Turns) after = ⊥
+
+-- a failed write tells how much of a text went out
+abbrev pub Tells : SessionFault → List ℕ → Type 0
+Tells (Write n) text = n ≡ length text
+Tells Read text = Unit {0}
+Tells Memory text = Unit {0}
+Tells Turns text = Unit {0}
+Tells Foreign text = Unit {0}
+
+-- what went out, and what is still held, is what was held and more; what went out is counted
+pub record GoesOut (old new : Option (List ℕ)) (held : List ℕ) (written : ℕ) (more still : List ℕ) (count : ℕ) : Type 0 where
+  pub sent : List ℕ
+  pub went : Appends old new sent
+  pub rest : sent ++ still ≡ held ++ more
+  pub counted : count ≡ written + length sent
+
+abbrev pub Passes : Option (List ℕ) → Option (List ℕ) → Intake → List ℕ → Intake → Type 0
+Passes old new before more after = GoesOut old new before.held.items before.written more after.held.items after.written
 
 -- ---- the line that is held is answered
 
--- a text went out, and the next line begins
+-- a text went out or is held, and the next line begins
 pub record SendsWhole (before : Intake) (text more : List ℕ) (after : Intake) : Type 0 where
   pub sent : more ≡ text
   pub fresh : held_line after.line ≡ Some []
   pub answered : after.answered ≡ before.answered + 1
-  pub written : after.written ≡ before.written + length more
 
 -- it didn't go out whole
-pub record SendsInPart (before : Intake) (text : List ℕ) (n : ℕ) (more : List ℕ) : Type 0 where
+pub record SendsInPart (text more : List ℕ) : Type 0 where
   pub unfinished : length more < length text
   pub cut : more ≡ take (length more) text
-  pub counted : n ≡ before.written + length more
 
 abbrev pub Sends : {T : Type 0} → Intake → List ℕ → Result T SessionFault → List ℕ → Intake → Type 0
 Sends before text (Ok _) more after = SendsWhole before text more after
-Sends before text (Err (Write n)) more after = SendsInPart before text n more
+Sends before text (Err (Write n)) more after = SendsInPart text more
 Sends before text (Err Read) more after = ⊥
 Sends before text (Err Memory) more after = ⊥
 Sends before text (Err Turns) more after = ⊥
@@ -63,14 +79,14 @@ pub record RepliesWhole {S : Type 0} (lawful : Lawful S) (old : S) (before : Int
   pub replied : IsHeldReplied lawful old (held_line before.line) reply new
   pub sends : SendsWhole before (reply ++ 10 ∷ []) more after
 
-pub record RepliesInPart {S : Type 0} (lawful : Lawful S) (old : S) (before : Intake) (n : ℕ) (more : List ℕ) (new : S) : Type 0 where
+pub record RepliesInPart {S : Type 0} (lawful : Lawful S) (old : S) (before : Intake) (more : List ℕ) (new : S) : Type 0 where
   pub reply : List ℕ
   pub replied : IsHeldReplied lawful old (held_line before.line) reply new
-  pub sends : SendsInPart before (reply ++ 10 ∷ []) n more
+  pub sends : SendsInPart (reply ++ 10 ∷ []) more
 
 -- or it has none, or a sink failed within it
 abbrev pub FailsNext : {S : Type 0} → Lawful S → S → Intake → SessionFault → List ℕ → S → Type 0
-FailsNext lawful old before (Write n) more new = RepliesInPart lawful old before n more new
+FailsNext lawful old before (Write n) more new = RepliesInPart lawful old before more new
 FailsNext lawful old before Memory more new = (more ≡ []) × (new ≡ old)
 FailsNext lawful old before Foreign more new = (more ≡ []) × (new ≡ old)
 FailsNext lawful old before Read more new = ⊥
@@ -82,34 +98,34 @@ AnswersNext lawful old before (Err fault) more new after = FailsNext lawful old 
 
 -- ---- bytes are taken
 
--- since `first`, `input` was read and `text` written
+-- since `first`, `input` was read and `text` answered
 pub record IsUnderWay {S : Type 0} (lawful : Lawful S) (first : S) (input text : List ℕ) (now : S) (intake : Intake) : Type 0 where
   pub answers : IsAnswered lawful first (whole_lines input) text now
   pub held : held_line intake.line ≡ clip (rest_of input)
   pub answered : intake.answered ≡ length (whole_lines input)
-  pub written : intake.written ≡ length text
 
 -- a fault among these lines
-abbrev pub EndsAmong : {S : Type 0} → Lawful S → S → List (List ℕ) → SessionFault → List ℕ → S → Type 0
-EndsAmong lawful first lines Memory text new = StopsBefore lawful first lines text new
-EndsAmong lawful first lines (Write n) text new = (n ≡ length text) × StopsWithin lawful first lines text new
-EndsAmong lawful first lines Foreign text new = (line : List ℕ) × (done : ℕ) × (slice_get lines done ≡ Some line) × IsAnswered lawful first (take done lines) text new
-EndsAmong lawful first lines Read text new = ⊥
-EndsAmong lawful first lines Turns text new = ⊥
+abbrev pub EndsAmong : {S : Type 0} → Bool → Lawful S → S → List (List ℕ) → SessionFault → List ℕ → S → Type 0
+EndsAmong shared lawful first lines Memory text new = StopsBefore lawful first lines text new
+EndsAmong shared lawful first lines (Write n) text new = StopsWithin shared lawful first lines text new
+EndsAmong shared lawful first lines Foreign text new = (line : List ℕ) × (done : ℕ) × (slice_get lines done ≡ Some line) × IsAnswered lawful first (take done lines) text new
+EndsAmong shared lawful first lines Read text new = ⊥
+EndsAmong shared lawful first lines Turns text new = ⊥
 
 -- whatever was read before, with these bytes the session is so much further
 pub record Continues {S : Type 0} (lawful : Lawful S) (old : S) (before : Intake) (bytes more : List ℕ) (new : S) (after : Intake) : Type 0 where
   pub on : (first : S) (input text : List ℕ) → IsUnderWay lawful first input text old before → IsUnderWay lawful first (input ++ bytes) (text ++ more) new after
 
 -- whatever was read before, a fault comes among these bytes
-pub record Breaks {S : Type 0} (lawful : Lawful S) (old : S) (before : Intake) (bytes more : List ℕ) (fault : SessionFault) (new : S) : Type 0 where
-  pub off : (first : S) (input text : List ℕ) → IsUnderWay lawful first input text old before → EndsAmong lawful first (whole_lines (input ++ bytes)) fault (text ++ more) new
+pub record Breaks {S : Type 0} (shared : Bool) (lawful : Lawful S) (old : S) (before : Intake) (bytes more : List ℕ) (fault : SessionFault) (new : S) : Type 0 where
+  pub off : (first : S) (input text : List ℕ) → IsUnderWay lawful first input text old before → EndsAmong shared lawful first (whole_lines (input ++ bytes)) fault (text ++ more) new
 
-abbrev pub TakesBytes : {S T : Type 0} → Lawful S → S → Intake → List ℕ → Result T SessionFault → List ℕ → S → Intake → Type 0
-TakesBytes lawful old before bytes (Ok _) more new after = Continues lawful old before bytes more new after
-TakesBytes lawful old before bytes (Err fault) more new after = Breaks lawful old before bytes more fault new
+abbrev pub TakesBytes : {S T : Type 0} → Bool → Lawful S → S → Intake → List ℕ → Result T SessionFault → List ℕ → S → Intake → Type 0
+TakesBytes shared lawful old before bytes (Ok _) more new after = Continues lawful old before bytes more new after
+TakesBytes shared lawful old before bytes (Err fault) more new after = Breaks shared lawful old before bytes more fault new
 
 -- whatever was read before, the session ends so where there is no more to read
-pub record Finishes {S : Type 0} (lawful : Lawful S) (old : S) (before : Intake) (result : Result ℕ SessionFault) (more : List ℕ) (new : S) : Type 0 where
+pub record Finishes {S : Type 0} (shared : Bool) (lawful : Lawful S) (old : S) (before : Intake) (result : Result ℕ SessionFault) (more : List ℕ) (new : S)
+    (after : Intake) : Type 0 where
   pub ends : (first : S) (input text : List ℕ) (left : Option (List ℕ)) → IsUnderWay lawful first input text old before → IsAtEnd left
-      → SessionEnds lawful first result left input (text ++ more) new
+      → after.written ≡ length (text ++ more) → IsApart result after → SessionEnds shared lawful first result left input (text ++ more) new

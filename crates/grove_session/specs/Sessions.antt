@@ -66,8 +66,8 @@ IsAnswered {S} lawful old (line ∷ lines) text new = (reply : List ℕ) × (oth
 abbrev pub StopsBefore : {S : Type 0} → Lawful S → S → List (List ℕ) → List ℕ → S → Type 0
 StopsBefore lawful old lines out new = (done : ℕ) × (done ≤ length lines) × IsAnswered lawful old (take done lines) out new
 
--- a line was answered, and its reply and line feed didn't go out whole
-pub record StopsWithin {S : Type 0} (lawful : Lawful S) (old : S) (lines : List (List ℕ)) (out : List ℕ) (new : S) : Type 0 where
+-- a line was answered, and the replies up to its own didn't go out whole; unless answers are shared, those before it did
+pub record StopsWithin {S : Type 0} (shared : Bool) (lawful : Lawful S) (old : S) (lines : List (List ℕ)) (out : List ℕ) (new : S) : Type 0 where
   pub done : ℕ
   pub line : List ℕ
   pub next : slice_get lines done ≡ Some line
@@ -76,7 +76,7 @@ pub record StopsWithin {S : Type 0} (lawful : Lawful S) (old : S) (lines : List 
   pub answered : IsAnswered lawful old (take done lines) front between
   pub reply : List ℕ
   pub replied : IsReplied lawful between line reply new
-  pub begun : length front ≤ length out
+  pub begun : shared ≡ false → length front ≤ length out
   pub unfinished : length out < length (front ++ reply ++ 10 ∷ [])
   pub cut : out ≡ take (length out) (front ++ reply ++ 10 ∷ [])
 
@@ -84,15 +84,15 @@ pub record StopsWithin {S : Type 0} (lawful : Lawful S) (old : S) (lines : List 
 abbrev pub MayAnswer : Option (List ℕ) → List ℕ → List (List ℕ) → Type 0
 MayAnswer left input lines = (lines ≡ whole_lines input) ⊎ (IsAtEnd left × (lines ≡ lines_of input))
 
--- how a session ends that read `input`, left `left` to read and wrote `out`
-abbrev pub SessionEnds : {S : Type 0} → Lawful S → S → Result ℕ SessionFault → Option (List ℕ) → List ℕ → List ℕ → S → Type 0
-SessionEnds lawful old (Ok n) left input out new = IsAtEnd left × (n ≡ length (lines_of input)) × IsAnswered lawful old (lines_of input) out new
-SessionEnds lawful old (Err Read) left input out new = IsAnswered lawful old (whole_lines input) out new
-SessionEnds lawful old (Err Turns) left input out new = IsAnswered lawful old (whole_lines input) out new
-SessionEnds lawful old (Err (Write n)) left input out new = (n ≡ length out)
-    × ((lines : List (List ℕ)) × MayAnswer left input lines × StopsWithin lawful old lines out new)
-SessionEnds lawful old (Err Memory) left input out new = StopsBefore lawful old (whole_lines input) out new
-SessionEnds lawful old (Err Foreign) left input out new = (lines : List (List ℕ)) × (line : List ℕ) × (done : ℕ)
+-- how a session ends that read `input`, left `left` to read and wrote `out`; of shared answers several may go out at once
+abbrev pub SessionEnds : {S : Type 0} → Bool → Lawful S → S → Result ℕ SessionFault → Option (List ℕ) → List ℕ → List ℕ → S → Type 0
+SessionEnds shared lawful old (Ok n) left input out new = IsAtEnd left × (n ≡ length (lines_of input)) × IsAnswered lawful old (lines_of input) out new
+SessionEnds shared lawful old (Err Read) left input out new = IsAnswered lawful old (whole_lines input) out new
+SessionEnds shared lawful old (Err Turns) left input out new = IsAnswered lawful old (whole_lines input) out new
+SessionEnds shared lawful old (Err (Write n)) left input out new = (n ≡ length out)
+    × ((lines : List (List ℕ)) × MayAnswer left input lines × StopsWithin shared lawful old lines out new)
+SessionEnds shared lawful old (Err Memory) left input out new = StopsBefore lawful old (whole_lines input) out new
+SessionEnds shared lawful old (Err Foreign) left input out new = (lines : List (List ℕ)) × (line : List ℕ) × (done : ℕ)
     × MayAnswer left input lines × (slice_get lines done ≡ Some line) × IsAnswered lawful old (take done lines) out new
 
 -- the source is blamed, and the sink

@@ -1,4 +1,4 @@
-ghost use Rattle.std.specs.Prelude.{◌≡◌, ℕ, ◌≤◌, Bool, true, List, length, Err, IfOk, OnErr};
+ghost use Rattle.std.specs.Prelude.{◌≡◌, ℕ, ◌≤◌, Bool, true, List, length, Err, IsTrue, IfOk, OnErr};
 ghost use Rattle.grove_session.specs.declared.answers.AnswerFault.TheVariants as fault;
 
 use thiserror::Error;
@@ -35,6 +35,14 @@ pub trait Answers<R> {
         ensures ok { IfOk result (λ reply. lawful self.old line.now reply.items self.new) }
         ensures err { OnErr result (self.new ≡ self.old) }
         ensures foreign { result ≡ Err fault.Foreign → is_shared ≡ true };
+
+    /// May replies be held back, to go out together once no whole line is left of what was read? So it is where nothing is owed
+    /// to a cut write: of shared answers alone.
+    fn may_hold(&self) -> bool
+        ensures { IsTrue result → is_shared ≡ true }
+    {
+        false
+    }
 
     /// Learns that the next line was too long, which is replied so without asking for an answer.
     fn pass_over(&self, _rt: &R) {}

@@ -1,13 +1,14 @@
-ghost use Rattle.std.specs.Prelude.{◌≡◌, ℕ, ◌+◌, ◌*◌, ◌^◌, ◌<◌, ◌≤◌, ◌||◌, true, [], ◌++◌, List, Some, Err, length, take, OnOk, IfErr, is_err};
+ghost use Rattle.std.specs.Prelude.{◌≡◌, ℕ, ◌+◌, ◌*◌, ◌^◌, ◌<◌, ◌≤◌, ◌||◌, true, false, [], List, Some, Err, length, OnOk};
 ghost use Rattle.std.specs.Io.KnownBytes.{Appends};
 ghost use Rattle.grove_session.specs.declared.session_fault.SessionFault.TheVariants.{Foreign};
 ghost use Rattle.grove_session.specs.Sessions.{is_write};
 
 use crate::open_line::OpenLine;
-use crate::whole::{Cut, write_until_cut};
 use crate::{Answers, SessionFault, Sink};
 use memchr::memchr;
 use std::alloc::Global;
+
+mod sending;
 
 /// The reply to a line that is too long, with its line feed.
 const LONG_LINE: &[u8] = b"{\"error\":\"long-line\"}\n";
@@ -18,25 +19,36 @@ pub(crate) struct Intake {
     line: OpenLine,
     answered: u64,
     written: u128,
-    ghost in_limit: { written ≤ answered * 2 ^ 64 },
+    /// Replies with their line feeds that are to go out together, before more is read.
+    held: Vec<u8>,
+    /// So many bytes of them at most.
+    most_held: usize,
+    ghost in_limit: { written + length held.items ≤ answered * 2 ^ 64 },
+    ghost few_held: { length held.items ≤ most_held },
 }
 
 impl Intake {
-    ghost use Rattle.grove_session.specs.Intakes.{held_line, IsApart, Sends, AnswersNext, TakesBytes, Finishes};
+    ghost use Rattle.grove_session.specs.Intakes.{held_line, IsApart, Passes, AnswersNext, TakesBytes, Finishes};
 
-    pub(crate) fn new(alloc: Global) -> Intake
+    /// A session that has read nothing. It holds up to so many bytes of replies back, to send them together.
+    pub(crate) fn new(alloc: Global, most_held: usize) -> Intake
         ensures line { held_line result.line ≡ Some [] }
         ensures answered { result.answered ≡ 0 }
         ensures written { result.written ≡ 0 }
+        ensures held { result.held.items ≡ [] }
+        ensures most_held { result.most_held ≡ most_held }
     {
         Intake {
             line: OpenLine::new(alloc),
             answered: 0,
             written: 0,
+            held: Vec::new(alloc),
+            most_held,
         }
     }
 
-    /// Answers all that is in the bytes: each line that ends in them, and the rest is held.
+    /// Answers all that is in the bytes: each line that ends in them, and the rest is kept. What was held back of the replies
+    /// goes out at the end, also where there is a fault that isn't the sink's.
     pub(crate) fn take<R, A: Answers<R>, O: Sink>(
         &mut self,
         rt: &R,
@@ -46,11 +58,41 @@ impl Intake {
     ) -> Result<(), SessionFault>
         requires asks { A.asks }
         requires room { self.old.answered + length bytes.now < 2 ^ 63 }
-        ensures taken { (more : List ℕ) × Appends (O.contents sink.old) (O.contents sink.new) more × TakesBytes A.lawful answers.old self.old bytes.now result more answers.new self.new }
+        requires none_held { self.old.held.items ≡ [] }
+        requires alone { A.is_shared ≡ false → self.old.most_held ≡ 0 }
+        ensures taken { (more : List ℕ) × Appends (O.contents sink.old) (O.contents sink.new) more × (self.new.written ≡ self.old.written + length more)
+            × TakesBytes A.is_shared A.lawful answers.old self.old bytes.now result more answers.new self.new }
         ensures few { OnOk result (self.new.answered ≤ self.old.answered + length bytes.now) }
         ensures failed { O.has_failed sink.new ≡ (O.has_failed sink.old || is_write result) }
         ensures foreign { result ≡ Err Foreign → A.is_shared ≡ true }
-        ensures apart { IsApart result }
+        ensures apart { IsApart result self.new }
+        ensures none_held { OnOk result (self.new.held.items ≡ []) }
+        ensures most_held { self.new.most_held ≡ self.old.most_held }
+    {
+        let taken = self.take_lines(rt, answers, sink, bytes);
+        if !is_cut(&taken) {
+            self.send_held(sink)?;
+        }
+        taken
+    }
+
+    /// Answers each line that ends in the bytes. Its reply went out, or is held.
+    fn take_lines<R, A: Answers<R>, O: Sink>(
+        &mut self,
+        rt: &R,
+        answers: &mut A,
+        sink: &mut O,
+        bytes: &[u8],
+    ) -> Result<(), SessionFault>
+        requires asks { A.asks }
+        requires room { self.old.answered + length bytes.now < 2 ^ 63 }
+        ensures taken { (more : List ℕ) × Passes (O.contents sink.old) (O.contents sink.new) self.old more self.new
+            × TakesBytes A.is_shared A.lawful answers.old self.old bytes.now result more answers.new self.new }
+        ensures few { OnOk result (self.new.answered ≤ self.old.answered + length bytes.now) }
+        ensures failed { O.has_failed sink.new ≡ (O.has_failed sink.old || is_write result) }
+        ensures foreign { result ≡ Err Foreign → A.is_shared ≡ true }
+        ensures apart { IsApart result self.new }
+        ensures most_held { self.new.most_held ≡ self.old.most_held }
     {
         let mut rest = bytes;
         while let Some(length) = memchr(b'\n', rest) {
@@ -71,14 +113,18 @@ impl Intake {
     ) -> Result<u64, SessionFault>
         requires asks { A.asks }
         requires room { self.old.answered + 1 < 2 ^ 63 }
-        ensures ends { (more : List ℕ) × Appends (O.contents sink.old) (O.contents sink.new) more × Finishes A.lawful answers.old self.old result more answers.new }
+        requires none_held { self.old.held.items ≡ [] }
+        ensures ends { (more : List ℕ) × Appends (O.contents sink.old) (O.contents sink.new) more × (self.new.written ≡ self.old.written + length more)
+            × Finishes A.is_shared A.lawful answers.old self.old result more answers.new self.new }
         ensures failed { O.has_failed sink.new ≡ (O.has_failed sink.old || is_write result) }
         ensures foreign { result ≡ Err Foreign → A.is_shared ≡ true }
-        ensures apart { IsApart result }
+        ensures apart { IsApart result self.new }
     {
         if self.line.is_empty() {
             return Ok(self.answered);
         }
+        // Nothing is to go out with its reply.
+        self.most_held = 0;
         self.answer(rt, answers, sink)?;
         Ok(self.answered)
     }
@@ -92,10 +138,11 @@ impl Intake {
     ) -> Result<(), SessionFault>
         requires asks { A.asks }
         requires room { self.old.answered + 1 < 2 ^ 63 }
-        ensures answered { (more : List ℕ) × Appends (O.contents sink.old) (O.contents sink.new) more × AnswersNext A.lawful answers.old self.old result more answers.new self.new }
+        ensures answered { (more : List ℕ) × Passes (O.contents sink.old) (O.contents sink.new) self.old more self.new × AnswersNext A.lawful answers.old self.old result more answers.new self.new }
         ensures failed { O.has_failed sink.new ≡ (O.has_failed sink.old || is_write result) }
         ensures foreign { result ≡ Err Foreign → A.is_shared ≡ true }
-        ensures apart { IsApart result }
+        ensures apart { IsApart result self.new }
+        ensures most_held { self.new.most_held ≡ self.old.most_held }
     {
         match self.line.bytes() {
             Some(line) => {
@@ -111,38 +158,11 @@ impl Intake {
             }
         }
     }
-
-    /// Sends a reply with its line feed, and begins the next line. The line feed stands in `end` where there was no room for it behind the reply: its line has had its effect by then, so this is no fault.
-    fn send<O: Sink>(&mut self, sink: &mut O, front: &[u8], end: &[u8]) -> Result<(), SessionFault>
-        requires room { self.old.answered + 1 < 2 ^ 63 }
-        ensures sent { (more : List ℕ) × Appends (O.contents sink.old) (O.contents sink.new) more × Sends self.old (front.now ++ end.now) result more self.new }
-        ensures failed { O.has_failed sink.new ≡ (O.has_failed sink.old || is_write result) }
-        ensures apart { IsApart result }
-    {
-        match send_both(sink, front, end) {
-            Ok(()) => {
-                self.written += front.len() as u128 + end.len() as u128;
-                self.answered += 1;
-                self.line.clear();
-                Ok(())
-            }
-            Err(cut) => Err(SessionFault::Write(self.written + cut.written as u128)),
-        }
-    }
 }
 
-/// Writes bytes and then their end, and where the sink fails tells how many of all these it took. An empty end costs no write.
-fn send_both<O: Sink>(sink: &mut O, front: &[u8], end: &[u8]) -> Result<(), Cut>
-    ensures bytes { OnOk result (Appends (O.contents sink.old) (O.contents sink.new) (front.now ++ end.now)) }
-    ensures unfinished { IfErr result (λ cut. cut.written < length (front.now ++ end.now)) }
-    ensures cut { IfErr result (λ cut. Appends (O.contents sink.old) (O.contents sink.new) (take cut.written (front.now ++ end.now))) }
-    ensures failed { O.has_failed sink.new ≡ (O.has_failed sink.old || is_err result) }
+/// Has the sink failed?
+fn is_cut(taken: &Result<(), SessionFault>) -> bool
+    ensures { result ≡ is_write taken.now }
 {
-    write_until_cut(sink, front)?;
-    match write_until_cut(sink, end) {
-        Ok(()) => Ok(()),
-        Err(cut) => Err(Cut {
-            written: front.len() + cut.written,
-        }),
-    }
+    matches!(taken, Err(SessionFault::Write(_)))
 }

@@ -10,6 +10,9 @@ use std::alloc::AllocGlobal;
 /// How often a session reads at most.
 pub const MOST_READS: u64 = 1 << 32;
 
+/// So many bytes of replies go out together at most.
+const MOST_HELD: usize = 64 * 1024;
+
 /// Answers the lines of the source, one after the other, each with its reply and a line feed, and gives their number.
 pub fn session<R: AllocGlobal, A: Answers<R>, I: Source, O: Sink>(
     rt: &R,
@@ -23,14 +26,19 @@ pub fn session<R: AllocGlobal, A: Answers<R>, I: Source, O: Sink>(
     requires reads { I.read_count source.old < 2 ^ 63 }
     ensures text { (input out : List ℕ) × Consumes (I.remaining source.old) (I.remaining source.new) input
         × Appends (O.contents sink.old) (O.contents sink.new) out
-        × SessionEnds A.lawful answers.old result (I.remaining source.new) input out answers.new }
+        × SessionEnds A.is_shared A.lawful answers.old result (I.remaining source.new) input out answers.new }
     ensures source { I.has_failed source.new ≡ is_read result }
     ensures sink { O.has_failed sink.new ≡ is_write result }
     ensures turns { result ≡ Err Turns → I.read_count source.new ≡ I.read_count source.old + 2 ^ 32 }
     ensures few { I.read_count source.new ≤ I.read_count source.old + 2 ^ 32 }
     ensures foreign { result ≡ Err Foreign → A.is_shared ≡ true }
 {
-    let mut intake = Intake::new(rt.alloc());
+    let most_held = if answers.may_hold() && sink.has_costly_writes() {
+        MOST_HELD
+    } else {
+        0
+    };
+    let mut intake = Intake::new(rt.alloc(), most_held);
     let mut buffer = [0u8; 16_384];
     for _ in 0..MOST_READS {
         let count = source.read(&mut buffer)?;

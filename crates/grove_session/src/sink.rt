@@ -18,6 +18,11 @@ pub trait Sink {
         ensures bytes { WriteAppends (contents self.old) (contents self.new) result bytes.now }
         ensures failed { has_failed self.new ≡ (has_failed self.old || is_err result) };
 
+    /// Does a write cost much, however few bytes it has? So it is with the system's; memory takes each reply as it comes.
+    fn has_costly_writes(&self) -> bool {
+        true
+    }
+
     /// Has a write failed? Once it has, this stays so.
     fn failed(&self) -> bool
         ensures { result ≡ has_failed self.now };

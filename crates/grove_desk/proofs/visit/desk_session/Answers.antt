@@ -1,4 +1,4 @@
-use Rattle.std.proofs.Common.{subst}
+use Rattle.std.proofs.Common.{true, subst}
 use Rattle.grove_session.specs.Sessions.{SessionEnds}
 use Rattle.grove_desk.specs.Desks.{VisitState, IsShared}
 use Rattle.grove_desk.proofs.visit.desk_session.Goals as goal
@@ -11,5 +11,5 @@ returns-clause-text g c =
       c.session.new.answers,
       consumed,
       appended,
-      subst (λ (visited : VisitState). SessionEnds IsShared visited c.session.result (g.I.Source.remaining c.session.new.source) input out c.session.new.answers) c.new-visit.ensures ends,
+      subst (λ (visited : VisitState). SessionEnds true IsShared visited c.session.result (g.I.Source.remaining c.session.new.source) input out c.session.new.answers) c.new-visit.ensures ends,
     )

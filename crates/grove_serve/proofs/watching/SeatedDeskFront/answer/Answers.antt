@@ -9,7 +9,7 @@ pub returns-in-Some : goal.returns-in-Some
 returns-in-Some g c =
     let (out, holds, visits) = c.visit-ended.ensures in
     let Begins : VisitState → Type 0 = λ before.
-    Visits IsShared before c.args.lines.now c.visit-ended.result out c.visit-ended.new.answers in
+    Visits true IsShared before c.args.lines.now c.visit-ended.result out c.visit-ended.new.answers in
     let Tells : Told → Type 0 = λ told. c.new.result.is_refused ≡ ends_refused c.visit-ended.result told in
     let Answers : DeskState → Type 0 = λ desk.
     VisitsDesk desk.opening c.args.lines.now c.new.result.ended out

@@ -1,88 +1,45 @@
-use Rattle.std.proofs.Common.{ℕ, ◌+◌, ◌-◌, List, [], ◌∷◌, ◌++◌, length, take, drop, refl, ap, subst, ◌∙◌, append_assoc, rules}
-use Rattle.std.proofs.KnownBytes.{Appends-nil, Appends-trans}
+use Rattle.std.proofs.Common.{[], refl, sym, ◌∙◌, append-nil}
+use Rattle.std.proofs.lemmas.Bool.{false≢true}
 use Rattle.std.proofs.lemmas.Result.{err_from_is_err_and}
-use Rattle.grove_session.specs.Intakes.{Breaks}
-use Rattle.grove_session.proofs.Lines.{none_feedless, before_feedless, at_feed}
-use Rattle.grove_session.proofs.Going.{continues_nothing, continues_then, breaks_then, breaks_early, bytes_go, feed_goes, feed_breaks, rest_goes, no_room_breaks}
+use Rattle.grove_session.proofs.Sending.{goes_then, goes_all, nothing_held, takes_out, takes_cut}
 use Rattle.grove_session.proofs.intake.Intake.take.Goals as goal
 
-pub loop-length-init : goal.loop-length-init
-loop-length-init g c = (([], [], refl, Appends-nil _, continues_nothing g.A.Answers.lawful _ _), search rules, search rules)
-
-pub returns-in_err-extend-clause-taken : goal.returns-in_err-extend-clause-taken
-returns-in_err-extend-clause-taken g c =
-    let rest = c.loop-length.rest.now in
-    let (front, more, all, sent, gone) = c.loop-length.invariant.0 in
+pub returns-in_err-send_held-clause-taken : goal.returns-in_err-send_held-clause-taken
+returns-in_err-send_held-clause-taken g c =
+    let t = c.take_lines-taken.ensures.taken in
+    let sent = c.in_err-send_held.ensures in
+    let both = goes_then _ _ _ _ _ _ _ _ _ t.0 [] t.1 sent.passes in
+    let is = sym (append-nil t.0) ∙ goes_all _ _ _ _ _ _ _ both c.requires.none_held in
     let p = err_from_is_err_and c.from_residual.result c.from_residual.ensures.1 in
     rw (p.1, p.2) (
-      more ++ [],
-      Appends-trans _ _ _ more [] sent (Appends-nil _),
-      subst (λ (bytes : List ℕ). Breaks g.A.Answers.lawful c.args.answers.now c.args.self.now bytes (more ++ []) _ c.loop-length.answers) all
-          (breaks_then g.A.Answers.lawful _ _ _ _ c.loop-length.self front rest more [] _ gone (no_room_breaks g.A.Answers.lawful _ c.loop-length.self rest)),
+      both.sent,
+      both.went,
+      both.counted,
+      takes_cut g.A.Answers.is_shared g.A.Answers.lawful _ _ c.args.self.now c.take_lines-taken.new.self _ t.0 both.sent _ c.take_lines-taken.result _ t.2 is sent.err
+          (λ alone. nothing_held _ _ c.send_held.new.self.few_held (sent.kept.2 ∙ c.take_lines-taken.ensures.most_held ∙ c.requires.alone alone)),
     )
 
-pub returns-in_err-answer-clause-taken : goal.returns-in_err-answer-clause-taken
-returns-in_err-answer-clause-taken g c =
-    let rest = c.loop-length.rest.now in
-    let n = c.in-Some.length in
-    let (front, more, all, sent, gone) = c.loop-length.invariant.0 in
-    let h = c.in_err-answer.ensures.answered in
-    let cut = feed_breaks g.A.Answers.lawful _ _ _ h.0 c.in_err-answer.field-0.0 h.2 in
-    let ended = breaks_then g.A.Answers.lawful _ _ _ c.loop-length.self _ (take n rest) (10 ∷ []) [] h.0 _
-    (bytes_go g.A.Answers.lawful _ c.loop-length.self _ (take n rest)
-    (before_feedless rest n c.in-Some.ensures.0.high c.in-Some.ensures.0.before) c.in_ok-extend.ensures.ok refl refl) cut in
-    let here = at_feed rest n c.in-Some.ensures.0.high c.in-Some.ensures.1 in
-    let p = err_from_is_err_and c.from_residual-in_err-answer.result c.from_residual-in_err-answer.ensures.1 in
-    rw (p.1, p.2) (
-      more ++ h.0,
-      Appends-trans _ _ _ more h.0 sent h.1,
-      subst (λ (bytes : List ℕ). Breaks g.A.Answers.lawful c.args.answers.now c.args.self.now bytes (more ++ h.0) c.in_err-answer.field-0.0 c.answer.new.answers)
-          (append_assoc front (take n rest ++ 10 ∷ []) (take (length rest - (n + 1)) (drop (n + 1) rest)) ∙ ap (λ (xs : List ℕ). front ++ xs) here ∙ all)
-          (breaks_early g.A.Answers.lawful c.args.answers.now c.answer.new.answers c.args.self.now (front ++ (take n rest ++ 10 ∷ []))
-          (take (length rest - (n + 1)) (drop (n + 1) rest)) (more ++ h.0) _
-          (breaks_then g.A.Answers.lawful _ _ _ _ c.loop-length.self front (take n rest ++ 10 ∷ []) more h.0 _ gone ended)),
+pub returns-in_ok-send_held-clause-taken : goal.returns-in_ok-send_held-clause-taken
+returns-in_ok-send_held-clause-taken g c =
+    let t = c.take_lines-taken.ensures.taken in
+    let sent = c.in_ok-send_held.ensures in
+    let both = goes_then _ _ _ _ _ _ _ _ _ t.0 [] t.1 sent.passes in
+    let is = sym (append-nil t.0) ∙ goes_all _ _ _ _ _ _ _ both c.requires.none_held in (
+      both.sent,
+      both.went,
+      both.counted,
+      takes_out g.A.Answers.is_shared g.A.Answers.lawful _ _ c.args.self.now c.take_lines-taken.new.self c.send_held.new.self _ t.0 both.sent c.take_lines-taken.result t.2 is
+          (λ other. sent.ok) (λ alone. sent.ok) sent.kept.0 sent.kept.1,
     )
 
-pub loop-length-preserved : goal.loop-length-preserved
-loop-length-preserved g c =
-    let rest = c.loop-length.rest.now in
-    let n = c.in-Some.length in
-    let (front, more, all, sent, gone) = c.loop-length.invariant.0 in
-    let h = c.in_ok-answer.ensures.answered in
-    let fed = feed_goes g.A.Answers.lawful _ _ _ _ h.0 h.2 in
-    let ended = continues_then g.A.Answers.lawful _ _ _ c.loop-length.self _ _ (take n rest) (10 ∷ []) [] h.0
-    (bytes_go g.A.Answers.lawful _ c.loop-length.self _ (take n rest)
-    (before_feedless rest n c.in-Some.ensures.0.high c.in-Some.ensures.0.before) c.in_ok-extend.ensures.ok refl refl) fed in
-    let here = at_feed rest n c.in-Some.ensures.0.high c.in-Some.ensures.1 in (
-      (
-        front ++ (take n rest ++ 10 ∷ []),
-        more ++ h.0,
-        append_assoc front (take n rest ++ 10 ∷ []) (take (length rest - (n + 1)) (drop (n + 1) rest)) ∙ ap (λ (xs : List ℕ). front ++ xs) here ∙ all,
-        Appends-trans _ _ _ more h.0 sent h.1,
-        continues_then g.A.Answers.lawful _ _ _ _ c.loop-length.self _ front (take n rest ++ 10 ∷ []) more h.0 gone ended,
-      ),
-      search rules,
-      search rules,
-    )
-
-pub returns-in_err-extend-2-clause-taken : goal.returns-in_err-extend-2-clause-taken
-returns-in_err-extend-2-clause-taken g c =
-    let rest = c.loop-length.rest.now in
-    let (front, more, all, sent, gone) = c.loop-length.invariant.0 in
-    let p = err_from_is_err_and c.from_residual-in_err-extend-2.result c.from_residual-in_err-extend-2.ensures.1 in
-    rw (p.1, p.2) (
-      more ++ [],
-      Appends-trans _ _ _ more [] sent (Appends-nil _),
-      subst (λ (bytes : List ℕ). Breaks g.A.Answers.lawful c.args.answers.now c.args.self.now bytes (more ++ []) _ c.loop-length.answers) all
-          (breaks_then g.A.Answers.lawful _ _ _ _ c.loop-length.self front rest more [] _ gone (no_room_breaks g.A.Answers.lawful _ c.loop-length.self rest)),
-    )
-
-pub returns-clause-taken : goal.returns-clause-taken
-returns-clause-taken g c =
-    let rest = c.loop-length.rest.now in
-    let (front, more, all, sent, gone) = c.loop-length.invariant.0 in (
-      more ++ [],
-      Appends-trans _ _ _ more [] sent (Appends-nil _),
-      rest_goes g.A.Answers.lawful _ _ c.args.self.now c.loop-length.self _ front rest c.args.bytes.now more all gone
-          (bytes_go g.A.Answers.lawful _ c.loop-length.self _ rest (none_feedless rest c.in_default.ensures) c.in_ok-extend-2.ensures.ok refl refl),
+pub returns-else-not-is_cut-clause-taken : goal.returns-else-not-is_cut-clause-taken
+returns-else-not-is_cut-clause-taken g c =
+    let t = c.take_lines-taken.ensures.taken in
+    let is = goes_all _ _ _ _ _ _ _ t.1 c.requires.none_held in (
+      t.1.sent,
+      t.1.went,
+      t.1.counted,
+      takes_out g.A.Answers.is_shared g.A.Answers.lawful _ _ c.args.self.now c.take_lines-taken.new.self c.take_lines-taken.new.self _ t.0 t.1.sent c.take_lines-taken.result t.2 is
+          (λ other. absurd (false≢true (sym other ∙ sym c.is_cut.ensures ∙ c.if-not-is_cut.false)))
+          (λ alone. nothing_held _ _ c.take_lines-taken.new.self.few_held (c.take_lines-taken.ensures.most_held ∙ c.requires.alone alone)) refl refl,
     )
