@@ -7,6 +7,7 @@ ghost use Rattle.grove_desk.specs.Receipts.{IsDeskReceipt};
 ghost use Rattle.grove_desk.specs.Histories.{Led};
 ghost use Rattle.grove_desk.specs.Boards.{KeepsState, SlotHolds};
 
+use crate::bells::Rings;
 use crate::ledger::Ledger;
 use crate::line::Line;
 use crate::slot::{Asked, Slot, State};
@@ -28,6 +29,8 @@ pub(crate) struct Board<B: Opening> {
     tickets: u64,
     /// How many callers wait for a copy of the store. While there are any, it isn't taken.
     copies: u64,
+    /// How many callers wait for room for their lines.
+    outside: u64,
 }
 
 impl<B: Opening> Model for Board<B> {
@@ -51,6 +54,7 @@ impl<B: Opening> Board<B> {
             slots: Vec::new(alloc),
             tickets: 0,
             copies: 0,
+            outside: 0,
         }
     }
 
@@ -78,6 +82,37 @@ impl<B: Opening> Board<B> {
 
     pub(crate) fn is_full(&self) -> bool {
         self.waiting() >= MOST_LINES
+    }
+
+    /// A caller waits for room.
+    pub(crate) fn stay_outside(&mut self) {
+        self.outside = self.outside.saturating_add(1);
+    }
+
+    /// It has found room.
+    pub(crate) fn come_in(&mut self) {
+        self.outside = self.outside.saturating_sub(1);
+    }
+
+    /// For how many of those who wait for it there is room.
+    pub(crate) fn room(&self) -> u64 {
+        self.outside
+            .min(MOST_LINES.saturating_sub(self.waiting()) as u64)
+    }
+
+    /// Whom to wake: the callers whose lines are answered and, where the store is here, all who want a copy of it; or else
+    /// the caller of the first line that waits, who is to lead.
+    pub(crate) fn rings(&self) -> Rings {
+        let is_here = self.ledger.is_some();
+        let mut rings = Rings::new(is_here && self.copies > 0);
+        let mut is_led = !is_here || self.copies > 0;
+        for slot in &self.slots {
+            if slot.is_done() || slot.is_waiting() && !is_led {
+                rings.add(slot.ticket);
+            }
+            is_led |= slot.is_waiting();
+        }
+        rings
     }
 
     /// Keeps the store here, once it is back, until it was copied.

@@ -1,4 +1,4 @@
-ghost use Rattle.std.specs.Prelude.{◌≡◌, ◌<◌, ◌≤◌, false, [], length, Err, IfOk};
+ghost use Rattle.std.specs.Prelude.{◌≡◌, ◌<◌, ◌≤◌, false, [], length, All, Err, IfOk};
 ghost use Rattle.std.specs.Option.{option_copied};
 ghost use Rattle.std.specs.Vec.{vec_capacity};
 ghost use Rattle.grove_session.specs.declared.answers.TheConstants.{LINE_LIMIT};
@@ -6,6 +6,7 @@ ghost use Rattle.grove_tree.specs.Weights.{unweighed};
 ghost use Rattle.grove_desk.specs.Histories.{Led};
 ghost use Rattle.grove_desk.specs.Receipts.{ReceiptState, IsAllowed, IsDeskReceipt, IsForeignReceipt, ComesAfter};
 
+use crate::bells::Bells;
 use crate::board::{Board, MOST_LINES};
 use crate::ledger::Ledger;
 use crate::line::Line;
@@ -17,7 +18,7 @@ use grove_store::Store;
 use grove_tree::{Gate, NoMemory};
 use std::alloc::Global;
 use std::marker::Model;
-use std::sync::{Condvar, Mutex, Wait};
+use std::sync::{Mutex, Wait};
 use std::thread::Threads;
 
 mod closing;
@@ -32,8 +33,7 @@ const LARGE_LINE: usize = 64 * 1024;
 pub struct Desk<B: Opening> {
     kept: bool,
     board: Mutex<Board<B>>,
-    /// Something on the board has moved for which others may wait.
-    moved: Condvar,
+    bells: Bells,
     /// Taken by the one large line that is answered.
     large: Mutex<()>,
 }
@@ -60,7 +60,7 @@ impl<B: Opening> Desk<B> {
         Desk {
             kept,
             board: Mutex::new(Board::new(alloc, ledger)),
-            moved: Condvar::new(),
+            bells: Bells::new(),
             large: Mutex::new(()),
         }
     }
@@ -93,11 +93,7 @@ impl<B: Opening> Desk<B> {
         };
         let mut taken = Vec::with_capacity(alloc, MOST_LINES)?;
         let copy = Line::new(alloc, line)?;
-        let mut board = self
-            .moved
-            .wait_while(rt, self.board.lock(rt), |board| board.is_full());
-        let ticket = board.put(copy)?;
-        drop(board);
+        let ticket = self.put(rt, copy)?;
         let receipt = self.attend(rt, alloc, ticket, &mut taken, gate)?;
         if receipt.is_of(line) && receipt.follows(seen, self.kept) {
             Ok(receipt)
@@ -120,13 +116,32 @@ impl<B: Opening> Desk<B> {
         for _ in rt.forever() {
             let mut board = self.board.lock(rt);
             if let Some(copy) = board.store_copy(alloc) {
+                let rings = board.rings();
                 drop(board);
-                self.moved.notify_all();
+                self.bells.ring(&rings);
                 return copy;
             }
-            let _again = self.moved.wait(rt, board);
+            let _again = self.bells.looks.wait(rt, board);
         }
         unreachable!()
+    }
+
+    /// Puts a line once there is room for it, and gives its ticket.
+    fn put<R: Wait>(&self, rt: &R, line: Line) -> Result<u64, NoMemory> {
+        let mut board = self.board.lock(rt);
+        board.stay_outside();
+        let mut board = self
+            .bells
+            .room
+            .wait_while(rt, board, |board| board.is_full());
+        board.come_in();
+        let put = board.put(line);
+        drop(board);
+        if put.is_err() {
+            // The room that it leaves is another one's.
+            self.bells.let_in(1);
+        }
+        put
     }
 
     /// Waits for what the line of this ticket was answered; whenever it finds the store there, answers the first lines that wait
@@ -147,22 +162,38 @@ impl<B: Opening> Desk<B> {
             if let Some(done) = board.collect(ticket) {
                 return done;
             }
-            let full = board.is_full();
             match board.take(taken) {
                 Some(mut ledger) => {
+                    let room = board.room();
                     drop(board);
-                    if full {
-                        self.moved.notify_all();
-                    }
+                    self.bells.let_in(room);
                     let answered = ledger.answer(rt, alloc, taken, gate);
-                    self.board.lock(rt).put_back(ledger, taken, answered);
-                    self.moved.notify_all();
+                    self.put_back(rt, ledger, taken, answered);
                 }
                 None => {
-                    let _again = self.moved.wait(rt, board);
+                    let _again = self.bells.of(ticket).wait(rt, board);
                 }
             }
         }
         unreachable!()
+    }
+
+    /// Puts back the store and what the lines were answered, and wakes those who wait for that.
+    fn put_back<R: Wait>(
+        &self,
+        rt: &R,
+        ledger: Ledger<B>,
+        taken: &mut Vec<Asked>,
+        answered: Result<Vec<Receipt>, NoMemory>,
+    )
+        requires { IfOk answered (λ receipts. All (IsDeskReceipt B.store B.kept) receipts.items) }
+        ensures taken { taken.new.items ≡ [] }
+        ensures room { vec_capacity taken.new ≡ vec_capacity taken.old }
+    {
+        let mut board = self.board.lock(rt);
+        board.put_back(ledger, taken, answered);
+        let rings = board.rings();
+        drop(board);
+        self.bells.ring(&rings);
     }
 }

@@ -11,6 +11,7 @@ pub use told::Told;
 pub use visit::{Visit, desk_session};
 
 mod answering;
+mod bells;
 mod board;
 mod desk;
 mod fault;
