@@ -296,6 +296,7 @@ function bad(text) {
 let rounds, lookedAt;
 /** How many looks have begun, and the last one of those that were shown. */
 let begun = 0, latest = 0;
+/** Whether the page asks by itself, and what ends such a look. */
 let isFollowing = true, following = new AbortController();
 
 const timeNow = () => new Date().toLocaleTimeString();
@@ -340,8 +341,10 @@ async function follow() {
   for (;;) {
     if (isFollowing && !document.hidden) {
       const isWell = byId("trouble").textContent === "" && rounds !== undefined;
-      const signal = AbortSignal.any([following.signal, AbortSignal.timeout(PATIENCE)]);
-      await look(isWell ? `?after=${rounds}` : "", { signal });
+      following = new AbortController();
+      const end = setTimeout(() => following.abort(), PATIENCE);
+      await look(isWell ? `?after=${rounds}` : "", { signal: following.signal });
+      clearTimeout(end);
     }
     await new Promise((done) => setTimeout(done, PAUSE));
   }
@@ -349,8 +352,7 @@ async function follow() {
 
 function toggleFollowing() {
   isFollowing = !isFollowing;
-  if (isFollowing) following = new AbortController();
-  else following.abort();
+  if (!isFollowing) following.abort();
   byId("follow").textContent = isFollowing ? "Pause" : "Follow";
 }
 
