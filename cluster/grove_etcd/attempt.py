@@ -19,14 +19,13 @@ from .jobs import Access, Event, Job, Kind, Progress, UnderWay, Waiter, written
 from .journal import Journal
 from .keys import Keys, last_part
 from .members import MOST_OPERATIONS, Lost, Members, pauses
+from .ready import MOST_INNER, Aside, Beginning, Ready
 from .refusals import Refused
-from .seeing import MOST_READS, Seen, contested, is_last, reads_for, seen, window
+from .seeing import MOST_READS, Seen, contested, is_last, left_by, reads_for, reads_of_steps, seen, window
 from .signs import Signs, Stills
 from .waiting import Watched, wait
-from .wire import Found, Guard, Operation, choosing, deleting, other_than, putting, unchanged
+from .wire import Done, Found, Guard, Operation, choosing, deleting, other_than, putting, request_of, unchanged
 
-# Of operations that the transaction within a group's has which finds out whether a node is held.
-MOST_INNER = 3
 # Does what an access stands for, with its node held: of the access, the record that it finds, and a token, the same
 # for each try at this access and for no other one.
 Work = Callable[[Access, int, str], None]
@@ -49,6 +48,7 @@ class Means:
     # The group that goes on is the last one.
     stopping: bool = False
     stills: Stills = field(default_factory=Stills)
+    ready: Aside = field(default_factory=Aside)
 
     @cached_property
     def signs(self) -> Signs:
@@ -57,24 +57,6 @@ class Means:
     @property
     def beat_seconds(self) -> float:
         return self.patience / 2.5
-
-
-@dataclass(frozen=True)
-class Beginning:
-    """A job's first group, for the transaction that ends the one before: taken if the job is still as it was seen. In
-    both cases it reads what comes next."""
-
-    guards: list[Guard]
-    then: list[Operation]
-    otherwise: list[Operation]
-
-    @property
-    def size(self) -> int:
-        """Of operations, as etcd counts them."""
-        return MOST_INNER + max(len(self.guards), len(self.then), len(self.otherwise))
-
-    def operation(self) -> Operation:
-        return choosing(self.guards, self.then, self.otherwise)
 
 
 class Attempt:
@@ -90,6 +72,8 @@ class Attempt:
         self.stepped_back = False
         self.limits = Limits(works=means.work is not None)
         self.worked_at: int | None = None
+        # The group that follows the work, as it was made ready.
+        self.ready: Ready | None = None
         # When the job's last sign of life was given, or before that; none is given where a node is handed to it.
         self.signed_at = 0.0
         self.waits_since: float | None = None
@@ -123,13 +107,20 @@ class Attempt:
             return None
         if self.needs_work(progress):
             return self.do_work(found)
-        steps = window(self.job, progress.step)
-        group = group_of(self.keys, self.job, steps, progress, found.found, self.limits)
+        ready, self.ready = self.ready, None
+        if ready is not None and ready.found is found and not (self.means.stopping and ready.begins):
+            return self.make(ready)
+        group = self.group(found)
         return self.wait(found, group) if group.does_nothing() else self.commit(found, group)
+
+    def group(self, found: Seen) -> Group:
+        """The job's next one."""
+        steps = window(self.job, found.progress.step)
+        return group_of(self.keys, self.job, steps, found.progress, found.found, self.limits)
 
     def look(self, step: int, revision: int = 0) -> Seen | None:
         """Reads the job, at present or at this revision or a later one; `step` is a guess of which comes next."""
-        reads = self.reads_ahead(step)
+        reads = self.reads_ahead(step, self.reads(step))
         found = self.members.read_since(reads, revision) if revision else self.members.read(reads)
         return self.at(step, self.found_in(found))
 
@@ -139,9 +130,8 @@ class Attempt:
             self.reads_at[step] = reads_for(self.keys, self.job, step, self.limits)
         return self.reads_at[step]
 
-    def reads_ahead(self, step: int) -> list[Operation]:
-        """The same; and where only one group is left, what the next job begins with."""
-        own = self.reads(step)
+    def reads_ahead(self, step: int, own: list[Operation]) -> list[Operation]:
+        """Before this step its own, and where only one group is left, what the next job begins with."""
         if self.following is None or not self.limits.works or not is_last(self.job, step):
             return own
         # Its own last: of those who stand in line only this job needs to know what they wait with.
@@ -155,43 +145,60 @@ class Attempt:
     # Groups
 
     def commit(self, found: Seen, group: Group) -> Seen | None:
-        """Takes the steps, and looks at what comes next in the same transaction."""
+        return self.make(self.made_ready(found, group))
+
+    def made_ready(self, found: Seen, group: Group) -> Ready:
+        """A transaction that takes the steps, and looks at what comes next."""
         after, begins = group.after(), self.beginning(found, group)
         group.place = int(begins is not None)
         guards, changes = self.guards(found, group), self.changes(found, group)
-        otherwise, then = self.reads(found.progress.step), self.reads_then(after)
+        leaves = left_by(self.keys, self.job, group, self.means.name)
+        otherwise, then = self.reads(found.progress.step), self.reads_then(after, leaves)
         if begins and max(len(guards), len(changes) + 1, len(otherwise)) + begins.size <= MOST_OPERATIONS:
             then = [begins.operation()]
-        elif len(changes) + len(then) > MOST_OPERATIONS - MOST_INNER:
-            then = []
-        self.signed_at = time.monotonic()
-        try:
-            done = self.members.commit(guards, changes, then, otherwise)
-        except Lost as lost:
-            return self.look_again(found.progress.step, lost)
-        if done.succeeded:
-            return self.committed(group, done.found, bool(then))
-        self.means.journal.tell("commit_failed")
-        now = self.at(found.progress.step, self.found_in(done.found))
-        return self.give_way(group, found, now)
+        else:
+            begins = None
+            if len(changes) + len(then) > MOST_OPERATIONS - MOST_INNER:
+                then = []
+        request = request_of(guards, [*changes, *then], otherwise)
+        return Ready(found, group, request, leaves, begins, bool(then))
 
-    def committed(self, group: Group, found: Found, has_looked: bool) -> Seen | None:
-        after = group.after()
+    def make(self, ready: Ready) -> Seen | None:
+        """Makes the transaction; gives the job as it is then."""
+        step, self.signed_at = ready.found.progress.step, time.monotonic()
+        try:
+            done = self.members.make(ready.request)
+        except Lost as lost:
+            return self.look_again(step, lost)
+        if done.succeeded:
+            return self.committed(ready, done)
+        self.means.journal.tell("commit_failed")
+        return self.give_way(ready.group, ready.found, self.at(step, self.found_in(done.found)))
+
+    def committed(self, ready: Ready, done: Done) -> Seen | None:
+        group = ready.group
         self.means.journal.tell("commit")
-        self.limits = replace(self.limits, contested=None, queues=True)
-        self.waits_since = None
+        self.limits, self.waits_since = Limits(works=self.limits.works), None
         if group.blocked is not None:
             self.means.journal.tell("waits", job=self.job.name, node=group.blocked)
+        if ready.leaves is not None and ready.looks:
+            return ready.leaves.read_with(done.found)
+        after = group.after()
         if not after.has_ended():
-            return self.found_in(found) if has_looked else self.look(after.step)
+            return self.found_in(done.found) if ready.looks else self.look(after.step)
         self.means.journal.tell("ended", job=self.job.name, groups=after.groups)
-        self.ahead = self.following.found_after(found, self.signed_at) if self.following else None
+        if self.following is not None:
+            begun = ready.begins.leaves if ready.begins and done.ends_with_then() else None
+            self.ahead = self.following.found_after(done.found, begun, self.signed_at)
         return None
 
-    def found_after(self, found: Found, ended_at: float) -> Seen | None:
+    def found_after(self, found: Found, begun: Seen | None, ended_at: float) -> Seen | None:
         """The job as it is after the transaction, at that time or later, that ended another one and may have begun
         this one."""
-        self.signed_at, now = ended_at, self.found_in(found)
+        self.signed_at = ended_at
+        if begun is not None:
+            return begun.read_with(found)
+        now = self.found_in(found)
         if now is not None and now.under_way is not None and now.under_way.waits and now.is_for(self.means.name):
             self.means.journal.tell("waits", job=self.job.name, node=now.under_way.waits)
         return now
@@ -217,8 +224,9 @@ class Attempt:
         after, free = group.after(), ending.hands.keys() - handed
         if after.has_ended() or group.blocked in free or ending.hands.keys() & set(group.locked):
             return None
-        then = [*self.changes(found, group), *self.reads_then(after)]
-        return Beginning(self.guards(found, group), then, self.reads(0))
+        leaves = left_by(self.keys, self.job, group, self.means.name)
+        then = [*self.changes(found, group), *self.reads_then(after, leaves)]
+        return Beginning(self.guards(found, group), then, self.reads(0), leaves)
 
     def give_way(self, group: Group, before: Seen, now: Seen | None) -> Seen | None:
         """Where others came to a node in between, the job stands in line for it; a fresh one is left for later."""
@@ -233,10 +241,16 @@ class Attempt:
         time.sleep(next(self.pauses))
         return self.look(step)
 
-    def reads_then(self, after: Progress) -> list[Operation]:
-        if not after.has_ended():
-            return self.reads_ahead(after.step)
-        return self.following.reads(0) if self.following else []
+    def reads_then(self, after: Progress, leaves: Seen | None) -> list[Operation]:
+        """What comes after the group; of the job itself only what isn't known."""
+        if after.has_ended():
+            return self.following.reads(0) if self.following else []
+        known = leaves is not None
+        return self.reads_ahead(after.step, self.reads_of_steps(after.step) if known else self.reads(after.step))
+
+    def reads_of_steps(self, step: int) -> list[Operation]:
+        """What has to be read before this step of a job that stands in no line."""
+        return reads_of_steps(self.keys, self.job, step, self.limits, False)
 
     def guards(self, found: Seen, group: Group) -> list[Guard]:
         """What has to hold for the group's steps to be the job's next ones, and to be allowed."""
@@ -312,18 +326,20 @@ class Attempt:
         return self.limits.works and is_access and self.worked_at != progress.step
 
     def do_work(self, found: Seen) -> Seen | None:
-        """Does the work of the next access, with a sign of life now and then."""
+        """Does the work of the next access, with a sign of life now and then. Meanwhile the group that follows it is
+        made ready; it is made if the work hasn't failed, and no sign was given."""
         step = self.job.steps[found.progress.step]
         record = record_of(self.keys, step.path, found.found)
         under_way = found.under_way or UnderWay(self.means.name)
         failure: Exception | None = None
         self.means.signs.begin(self.job.name, found, self.sign_due())
+        self.means.ready.begin(lambda: self.made_ready(found, self.group(found)))
         try:
             self.perform(self.job.accesses[step.access], record, f"{self.job.name}/{step.access}")
         except Exception as why:  # whatever the work raises, it has failed
             failure = why
         finally:
-            last = self.means.signs.end()
+            last, self.ready = self.means.signs.end(), self.means.ready.end()
         if last is None:
             self.means.journal.tell("dropped", job=self.job.name)
             return None

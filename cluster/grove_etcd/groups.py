@@ -146,7 +146,7 @@ def older_waiter(keys: Keys, job: Job, path: str, found: Found) -> str | None:
 
 
 def record_of(keys: Keys, path: str, found: Found) -> int:
-    text = found.value(keys.record(path)) or "0"
+    text = found.value_from_last(keys.record(path)) or "0"
     if not RECORD.fullmatch(text):
         raise Refused(f"stray-record {path}")
     return int(text)

@@ -25,8 +25,8 @@ class Journal:
     def tell(self, event: str, **facts: object) -> None:
         with self.lock:
             self.counts[event] += 1
-        if event not in COUNTED:
-            level = logging.WARNING if event in WARNED else logging.INFO
+        level = logging.WARNING if event in WARNED else logging.INFO
+        if event not in COUNTED and LOG.isEnabledFor(level):
             LOG.log(level, "%s", line_of(event, facts))
 
     def metrics(self) -> str:

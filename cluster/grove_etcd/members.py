@@ -15,7 +15,7 @@ import grpc
 from etcd3 import etcdrpc
 
 from .refusals import Failed
-from .wire import Done, Found, Guard, Operation, after, at_hand, counting, done, ranging, reading, transaction
+from .wire import Done, Found, Guard, Operation, Request, after, at_hand, counting, done, ranging, reading, request_of
 
 # Of operations in a transaction, and of its compares (etcd's own limit, as it comes).
 MOST_OPERATIONS = 128
@@ -30,10 +30,12 @@ OPTIONS = [
     ("grpc.initial_reconnect_backoff_ms", 100),
     ("grpc.max_reconnect_backoff_ms", 1000),
     ("grpc.max_receive_message_length", -1),
+    # What may be made again is, below; so no copy of a request has to be kept.
+    ("grpc.enable_retries", 0),
     # So one connection that hangs, as those made while a member starts, is no other client's.
     ("grpc.use_local_subchannel_pool", 1),
 ]
-WATCH = "/etcdserverpb.Watch/Watch"
+TRANSACT, WATCH = "/etcdserverpb.KV/Txn", "/etcdserverpb.Watch/Watch"
 # RESOURCE_EXHAUSTED is said by a member that has too much to do, or no space left.
 NO_ANSWER = {
     grpc.StatusCode.UNAVAILABLE,
@@ -81,6 +83,8 @@ class Member:
         self.address, self.credentials = address, credentials
         self.channel = credentials.channel(address)
         self.calls = etcdrpc.KVStub(self.channel)
+        # Called with a request that is written already.
+        self.transact = self.channel.unary_unary(TRANSACT, response_deserializer=etcdrpc.TxnResponse.FromString)
         # Called with one request: a stream of them would take a thread for each watch.
         self.watch = self.channel.unary_stream(
             WATCH,
@@ -139,8 +143,7 @@ class Members:
 
     def read(self, reads: list[Operation]) -> Found:
         """At most 128 reads, at one revision."""
-        request = transaction([], reads, [])
-        return done(self.ask_until_told(lambda member: member.ask(member.calls.Txn, request, self.seconds))).found
+        return done(self.transact(request_of([], reads, []))).found
 
     def read_since(self, reads: list[Operation], revision: int) -> Found:
         """The same, at this revision or a later one: where the member that is asked has it, as that has them."""
@@ -189,18 +192,24 @@ class Members:
         otherwise: Sequence[Operation] = (),
     ) -> Done:
         """Makes the changes if all guards hold, and reads `then`; else reads `otherwise`."""
-        request, member = transaction(guards, [*changes, *then], list(otherwise)), self.asked
+        return self.make(request_of(guards, [*changes, *then], list(otherwise)))
+
+    def make(self, request: Request) -> Done:
+        """Makes a transaction, once."""
+        member = self.asked
         try:
-            return done(member.ask(member.calls.Txn, request, self.seconds))
+            return done(member.ask(member.transact, request, self.seconds))
         except grpc.RpcError as error:
             self.turn(member)
             raise lost(member, error) from error
 
     def write(self, changes: list[Operation], guards: Sequence[Guard] = ()) -> bool:
         """Makes changes that may as well be made twice, until they are made, or a guard doesn't hold."""
-        request = transaction(list(guards), changes, [])
-        answer = self.ask_until_told(lambda member: member.ask(member.calls.Txn, request, self.seconds))
-        return bool(answer.succeeded)
+        return bool(self.transact(request_of(list(guards), changes, [])).succeeded)
+
+    def transact(self, request: Request) -> Any:
+        """Makes a transaction that may as well be made twice, until it is answered."""
+        return self.ask_until_told(lambda member: member.ask(member.transact, request, self.seconds))
 
     def ask_until_told(self, asked: Callable[[Member], Any]) -> Any:
         """Asks one member after the other, for a minute."""

@@ -27,6 +27,11 @@ class Seen:
     def is_for(self, worker: str) -> bool:
         return self.under_way is None or self.under_way.by == worker
 
+    def read_with(self, found: Found) -> Seen:
+        """The same, at the revision of the transaction that put it, with what that read."""
+        put = {key: Entry(entry.value, found.revision, 0, 0) for key, entry in self.found.known.items()}
+        return Seen(self.progress, self.under_way, found.with_known(put))
+
     def freed(self, keys: Keys, path: str, revision: int) -> Seen:
         """The same, but for a node that was let go at this revision, as a watch told."""
         entry = Entry("", revision, 0, 0)
@@ -52,10 +57,14 @@ def is_last(job: Job, step: int) -> bool:
 
 
 def reads_for(keys: Keys, job: Job, step: int, limits: Limits) -> list[Operation]:
-    """What has to be read before the steps from this one on."""
-    reads = [
-        reading(key) for key in (keys.fresh(job.age, job.name), keys.under_way(job.name), keys.progress(job.name))
-    ]
+    """What has to be read of the job, and before the steps from this one on."""
+    own = keys.fresh(job.age, job.name), keys.under_way(job.name), keys.progress(job.name)
+    return [*map(reading, own), *reads_of_steps(keys, job, step, limits, True)]
+
+
+def reads_of_steps(keys: Keys, job: Job, step: int, limits: Limits, stands: bool) -> list[Operation]:
+    """What has to be read before these steps, where the job may stand in line, or doesn't."""
+    reads: list[Operation] = []
     records: set[str] = set()
     for number, each in enumerate(window(job, step)):
         if each.kind is Kind.ACCESS:
@@ -67,7 +76,8 @@ def reads_for(keys: Keys, job: Job, step: int, limits: Limits) -> list[Operation
             own = keys.waiter(each.path, job.age, job.name)
             line = keys.waiters(each.path)
             reads += [reading(keys.owner(each.path)), reading_below(line, limit=1, keys_only=True)]
-            reads.append(reading_last(line, own, keys_only=True))
+            if stands:
+                reads.append(reading_last(line, own, keys_only=True))
         else:
             # Whom the node is handed to.
             reads.append(reading_below(keys.waiters(each.path), limit=1))
@@ -83,6 +93,16 @@ def seen(keys: Keys, job: Job, found: Found) -> Seen | None:
         return None
     told = Progress.read(progress) if progress is not None else Progress(0, len(job.plan))
     return Seen(told, UnderWay.read(under_way), found)
+
+
+def left_by(keys: Keys, job: Job, group: Group, worker: str) -> Seen | None:
+    """The job as the worker's group leaves it, at no revision yet; None where only the transaction finds that out."""
+    after = group.after()
+    if after.has_ended() or group.blocked is not None:
+        return None
+    under_way = UnderWay(worker)
+    texts = {keys.under_way(job.name): under_way.text(), keys.progress(job.name): after.text()}
+    return Seen(after, under_way, Found(0, {key: Entry(text, 0, 0, 0) for key, text in texts.items()}))
 
 
 def contested(keys: Keys, group: Group, before: Found, now: Found) -> str | None:

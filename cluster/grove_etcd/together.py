@@ -45,7 +45,7 @@ class Together:
         self.records = records
         for path, record in group.records.items():
             entry = self.found.entries.get(self.keys.record(path), Entry("0", 0, 0, 0))
-            self.found.entries[self.keys.record(path)] = replace(entry, value=str(record))
+            self.found.entries[self.keys.record(path)] = entry._replace(value=str(record))
         self.done.append((job, group))
 
     def group(self, job: Job) -> Group | None:

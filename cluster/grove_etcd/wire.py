@@ -1,20 +1,22 @@
 """etcd's messages: the only module, beside that of the members, that knows the generated stubs."""
 from __future__ import annotations
 
-from dataclasses import dataclass, field
-from typing import Any, Iterable, NewType
+from dataclasses import dataclass
+from functools import cached_property
+from typing import Any, Iterable, Iterator, NamedTuple, NewType, Sequence
 
 from etcd3 import etcdrpc
 
 # What a transaction compares, and what it does: a read or a change.
 Guard = NewType("Guard", object)
 Operation = NewType("Operation", object)
+# A transaction as it is sent.
+Request = NewType("Request", bytes)
 # The kind of an event by which a key is deleted.
 DELETED = 1
 
 
-@dataclass(frozen=True)
-class Entry:
+class Entry(NamedTuple):
     """A key's value, the revisions at which it was put last and made, and how often it was put since it was made."""
 
     value: str
@@ -23,21 +25,34 @@ class Entry:
     version: int
 
 
-@dataclass
 class Found:
-    """Keys that were read, all as they stood at one revision."""
+    """Keys that were read, all as they stood at one revision. What a member told is looked through once it is asked
+    for, so that may be done while something else goes on."""
 
-    revision: int
-    entries: dict[str, Entry] = field(default_factory=dict)
+    def __init__(self, revision: int, entries: dict[str, Entry] | None = None, told: Sequence[Any] = ()) -> None:
+        """Entries that are known go before those that a member told."""
+        self.revision, self.known, self.told = revision, entries or {}, told
+
+    @cached_property
+    def entries(self) -> dict[str, Entry]:
+        return {**dict(map(entry_of, reversed(list(pairs_from_last(self.told))))), **self.known}
 
     def add(self, pairs: Iterable[Any]) -> None:
-        for pair in pairs:
-            entry = Entry(pair.value.decode(), pair.mod_revision, pair.create_revision, pair.version)
-            self.entries[pair.key.decode()] = entry
+        self.entries.update(map(entry_of, pairs))
+
+    def with_known(self, entries: dict[str, Entry]) -> Found:
+        return Found(self.revision, {**self.known, **entries}, self.told)
 
     def value(self, key: str) -> str | None:
         entry = self.entries.get(key)
         return entry.value if entry else None
+
+    def value_from_last(self, key: str) -> str | None:
+        """The same; where nothing has been looked through yet, that is done from the last one to the key alone."""
+        if "entries" in vars(self) or key in self.known:
+            return self.value(key)
+        told, wanted = pairs_from_last(self.told), key.encode()
+        return next((pair.value.decode() for pair in told if pair.key == wanted), None)
 
     def revision_of(self, key: str) -> int:
         """At which revision the key was put; 0 where it isn't there, as etcd has it."""
@@ -52,12 +67,16 @@ class Found:
         return {key: entry for key, entry in self.entries.items() if key.startswith(prefix)}
 
 
-@dataclass
+@dataclass(frozen=True)
 class Done:
-    """What became of a transaction: whether its guards held, at which revision, and what it read."""
+    """What became of a transaction: whether its guards held, and what it read at which revision."""
 
     succeeded: bool
     found: Found
+
+    def ends_with_then(self) -> bool:
+        """Of one that ends with a transaction within it: did that one's guards hold?"""
+        return bool(self.found.told[-1].response_txn.succeeded)
 
 
 def after(prefix: str) -> str:
@@ -69,19 +88,27 @@ def transaction(guards: list[Guard], then: list[Operation], otherwise: list[Oper
     return etcdrpc.TxnRequest(compare=guards, success=then, failure=otherwise)
 
 
+def request_of(guards: list[Guard], then: list[Operation], otherwise: list[Operation]) -> Request:
+    return Request(transaction(guards, then, otherwise).SerializeToString())
+
+
 def done(answer: Any) -> Done:
-    found = Found(answer.header.revision)
-    add_all(found, answer.responses)
-    return Done(answer.succeeded, found)
+    return Done(answer.succeeded, Found(answer.header.revision, told=answer.responses))
 
 
-def add_all(found: Found, responses: Iterable[Any]) -> None:
-    """What was read, also by transactions within the one."""
-    for response in responses:
-        if response.HasField("response_range"):
-            found.add(response.response_range.kvs)
-        elif response.HasField("response_txn"):
-            add_all(found, response.response_txn.responses)
+def pairs_from_last(responses: Sequence[Any]) -> Iterator[Any]:
+    """What was read, also by transactions within the one; what was read last comes first."""
+    for response in reversed(responses):
+        kind = response.WhichOneof("response")
+        if kind == "response_range":
+            yield from reversed(response.response_range.kvs)
+        elif kind == "response_txn":
+            yield from pairs_from_last(response.response_txn.responses)
+
+
+def entry_of(pair: Any) -> tuple[str, Entry]:
+    entry = Entry(pair.value.decode(), pair.mod_revision, pair.create_revision, pair.version)
+    return pair.key.decode(), entry
 
 
 def ranging(start: str, end: str, limit: int = 0, revision: int = 0, keys_only: bool = False) -> Any:

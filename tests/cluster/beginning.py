@@ -121,3 +121,30 @@ def fault_of_three(store, epochs):
     count = store.read(store.keys.waits(epochs, "/"))
     is_well = came == ([[0, 1, 2]], True) and early == store.jobs[:1] and count == "2" and store.records("/") == [3]
     return None if is_well else f"came {came}, {early}, {count} waits, {store.records('/')}"
+
+
+def where_the_worker_is_told_to_end_no_other_is_begun(cluster, grove):
+    """In the work of the first job's last access, when the group that ends it has been made ready."""
+    store = Store(cluster, grove, "told", [AT_A, AT_B])
+    worker = store.worker(work=lambda *_: worker.stop())
+    first, second = worker.attempts(worker.jobs(store.jobs))
+    first.run(one_group(first))
+    left = store.members.get(*(store.keys.fresh(each.job.age, each.job.name) for each in (first, second)))
+    came = len(left.entries), first.look(0), second.look(0).under_way
+    store.work()
+    store.audit()
+    is_well = came == (1, None, None) and store.records("/a", "/b") == [11, 1]
+    return None if is_well else f"came {came}, {store.records('/a', '/b')}"
+
+
+def what_was_made_ready_isnt_made_after_a_sign(cluster, grove):
+    """Since the sign of life puts what the group is guarded by, the group is made anew."""
+    store = Store(cluster, grove, "anew", [AT_A])
+    signs = []
+    worker = store.worker(work=lambda *_: signs.append(worker.means.signs.give_one(worker.means.signs.last)))
+    attempt = worker.attempts(worker.jobs(store.jobs))[0]
+    attempt.run(one_group(attempt))
+    store.audit()
+    came = len(signs), dict(worker.means.journal.counts), store.records("/a")
+    wanted = 1, {"commit": 2, "work": 1, "ended": 1}, [11]
+    return None if came == wanted else f"wanted {wanted}; came {came}"

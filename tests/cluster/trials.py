@@ -14,8 +14,10 @@ from beginning import (
     a_job_is_begun_with_the_end_of_the_one_before,
     one_that_another_worker_has_begun_is_let_be,
     the_node_of_both_goes_to_whom_stands_in_line,
+    what_was_made_ready_isnt_made_after_a_sign,
     where_its_node_is_held_it_stands_in_line,
     where_its_node_is_taken_it_is_begun_later,
+    where_the_worker_is_told_to_end_no_other_is_begun,
 )
 from members_at_hand import SecretCluster
 from planted import (
@@ -162,8 +164,8 @@ class Silent(Members):
 
     told = True
 
-    def commit(self, guards, changes, then=(), otherwise=()):
-        done = super().commit(guards, changes, then, otherwise)
+    def make(self, request):
+        done = super().make(request)
         self.told = not self.told
         if not self.told:
             raise Lost("no answer")
@@ -343,6 +345,8 @@ TRIALS = [
     where_its_node_is_taken_it_is_begun_later,
     where_its_node_is_held_it_stands_in_line,
     the_node_of_both_goes_to_whom_stands_in_line,
+    where_the_worker_is_told_to_end_no_other_is_begun,
+    what_was_made_ready_isnt_made_after_a_sign,
     a_forgotten_job_is_not_done_again,
     what_is_submitted_by_an_id_is_made_once,
     a_full_epoch_is_followed_by_the_next,
