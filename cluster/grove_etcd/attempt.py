@@ -10,6 +10,7 @@ takes that one's first group, if its guards hold.
 from __future__ import annotations
 
 import time
+from concurrent.futures import ThreadPoolExecutor
 from dataclasses import dataclass, field, replace
 from functools import cached_property
 from typing import Callable, Iterator, Optional
@@ -53,6 +54,11 @@ class Means:
     @cached_property
     def signs(self) -> Signs:
         return Signs(self.members, self.keys, self.beat_seconds)
+
+    @cached_property
+    def aside(self) -> ThreadPoolExecutor:
+        """Reads more jobs while work goes on."""
+        return ThreadPoolExecutor(1)
 
     @property
     def beat_seconds(self) -> float:

@@ -8,7 +8,9 @@ from __future__ import annotations
 import random
 import time
 import uuid
-from typing import Optional
+from collections import deque
+from concurrent.futures import Future
+from typing import Iterator, Optional
 
 from .attempt import Attempt, Means, Work
 from .head import need_store
@@ -133,7 +135,7 @@ class Worker:
         """Where it ends early, it still goes on with a job that was begun with the one before."""
         until = time.monotonic() + self.means.patience
         ahead: Seen | None = None
-        for attempt in self.attempts(jobs):
+        for attempt in self.in_turn(jobs):
             found = ahead or attempt.look(0)
             if found is None or not found.is_for(self.means.name):
                 return
@@ -145,6 +147,25 @@ class Worker:
             is_begun = ahead is not None and ahead.under_way is not None
             if not is_begun and (self.means.stopping or self.take_up_abandoned(attempt) or time.monotonic() > until):
                 return
+
+    def in_turn(self, jobs: list[Job]) -> Iterator[Attempt]:
+        """At these jobs, and at more, which are read while there is work for the last but one."""
+        attempts = deque(self.attempts(jobs))
+        more: Future[list[Job]] | None = None
+        while attempts:
+            attempt = attempts.popleft()
+            if not attempts and more is not None:
+                attempts.extend(self.attempts(more.result()))
+                attempt.following = attempts[0] if attempts else None
+            elif len(attempts) == 1 and self.means.work is not None:
+                more = self.means.aside.submit(self.more_jobs, {attempt.job.name, attempts[0].job.name})
+            yield attempt
+
+    def more_jobs(self, known: set[str]) -> list[Job]:
+        """Some that nobody has begun, without those that are known."""
+        found = self.members.read([reading_below(self.keys.whole("q"), MOST_LOOKED_AT, keys_only=True)])
+        fresh = [name for name in self.fresh_of(found) if name not in known]
+        return self.batch_of(fresh) if fresh else []
 
     def attempts(self, jobs: list[Job]) -> list[Attempt]:
         """At these jobs, one after the other."""

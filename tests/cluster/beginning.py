@@ -1,5 +1,5 @@
 """Trials of jobs that are begun in the transaction that ends the one before, by the same worker."""
-from store_at_hand import Store, one_group, refusal
+from store_at_hand import SECONDS, Store, one_group, refusal
 
 from grove_etcd.attempt import Attempt
 from grove_etcd.jobs import Event
@@ -148,3 +148,14 @@ def what_was_made_ready_isnt_made_after_a_sign(cluster, grove):
     came = len(signs), dict(worker.means.journal.counts), store.records("/a")
     wanted = 1, {"commit": 2, "work": 1, "ended": 1}, [11]
     return None if came == wanted else f"wanted {wanted}; came {came}"
+
+
+def more_jobs_are_read_while_there_is_work(cluster, grove):
+    """So a worker that was told of two goes on with all of them."""
+    store = Store(cluster, grove, "more", [AT_A, AT_B] * 14)
+    worker = store.worker(work=lambda *_: None, patience=SECONDS)
+    worker.do_one_by_one(worker.jobs(store.jobs[:2]))
+    left = store.members.count(store.keys.whole("q")), store.members.count(store.keys.whole("u"))
+    store.audit()
+    is_well = left == (0, 0) and store.records("/a", "/b") == [24, 14]
+    return None if is_well else f"left {left}, records {store.records('/a', '/b')}"

@@ -12,6 +12,7 @@ from random import Random
 
 from beginning import (
     a_job_is_begun_with_the_end_of_the_one_before,
+    more_jobs_are_read_while_there_is_work,
     one_that_another_worker_has_begun_is_let_be,
     the_node_of_both_goes_to_whom_stands_in_line,
     what_was_made_ready_isnt_made_after_a_sign,
@@ -347,6 +348,7 @@ TRIALS = [
     the_node_of_both_goes_to_whom_stands_in_line,
     where_the_worker_is_told_to_end_no_other_is_begun,
     what_was_made_ready_isnt_made_after_a_sign,
+    more_jobs_are_read_while_there_is_work,
     a_forgotten_job_is_not_done_again,
     what_is_submitted_by_an_id_is_made_once,
     a_full_epoch_is_followed_by_the_next,
