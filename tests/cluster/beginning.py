@@ -1,4 +1,6 @@
 """Trials of jobs that are begun in the transaction that ends the one before, by the same worker."""
+import time
+
 from store_at_hand import SECONDS, Store, one_group, refusal
 
 from grove_etcd.attempt import Attempt
@@ -126,7 +128,7 @@ def fault_of_three(store, epochs):
 def where_the_worker_is_told_to_end_no_other_is_begun(cluster, grove):
     """In the work of the first job's last access, when the group that ends it has been made ready."""
     store = Store(cluster, grove, "told", [AT_A, AT_B])
-    worker = store.worker(work=lambda *_: worker.stop())
+    worker = store.worker(work=lambda *_: time.sleep(0.1) or worker.stop())
     first, second = worker.attempts(worker.jobs(store.jobs))
     first.run(one_group(first))
     left = store.members.get(*(store.keys.fresh(each.job.age, each.job.name) for each in (first, second)))
