@@ -6,11 +6,13 @@ import base64
 import http.client
 import json
 import os
+import re
 import socket
 import ssl
 import subprocess
 import time
 from concurrent.futures import ThreadPoolExecutor
+from contextlib import ExitStack
 from pathlib import Path
 from typing import NamedTuple
 
@@ -21,11 +23,13 @@ from sweeps.program import Tally
 
 SITE = "grove.example.org"
 NAME, PASSWORD = "keeper", "a long word"
+KNOWN = "Basic " + base64.b64encode(f"{NAME}:{PASSWORD}".encode()).decode()
 # How long nginx may take to listen, and how long a round may take to reach a look that waits for it.
 SECONDS, SOON = 30.0, 10.0
 MOST_BODY = 4_194_304
-# More requests than the file lets in at once.
-MANY = 100
+# How many requests one address may have at once; and connections that ask so often, each, what isn't there.
+AT_ONCE = 8
+HURRIES, OFTEN = 4, 60
 ADD, WEIGHTS = b'{"batch":[[["add","/a",1]]]}\n', b'{"weights":null}\n'
 REFUSED = b'{"error":"origin"}\n'
 # What is around the file: no more than it takes to run it in a folder.
@@ -60,13 +64,14 @@ class Came(NamedTuple):
 class Nginx:
     """nginx with the file of the examples before a server, for as long as it is entered."""
 
-    def __init__(self, example: Path, room: Path, behind: int):
+    def __init__(self, example: Path, room: Path, behind: int, rate: str = "20r/s"):
         self.room, self.behind, self.tls, self.plain = room, behind, free_port(), free_port()
         room.mkdir()
         put = {
             "listen      443 ssl;": f"listen {HOST}:{self.tls} ssl;",
             "listen      80;": f"listen {HOST}:{self.plain};",
             f"{HOST}:8080;": f"{HOST}:{behind};",
+            "rate=20r/s;": f"rate={rate};",
             "/etc/nginx/grove.pem;": f"{room}/grove.pem;",
             "/etc/nginx/grove.key;": f"{room}/grove.key;",
             "/etc/nginx/grove.passwords;": f"{room}/grove.passwords;",
@@ -109,8 +114,7 @@ class Nginx:
 
     def ask(self, method: str, path: str, body: bytes | None = None, /, **fields: str) -> Came:
         """By TLS, as somebody who knows the password, where no field says something else."""
-        word = base64.b64encode(f"{NAME}:{PASSWORD}".encode()).decode()
-        return self.asked(method, path, body, {"authorization": f"Basic {word}", **fields})
+        return self.asked(method, path, body, {"authorization": KNOWN, **fields})
 
     def asked(self, method: str, path: str, body: bytes | None, fields: dict[str, str]) -> Came:
         connection = http.client.HTTPConnection(SITE, timeout=SECONDS)
@@ -121,6 +125,12 @@ class Nginx:
             return Came(response.status, response.headers, response.read())
         finally:
             connection.close()
+
+    def sent(self, data: bytes) -> ssl.SSLSocket:
+        """A connection that so much was sent over."""
+        connection = self.connected(ssl.create_default_context(cafile=self.room / "grove.pem"))
+        connection.sendall(data)
+        return connection
 
     def connected(self, context: ssl.SSLContext) -> ssl.SSLSocket:
         connection = socket.create_connection((HOST, self.tls), timeout=SECONDS)
@@ -142,8 +152,8 @@ def behind_nginx(packages: Packages, room: Path, tally: Tally) -> None:
     words = ["page", "--tree", str(examples / "two-leaves.json"), "--port", str(free_port())]
     with Server(str(packages.prefix / "bin/grove"), words) as server:
         nginx = Nginx(examples / "nginx.conf", room / "nginx", server.port)
-        note_equal(tally, "lines to put something else in", nginx.unfound, [])
         nginx.make_secrets()
+        note_equal(tally, "lines to put something else in", nginx.unfound, [])
         told = called(*nginx.words, "-t")
         is_well = told.returncode == 0 and "[warn]" not in told.stderr
         tally.note("nginx -t", None if is_well else told.stderr)
@@ -153,7 +163,12 @@ def behind_nginx(packages: Packages, room: Path, tally: Tally) -> None:
             note_origins(nginx, tally)
             note_hosts(nginx, tally)
             note_waiting(nginx, tally)
-            note_limits(nginx, tally)
+            note_crowd(nginx, tally)
+        # At this rate a server that is slow is asked too often, too.
+        nginx = Nginx(examples / "nginx.conf", room / "seldom", server.port, rate="1r/s")
+        nginx.make_secrets()
+        with nginx:
+            note_hurry(nginx, tally)
 
 
 def note_page(nginx: Nginx, packages: Packages, tally: Tally) -> None:
@@ -161,7 +176,8 @@ def note_page(nginx: Nginx, packages: Packages, tally: Tally) -> None:
     came = nginx.ask("GET", "/")
     page = (packages.copy / "crates/grove_page/page/page.html").read_bytes()
     note_equal(tally, "GET /", (came.status, came.body == page), (200, True))
-    note_equal(tally, "its frames", came.fields["Content-Security-Policy"], "frame-ancestors 'none'")
+    told = came.fields.get_all("Content-Security-Policy")
+    note_equal(tally, "its frames", told, ["frame-ancestors 'none'"])
     plain = nginx.plainly_asked("/nodes?after=1")
     wanted = (301, f"https://{SITE}/nodes?after=1")
     note_equal(tally, "without TLS", (plain.status, plain.fields["Location"]), wanted)
@@ -232,10 +248,31 @@ def note_waiting(nginx: Nginx, tally: Tally) -> None:
     note_equal(tally, "a look that waits", (came.status, taken < SOON), (200, True))
 
 
-def note_limits(nginx: Nginx, tally: Tally) -> None:
-    """Who asks much at once is told so, and let in again later."""
-    with ThreadPoolExecutor(4) as pool:
-        statuses = list(pool.map(lambda _: nginx.ask("GET", "/none").status, range(MANY)))
-    note_equal(tally, "many at once", set(statuses), {404, 429})
-    time.sleep(3)
-    note_equal(tally, "a while later", nginx.ask("GET", "/nodes").status, 200)
+def note_crowd(nginx: Nginx, tally: Tally) -> None:
+    """One address has so many requests at once, which are begun here, and no further one."""
+    begun = f"POST / HTTP/1.1\r\nhost: {SITE}\r\nauthorization: {KNOWN}\r\ncontent-length: 9\r\n\r\n"
+    with ExitStack() as stack:
+        for _ in range(AT_ONCE):
+            stack.enter_context(nginx.sent(begun.encode()))
+        is_told = any(nginx.ask("GET", "/nodes").status == 429 for _ in range(OFTEN))
+    note_equal(tally, "one more at once is told so", is_told, True)
+
+
+def note_hurry(nginx: Nginx, tally: Tally) -> None:
+    """Who asks too often is told so, and let in again later."""
+    ask = f"GET /none HTTP/1.1\r\nhost: {SITE}\r\nauthorization: {KNOWN}\r\n"
+    asks = (OFTEN - 1) * (ask + "\r\n") + ask + "connection: close\r\n\r\n"
+    with ThreadPoolExecutor(HURRIES) as pool:
+        came = list(pool.map(lambda _: statuses(nginx, asks.encode()), range(HURRIES)))
+    note_equal(tally, "asked too often", set().union(*came), {b"404", b"429"})
+    until = time.monotonic() + SECONDS
+    while not (is_in := nginx.ask("GET", "/nodes").status == 200) and time.monotonic() < until:
+        time.sleep(0.5)
+    note_equal(tally, "let in later", is_in, True)
+
+
+def statuses(nginx: Nginx, asks: bytes) -> set[bytes]:
+    """Those of the responses to requests that are sent ahead."""
+    with nginx.sent(asks) as connection:
+        came = b"".join(iter(lambda: connection.recv(65536), b""))
+    return set(re.findall(rb"HTTP/1\.1 (\d+) ", came))
