@@ -93,7 +93,7 @@ tbody th div { display: flex; align-items: baseline; padding-left: calc(var(--in
 .name, .within { flex: none; }
 .path:hover, .path:hover + .path { text-decoration: underline; }
 .within { padding-left: .6rem; color: var(--quiet); }
-.beside { color: var(--quiet); }
+.beside > :not(.weight, .waits) { color: var(--quiet); }
 #table:focus { outline: none; }
 #table:focus .active > * { background-color: var(--bar); }
 #table:focus .active > th { box-shadow: inset 4px 0 var(--link); }
