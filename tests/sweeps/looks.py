@@ -1,22 +1,28 @@
 """Looks at a store over HTTP that a long round has: a line waits for the store, then clients ask for the document or
-the nodes, and nobody else is there who could wake anyone. All of them are answered, each time."""
+the nodes, and nobody else is there who could wake anyone. All of them are answered, each time. And where a round is held
+until lines wait for the next one, and then looks: these find what the round left, before any of the lines."""
 
 from __future__ import annotations
 
 import json
+import os
 import select
+import subprocess
 import time
-from contextlib import ExitStack
+from collections.abc import Callable, Iterator
+from contextlib import ExitStack, contextmanager
 from functools import partial
+from pathlib import Path
 from random import Random
+from typing import NamedTuple
 
 from batches import MOST_LISTS, deep
 from pages import text_at
-from server import Serving
+from server import BadServer, Serving
 from store import Store, compact
-from web import Client, post, request
+from web import Client, Response, post, request
 
-from sweeps.program import Tally, Try
+from sweeps.program import Tally, Try, short
 
 TRIED = "looks, and lines that wait beside them"
 # How many clients look, how many times they are to do so while a round has the store, and how many times they try.
@@ -31,10 +37,29 @@ SOONER = 0.7
 # How many times a short line is timed: the least time is what it takes by itself.
 TIMED = 3
 NUMBERED = "/n0/n0"
+# How many lines wait for the round after one that is held, how many clients look then, and how many times.
+WAITING, LOOKING, TIMES_HELD = 9, 2, 8
+# Leaves below a root; a batch of so many steps that its round starts a thread, though no list waits; and one of few.
+LEAVES = [f"n{number}" for number in range(64)]
+FLAT = [{"parent": None, "name": "", "weight": 1}, *({"parent": 0, "name": name, "weight": 1} for name in LEAVES)]
+MANY_STEPS = compact({"batch": [64 * [["get", f"/{name}"]] for name in LEAVES]})
+ADD_ONE = compact({"batch": [[["add", "/n0", 1]]]})
+# How long a thread may take to get to where it waits.
+LONGEST = 60.0
 
 
 def tries(program: str, room: str) -> list[Try]:
-    return [Try(f"{count} that look", partial(look_beside, program, count)) for count in LOOKERS]
+    looks = [Try(f"{count} that look", partial(look_beside, program, count)) for count in LOOKERS]
+    return [*looks, Try("looks that come last", partial(look_last, program, library_in(room)))]
+
+
+def library_in(room: str) -> str:
+    """Compiles what holds threads, to be preloaded."""
+    library = f"{room}/hold_threads.so"
+    source = Path(__file__).with_name("hold_threads.c")
+    words = ["cc", "-O1", "-shared", "-fPIC", "-o", library, source, "-ldl"]
+    subprocess.run(words, check=True, stdin=subprocess.DEVNULL)
+    return library
 
 
 def look_beside(program: str, count: int, tally: Tally) -> None:
@@ -97,3 +122,119 @@ def look_once(store: Store, clients: list[Client], line: bytes, lasts: float, wh
     response = runs.next()
     tally.note(f"{where}, the round", None if response and response.status == 200 else f"came {response}")
     return is_out
+
+
+# ---- rounds that are held
+
+
+class Holding(NamedTuple):
+    """How to start a program whose later threads are held, the descriptor that tells of each, and the one that ends it."""
+
+    how: dict
+    tells: int
+    until: int
+
+    def is_held(self) -> bool:
+        """Waits until a thread is held. Is one?"""
+        is_told = bool(select.select([self.tells], [], [], LONGEST)[0])
+        return is_told and os.read(self.tells, 1) == b"x"
+
+    def let_go(self, client: Client) -> None:
+        """Lets the thread start, and all that are held after it, until something comes for the client."""
+        os.write(self.until, b"x")
+        while self.tells in select.select([self.tells, client.connection], [], [], LONGEST)[0]:
+            os.read(self.tells, 1)
+            os.write(self.until, b"x")
+
+
+@contextmanager
+def holding(library: str, first: int) -> Iterator[Holding]:
+    """For a program whose threads from this number on, from 1, are held."""
+    (tells, tell), (wait, until) = os.pipe(), os.pipe()
+    numbers = {"HELD_FROM": str(first), "HELD_TELL": str(tell), "HELD_UNTIL": str(wait)}
+    try:
+        yield Holding({"env": {**os.environ, "LD_PRELOAD": library, **numbers}, "pass_fds": (tell, wait)}, tells, until)
+    finally:
+        for end in (tells, tell, wait, until):
+            os.close(end)
+
+
+def look_last(program: str, library: str, tally: Tally) -> None:
+    """While a round is held, lines come to wait for the next one, and then clients look: before any of the lines."""
+    store, document = Store({"nodes": FLAT}), compact({"nodes": FLAT})
+    count = 1 + WAITING + LOOKING
+    with ExitStack() as room:
+        held = room.enter_context(holding(library, count + 1))
+        server = room.enter_context(Serving(program, document, 2, any_port=True, command="page", **held.how))
+        clients = [room.enter_context(Client(server.port)) for _ in range(count)]
+        for client in clients:
+            client.get("/nodes")
+        for number in range(TIMES_HELD):
+            look_beside_held(server, store, held, clients, f"time {number}", tally)
+
+
+def look_beside_held(
+    server: Serving, store: Store, held: Holding, clients: list[Client], where: str, tally: Tally
+) -> None:
+    runs, waiting, looking = clients[0], clients[1 : 1 + WAITING], clients[1 + WAITING :]
+    runs.send(post(MANY_STEPS))
+    if not held.is_held():
+        tally.blame(where, "no round starts a thread")
+    for client in waiting:
+        comes_to_wait(server, partial(client.send, post(ADD_ONE)))
+    asked = [LOOKED_AT[at % len(LOOKED_AT)] for at in range(LOOKING)]
+    for client, path in zip(looking, asked):
+        comes_to_wait(server, partial(client.send, request("GET", path)))
+    held.let_go(runs)
+    response = runs.next()
+    tally.note(f"{where}, the round", None if response and response.status == 200 else f"came {response}")
+    for client, path in zip(looking, asked):
+        response, wanted = client.next(), text_at(store, path)
+        is_well = response and response.body == wanted
+        tally.note(f"{where}, {path}", None if is_well else f"wanted {short(wanted)}; came {response}")
+    added = sorted(reply_in(client.next()) for client in waiting)
+    wanted_replies = [store.reply(["add", "/n0", 1]) for _ in waiting]
+    tally.note(f"{where}, the lines", None if added == wanted_replies else f"wanted {wanted_replies}; came {added}")
+
+
+def comes_to_wait(server: Serving, send: Callable[[], None]) -> None:
+    """Sends what brings a thread of the server, all of which wait, to wait for something else, and waits until it does."""
+    before = all_asleep(server)
+    send()
+    ends = time.monotonic() + LONGEST
+    while time.monotonic() < ends:
+        now = sleeps(server)
+        if any((now.get(thread) or 0) > times for thread, times in before.items()):
+            return
+        time.sleep(0.002)
+    raise BadServer("no thread came to wait")
+
+
+def all_asleep(server: Serving) -> dict[str, int]:
+    """How often each thread of the server came to wait so far, once all of them do for a while."""
+    earlier, ends = None, time.monotonic() + LONGEST
+    while time.monotonic() < ends:
+        now = sleeps(server)
+        if now == earlier and None not in now.values():
+            return now
+        earlier = now
+        time.sleep(0.005)
+    raise BadServer("some thread never waits")
+
+
+def sleeps(server: Serving) -> dict[str, int | None]:
+    """How often each thread of the server came to wait so far, where it waits now."""
+    found = {}
+    for status in Path(f"/proc/{server.started.pid}/task").glob("*/status"):
+        values = dict(line.split(":", 1) for line in status.read_text().splitlines())
+        is_asleep = values["State"].strip().startswith("S")
+        found[status.parent.name] = int(values["voluntary_ctxt_switches"]) if is_asleep else None
+    return found
+
+
+def reply_in(response: Response | None) -> int:
+    """The one number in the reply to a batch of one list, or -1 where it is none."""
+    try:
+        return json.loads(response.body)["replies"][0][0] if response else -1
+    except (ValueError, KeyError, IndexError):
+        return -1
