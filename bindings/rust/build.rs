@@ -1,14 +1,29 @@
-//! Links libgrove.a, from the folder that GROVE_LIBRARY names, or else from where tools/library puts it.
+//! Links libgrove.a, from the folder that GROVE_LIBRARY names, or else from where a package has it, or tools/library
+//! puts it.
 
 use std::env;
-use std::path::Path;
+use std::path::{Path, PathBuf};
+
+const LIBRARY: &str = "libgrove.a";
+/// Where the library may be, as seen from the crate: in the crate's own archive, in a checkout, below a prefix that it
+/// is installed at.
+const USUAL: [&str; 3] = ["lib", "../../out/library", "../../../lib"];
 
 fn main() {
-    let here = env::var("CARGO_MANIFEST_DIR").unwrap_or_default();
-    let usual = Path::new(&here).join("../../out/library");
-    let folder = env::var("GROVE_LIBRARY").unwrap_or_else(|_| usual.display().to_string());
     println!("cargo::rerun-if-env-changed=GROVE_LIBRARY");
-    println!("cargo::rerun-if-changed={folder}/libgrove.a");
-    println!("cargo::rustc-link-search=native={folder}");
-    println!("cargo::rustc-link-lib=static=grove");
+    let here = env::var("CARGO_MANIFEST_DIR").unwrap_or_default();
+    let folders = match env::var("GROVE_LIBRARY") {
+        Ok(named) => vec![PathBuf::from(named)],
+        Err(_) => USUAL.map(|folder| Path::new(&here).join(folder)).into(),
+    };
+    match folders.iter().find(|folder| folder.join(LIBRARY).is_file()) {
+        Some(folder) => {
+            println!("cargo::rerun-if-changed={}", folder.join(LIBRARY).display());
+            println!("cargo::rustc-link-search=native={}", folder.display());
+            println!("cargo::rustc-link-lib=static=grove");
+        }
+        None => {
+            println!("cargo::error={LIBRARY} is in none of {folders:?}: tools/library makes it")
+        }
+    }
 }

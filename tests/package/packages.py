@@ -13,6 +13,7 @@ from pathlib import Path
 
 TOP = Path(__file__).resolve().parents[2]
 PROGRAM = "crates/grove/out/grove"
+LIBRARIES = ("out/library/libgrove.a", "out/library/libgrove.so")
 # Where the archive is unpacked in a root of its own.
 USUAL_PREFIX = "usr/local"
 # The longest that the making of a package may take.
@@ -30,7 +31,7 @@ def called(*words: str | Path, **how) -> subprocess.CompletedProcess:
 
 
 def copy_of_checkout(program: Path, folder: Path) -> Path:
-    """A clone with the files as they stand here, and the program, which is newer than they are."""
+    """A clone with the files as they stand here, and the program and the library, which are newer than they are."""
     cloned = called("git", "clone", "-q", TOP, folder)
     if cloned.returncode:
         raise Unmade(f"git clone: {cloned.stderr.strip()}")
@@ -41,8 +42,9 @@ def copy_of_checkout(program: Path, folder: Path) -> Path:
         (folder / file).unlink(missing_ok=True)
         if (TOP / file).is_file():
             shutil.copy(TOP / file, folder / file)
-    (folder / PROGRAM).parent.mkdir(parents=True)
-    shutil.copy(program, folder / PROGRAM)
+    for made, file in [(program, PROGRAM), *((TOP / file, file) for file in LIBRARIES)]:
+        (folder / file).parent.mkdir(parents=True, exist_ok=True)
+        shutil.copy(made, folder / file)
     return folder
 
 
@@ -57,7 +59,13 @@ class Packages:
     copy: Path
     archive: Path
     debian: Path | None
+    wheel: Path
+    crate: Path
     prefix: Path
+
+    @property
+    def all(self) -> list[Path]:
+        return [path for path in (self.archive, self.debian, self.wheel, self.crate) if path]
 
     @property
     def version(self) -> str:
@@ -76,13 +84,20 @@ class Packages:
 
 def make(copy: Path, prefix: Path) -> Packages:
     made = package(copy)
-    paths = [copy / line for line in made.stdout.splitlines()]
+    paths = {Path(line).suffix: copy / line for line in made.stdout.splitlines()}
     if made.returncode or not paths:
         raise Unmade(f"tools/package: status {made.returncode}, {made.stdout}{made.stderr}")
     installed = package(copy, "--install", str(prefix))
     if installed.returncode:
         raise Unmade(f"tools/package --install: {installed.stderr}")
-    return Packages(copy, paths[0], paths[1] if len(paths) > 1 else None, prefix)
+    return Packages(copy, paths[".gz"], paths.get(".deb"), paths[".whl"], paths[".crate"], prefix)
+
+
+def library_of_checkout() -> None:
+    """Has the library made that is packaged."""
+    made = called(TOP / "tools/library")
+    if made.returncode:
+        raise Unmade(f"tools/library: {made.stderr.strip()}")
 
 
 class Root:

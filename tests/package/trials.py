@@ -13,11 +13,12 @@ from pathlib import Path
 from typing import Callable
 
 from at_hand import completed_by_bash, completed_by_zsh, manual, names_of_manual
+from bindings_trial import crate, linked_in_c, no_pip, pip_install, wheel
 from cluster_trial import cluster, is_absent
 from in_root import commands_of_readme, commands_on_examples, paged, served
 from looking import below, note_equal, note_silent, with_manual
 from nginx_trial import behind_nginx
-from packages import PROGRAM, Packages, called, copy_of_checkout, package
+from packages import LIBRARIES, PROGRAM, Packages, called, copy_of_checkout, package
 from sweeps.program import Tally
 
 # What a unit file has to have, and what that of a server.
@@ -43,13 +44,22 @@ def twice_the_same(packages: Packages, room: Path, tally: Tally) -> None:
     """Made in another folder, at another time, with other rights for new files."""
     other = copy_of_checkout(packages.copy / PROGRAM, room / "elsewhere" / "two")
     note_equal(tally, "status", package(other, umask=0o077).returncode, 0)
-    for path in filter(None, [packages.archive, packages.debian]):
+    for path in packages.all:
         note_equal(tally, path.name, (other / "out" / path.name).read_bytes() == path.read_bytes(), True)
 
 
 def refused(packages: Packages, room: Path, tally: Tally) -> None:
-    """Nothing is made where the program isn't that of the sources."""
+    """Nothing is made where program and library aren't those of the sources."""
     copy = copy_of_checkout(packages.copy / PROGRAM, room / "copy")
+    cargo = copy / "bindings/rust/Cargo.toml"
+    told = cargo.read_text()
+    cargo.write_text(re.sub(r'(?m)^version = ".*"', 'version = "9.9.9"', told))
+    note_refusal(tally, package(copy), "bindings/rust/Cargo.toml has version 9.9.9, and the program")
+    cargo.write_text(told)
+    dated(copy / LIBRARIES[0], -1_000_000_000)
+    note_refusal(tally, package(copy), "is newer than the library; tools/library makes it anew")
+    (copy / LIBRARIES[0]).unlink()
+    note_refusal(tally, package(copy), f"there is no library at {LIBRARIES[0]}; tools/library makes it")
     dated(copy / "crates/grove_words/src/lib.rt", 10)
     note_refusal(tally, package(copy), "crates/grove_words/src/lib.rt is newer than the proved program")
     words = copy / "crates/grove_words/src/definitions.rt"
@@ -59,7 +69,8 @@ def refused(packages: Packages, room: Path, tally: Tally) -> None:
     (copy / PROGRAM).unlink()
     note_refusal(tally, package(copy), f"there is no proved program at {PROGRAM}")
     note_refusal(tally, package(copy, "--install", str(room / "prefix")), "./grove prove makes it")
-    note_equal(tally, "nothing is made", [(copy / "out").exists(), (room / "prefix").exists()], [False, False])
+    made = [path.name for path in (copy / "out").iterdir()], (room / "prefix").exists()
+    note_equal(tally, "nothing is made", made, (["library"], False))
 
 
 def dated(file: Path, seconds: float) -> None:
@@ -138,6 +149,10 @@ TRIALS = [
     Trial("served", served, ("chroot", "ldd")),
     Trial("paged", paged, ("chroot", "ldd")),
     Trial("behind_nginx", behind_nginx, ("nginx", "openssl")),
+    Trial("linked_in_c", linked_in_c, ("cc",)),
+    Trial("crate", crate, ("cargo",)),
+    Trial("wheel", wheel, is_absent=no_pip),
+    Trial("pip_install", pip_install, is_absent=no_pip),
     Trial("moved", moved),
     Trial("owned", owned),
     Trial("cluster", cluster, ("etcd", "chroot", "unshare"), is_absent),

@@ -8,7 +8,7 @@ import os
 import tarfile
 from pathlib import Path, PurePosixPath
 
-from .layout import Placed
+from .placed import Placed
 
 
 def archive(placed: list[Placed], name: str, date: int) -> bytes:

@@ -4,7 +4,6 @@ from __future__ import annotations
 
 import hashlib
 import os
-import re
 import shutil
 import struct
 import subprocess
@@ -13,14 +12,19 @@ import time
 from pathlib import Path
 
 from .archive import compressed, folders, install
-from .layout import CLUSTER, MANUAL, PAGES, Placed
+from .bindings import LOADED, wheels
+from .layout import MANUAL, PAGES
+from .placed import Placed
 from .source import Source
 
 NAME = "grove"
 ARCHITECTURE = "amd64"
 # Which making of this version it is.
 REVISION = "1"
+PROGRAM = "bin/grove"
 PREFIX = "/usr"
+# Below it: the folder that Python's modules stand in, and what Python makes of them.
+OWN = "lib/grove"
 # The kind of a section of an ELF file.
 SYMBOLS = 2
 
@@ -78,7 +82,7 @@ set -e
 if [ "$1" = remove ] && [ -d /run/systemd/system ]; then
     deb-systemd-invoke stop {units} || true
 fi
-find {cluster} -depth -type d -name __pycache__ -exec rm -r {{}} +
+find {modules} -depth -type d -name __pycache__ -exec rm -r {{}} +
 """
 
 
@@ -88,7 +92,7 @@ def debian_package(source: Source, placed: list[Placed], out: Path) -> Path:
     with tempfile.TemporaryDirectory(prefix="grove-package-") as room:
         tree = Path(room, "tree")
         files = [below_usr(each) for each in placed] + documents(source)
-        if has_symbols(program_of(placed)):
+        if has_symbols(content_of(placed, PROGRAM)):
             files.append(Placed("usr/share/lintian/overrides/grove", OVERRIDES.encode()))
         install(files, tree)
         write_control(source, placed, files, tree / "DEBIAN")
@@ -131,11 +135,11 @@ def write_control(source: Source, placed: list[Placed], files: list[Placed], fol
         architecture=ARCHITECTURE,
         author=source.author(),
         kibibytes=kibibytes,
-        libc=libc_of(program_of(placed)),
+        libc=libc_of(content_of(placed, PROGRAM), content_of(placed, LOADED)),
     )
     sums = [f"{hashlib.md5(each.content).hexdigest()}  {each.path}\n" for each in files if each.target is None]
     services = " ".join(Path(each.path).name for each in placed if each.path.endswith(".service"))
-    before = BEFORE_REMOVAL.format(units=services, cluster=f"{PREFIX}/{CLUSTER}")
+    before = BEFORE_REMOVAL.format(units=services, modules=f"{PREFIX}/{OWN}")
     install(
         [
             Placed("control", control.encode()),
@@ -150,9 +154,9 @@ def version(source: Source) -> str:
     return f"{source.version()}-{REVISION}"
 
 
-def program_of(placed: list[Placed]) -> bytes:
-    (program,) = (each.content for each in placed if each.path == "bin/grove")
-    return program
+def content_of(placed: list[Placed], path: str) -> bytes:
+    (content,) = (each.content for each in placed if each.path == path)
+    return content
 
 
 def has_symbols(program: bytes) -> bool:
@@ -163,10 +167,9 @@ def has_symbols(program: bytes) -> bool:
     return SYMBOLS in kinds
 
 
-def libc_of(program: bytes) -> str:
-    """The oldest C library that has all that the program asks of it, by the versions that it names."""
-    needed = {(int(major), int(minor)) for major, minor in re.findall(rb"\0GLIBC_(\d+)\.(\d+)", program)}
-    return ".".join(map(str, max(needed)))
+def libc_of(*binaries: bytes) -> str:
+    """The oldest C library that has all that they ask of it."""
+    return ".".join(map(str, max(map(wheels.libc_of, binaries))))
 
 
 def settle(tree: Path, date: int) -> None:

@@ -2,12 +2,13 @@
 
 from __future__ import annotations
 
-from dataclasses import dataclass
 from pathlib import PurePosixPath
 
+from .bindings import built_bindings
 from .completion import in_bash, in_zsh
 from .help_text import helps_of
 from .manual import Edition, page_of_cluster, page_of_program
+from .placed import Placed, copied, texts
 from .source import Source, proved_program
 from .units import units
 
@@ -18,19 +19,6 @@ MANUAL = "share/man/man1"
 PAGES = "share/doc/grove"
 
 
-@dataclass(frozen=True)
-class Placed:
-    """A file, or a link to another one."""
-
-    path: str
-    content: bytes = b""
-    is_program: bool = False
-    target: str | None = None
-
-    def mode(self) -> int:
-        return 0o755 if self.is_program else 0o644
-
-
 def layout(source: Source, prefix: str) -> list[Placed]:
     """All that is installed below the prefix, by path."""
     program = proved_program(source)
@@ -39,6 +27,8 @@ def layout(source: Source, prefix: str) -> list[Placed]:
     commands = commands_of_cluster(source)
     placed = [Placed("bin/grove", program.read_bytes(), True)]
     placed += cluster(source, commands)
+    placed += built_bindings(source).placed()
+    placed.append(Placed(f"{MODULES}/pickbracken", target="../../grove/python/pickbracken"))
     placed += texts(MANUAL, {"grove.1": page_of_program(helps, list(commands), edition)})
     # `man grove plan` asks for grove-plan first.
     own_pages = {f"grove-{name}" for name in helps.commands} - set(commands)
@@ -49,7 +39,7 @@ def layout(source: Source, prefix: str) -> list[Placed]:
     placed += texts("share/bash-completion/completions", {"grove": in_bash(helps)})
     placed += texts("share/zsh/site-functions", {"_grove": in_zsh(helps)})
     placed += texts("lib/systemd/system", units(prefix, edition.server_memory))
-    pages = source.files("README.md", "CHANGELOG.md", "docs", "examples")
+    pages = source.files("README.md", "CHANGELOG.md", "docs", "examples", "bindings/c")
     placed += [copied(source, f"{PAGES}/{file}", file) for file in pages]
     return sorted(placed, key=lambda each: each.path)
 
@@ -72,11 +62,3 @@ def cluster(source: Source, commands: dict[str, str]) -> list[Placed]:
             module = PurePosixPath(file).parts[1]
             placed.append(Placed(f"{MODULES}/{module}", target=f"../../grove/cluster/{module}"))
     return placed
-
-
-def copied(source: Source, path: str, file: str) -> Placed:
-    return Placed(path, source.read(file), source.is_program(file))
-
-
-def texts(folder: str, named: dict[str, str]) -> list[Placed]:
-    return [Placed(f"{folder}/{name}", text.encode()) for name, text in named.items()]

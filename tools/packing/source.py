@@ -71,9 +71,7 @@ def proved_program(source: Source) -> Path:
     program = source.top / PROGRAM
     if not os.access(program, os.X_OK):
         raise Unfit(f"there is no proved program at {PROGRAM}; ./grove prove makes it")
-    newer = first_newer(source.top, program.stat().st_mtime_ns)
-    if newer:
-        raise Unfit(f"{newer} is newer than the proved program; ./grove prove makes it anew")
+    need_new(source.top, program, "the proved program; ./grove prove")
     with program.open("rb") as it:
         head = it.read(20)
     if not head.startswith(b"\x7fELF") or head[18:] != X86_64:
@@ -83,6 +81,13 @@ def proved_program(source: Source) -> Path:
     if told != wanted:
         raise Unfit(f"the program says {told!r}, and the sources {wanted!r}; ./grove prove makes it anew")
     return program
+
+
+def need_new(top: Path, made: Path, what: str) -> None:
+    """Refuses a file that is older than a source; `what` it is, and what makes it."""
+    newer = first_newer(top, made.stat().st_mtime_ns)
+    if newer:
+        raise Unfit(f"{newer} is newer than {what} makes it anew")
 
 
 def first_newer(top: Path, made: int) -> str | None:

@@ -1,0 +1,133 @@
+"""The packages alone, in programs in C, Rust and Python: what docs/LIBRARY.md shows, with nothing of the checkout."""
+
+from __future__ import annotations
+
+import os
+import re
+import shutil
+import subprocess
+import sys
+import tarfile
+from pathlib import Path
+
+from looking import note_equal, note_silent
+from packages import TOP, Packages, called
+from sweeps.program import Tally
+
+STRICT = ["-std=c99", "-Wall", "-Wextra", "-pedantic", "-Werror"]
+# Folders of a checkout and other places would be looked into first.
+UNSET = ("GROVE_LIBRARY", "PYTHONPATH", "LD_LIBRARY_PATH")
+SURROUNDINGS = {name: value for name, value in os.environ.items() if name not in UNSET}
+SURROUNDINGS["PYTHONDONTWRITEBYTECODE"] = "1"
+MANIFEST = """\
+[package]
+name = "follows"
+version = "0.1.0"
+edition = "2024"
+
+[dependencies]
+pickbracken = {{ path = "{crate}" }}
+"""
+MAIN = """\
+fn main() -> Result<(), pickbracken::Error> {
+%s    println!("cost {}", plan.cost);
+    Ok(())
+}
+"""
+# What the package is, and that its library is the one beside it.
+LOOK = "import pickbracken.library as it; print(it.__file__); it.loaded()"
+
+
+def block(language: str) -> str:
+    """What docs/LIBRARY.md shows first in a language."""
+    page = (TOP / "docs/LIBRARY.md").read_text(encoding="utf-8")
+    return re.findall(rf"^```{language}\n(.*?)^```", page, re.M | re.S)[0]
+
+
+def linked_in_c(packages: Packages, room: Path, tally: Tally) -> None:
+    """The example in C, with the static library and with the shared one."""
+    prefix = packages.unpacked(room / "prefix")
+    pages = prefix / "share/doc/grove"
+    document = pages / "examples/settings.json"
+    wanted = called(prefix / "bin/grove", "plan", document).stdout + "cost 16\n"
+    shared = [f"-L{prefix}/lib/grove", f"-Wl,-rpath,{prefix}/lib/grove"]
+    for place in ([f"-L{prefix}/lib"], shared):
+        words = [*STRICT, f"-I{prefix}/include", pages / "bindings/c/plan.c", *place, "-lgrove", "-o", room / "plan"]
+        note_silent(tally, place[0], called("cc", *words))
+        note_equal(tally, "settings.json", called(room / "plan", document, env=SURROUNDINGS).stdout, wanted)
+
+
+def crate(packages: Packages, room: Path, tally: Tally) -> None:
+    """A program that names the crate of the prefix, and that of the crate's own archive."""
+    prefix = packages.unpacked(room / "prefix")
+    with tarfile.open(packages.crate) as tar:
+        tar.extractall(room)
+    for place in (prefix / "share/grove/pickbracken", room / packages.crate.name.removesuffix(".crate")):
+        project = room / "follows"
+        (project / "src").mkdir(parents=True, exist_ok=True)
+        (project / "Cargo.toml").write_text(MANIFEST.format(crate=place))
+        (project / "src/main.rs").write_text(MAIN % block("rust"))
+        surroundings = {**SURROUNDINGS, "CARGO_TARGET_DIR": str(room / "target")}
+        ran = called("cargo", "run", "--quiet", "--offline", cwd=project, env=surroundings)
+        note_equal(tally, place.name, (ran.stdout, ran.stderr, ran.returncode), ("cost 3\n", "", 0))
+        ran = called("cargo", "run", "--quiet", "--offline", "--example", "locks", cwd=place, env=surroundings)
+        note_equal(tally, "locks", (ran.stdout, ran.returncode), ("4000 transactions, and the shelves hold 0\n", 0))
+
+
+def no_pip() -> str:
+    """What is needed for a folder with a Python of its own, and isn't there."""
+    return "" if called(sys.executable, "-c", "import ensurepip, venv").returncode == 0 else "Python's venv"
+
+
+def python_in(room: Path) -> Path:
+    """A Python of its own, without packages."""
+    called(sys.executable, "-m", "venv", room / "venv")
+    return room / "venv/bin/python3"
+
+
+def wheel(packages: Packages, room: Path, tally: Tally) -> None:
+    """`pip install` of the wheel, of the one that is installed below the prefix too: they are one file."""
+    python = python_in(room)
+    installed = packages.prefix / "share/grove" / packages.wheel.name
+    note_equal(tally, "the installed wheel", installed.read_bytes() == packages.wheel.read_bytes(), True)
+    note_pip(tally, "the wheel", python, packages.wheel)
+    note_package(tally, room, python)
+    note_equal(tally, "pip check", called(python, "-m", "pip", "check", env=SURROUNDINGS).returncode, 0)
+
+
+def pip_install(packages: Packages, room: Path, tally: Tally) -> None:
+    """`pip install` of the folder, which takes the library that is named, or the one of tools/library; without one it
+    says what makes it."""
+    python = python_in(room)
+    folder = shutil.copytree(packages.copy / "bindings/python", room / "checkout/bindings/python")
+    ran = pip(python, folder)
+    is_told = "tools/library makes it" in ran.stderr + ran.stdout
+    note_equal(tally, "without a library", (ran.returncode, is_told), (1, True))
+    note_pip(tally, "a library that is named", python, folder, GROVE_LIBRARY=str(packages.copy / "out/library"))
+    note_package(tally, room, python)
+    called(python, "-m", "pip", "uninstall", "--yes", "pickbracken", env=SURROUNDINGS)
+    (room / "checkout/out").mkdir()
+    (room / "checkout/out/library").symlink_to(packages.copy / "out/library")
+    note_pip(tally, "that of tools/library", python, folder)
+    note_package(tally, room, python)
+
+
+def pip(python: Path, what: Path, **more: str) -> subprocess.CompletedProcess:
+    words = ["-m", "pip", "install", "--no-index", "--no-deps", what]
+    return called(python, *words, env={**SURROUNDINGS, "PIP_DISABLE_PIP_VERSION_CHECK": "1", **more})
+
+
+def note_pip(tally: Tally, where: str, python: Path, what: Path, **more: str) -> None:
+    ran = pip(python, what, **more)
+    tally.note(where, None if ran.returncode == 0 else ran.stdout + ran.stderr)
+
+
+def note_package(tally: Tally, room: Path, python: Path) -> None:
+    """The package is the one that was installed, with the library beside it, and does what the page shows."""
+    told = called(python, "-c", LOOK, cwd=room, env=SURROUNDINGS)
+    file = Path(told.stdout.strip())
+    is_there = file.is_relative_to(room / "venv") and file.with_name("libgrove.so").is_file()
+    tally.note("its place", None if is_there else told.stdout + told.stderr)
+    ran = called(python, "-c", block("python"), cwd=room, env=SURROUNDINGS)
+    is_well = ran.stdout.startswith("3 (Step(") and ran.stdout.endswith("no-path list 0\n") and not ran.stderr
+    tally.note("docs/LIBRARY.md", None if is_well else ran.stdout + ran.stderr)
