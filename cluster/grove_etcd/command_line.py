@@ -4,16 +4,13 @@ from __future__ import annotations
 import argparse
 import os
 import sys
-from pathlib import Path
 from typing import Any, Callable
 
 from .keys import Keys
 from .members import Credentials, Lost, Members, addresses_of
+from .program import GROVE
 from .refusals import Failed, Refused
 
-TOP = Path(__file__).resolve().parents[2]
-# The program of the checkout; or, where tools/package has put these into lib/grove/cluster, that of the same prefix.
-GROVE = TOP / "crates/grove/out/grove" if (TOP / "crates").is_dir() else TOP.parents[1] / "bin/grove"
 # As etcdctl has it.
 PASSWORD = "ETCDCTL_PASSWORD"
 

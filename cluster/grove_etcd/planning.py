@@ -6,11 +6,11 @@ kept by numbers, and serves each list whose ways have this form.
 from __future__ import annotations
 
 import json
-from typing import Any, Hashable, Mapping
+from typing import Any, Hashable, Mapping, Optional
 
 from .documents import LEAST, MOST, is_whole
 from .jobs import slots_of, written
-from .program import ask
+from .planners import planner_of
 from .tree import Row, rows_of, way_down, ways_down
 
 MOST_KEPT = 1024
@@ -19,8 +19,10 @@ ITEMS = {"get": 2, "set": 3, "add": 3, "take": 3}
 
 
 class Planner:
-    def __init__(self, grove: str) -> None:
-        self.grove = grove
+    """Plans by the program of this name; without one by the library, or the program at hand if there is no library."""
+
+    def __init__(self, grove: Optional[str] = None) -> None:
+        self.by = planner_of(grove)
         self.kept: dict[Hashable, list[list[Any]]] = {}
 
     def plan(self, accesses: list[Any], weights: Mapping[str, int]) -> list[list[Any]]:
@@ -40,7 +42,7 @@ class Planner:
         return [[kind, what if kind == "access" else paths[what]] for kind, what in self.kept[form]]
 
     def ask(self, rows: list[Row], accesses: list[Any]) -> list[list[Any]]:
-        told = ask(self.grove, "plan", written({"version": 2, "nodes": rows, "list": accesses}))
+        told = self.by.plan(written({"version": 2, "nodes": rows, "list": accesses}))
         plan: list[list[Any]] = json.loads(told["plan"])
         return plan
 

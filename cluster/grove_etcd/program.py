@@ -3,8 +3,16 @@ from __future__ import annotations
 
 import shlex
 import subprocess
+from pathlib import Path
 
 from .refusals import Failed, Refused
+
+TOP = Path(__file__).resolve().parents[2]
+IS_CHECKOUT = (TOP / "crates").is_dir()
+# The program of the checkout; or, where tools/package has put these into lib/grove/cluster, that of the same prefix.
+GROVE = TOP / "crates/grove/out/grove" if IS_CHECKOUT else TOP.parents[1] / "bin/grove"
+# Where the Python package is that has the library, likewise.
+PACKAGES = TOP / "bindings/python" if IS_CHECKOUT else TOP / "python"
 
 
 def ask(grove: str, command: str, document: str) -> dict[str, str]:
@@ -18,4 +26,9 @@ def ask(grove: str, command: str, document: str) -> dict[str, str]:
         raise Refused(text.removeprefix("refused ").strip())
     if ran.returncode:
         raise Failed(f"{grove} {command} ended with status {ran.returncode}: {ran.stderr.decode().strip()[:200]}")
+    return by_first_words(text)
+
+
+def by_first_words(text: str) -> dict[str, str]:
+    """The lines of an answer."""
     return dict(line.split(" ", 1) for line in text.splitlines())

@@ -27,7 +27,7 @@ WATCH_SECONDS = 5.0
 class Submitter:
     """Plans lists, and submits them."""
 
-    def __init__(self, members: Members, keys: Keys, grove: str) -> None:
+    def __init__(self, members: Members, keys: Keys, grove: Optional[str] = None) -> None:
         self.members, self.keys = members, keys
         self.planner = Planner(grove)
         need_store(members, keys)

@@ -129,16 +129,21 @@ class Programs:
         how = {"stdin": subprocess.DEVNULL, **how}
         return subprocess.Popen([PROGRAMS / name, *self.words, *words], text=True, **how)
 
+    def ran(self, name, *words, **how):
+        command = [PROGRAMS / name, *self.words, *words]
+        return subprocess.run(command, capture_output=True, text=True, check=False, **how)
+
     def run(self, name, *words):
         """The status, and all that it prints."""
-        ran = subprocess.run([PROGRAMS / name, *self.words, *words], capture_output=True, text=True, check=False)
+        ran = self.ran(name, *words)
         return ran.returncode, ran.stdout + ran.stderr
 
     def lines(self, name, *words):
-        status, text = self.run(name, *words)
-        if status:
-            raise RuntimeError(f"{name} ended with status {status}: {text}")
-        return text.splitlines()
+        """What it prints that isn't said on standard error."""
+        ran = self.ran(name, *words)
+        if ran.returncode:
+            raise RuntimeError(f"{name} ended with status {ran.returncode}: {ran.stdout}{ran.stderr}")
+        return ran.stdout.splitlines()
 
     def status(self):
         """How many jobs there are, how many have ended, and how many nodes are held."""

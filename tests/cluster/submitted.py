@@ -1,9 +1,12 @@
 """Trials of loading, submitting and asking: what is done once, what is refused, and with which place."""
 import json
+import os
 import subprocess
 import threading
 from concurrent.futures import ThreadPoolExecutor
+from random import Random
 
+from members_at_hand import TOP
 from store_at_hand import BOTH, SECONDS, SMALL, Programs, Store, refusal
 
 from grove_etcd.choosing import MOST_JOBS
@@ -11,6 +14,8 @@ from grove_etcd.documents import array_of, parsed, paths_of
 from grove_etcd.head import head_text
 from grove_etcd.keys import Keys
 from grove_etcd.loading import Loader, batches, changes, load
+from grove_etcd.planners import by_library, by_program
+from grove_etcd.program import GROVE
 from grove_etcd.submitting import Submitter
 from grove_etcd.wire import putting
 
@@ -71,6 +76,46 @@ def what_is_submitted_by_an_id_is_made_once(cluster, grove):
     told = ["replies once.0 [11]", 'replies once.1 [5,"short"]']
     wanted = [11], told, {("submitted once.0", "submitted once.1")}, (1, "refused id-taken once.0\n")
     return None if came == wanted else f"wanted {wanted}; came {came}"
+
+
+def the_library_plans_what_the_program_does(cluster, grove):
+    """Of many lists the same text or the same refusal; and `submit` says who planned, with the same jobs by either."""
+    made = subprocess.run([TOP / "tools/library"], capture_output=True, text=True, check=False)
+    library, program = by_library(), by_program(grove)
+    if library is None:
+        return f"there is no library: {made.stderr}"
+    for document in map(small_document, range(200)):
+        came, wanted = (refusal(by.plan, document) for by in (library, program))
+        if came != wanted:
+            return f"{document}: wanted {wanted}; came {came}"
+    return who_planned(Programs(cluster, "planners"), Store(cluster, grove, "planners"), grove)
+
+
+def small_document(seed):
+    """Of the small tree with other weights, and a list of which some are refused."""
+    random = Random(seed)
+    nodes = [{**row, "weight": random.randint(1, 20)} for row in SMALL]
+    paths = ["/", "/a", "/b", "/b/c", "/a-d"] * 4 + ["/q"]
+    accesses = [["add", random.choice(paths), 1, random.choice([1, 2, 1000])] for _ in range(random.randint(0, 8))]
+    if seed % 10 == 0:
+        accesses.append(random.choice([["get"], ["get", "/a", 1001], 7, ["take", "/a", "x"]]))
+    return json.dumps({"version": 2, "nodes": nodes, "list": accesses})
+
+
+def who_planned(programs, store, grove):
+    file = programs.file("planners.json", json.dumps({"lists": [BOTH, [["get", "/b/c"]], [["take", "/a", 2]] * 3]}))
+    nowhere = {**os.environ, "GROVE_LIBRARY": "/no/such/folder"}
+    ways = [((), os.environ, "the library"), (("--grove", grove), os.environ, grove)]
+    if GROVE.exists():
+        ways.append(((), nowhere, str(GROVE)))
+    texts = []
+    for number, (words, surroundings, name) in enumerate(ways):
+        ran = programs.ran("submit", *words, "--id", f"by{number}", file, env=surroundings)
+        if (ran.returncode, ran.stderr) != (0, f"planned by {name}\n"):
+            return f"status {ran.returncode}, {ran.stdout}{ran.stderr}"
+        jobs = [json.loads(store.read(store.keys.job(f"by{number}.{at}"))) for at in range(3)]
+        texts.append([{name: job[name] for name in ("list", "plan")} for job in jobs])
+    return None if all(each == texts[0] for each in texts) else f"the jobs are {texts}"
 
 
 def a_full_epoch_is_followed_by_the_next(cluster, grove):

@@ -39,6 +39,7 @@ from submitted import (
     a_full_epoch_is_followed_by_the_next,
     errors_are_a_line_and_a_status,
     loads_that_mix_leave_one_document,
+    the_library_plans_what_the_program_does,
     what_is_submitted_by_an_id_is_made_once,
     what_is_wrong_is_refused_by_name,
 )
@@ -350,6 +351,7 @@ TRIALS = [
     what_was_made_ready_isnt_made_after_a_sign,
     more_jobs_are_read_while_there_is_work,
     a_forgotten_job_is_not_done_again,
+    the_library_plans_what_the_program_does,
     what_is_submitted_by_an_id_is_made_once,
     a_full_epoch_is_followed_by_the_next,
     what_is_wrong_is_refused_by_name,

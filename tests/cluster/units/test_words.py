@@ -1,15 +1,19 @@
 """Command lines, plans by numbers, pauses and lines of the journal."""
 import itertools
 import json
+import sys
+import types
 import unittest
 from unittest import mock
 
 import here  # noqa: F401
-from grove_etcd import planning
+from grove_etcd import planners
 from grove_etcd.command_line import credentials_of, words
 from grove_etcd.journal import Journal, line_of
 from grove_etcd.members import LONGEST_PAUSE_SECONDS, addresses_of, pauses
+from grove_etcd.planners import By, planner_of
 from grove_etcd.planning import Planner
+from grove_etcd.refusals import Refused
 from grove_etcd.submitting import place_in_lists
 from grove_etcd.works import address_of
 
@@ -60,17 +64,56 @@ class Others(unittest.TestCase):
 
     def test_a_plan_is_asked_for_once_for_each_form(self):
         planner, weights = Planner("no program"), {"/": 5, "/a": 1, "/b": 1, "/c": 2}
+        asked = []
 
-        def told(_grove, _command, document):
+        def told(document):
+            asked.append(document)
             path = json.loads(document)["list"][0][1]
             return {"plan": json.dumps([["lock", path], ["access", 0], ["unlock", path]])}
 
-        with mock.patch.object(planning, "ask", side_effect=told) as ask:
-            self.assertEqual(planner.plan([["add", "/a", 1]], weights)[0], ["lock", "/a"])
-            self.assertEqual(planner.plan([["get", "/b"]], weights), [["lock", "/b"], ["access", 0], ["unlock", "/b"]])
-            planner.plan([["get", "/c"]], weights)
-            planner.plan([["get", "/b", 2]], weights)
-            self.assertEqual(ask.call_count, 3)
+        planner.by = By("a test", told)
+        self.assertEqual(planner.plan([["add", "/a", 1]], weights)[0], ["lock", "/a"])
+        self.assertEqual(planner.plan([["get", "/b"]], weights), [["lock", "/b"], ["access", 0], ["unlock", "/b"]])
+        planner.plan([["get", "/c"]], weights)
+        planner.plan([["get", "/b", 2]], weights)
+        self.assertEqual(len(asked), 3)
+
+
+class Planners(unittest.TestCase):
+    """Who plans, by what is named and what is there."""
+
+    def test_the_program_that_is_named(self):
+        self.assertEqual(planner_of("some grove").name, "some grove")
+
+    def test_the_library_where_it_is_there(self):
+        class Library:
+            """A package with a library that answers."""
+
+        package, library = types.ModuleType("pickbracken"), types.ModuleType("pickbracken.library")
+        library.loaded = Library
+        package.library = library
+        with mock.patch.dict("sys.modules", {"pickbracken": package, "pickbracken.library": library}):
+            self.assertEqual(planner_of(None).name, "the library")
+
+    def test_the_program_at_hand_without_a_library(self):
+        with mock.patch.dict("os.environ", GROVE_LIBRARY="/no/such/folder"), mock.patch.dict("sys.modules"):
+            for name in [name for name in sys.modules if name.startswith("pickbracken")]:
+                del sys.modules[name]
+            self.assertEqual(planner_of(None).name, str(planners.GROVE))
+        with mock.patch.dict("sys.modules", {"pickbracken": None}):
+            self.assertEqual(planner_of(None).name, str(planners.GROVE))
+
+    def test_refusals_are_those_of_the_program(self):
+        sys.path.append(str(planners.PACKAGES))
+        from pickbracken import document, faults
+
+        for text in ("no-path list 0", "bad-length list 3", "row 2 bad-name"):
+            with mock.patch.object(document, "plan", side_effect=faults.Refused(text)):
+                with self.assertRaises(Refused) as caught:
+                    planners.plan_by_library("{}")
+                self.assertEqual(str(caught.exception), text)
+        with mock.patch.object(document, "plan", return_value="cost 1\nplan []\nflow []\n"):
+            self.assertEqual(planners.plan_by_library("{}"), {"cost": "1", "plan": "[]", "flow": "[]"})
 
 
 if __name__ == "__main__":
