@@ -4,6 +4,7 @@ from __future__ import annotations
 
 import http.client
 import json
+import os
 import re
 import subprocess
 import sys
@@ -61,13 +62,14 @@ def said_in(root: Root, words: list[str], text: str | None = None) -> str:
 
 
 def served(packages: Packages, room: Path, tally: Tally) -> None:
-    """A server there is asked by `ask` there, and by the client of the examples."""
+    """A server there is asked by `ask` there, and by the client of the Python package."""
     root = Root(packages, room / "root")
     lines, replies = ((TOP / f"examples/orders.{kind}").read_text() for kind in ("lines", "replies"))
-    client = packages.prefix / "share/doc/grove/examples/client.py"
-    for asks in (lambda port: root.words("ask", "--port", port), lambda port: [sys.executable, str(client), port]):
+    client = [sys.executable, "-m", "pickbracken.client"]
+    modules = {"PYTHONPATH": str(packages.prefix / "lib/grove/python"), "PYTHONDONTWRITEBYTECODE": "1"}
+    for asks in (lambda port: root.words("ask", "--port", port), lambda port: [*client, port]):
         with server_in(root, "serve", "orders.json") as server:
-            came = called(*asks(str(server.port)), stdin=None, input=lines)
+            came = called(*asks(str(server.port)), stdin=None, input=lines, env={**os.environ, **modules})
             note_equal(tally, "replies", (came.stdout, came.returncode), (replies, 1))
 
 

@@ -1,14 +1,17 @@
 """The documents of examples/ and those refused in each way: named and on standard input, the output that is right. The
-session of examples/, by its client; each call of that client, and how it ends where the server is lost."""
+session of examples/, by the client of bindings/python; each call of that client, and how it ends where the server is
+lost."""
 
 from __future__ import annotations
 
 import json
+import os
 import re
 import socket
 import sys
 import threading
 from functools import partial
+from pathlib import Path
 
 from server import HOST, Serving, free_port
 
@@ -16,6 +19,8 @@ from sweeps.documents import EXAMPLES, Asked, certified_examples, examples, refu
 from sweeps.program import Ran, Tally, Try, run
 
 TRIED = "answers compared with those that are right"
+# Where the client's package is.
+PACKAGES = str(Path(__file__).resolve().parents[2] / "bindings/python")
 
 
 def tries(program: str, room: str) -> list[Try]:
@@ -40,38 +45,42 @@ def compare(program: str, file: str, asked: Asked, tally: Tally) -> None:
 def ask_lines(program: str, tally: Tally) -> None:
     lines, replies = ((EXAMPLES / f"orders.{kind}").read_bytes() for kind in ("lines", "replies"))
     with Serving(program, (EXAMPLES / "orders.json").read_bytes(), workers=4) as server:
-        tally.compare("by client.py", run_client(server.port, lines), Ran(1, replies, b""))
+        tally.compare("by the client", run_client(server.port, lines), Ran(1, replies, b""))
         fine = b'{"batch":[]}\n'
         tally.compare("no refusal", run_client(server.port, fine), Ran(0, b'{"places":[],"replies":[],"round":3}\n', b""))
 
 
-def run_client(port: int, lines: bytes) -> Ran:
-    return run(sys.executable, str(EXAMPLES / "client.py"), str(port), text=lines)
+def run_client(port: int | str, lines: bytes = b"") -> Ran:
+    surroundings = {**os.environ, "PYTHONPATH": PACKAGES, "PYTHONDONTWRITEBYTECODE": "1"}
+    return run(sys.executable, "-m", "pickbracken.client", str(port), text=lines, env=surroundings)
 
 
 def call_client(program: str, tally: Tally) -> None:
     """What each method of the client gives, of the tree of two leaves; the answers are those of docs/SESSIONS.md."""
-    sys.path.insert(0, str(EXAMPLES))
-    from client import Plan, Refused, Round, Store
+    if PACKAGES not in sys.path:
+        sys.path.append(PACKAGES)
+    from pickbracken import Access, FlowRow, Plan, Refused, Step
+    from pickbracken.client import Client, Round
 
     def equal(what: str, came: object, wanted: object) -> None:
         tally.note(what, None if came == wanted else f"wanted {wanted}; came {came}")
 
     def refusal(asked: list) -> str:
         try:
-            return str(store.plan(asked))
+            return str(client.plan(asked))
         except Refused as refused:
             return f"refused {refused}"
 
-    leaf = [["get", "/a"]]
-    plan = Plan(1, [["lock", "/a"], ["access", 0], ["unlock", "/a"]], [{"above": 0, "first": 1, "held": 0, "last": 1, "node": "/a", "own": 0}])
-    with Serving(program, (EXAMPLES / "two-leaves.json").read_bytes()) as server, Store(server.port) as store:
-        equal("batch", store.batch([["add", "/a", 1], ["get", "/a"]]), Round([0], [[11, 11]], 1))
-        equal("plan", store.plan(leaf), plan)
-        equal("check", store.check(leaf, plan), 1)
-        equal("weights", store.weights(), ([5, 1, 1], [0, 0, 0]))
-        equal("reweigh", store.reweigh(), 1)
-        equal("a refusal", refusal([["get", "/c"]]), "refused no-path")
+    leaf = [Access.get("/a")]
+    row = FlowRow("/a", above=0, held=0, first=1, last=1, own=0)
+    plan = Plan(1, (Step.lock("/a"), Step.access(0), Step.unlock("/a")), (row,))
+    with Serving(program, (EXAMPLES / "two-leaves.json").read_bytes()) as server, Client(server.port) as client:
+        equal("batch", client.batch([Access.add("/a", 1), *leaf]), Round((0,), ((11, 11),), 1))
+        equal("plan", client.plan(leaf), plan)
+        equal("check", client.check(leaf, plan), 1)
+        equal("weights", client.weights(), ((5, 1, 1), (0, 0, 0)))
+        equal("reweigh", client.reweigh(), 1)
+        equal("a refusal", refusal([Access.get("/c")]), "refused no-path")
 
 
 def plan_again(program: str, tally: Tally) -> None:
@@ -99,8 +108,8 @@ def lose_server(tally: Tally) -> None:
         closing.start()
         tally.note("a server that closes", lost(run_client(listener.getsockname()[1], b"{}\n{}\n")))
         closing.join()
-    words = run(sys.executable, str(EXAMPLES / "client.py"), "here")
-    tally.compare("no port", words, Ran(2, b"", b"usage: client.py PORT < LINES\n"))
+    usage = b"usage: python3 -m pickbracken.client PORT < LINES\n"
+    tally.compare("no port", run_client("here"), Ran(2, b"", usage))
 
 
 def read_and_close(listener: socket.socket) -> None:
@@ -111,5 +120,5 @@ def read_and_close(listener: socket.socket) -> None:
 
 def lost(ran: Ran) -> str | None:
     """Status 3, no output, and one line that says why."""
-    told = ran.err.startswith(b"client.py: ") and ran.err.count(b"\n") == 1
+    told = ran.err.startswith(b"pickbracken.client: ") and ran.err.count(b"\n") == 1
     return None if ran.status == 3 and not ran.out and told else f"came {ran}"

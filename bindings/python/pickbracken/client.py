@@ -5,20 +5,27 @@
 
 Nothing is sent twice: a line whose reply hasn't come may have had its effect, and only its caller can tell whether it
 may be sent again. So once a server is lost, the client is closed.
+
+As a program it sends lines, and prints the replies as they come:
+
+    usage: python3 -m pickbracken.client PORT < LINES        (beside `grove serve --port PORT`)
+
+Each line is sent once the one before is answered. The status is 0, or 1 where a reply was a refusal, 2 where the words
+are wrong, 3 where there is no server or it is lost, with a line on standard error that says so.
 """
 
 from __future__ import annotations
 
-import json
 import socket
+import sys
 from collections import deque
-from dataclasses import dataclass
 from types import TracebackType
-from typing import Any, Deque, Dict, Iterable, Iterator, List, Optional, Sequence, Tuple, Type, Union
+from typing import Deque, Iterable, Iterator, Optional, Sequence, Type
 
-from .accesses import Access, Reply, reply_of
-from .faults import Error, Refused
-from .planning import Plan, plan_of, plan_parts
+from .faults import Error
+from .requests import Requests, Round
+
+__all__ = ["AHEAD", "Client", "Lost", "Round"]
 
 # So many bytes of lines may be sent before their replies are read: both sides' buffers have room for as many, so that
 # nobody waits for the other to read.
@@ -34,17 +41,7 @@ class Lost(Error):
         self.unanswered = unanswered
 
 
-@dataclass(frozen=True)
-class Round:
-    """What a batch is answered: of each list its place in the serial order of the round, and its replies; and the
-    number of the round."""
-
-    places: Tuple[int, ...]
-    replies: Tuple[Tuple[Union[int, Reply], ...], ...]
-    round: int
-
-
-class Client:
+class Client(Requests):
     """A connection to a server. With `seconds`, one that gives no answer for so long is lost."""
 
     def __init__(self, port: int, host: str = "127.0.0.1", seconds: Optional[float] = None) -> None:
@@ -68,43 +65,6 @@ class Client:
     def close(self) -> None:
         self.source.close()
         self.connection.close()
-
-    # Requests
-
-    def batch(self, *lists: Sequence[Access]) -> Round:
-        """Runs the lists as one batch, alone or in a round with others'."""
-        told = self.ask({"batch": [forms(accesses) for accesses in lists]})
-        replies = (tuple(map(reply_of, each)) for each in told["replies"])
-        return Round(tuple(told["places"]), tuple(replies), told["round"])
-
-    def plan(self, accesses: Sequence[Access]) -> Plan:
-        """The settled plan of a list, by the weights as they stand."""
-        return plan_of(self.ask({"plan": forms(accesses)}))
-
-    def check(self, accesses: Sequence[Access], plan: Plan) -> int:
-        """What a plan costs that its flow proves to be least."""
-        parts = {"version": 2, "list": forms(accesses), **plan_parts(plan.steps, plan.flow)}
-        cost: int = self.ask({"check": parts})["cost"]
-        return cost
-
-    def weights(self) -> Tuple[Tuple[int, ...], Tuple[int, ...]]:
-        """The weights and the waits, by node."""
-        told = self.ask({"weights": None})
-        return tuple(told["weights"]), tuple(told["waits"])
-
-    def reweigh(self) -> int:
-        """Makes new weights of the old ones and the waits, and gives how many have changed."""
-        changed: int = self.ask({"reweigh": None})["changed"]
-        return changed
-
-    def ask(self, request: Dict[str, object]) -> Dict[str, Any]:
-        """The reply to a request. A refusal, by which nothing changes, is raised, and has a name and no place."""
-        reply: Dict[str, Any] = json.loads(self.send(json.dumps(request, separators=(",", ":")).encode()))
-        if "error" in reply:
-            raise Refused(reply["error"])
-        return reply
-
-    # Lines
 
     def send(self, line: bytes) -> bytes:
         """The reply to a line, both without a line feed."""
@@ -147,5 +107,28 @@ class Client:
         return Lost(why, unanswered)
 
 
-def forms(accesses: Sequence[Access]) -> List[List[Union[int, str]]]:
-    return [access.form() for access in accesses]
+def send_lines(client: Client, lines: Iterable[bytes]) -> bool:
+    """Prints the reply to each line. Was one of them a refusal?"""
+    refused = False
+    for line in lines:
+        reply = client.send(line.rstrip(b"\n"))
+        refused = refused or reply.startswith(b'{"error":')
+        sys.stdout.buffer.write(reply + b"\n")
+        sys.stdout.flush()
+    return refused
+
+
+def main(words: Sequence[str]) -> int:
+    if len(words) != 1 or not words[0].isdecimal():
+        print("usage: python3 -m pickbracken.client PORT < LINES", file=sys.stderr)
+        return 2
+    try:
+        with Client(int(words[0])) as client:
+            return 1 if send_lines(client, sys.stdin.buffer) else 0
+    except Lost as why:
+        print(f"pickbracken.client: {why}", file=sys.stderr)
+        return 3
+
+
+if __name__ == "__main__":
+    sys.exit(main(sys.argv[1:]))
