@@ -7,30 +7,41 @@ import os
 import shutil
 import subprocess
 from dataclasses import dataclass
+from functools import lru_cache
 from pathlib import Path
-from typing import Callable, Iterator
+from typing import Callable
 
-from sweeps.documents import EXAMPLES, examples, seeded
-from sweeps.program import Ran, Tally, run
+from comparing import Answer, all_documents, by_program, note_answers, read_answers, streams_of
+from sweeps.documents import EXAMPLES
+from sweeps.program import Tally
 
 TOP = Path(__file__).resolve().parents[2]
 LIBRARY = TOP / "out/library"
 # The longest that a command may take.
 SECONDS = 600.0
 STRICT = ["-Wall", "-Wextra", "-pedantic", "-Werror"]
-SEEDED = 150
-# Each call of the library by the words of the program that say the same.
-CALLS = {
-    ("plan",): "grove_c_plan",
-    ("plan", "--document"): "grove_c_plan_document",
-    ("check",): "grove_c_check",
-    ("judge",): "grove_c_judge",
-    ("draw",): "grove_c_draw_svg",
-    ("draw", "--text"): "grove_c_draw_text",
-    ("audit",): "grove_c_audit",
-}
-# Bytes that are no document, or that break off.
-BROKEN = [b"", b"\0", b"{", b"[]", b"null", b"\xff{}", b"{}", b'{"nodes":[]}', b" " * 4_194_305]
+HERE = Path(__file__).resolve().parent
+MANIFEST = """\
+[package]
+name = "NAME"
+version = "0.1.0"
+edition = "2024"
+
+[[bin]]
+name = "NAME"
+path = "SOURCE"
+
+[dependencies]
+pickbracken = { path = "CRATE" }
+"""
+
+
+@dataclass(frozen=True)
+class Given:
+    """What is tried, and how much of it where that can be chosen."""
+
+    program: str
+    documents: int
 
 
 @dataclass(frozen=True)
@@ -38,7 +49,7 @@ class Trial:
     """Something to try, and the commands that it needs."""
 
     name: str
-    call: Callable[[str, Path, Tally], None]
+    call: Callable[[Given, Path, Tally], None]
     needs: tuple[str, ...] = ()
 
     def absent(self) -> str:
@@ -65,7 +76,7 @@ def note_equal(tally: Tally, where: str, found: object, wanted: object) -> None:
 # ---- C
 
 
-def example_in_c(_program: str, room: Path, tally: Tally) -> None:
+def example_in_c(_given: Given, room: Path, tally: Tally) -> None:
     """Compiled without a warning, by the static library and by the shared one, it says what the program does."""
     for standard in ("c99", "c11", "c17"):
         for library in ("libgrove.a", "libgrove.so"):
@@ -94,13 +105,13 @@ def example_on(room: Path, document: Path, *under: str) -> subprocess.CompletedP
     return called(*under, room / "program", document, env={**os.environ, "LD_LIBRARY_PATH": str(LIBRARY)})
 
 
-def header_in_cpp(_program: str, room: Path, tally: Tally) -> None:
+def header_in_cpp(_given: Given, room: Path, tally: Tally) -> None:
     (room / "header.cpp").write_text('#include "grove.h"\n')
     words = [*STRICT, f"-I{TOP / 'include'}", "-c", room / "header.cpp", "-o", room / "header.o"]
     note_well(tally, "header", called("c++", *words))
 
 
-def valgrind(_program: str, room: Path, tally: Tally) -> None:
+def valgrind(_given: Given, room: Path, tally: Tally) -> None:
     """Nothing is read or written that isn't the call's, and nothing is left."""
     note_well(tally, "compiled", compiled("bindings/c/plan.c", room, "libgrove.a", "-g"))
     words = ["valgrind", "--quiet", "--error-exitcode=9", "--leak-check=full", "--show-leak-kinds=all"]
@@ -108,7 +119,7 @@ def valgrind(_program: str, room: Path, tally: Tally) -> None:
         note_equal(tally, name, example_on(room, EXAMPLES / name, *words).returncode, 0)
 
 
-def buffers(_program: str, room: Path, tally: Tally) -> None:
+def buffers(_given: Given, room: Path, tally: Tally) -> None:
     """Each call with no room, one byte too little, just enough and 1 GiB; with each allocation failed in turn; and
     again and again."""
     wraps = [f"-Wl,--wrap={name}" for name in ("malloc", "realloc", "free")]
@@ -121,7 +132,7 @@ def buffers(_program: str, room: Path, tally: Tally) -> None:
 # ---- Rust
 
 
-def rust(_program: str, room: Path, tally: Tally) -> None:
+def rust(_given: Given, room: Path, tally: Tally) -> None:
     """Its tests, its example, its form, its pages, and nothing that clippy would have otherwise."""
     surroundings = {**os.environ, "GROVE_LIBRARY": str(LIBRARY), "CARGO_TARGET_DIR": str(room / "target")}
     pages = {**surroundings, "RUSTDOCFLAGS": "-D warnings"}
@@ -146,16 +157,16 @@ def crate_at(room: Path) -> Path:
 # ---- Python
 
 
-def python(_program: str, _room: Path, tally: Tally) -> None:
+def python(_given: Given, _room: Path, tally: Tally) -> None:
     """The unit tests of the package."""
     words = ["-B", "-m", "unittest", "discover", "-s", "tests"]
     note_well(tally, "tests", called("python3", *words, cwd=TOP / "bindings/python", env=with_package()))
 
 
-def types(_program: str, _room: Path, tally: Tally) -> None:
+def types(_given: Given, _room: Path, tally: Tally) -> None:
     words = ["--strict", "--cache-dir=/dev/null"]
     folder = TOP / "bindings/python"
-    note_well(tally, "package", called("mypy", *words, "pickbracken", cwd=folder))
+    note_well(tally, "package", called("mypy", *words, "pickbracken", "building/wheels.py", cwd=folder))
     tests = sorted((folder / "tests").glob("*.py"))
     note_well(tally, "tests", called("mypy", *words, *tests, cwd=folder, env={**os.environ, "MYPYPATH": str(folder)}))
 
@@ -164,41 +175,82 @@ def with_package() -> dict[str, str]:
     return {**os.environ, "PYTHONPATH": str(TOP / "bindings/python"), "GROVE_LIBRARY": str(LIBRARY)}
 
 
-def same_as_the_program(program: str, _room: Path, tally: Tally) -> None:
-    """To the byte what the program prints, and its refusals, of examples, seeded documents and what is no document."""
-    say = Sayer()
-    for number, document in enumerate(documents(say)):
-        for words, call in CALLS.items():
-            wanted = run(program, *words, text=document)
-            tally.compare(f"document {number}: {' '.join(words)}", say(call, document), wanted)
+# ---- The same by each language
 
 
-def documents(say: Sayer) -> Iterator[bytes]:
-    """Each seeded document also with its plan in it, and that cut somewhere."""
-    yield from dict.fromkeys(example.text for example in examples())
-    yield from BROKEN
-    for seed in range(SEEDED):
-        document = seeded(seed)
-        planned = say("grove_c_plan_document", document).out
-        yield from (document, planned, planned[: len(planned) * (seed % 17) // 17])
+def c_says_the_same(given: Given, room: Path, tally: Tally) -> None:
+    """What the program prints, and its refusals, to the byte; so the other two."""
+    note_well(tally, "compiled", compiled("tests/library/answers.c", room, "libgrove.a", "-std=c99", "-O1"))
+    note_same(given, room, tally, [room / "program"])
 
 
-class Sayer:
-    """The calls of the shared library, told as runs of the program."""
+def rust_says_the_same(given: Given, room: Path, tally: Tally) -> None:
+    note_same(given, room, tally, [built_in_rust("answers", room, tally)])
 
-    class Told(ctypes.Structure):
-        _fields_ = [("status", ctypes.c_uint32), ("length", ctypes.c_size_t)]
 
-    def __init__(self) -> None:
-        self.library = ctypes.CDLL(str(LIBRARY / "libgrove.so"))
-        self.text = ctypes.create_string_buffer(1 << 24)
+def python_says_the_same(given: Given, room: Path, tally: Tally) -> None:
+    note_same(given, room, tally, ["python3", "-B", HERE / "answers.py"], env=with_package())
 
-    def __call__(self, name: str, document: bytes) -> Ran:
-        call = self.library[name]
-        call.restype = self.Told
-        told = call(document, ctypes.c_size_t(len(document)), self.text, ctypes.c_size_t(len(self.text)))
-        text = ctypes.string_at(self.text, told.length)
-        return Ran(told.status, text if told.status == 0 else b"refused " + text + b"\n", b"")
+
+def note_same(given: Given, room: Path, tally: Tally, words: list[str | Path], **how) -> None:
+    """Compares the answers of a program that makes each call on each document."""
+    documents, found = documents_of(given.documents), []
+    for stream in streams_of(documents, room):
+        with stream.open("rb") as source:
+            ran = called(*words, stdin=source, text=False, **how)
+        tally.blame("it ran", None if ran.returncode == 0 else f"status {ran.returncode}: {ran.stderr[-2000:]!r}")
+        found += read_answers(ran.stdout)
+    wanted = by_program(given.program, documents)
+    note_answers(tally, documents, found, wanted)
+    refused = sum(status == 1 for status, _ in wanted)
+    tally.blame("faults among them", None if refused > len(documents) else f"only {refused}")
+
+
+def built_in_rust(name: str, room: Path, tally: Tally) -> Path:
+    """A program of this folder that uses the crate."""
+    project = room / name
+    project.mkdir()
+    values = {"NAME": name, "SOURCE": str(HERE / f"{name}.rs"), "CRATE": str(crate_at(room))}
+    manifest = MANIFEST
+    for word, value in values.items():
+        manifest = manifest.replace(word, value)
+    (project / "Cargo.toml").write_text(manifest)
+    surroundings = {**os.environ, "GROVE_LIBRARY": str(LIBRARY), "CARGO_TARGET_DIR": str(room / "target")}
+    note_well(tally, name, called("cargo", "build", "--release", "--offline", cwd=project, env=surroundings))
+    return room / "target/release" / name
+
+
+@lru_cache(maxsize=1)
+def documents_of(count: int) -> tuple[bytes, ...]:
+    return tuple(all_documents(count, planned))
+
+
+def planned(document: bytes) -> bytes:
+    """The document with its settled plan and flow in it; as it is where it is refused."""
+    status, text = said("grove_c_plan_document", document)
+    return text if status == 0 else document
+
+
+def said(name: str, document: bytes) -> Answer:
+    """What a call of the shared library says."""
+    library = ctypes.CDLL(str(LIBRARY / "libgrove.so"))
+    call, room = library[name], 1 << 20
+    call.restype = Told
+    while True:
+        text = ctypes.create_string_buffer(room)
+        told = call(document, ctypes.c_size_t(len(document)), text, ctypes.c_size_t(room))
+        if told.status != ROOM:
+            return told.status, text.raw[: told.length]
+        room = told.length
+
+
+class Told(ctypes.Structure):
+    """How a call ended."""
+
+    _fields_ = [("status", ctypes.c_uint32), ("length", ctypes.c_size_t)]
+
+
+ROOM = 2
 
 
 TRIALS = [
@@ -209,5 +261,7 @@ TRIALS = [
     Trial("rust", rust, ("cargo",)),
     Trial("python", python, ("python3",)),
     Trial("types", types, ("mypy",)),
-    Trial("same_as_the_program", same_as_the_program),
+    Trial("c_says_the_same", c_says_the_same, ("cc",)),
+    Trial("rust_says_the_same", rust_says_the_same, ("cargo",)),
+    Trial("python_says_the_same", python_says_the_same, ("python3",)),
 ]
