@@ -7,11 +7,11 @@ import os
 from enum import Enum
 from functools import lru_cache
 from pathlib import Path
-from typing import Iterator
+from typing import Any, Callable, Iterator, List
 
-from .faults import NoMemory, Refused
+from .faults import Closed, NoMemory, Refused
 
-DONE, REFUSED, ROOM = 0, 1, 2
+DONE, REFUSED, ROOM, MEMORY, CLOSED = 0, 1, 2, 3, 4
 # The room that a text is given at first.
 FIRST_ROOM = 16_384
 
@@ -20,6 +20,12 @@ class Told(ctypes.Structure):
     """How a call ended, and how long its text is."""
 
     _fields_ = [("status", ctypes.c_uint32), ("length", ctypes.c_size_t)]
+
+
+class Handle(ctypes.Structure):
+    """What a tree or a store is kept by. It's changed by the calls below alone, and is never copied."""
+
+    _fields_ = [("held", ctypes.c_void_p)]
 
 
 class Command(Enum):
@@ -32,6 +38,20 @@ class Command(Enum):
     DRAW_SVG = "grove_c_draw_svg"
     DRAW_TEXT = "grove_c_draw_text"
     AUDIT = "grove_c_audit"
+
+
+class Kept(Enum):
+    """A call with a handle, which takes a text and says another."""
+
+    TREE_OPEN = "grove_c_tree_open"
+    TREE_PLAN = "grove_c_tree_plan"
+    TREE_CHECK = "grove_c_tree_check"
+    STORE_OPEN = "grove_c_store_open"
+    STORE_ANSWER = "grove_c_store_answer"
+
+
+# The calls with a handle that take no text.
+REPLY, TREE_CLOSE, STORE_CLOSE = "grove_c_store_reply", "grove_c_tree_close", "grove_c_store_close"
 
 
 def places() -> Iterator[Path]:
@@ -51,26 +71,81 @@ def loaded() -> ctypes.CDLL:
     """The library, with the types of its calls. It's loaded as the first call is made."""
     for path in places():
         if path.exists():
-            library = ctypes.CDLL(str(path))
-            for command in Command:
-                call = getattr(library, command.value)
-                call.argtypes = [ctypes.c_char_p, ctypes.c_size_t, ctypes.c_char_p, ctypes.c_size_t]
-                call.restype = Told
-            return library
+            return typed(ctypes.CDLL(str(path)))
     raise OSError(f"there is no {' and no '.join(map(str, places()))}: tools/library makes it")
 
 
+def typed(library: ctypes.CDLL) -> ctypes.CDLL:
+    """The library, whose calls know what they take and give."""
+    handle, text = ctypes.POINTER(Handle), [ctypes.c_char_p, ctypes.c_size_t]
+    for command in Command:
+        declare(library, command.value, [*text, *text], Told)
+    for kept in Kept:
+        declare(library, kept.value, [handle, *text, *text], Told)
+    declare(library, REPLY, [handle, *text], Told)
+    for close in (TREE_CLOSE, STORE_CLOSE):
+        declare(library, close, [handle], None)
+    return library
+
+
+def declare(library: ctypes.CDLL, name: str, takes: List[Any], gives: Any) -> None:
+    call = getattr(library, name)
+    call.argtypes, call.restype = takes, gives
+
+
+def call_of(name: str) -> Callable[..., Told]:
+    """A call of the library. While it goes on, Python's other threads do."""
+    call: Callable[..., Told] = getattr(loaded(), name)
+    return call
+
+
 def say(command: Command, document: bytes) -> str:
-    """What a command says of a document. While it looks for that, other threads go on."""
-    call = getattr(loaded(), command.value)
-    room = FIRST_ROOM
+    """What a command says of a document."""
+    call = call_of(command.value)
+    return text_of(lambda text, room: call(document, len(document), text, room))
+
+
+def say_kept(kept: Kept, handle: Handle, text: bytes) -> str:
+    """What a call with a handle says of a text, which it may be asked again. Its caller has the handle alone."""
+    call = call_of(kept.value)
+    return text_of(lambda said, room: call(ctypes.byref(handle), text, len(text), said, room))
+
+
+def answer_line(handle: Handle, line: bytes) -> str:
+    """The reply of a store to a line. A line is given once: a reply that has no room is copied afterwards."""
+    answer, reply = call_of(Kept.STORE_ANSWER.value), call_of(REPLY)
+    text = ctypes.create_string_buffer(FIRST_ROOM)
+    told = answer(ctypes.byref(handle), line, len(line), text, FIRST_ROOM)
+    if told.status != ROOM:
+        return told_by(told, text)
+    return text_of(lambda text, room: reply(ctypes.byref(handle), text, room), told.length)
+
+
+def close(name: str, handle: Handle) -> None:
+    """Lets go what a handle holds, if it holds anything."""
+    call_of(name)(ctypes.byref(handle))
+
+
+# Makes a call with a buffer and its length.
+Call = Callable[["ctypes.Array[ctypes.c_char]", int], Told]
+
+
+def text_of(call: Call, room: int = FIRST_ROOM) -> str:
+    """What a call says, which is made once more where its text has no room."""
     while True:
         text = ctypes.create_string_buffer(room)
-        told = call(document, len(document), text, room)
-        if told.status == DONE:
-            return text.raw[: told.length].decode()
-        if told.status == REFUSED:
-            raise Refused(text.raw[: told.length].decode())
+        told = call(text, room)
         if told.status != ROOM:
-            raise NoMemory("memory")
+            return told_by(told, text)
         room = told.length
+
+
+def told_by(told: Told, text: ctypes.Array[ctypes.c_char]) -> str:
+    """The text of a call that had room for it."""
+    if told.status == DONE:
+        return text.raw[: told.length].decode()
+    if told.status == REFUSED:
+        raise Refused(text.raw[: told.length].decode())
+    if told.status == CLOSED:
+        raise Closed("it is closed")
+    raise NoMemory("memory")

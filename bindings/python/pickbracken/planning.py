@@ -8,6 +8,7 @@ from typing import Any, Dict, Iterable, List, Optional, Sequence, Tuple, Union
 
 from . import document
 from .accesses import Access, Reply, reply_of
+from .library import Kept
 from .tree import Tree
 
 
@@ -78,13 +79,14 @@ class Drawing:
 
 def plan(tree: Tree, accesses: Iterable[Access]) -> Plan:
     """The settled plan: no legal plan of the list costs less, and of all that cost as little it is the latest."""
-    return plan_of(lines_of(document.plan(written(tree, accesses))))
+    return plan_of(lines_of(tree.kept.say(Kept.TREE_PLAN, written(None, accesses))))
 
 
 def check(tree: Tree, accesses: Iterable[Access], plan: Plan) -> int:
     """What a plan costs that its flow proves to be least. Else it is refused, whoever made the two; the cost that the
     plan tells isn't looked at."""
-    return cost_in(lines_of(document.check(written(tree, accesses, plan.steps, plan.flow))))
+    question = written(None, accesses, plan.steps, plan.flow)
+    return cost_in(lines_of(tree.kept.say(Kept.TREE_CHECK, question)))
 
 
 def judge(tree: Tree, accesses: Iterable[Access], steps: Sequence[Step]) -> Judgement:
@@ -100,18 +102,15 @@ def draw(tree: Tree, accesses: Iterable[Access], steps: Optional[Sequence[Step]]
 
 
 def written(
-    tree: Tree,
+    tree: Optional[Tree],
     accesses: Iterable[Access],
     steps: Optional[Sequence[Step]] = None,
     flow: Optional[Sequence[FlowRow]] = None,
 ) -> bytes:
-    """The document of a tree and a list, with a plan and a flow if there are any."""
-    parts: Dict[str, object] = {
-        "version": 2,
-        "nodes": [node.form() for node in tree.nodes],
-        "list": [access.form() for access in accesses],
-    }
-    return json.dumps({**parts, **plan_parts(steps, flow)}, separators=(",", ":")).encode()
+    """The document of a list, with a tree, a plan and a flow if there are any."""
+    nodes = {"nodes": tree.rows()} if tree else {}
+    parts = {"version": 2, **nodes, "list": [access.form() for access in accesses], **plan_parts(steps, flow)}
+    return json.dumps(parts, separators=(",", ":")).encode()
 
 
 def plan_parts(steps: Optional[Sequence[Step]], flow: Optional[Sequence[FlowRow]]) -> Dict[str, object]:

@@ -2,10 +2,13 @@
 
 from __future__ import annotations
 
+import json
 from dataclasses import dataclass, field
-from typing import Dict, Iterator, List, Mapping, Optional, Tuple
+from functools import cached_property
+from typing import Any, Dict, Iterator, List, Mapping, Optional, Tuple
 
 from .faults import BadPath
+from .kept import KeptTree
 
 
 @dataclass(frozen=True)
@@ -32,7 +35,8 @@ class Branch:
 
 @dataclass(frozen=True)
 class Tree:
-    """Nodes in preorder. Whether they are a tree as grove takes it is seen by each call."""
+    """Nodes in preorder. Whether they are a tree as grove takes it is seen by each call. From its first plan on the
+    library keeps the tree, which is read but once."""
 
     nodes: Tuple[Node, ...]
 
@@ -53,6 +57,23 @@ class Tree:
         numbers = {path: number for number, path in enumerate(paths)}
         rows = (row(path, branch.weight, records.get(path, 0), numbers) for path, branch in laid_out(top))
         return Tree(tuple(rows))
+
+    def __reduce__(self) -> Tuple[Any, ...]:
+        """As its nodes; what the library keeps belongs to this tree alone."""
+        return Tree, (self.nodes,)
+
+    def rows(self) -> List[Dict[str, object]]:
+        """The nodes as a document has them."""
+        return [node.form() for node in self.nodes]
+
+    def document(self) -> bytes:
+        """The document of the tree and its records, without a list."""
+        return json.dumps({"version": 2, "nodes": self.rows()}, separators=(",", ":")).encode()
+
+    @cached_property
+    def kept(self) -> KeptTree:
+        """The tree as the library keeps it."""
+        return KeptTree(self.document())
 
     def paths(self) -> List[str]:
         """The path of each node, in the tree's order: that of records."""

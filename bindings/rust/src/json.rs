@@ -55,6 +55,11 @@ impl Value {
         }
     }
 
+    /// What each item of an array is read as.
+    pub(crate) fn each<T>(&self, item: impl Fn(&Value) -> Option<T>) -> Option<Vec<T>> {
+        self.items()?.iter().map(item).collect()
+    }
+
     pub(crate) fn member(&self, name: &str) -> Option<&Value> {
         match self {
             Value::Object(members) => {

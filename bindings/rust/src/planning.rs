@@ -3,7 +3,7 @@ use crate::document;
 use crate::error::Error;
 use crate::json::Value;
 use crate::plan::{Certificate, FlowRow, Judgement, Plan, Step};
-use crate::tree::Tree;
+use crate::tree::{Tree, question};
 
 /// How a drawing is written.
 #[derive(Clone, Copy, Debug, PartialEq, Eq)]
@@ -15,35 +15,38 @@ pub enum Form {
 }
 
 /// What can't be: an answer that isn't of the form that docs/FORMATS.md has.
-const STRANGE: &str = "the library answers in grove's formats";
+pub(crate) const STRANGE: &str = "the library answers in grove's formats";
 
 impl Tree {
     /// The settled plan of a list: no legal plan costs less, and of all that cost as little it is the latest.
     pub fn plan(&self, list: &[Access]) -> Result<Plan, Error> {
-        let answer = document::plan(self.document(list, None, None).as_bytes())?;
+        let question = question(list, None, None);
+        let answer = self
+            .kept
+            .say(|| self.alone(), |tree| tree.plan(question.as_bytes()))?;
         Ok(read_plan(&answer).expect(STRANGE))
     }
 
     /// What a plan costs that its certificate proves to be least; or why that isn't so, whoever made the two. The cost
     /// that the plan tells isn't looked at.
     pub fn check(&self, list: &[Access], plan: &Plan) -> Result<u64, Error> {
-        let certificate = Some(&plan.certificate);
-        let answer = document::check(
-            self.document(list, Some(&plan.steps), certificate)
-                .as_bytes(),
-        )?;
+        let question = question(list, Some(&plan.steps), Some(&plan.certificate));
+        let answer = self
+            .kept
+            .say(|| self.alone(), |tree| tree.check(question.as_bytes()))?;
         Ok(cost_of(&answer).expect(STRANGE))
     }
 
     /// What some steps cost, if they are a legal plan of the list, and what the list replies and leaves.
     pub fn judge(&self, list: &[Access], steps: &[Step]) -> Result<Judgement, Error> {
-        let answer = document::judge(self.document(list, Some(steps), None).as_bytes())?;
+        let whole = self.document(&question(list, Some(steps), None));
+        let answer = document::judge(whole.as_bytes())?;
         Ok(read_judgement(&answer).expect(STRANGE))
     }
 
     /// The settled plan of a list as a picture.
     pub fn draw(&self, list: &[Access], form: Form) -> Result<String, Error> {
-        drawn(form, &self.document(list, None, None))
+        drawn(form, &self.document(&question(list, None, None)))
     }
 
     /// The same, and above it the picture of some steps, if they are a legal plan of the list.
@@ -53,7 +56,7 @@ impl Tree {
         steps: &[Step],
         form: Form,
     ) -> Result<String, Error> {
-        drawn(form, &self.document(list, Some(steps), None))
+        drawn(form, &self.document(&question(list, Some(steps), None)))
     }
 }
 
@@ -70,13 +73,9 @@ fn told<'a>(answer: &'a str, name: &str) -> Option<&'a str> {
     lines.find_map(|line| line.strip_prefix(name)?.strip_prefix(' '))
 }
 
-/// The items that it tells there.
-fn items<T>(answer: &str, name: &str, item: impl Fn(&Value) -> Option<T>) -> Option<Vec<T>> {
-    Value::read(told(answer, name)?)?
-        .items()?
-        .iter()
-        .map(item)
-        .collect()
+/// What it tells there, as a value.
+fn value_of(answer: &str, name: &str) -> Option<Value> {
+    Value::read(told(answer, name)?)
 }
 
 fn cost_of(answer: &str) -> Option<u64> {
@@ -84,11 +83,17 @@ fn cost_of(answer: &str) -> Option<u64> {
 }
 
 fn read_plan(answer: &str) -> Option<Plan> {
+    let (steps, rows) = (value_of(answer, "plan")?, value_of(answer, "flow")?);
+    plan_of(cost_of(answer)?, &steps, &rows)
+}
+
+/// The plan that a cost, steps and rows are.
+pub(crate) fn plan_of(cost: u64, steps: &Value, rows: &Value) -> Option<Plan> {
     Some(Plan {
-        cost: cost_of(answer)?,
-        steps: items(answer, "plan", read_step)?,
+        cost,
+        steps: steps.each(read_step)?,
         certificate: Certificate {
-            rows: items(answer, "flow", read_row)?,
+            rows: rows.each(read_row)?,
         },
     })
 }
@@ -120,12 +125,12 @@ fn read_row(value: &Value) -> Option<FlowRow> {
 fn read_judgement(answer: &str) -> Option<Judgement> {
     Some(Judgement {
         cost: cost_of(answer)?,
-        replies: items(answer, "replies", read_reply)?,
-        records: items(answer, "records", Value::number)?,
+        replies: value_of(answer, "replies")?.each(read_reply)?,
+        records: value_of(answer, "records")?.each(Value::number)?,
     })
 }
 
-fn read_reply(value: &Value) -> Option<Reply> {
+pub(crate) fn read_reply(value: &Value) -> Option<Reply> {
     match value.text() {
         Some("ok") => Some(Reply::Stored),
         Some("range") => Some(Reply::Range),

@@ -1,16 +1,21 @@
 use crate::access::Access;
 use crate::error::Error;
 use crate::json::quoted;
-use crate::plan::{Certificate, Step};
+use crate::kept::Kept;
+use crate::plan::{Certificate, FlowRow, Step};
 use std::fmt::Write;
 
 /// The version of documents in which accesses tell their lengths.
 const VERSION: u32 = 2;
 
 /// Nodes with a weight and a record each, in preorder. Whether they are a tree as grove takes it is seen by each call.
+///
+/// From its first plan on the library keeps the tree, which is read but once. Threads that plan over one tree wait for
+/// each other; a clone is read anew, and waits for nobody.
 #[derive(Clone, Debug, PartialEq, Eq)]
 pub struct Tree {
     nodes: Vec<Node>,
+    pub(crate) kept: Kept,
 }
 
 #[derive(Clone, Debug, PartialEq, Eq)]
@@ -32,7 +37,10 @@ impl Tree {
             let branch = names_of(path)?.fold(&mut top, Branch::child);
             branch.weight = weight;
         }
-        let mut tree = Tree { nodes: Vec::new() };
+        let mut tree = Tree {
+            nodes: Vec::new(),
+            kept: Kept::default(),
+        };
         tree.append(None, top);
         Ok(tree)
     }
@@ -41,6 +49,7 @@ impl Tree {
     pub fn with_record(mut self, path: &str, record: i64) -> Result<Tree, Error> {
         let at = self.at(path).ok_or_else(|| Error::Path(path.to_owned()))?;
         self.nodes[at].record = record;
+        self.kept = Kept::default();
         Ok(self)
     }
 
@@ -81,35 +90,47 @@ impl Tree {
         }
     }
 
-    /// The document of the tree, a list, and a plan and a certificate where there are any.
-    pub(crate) fn document(
-        &self,
-        list: &[Access],
-        steps: Option<&[Step]>,
-        certificate: Option<&Certificate>,
-    ) -> String {
-        let mut text = format!("{{\"version\":{VERSION},\"nodes\":[");
+    /// The document of the tree, with the rest of it.
+    pub(crate) fn document(&self, rest: &str) -> String {
+        let mut text = String::from("{\"nodes\":[");
         join(&mut text, &self.nodes, write_node);
-        text.push_str("],\"list\":[");
-        join(&mut text, list, write_access);
-        if let Some(steps) = steps {
-            text.push_str("],\"plan\":[");
-            join(&mut text, steps, write_step);
-        }
-        if let Some(certificate) = certificate {
-            text.push_str("],\"flow\":[");
-            join(&mut text, &certificate.rows, |text, row| {
-                let node = quoted(&row.node);
-                write!(
-                    text,
-                    "{{\"node\":{node},\"above\":{},\"held\":{},\"first\":{},\"last\":{},\"own\":{}}}",
-                    row.above, row.held, row.first, row.last, row.own
-                )
-            });
-        }
-        text.push_str("]}");
+        text.push_str("],");
+        text.push_str(rest.trim_start_matches('{'));
         text
     }
+
+    /// The document of the tree alone.
+    pub(crate) fn alone(&self) -> String {
+        self.document(&format!("{{\"version\":{VERSION}}}"))
+    }
+}
+
+/// The document without a tree of a list, and of a plan and a certificate if there are any.
+pub(crate) fn question(
+    list: &[Access],
+    steps: Option<&[Step]>,
+    certificate: Option<&Certificate>,
+) -> String {
+    let mut text = format!("{{\"version\":{VERSION},\"list\":");
+    write_list(&mut text, list);
+    if let Some(steps) = steps {
+        text.push_str(",\"plan\":[");
+        join(&mut text, steps, write_step);
+        text.push(']');
+    }
+    if let Some(certificate) = certificate {
+        text.push_str(",\"flow\":[");
+        join(&mut text, &certificate.rows, write_row);
+        text.push(']');
+    }
+    text.push('}');
+    text
+}
+
+pub(crate) fn write_list(text: &mut String, list: &[Access]) {
+    text.push('[');
+    join(text, list, write_access);
+    text.push(']');
 }
 
 /// A node of a tree that isn't laid out yet.
@@ -184,6 +205,15 @@ fn write_access(text: &mut String, access: &Access) -> std::fmt::Result {
         Op::Take(number) => write!(text, "[\"take\",{path},{number}")?,
     }
     write!(text, ",{}]", access.length)
+}
+
+fn write_row(text: &mut String, row: &FlowRow) -> std::fmt::Result {
+    let node = quoted(&row.node);
+    write!(
+        text,
+        "{{\"node\":{node},\"above\":{},\"held\":{},\"first\":{},\"last\":{},\"own\":{}}}",
+        row.above, row.held, row.first, row.last, row.own
+    )
 }
 
 fn write_step(text: &mut String, step: &Step) -> std::fmt::Result {
