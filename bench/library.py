@@ -1,0 +1,174 @@
+#!/usr/bin/env python3
+"""Times plans by the library inside Python and Rust, beside `grove plan` as a process, and prints microseconds.
+
+    usage: bench/library.py [--grove PROGRAM] [--runs N]        (default: the proved program, 200 runs)
+
+Each plan is made in these ways, in turn, N times each; of the process there are a tenth as many runs:
+
+- process: the document is handed to `grove plan`, and what it prints is taken;
+- Python, Rust by document: the same text by a call over the document's bytes;
+- Python, Rust by kept tree: a plan as a value of the list's accesses, over a tree that the library keeps.
+
+The lists: that of examples/settings.json, and the largest, 64 accesses that force 2,049 of 4,096 nodes. The median is
+told, and in brackets the least. bench/library.rs, compiled here by `cargo`, is the part in Rust; tools/library has to
+have made the library. Each way has to give the same plan.
+"""
+from __future__ import annotations
+
+import argparse
+import json
+import os
+import statistics
+import subprocess
+import sys
+import tempfile
+import time
+from dataclasses import dataclass
+from pathlib import Path
+from typing import Callable, Union
+
+TOP = Path(__file__).resolve().parent.parent
+sys.dont_write_bytecode = True
+sys.path.insert(0, str(TOP / "bindings/python"))
+from pickbracken import Access, Tree, document, plan  # noqa: E402
+
+PROGRAM = TOP / "crates/grove/out/grove"
+DEPTH, NODES, ACCESSES = 32, 4_096, 64
+MANIFEST = """\
+[package]
+name = "library"
+version = "0.1.0"
+edition = "2024"
+
+[[bin]]
+name = "library"
+path = "{source}"
+
+[dependencies]
+pickbracken = {{ path = "{crate}" }}
+"""
+
+Row = dict[str, Union[int, str, None]]
+
+
+@dataclass(frozen=True)
+class Case:
+    """A tree with a list of gets and their lengths."""
+
+    name: str
+    rows: list[Row]
+    gets: list[tuple[str, int]]
+
+    def document(self) -> bytes:
+        accesses = [["get", path, length] for path, length in self.gets]
+        return json.dumps({"version": 2, "nodes": self.rows, "list": accesses}, separators=(",", ":")).encode()
+
+    def weights(self) -> dict[str, int]:
+        return {path: int(row["weight"] or 0) for path, row in zip(paths_of(self.rows), self.rows)}
+
+    def numbers(self) -> str:
+        """The case as bench/library.rs reads it: a line for each node and for each access, and the document."""
+        nodes = [f"node {path} {weight}\n" for path, weight in self.weights().items()]
+        gets = [f"get {path} {length}\n" for path, length in self.gets]
+        return "".join([*nodes, *gets, f"document {self.document().decode()}\n"])
+
+
+def settings() -> Case:
+    read = json.loads((TOP / "examples/settings.json").read_text(encoding="utf-8"))
+    return Case("settings.json", read["nodes"], [(access[1], 1) for access in read["list"]])
+
+
+def largest() -> Case:
+    """Chains of the greatest depth below a root, and one that is shorter; the ends of 64 are accessed."""
+    rows: list[Row] = [{"parent": None, "name": "", "weight": 1000}]
+    while len(rows) < NODES:
+        depth = (len(rows) - 1) % DEPTH
+        number = len(rows)
+        rows.append({"parent": number - 1 if depth else 0, "name": f"n{number}", "weight": 1 + number * 37 % 1000})
+    ends = paths_of(rows)[DEPTH : DEPTH * ACCESSES + 1 : DEPTH]
+    return Case("64 accesses, 4,096 nodes", rows, [(path, 1) for path in ends])
+
+
+def paths_of(rows: list[Row]) -> list[str]:
+    paths: list[str] = []
+    for row in rows:
+        above = "" if not row["parent"] else paths[int(row["parent"])]
+        paths.append(f"{above}/{row['name']}")
+    return paths
+
+
+def main() -> None:
+    given = arguments()
+    with tempfile.TemporaryDirectory(prefix="grove-bench-") as room:
+        rust = built(Path(room))
+        for case in (settings(), largest()):
+            tell(case, timed(case, given.grove, given.runs, rust))
+    print(f"load of the machine: {' '.join(f'{load:.1f}' for load in os.getloadavg())}")
+
+
+def arguments() -> argparse.Namespace:
+    parser = argparse.ArgumentParser(description="Times plans by the library, beside the process.")
+    parser.add_argument("--grove", default=str(PROGRAM), metavar="PROGRAM", help="the program to compare with")
+    parser.add_argument("--runs", type=int, default=200, metavar="N", help="how often each plan is made")
+    return parser.parse_args()
+
+
+def timed(case: Case, grove: str, runs: int, rust: Path) -> dict[str, list[float]]:
+    """The seconds of each run, by the way; every way has to give one cost."""
+    whole, tree = case.document(), Tree.from_paths(case.weights())
+    accesses = [Access.get(path).lasting(length) for path, length in case.gets]
+    wanted = document.plan(whole)
+    ways: dict[str, Callable[[], object]] = {
+        "process": lambda: printed(grove, whole),
+        "Python, by document": lambda: document.plan(whole),
+        "Python, by kept tree": lambda: plan(tree, accesses),
+    }
+    need(printed(grove, whole) == wanted, "the process prints another plan")
+    need(f"cost {plan(tree, accesses).cost}\n" == wanted[: wanted.index("\n") + 1], "a kept tree has another plan")
+    times = {name: seconds_of(way, max(runs // 10, 1) if name == "process" else runs) for name, way in ways.items()}
+    return times | in_rust(case, rust, runs, wanted)
+
+
+def printed(grove: str, whole: bytes) -> str:
+    return subprocess.run([grove, "plan"], input=whole, stdout=subprocess.PIPE, check=True).stdout.decode()
+
+
+def seconds_of(way: Callable[[], object], runs: int) -> list[float]:
+    return [once(way) for _ in range(runs)]
+
+
+def once(way: Callable[[], object]) -> float:
+    begun = time.perf_counter()
+    way()
+    return time.perf_counter() - begun
+
+
+def in_rust(case: Case, rust: Path, runs: int, wanted: str) -> dict[str, list[float]]:
+    """What the part in Rust prints: the cost, and for each way a line of nanoseconds."""
+    ran = subprocess.run([rust, str(runs)], input=case.numbers(), stdout=subprocess.PIPE, check=True, text=True)
+    cost, by_document, by_tree = ran.stdout.splitlines()
+    need(wanted.startswith(f"{cost}\n"), "Rust has another plan")
+    named = {"Rust, by document": by_document, "Rust, by kept tree": by_tree}
+    return {name: [int(word) / 1e9 for word in line.split()] for name, line in named.items()}
+
+
+def built(room: Path) -> Path:
+    (room / "Cargo.toml").write_text(MANIFEST.format(source=TOP / "bench/library.rs", crate=TOP / "bindings/rust"))
+    surroundings = {**os.environ, "CARGO_TARGET_DIR": str(room / "target")}
+    subprocess.run(["cargo", "build", "--quiet", "--release", "--offline"], cwd=room, env=surroundings, check=True)
+    return room / "target/release/library"
+
+
+def tell(case: Case, times: dict[str, list[float]]) -> None:
+    print(case.name)
+    for name, seconds in times.items():
+        print(f"  {name:22}{1e6 * statistics.median(seconds):10,.0f} µs ({1e6 * min(seconds):,.0f})")
+
+
+def need(is_so: bool, otherwise: str) -> None:
+    if not is_so:
+        sys.exit(f"bench/library.py: {otherwise}")
+
+
+if __name__ == "__main__":
+    main()
