@@ -54,27 +54,27 @@ def strange_line(random):
     parts = ["GET", random.choice(["/", "/nodes"]), "HTTP/1.1"]
     for at, choices in random.sample([(0, METHODS), (1, TARGETS), (2, VERSIONS)], random.choice([1, 1, 2])):
         parts[at] = random.choice(choices)
-    return encoded(f"{' '.join(parts)}\r\nhost: a\r\n\r\n")
+    return encoded(f"{' '.join(parts)}\r\nhost: localhost\r\n\r\n")
 
 
 def strange_field(random):
     line = f"{random.choice(['GET', 'GET', 'HEAD', 'PUT'])} /nodes HTTP/1.1"
-    host = random.choice([["host: a"], ["host: a"], []])
+    host = random.choice([["host: localhost"], ["host: localhost"], []])
     return encoded("\r\n".join([line, *host, *random.choices(FIELDS, k=random.randint(1, 3)), "", ""]))
 
 
 def lying_length(random):
-    head = f"POST / HTTP/1.1\r\nhost: a\r\ncontent-length: {random.choice(LENGTHS)}\r\n\r\n"
+    head = f"POST / HTTP/1.1\r\nhost: localhost\r\ncontent-length: {random.choice(LENGTHS)}\r\n\r\n"
     return encoded(head) + random.choice(LINES)
 
 
 def strange_coding(random):
-    head = f"POST / HTTP/1.1\r\nhost: a\r\ntransfer-encoding: {random.choice(CODINGS)}\r\n\r\n"
+    head = f"POST / HTTP/1.1\r\nhost: localhost\r\ntransfer-encoding: {random.choice(CODINGS)}\r\n\r\n"
     return encoded(head) + b"5\r\nhello\r\n0\r\n\r\n"
 
 
 def strange_chunks(random):
-    head = b"POST / HTTP/1.1\r\nhost: a\r\ntransfer-encoding: chunked\r\n\r\n"
+    head = b"POST / HTTP/1.1\r\nhost: localhost\r\ntransfer-encoding: chunked\r\n\r\n"
     chunks = b"".join(strange_chunk(random) for _ in range(random.randrange(4)))
     last = random.choice([b"0\r\n", b"0\r\n", b"00000\r\n", b""])
     return head + chunks + last + encoded(random.choice(TRAILERS)) + b"\r\n"

@@ -2,6 +2,7 @@
 import copy
 import json
 import re
+from ipaddress import ip_address
 from pathlib import Path
 
 from store import compact
@@ -12,7 +13,11 @@ MOST_BODY, MOST_LINES = 4_194_304, 16_384
 # After a longer body the connection ends.
 MOST_KEPT = 65_536
 # The methods of each path, as `allow` tells them.
-ALLOWED = {"/": {b"GET", b"HEAD", b"POST"}, "/document": {b"GET", b"HEAD"}, "/nodes": {b"GET", b"HEAD"}}
+LOOKS = {b"GET", b"HEAD"}
+ALLOWED = {"/": {*LOOKS, b"POST"}, "/document": LOOKS, "/nodes": LOOKS, "/health": LOOKS}
+HEALTHY = b'{"status":"ok"}\n'
+# What each response of the server says against being framed, or taken for another type.
+GUARDS = {b"x-content-type-options": b"nosniff", b"x-frame-options": b"DENY"}
 
 
 def lines_in(body):
@@ -49,12 +54,25 @@ def is_from_here(fields):
     return values_of(fields, "origin") in ([], [f"http://{host[0]}"])
 
 
+def is_known(host):
+    """Is it an address or `localhost`, with or without a port?"""
+    found = re.fullmatch(r"(\[[0-9A-Fa-f:.]+\]|[^:]*)(:[0-9]*)?", host)
+    name = found[1].strip("[]") if found else ""
+    try:
+        return name.lower() == "localhost" or bool(ip_address(name))
+    except ValueError:
+        return False
+
+
 def fault_of_response(store, row, response):
     """What is wrong with the response to a request of this method, path and body, and these fields; `None` where it is
     right. The store is then what that leaves."""
     method, path, body, *fields = row
     if response is None:
         return "there is no response"
+    hosts = values_of(fields, "host")
+    if len(hosts) > 1 or not all(map(is_known, hosts)):
+        return fault_of_plain(response, 421, {b"" if method == "HEAD" else b'{"error":"host"}\n'})
     if path not in ALLOWED:
         return fault_of_plain(response, 404, {b"" if method == "HEAD" else b'{"error":"not-found"}\n'})
     if method.encode() not in ALLOWED[path]:
@@ -72,6 +90,8 @@ def text_at(store, path):
     """What a look at the path has to show."""
     if path == "/":
         return PAGE.read_bytes()
+    if path == "/health":
+        return HEALTHY
     return document_text(store) if path == "/document" else nodes_text(store)
 
 
@@ -86,6 +106,8 @@ def fault_of_look(response, wanted, kind, method):
 def fault_of_plain(response, status, bodies, kind=JSON):
     if response.status != status or response.body not in bodies:
         return f"wanted {status} {min(bodies)[:200]!r}; came {response}"
+    if not GUARDS.items() <= response.fields.items():
+        return f"it may be framed, or taken for another type: {response.fields}"
     told = response.fields.get(b"content-type")
     return None if told == kind or not response.body else f"wanted {kind!r}; came {told!r}"
 

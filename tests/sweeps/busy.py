@@ -10,7 +10,7 @@ from functools import partial
 
 from server import Serving, connected
 from store import Store
-from web import BadResponse
+from web import BadResponse, responses_in
 
 from sweeps.connections import ADD, TREE
 from sweeps.idle import COMMANDS, reply_in, sent
@@ -66,8 +66,14 @@ def full(program: str, command: str, further: tuple[str, ...], tally: Tally) -> 
 
 
 def is_told(command: str, came: bytes) -> bool:
-    """Is a client told that it is too late? (Over HTTP that is the end of what it is told.)"""
-    return came == BUSY if command == "serve" else came.endswith(BUSY)
+    """Is a client told that it is too late?"""
+    if command == "serve":
+        return came == BUSY
+    responses = responses_in(came, False)
+    return [(response.status, response.body) for response in responses] == [(503, BUSY)] and all(
+        response.fields.get(b"retry-after", b"").isdigit() and response.fields.get(b"connection") == b"close"
+        for response in responses
+    )
 
 
 def note_everybody(store: Store, command: str, clients: list, streams: list, where: str, tally: Tally) -> None:

@@ -36,6 +36,8 @@ SOONEST = 0.9
 SEATS = 16
 # How often a byte is sent, and the time to idle.
 DRIPS = ((0.1, 1), (1.0, 3))
+# What is sent so, each byte behind the last one.
+DRIPPED = {"serve": b" ", "page": b"GET /nodes HTTP/1.1\r\nhost: localhost\r\nx: "}
 # How many bytes a line has, its line feed not counted, and in how many pieces it is sent at most. The last is too long.
 SIZES = (50, 4_000, 4_096, 5_000, 10_000, 100_000, 1_000_000, MOST_LINE, MOST_LINE + 1)
 PIECES = (1, 1_000, 4_096, 16_384, MOST_LINE + 2)
@@ -60,7 +62,11 @@ def tries(program: str, room: str) -> list[Try]:
     }
     pairs = [(command, name) for command in COMMANDS for name in both]
     parts = [Try(f"{command}, {name}", partial(both[name], program, command)) for command, name in pairs]
-    return parts + [Try(f"serve, a byte each {pace:g} s", partial(dripping, program, pace, idle)) for pace, idle in DRIPS]
+    drips = [(command, pace, idle) for command in COMMANDS for pace, idle in DRIPS]
+    return parts + [
+        Try(f"{command}, a byte each {pace:g} s", partial(dripping, program, command, pace, idle))
+        for command, pace, idle in drips
+    ]
 
 
 # ---- lines, by each of the commands
@@ -128,25 +134,25 @@ def silent(program: str, command: str, tally: Tally) -> None:
             note_after(has_closed, time.monotonic() - started, SOONEST, f"client {number}", tally)
 
 
-def dripping(program: str, pace: float, idle: int, tally: Tally) -> None:
-    """Sixteen take all seats and send a byte so often, and never a line feed; the 17th is served."""
+def dripping(program: str, command: str, pace: float, idle: int, tally: Tally) -> None:
+    """Sixteen take all seats and send a byte so often, and never a whole line or request; the 17th is served."""
     store = Store(json.loads(TREE))
     with ThreadPoolExecutor(SEATS) as pool, ExitStack() as room:
-        server = room.enter_context(serving(program, "serve", ("--idle", str(idle))))
+        server = room.enter_context(serving(program, command, ("--idle", str(idle))))
         started = time.monotonic()
         clients = [room.enter_context(connected(server.port)) for _ in range(SEATS)]
-        drips = [pool.submit(drip, client, pace, started) for client in clients]
-        note_asked(store, "serve", server.port, "the 17th", tally)
+        drips = [pool.submit(drip, client, DRIPPED[command], pace, started) for client in clients]
+        note_asked(store, command, server.port, "the 17th", tally)
         for number, dripped in enumerate(drips):
             has_closed, after = dripped.result()
             note_after(has_closed, after, idle - 0.1, f"client {number}", tally)
 
 
-def drip(client: socket.socket, pace: float, started: float) -> tuple[bool, float]:
-    """Sends a byte so often. Has the other side closed before long, and how long after the start?"""
-    for _ in range(round(LONGEST / pace)):
+def drip(client: socket.socket, text: bytes, pace: float, started: float) -> tuple[bool, float]:
+    """Sends a byte of the text so often. Has the other side closed before long, and how long after the start?"""
+    for number in range(round(LONGEST / pace)):
         try:
-            client.sendall(b" ")
+            client.sendall(text[number : number + 1] or b"x")
             has_closed = closes_within(client, pace)
         except ConnectionError:
             has_closed = True

@@ -45,7 +45,7 @@ MOST_REPLIES, SOME_NODES = 16_777_216, 401
 LONG = 30.0
 # How long sixteen clients ask; each goes on until it has had a batch and a look.
 SECONDS = 3.0
-STATUSES = {100, 200, 400, 403, 404, 405, 413, 414, 431, 501}
+STATUSES = {100, 200, 400, 403, 404, 405, 413, 414, 421, 431, 501}
 PORT = 0
 REFUSED = b'{"batch":[[["get","/c"]]]}'
 LOOK = ("GET", "/nodes", None)
@@ -67,6 +67,14 @@ ORIGINS = [
     (f"origin: http://{HOST}", f"origin: http://{HOST}"),
     (f"origin: http://{HOST}, http://{HOST}",),
 ]
+# The hosts that requests may name; whoever names another one isn't served.
+HERE = ["127.0.0.1", "127.0.0.1:80", "10.1.2.3:", "localhost", "LocalHost:9", "LOCALHOST", "[::1]", "[::1]:80"]
+HERE += ["[::ffff:1.2.3.4]"]
+ELSEWHERE = ["elsewhere.example", "localhost.", "localhost.example", "a.localhost", "127.0.0.1.example", "127.1"]
+ELSEWHERE += ["1.2.3.256"]
+ELSEWHERE += ["01.2.3.4", "0x7f.0.0.1", "2130706433", "127.0.0.1.", "local", "localhost_", ""]
+HOSTS = [(f"host: {name}",) for name in HERE + ELSEWHERE]
+HOSTS += [("host: localhost", "host: localhost"), ("host: localhost", "host: elsewhere.example")]
 ROWS = [
     ("GET", "/", None),
     ("HEAD", "/", None),
@@ -97,6 +105,13 @@ ROWS = [
     ("PATCH", "/document", ADD),
     ("OPTIONS", "/", None),
     *[("POST", "/", ADD, *fields) for fields in ORIGINS],
+    ("GET", "/health", None),
+    ("HEAD", "/health", None),
+    ("POST", "/health", ADD),
+    *[(*row, *fields) for row in (LOOK, ("POST", "/", ADD), ("GET", "/health", None)) for fields in HOSTS],
+    ("HEAD", "/", None, "host: elsewhere.example"),
+    ("POST", "/none", ADD, "host: elsewhere.example", "origin: http://elsewhere.example"),
+    ("POST", "/", ADD, "host: elsewhere.example", "origin: http://elsewhere.example"),
     ("GET", "/", None, "origin: null"),
     ("GET", "/nodes", None, "origin: http://elsewhere.example"),
     ("PUT", "/", ADD, "origin: null"),
@@ -325,10 +340,10 @@ def what_the_page_asks(program: str, tally: Tally) -> None:
 
 def connections(program: str, tally: Tally) -> None:
     """When a connection stays, and when it ends."""
-    last = "GET /nodes HTTP/1.1\r\nhost: a\r\nconnection: close\r\n\r\n", True
+    last = "GET /nodes HTTP/1.1\r\nhost: localhost\r\nconnection: close\r\n\r\n", True
     old = "GET /nodes HTTP/1.0\r\n\r\n", True
     kept_old = "GET /nodes HTTP/1.0\r\nconnection: keep-alive\r\n\r\n", False
-    whole = "GET http://a/nodes HTTP/1.1\r\nhost: a\r\n\r\n", False
+    whole = "GET http://localhost/nodes HTTP/1.1\r\nhost: localhost\r\n\r\n", False
     store = Store(json.loads(TREE))
     with serving(program, TREE) as server:
         for text, ends in (last, old, kept_old, whole):

@@ -1,3 +1,4 @@
+pub mod Mapped
 pub mod Nodes
 pub mod Refused
 pub mod Replied

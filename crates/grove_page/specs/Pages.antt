@@ -22,22 +22,31 @@ use Rattle.grove_desk.specs.declared.told.Told.TheVariants.{Nothing}
 use Rattle.grove_desk.specs.Histories.{Led}
 use Rattle.grove_desk.specs.Desks.{VisitState, IsShared, is_accepted}
 use Rattle.grove_page.specs.declared.route.Route.{Route}
-use Rattle.grove_page.specs.declared.route.Route.TheVariants.{Page, Lines, Document, Nodes, OnlyLook, LookOrSend, ForeignPage, Nowhere}
+use Rattle.grove_page.specs.declared.route.Route.TheVariants.{Page, Lines, Document, Nodes, Health}
+use Rattle.grove_page.specs.declared.route.Route.TheVariants.{OnlyLook, LookOrSend, ForeignPage, Nowhere}
+use Rattle.grove_page.specs.Hosts.{IsForHere}
 use Rattle.grove_page.specs.Routes.{route_of}
 
--- a page's text, and the store that its desk was opened with
+-- a page's text, the names that requests may have for its host, and the store that its desk was opened with
 pub record PageState : Type 0 where
   pub page : List ℕ
+  pub hosts : List (List ℕ)
   pub opening : StoreState
 
 -- ---- the parts of a reply
 
+-- nobody shows it within a page, or takes it for what it isn't
+abbrev pub guards : List Header
+guards = (codes "x-content-type-options", codes "nosniff") ∷ (codes "x-frame-options", codes "DENY") ∷ []
+
 -- its content is a page, or lines of JSON
 abbrev pub html : List Header
-html = (codes "content-type", codes "text/html; charset=utf-8") ∷ []
+html =
+    (codes "content-type", codes "text/html; charset=utf-8")
+    ∷ (codes "content-security-policy", codes "frame-ancestors 'none'") ∷ guards
 
 abbrev pub json : List Header
-json = (codes "content-type", codes "application/json; charset=utf-8") ∷ []
+json = (codes "content-type", codes "application/json; charset=utf-8") ∷ guards
 
 -- the methods that there are, and lines of JSON
 abbrev pub json_for : List ℕ → List Header
@@ -138,16 +147,22 @@ IsReplyTo state body Page r = IsResponse 200 html state.page r
 IsReplyTo state body Lines r = TakesBody (is_long_body body) state.opening body r
 IsReplyTo state body Document r = TellsStore document_line state.opening r
 IsReplyTo state body Nodes r = TellsStore nodes_line state.opening r
+IsReplyTo state body Health r = IsResponse 200 json (codes "{\"status\":\"ok\"}\n") r
 IsReplyTo state body OnlyLook r = IsResponse 405 (json_for (codes "GET, HEAD")) (error_line (codes "method")) r
 IsReplyTo state body LookOrSend r = IsResponse 405 (json_for (codes "GET, HEAD, POST")) (error_line (codes "method")) r
 IsReplyTo state body ForeignPage r = IsResponse 403 json (error_line (codes "origin")) r
 IsReplyTo state body Nowhere r = IsResponse 404 json (error_line (codes "not-found")) r
 
--- what is replied to a request
-abbrev pub IsPageReply : PageState → Request (List ℕ) → Response → Type 0
-IsPageReply state request r =
+-- the reply to a request for this server
+abbrev pub IsHereReply : PageState → Request (List ℕ) → Response → Type 0
+IsHereReply state request r =
     let head = head_of request in
     IsReplyTo state (body_of request) (route_of head.method (uri_path head.uri) head.headers) r
+
+-- what is replied to a request: nothing but a refusal, where it names another host
+pub record IsPageReply (state : PageState) (request : Request (List ℕ)) (r : Response) : Type 0 where
+  pub here : IsForHere state.hosts (head_of request) → IsHereReply state request r
+  pub elsewhere : (IsForHere state.hosts (head_of request) → ⊥) → IsResponse 421 json (error_line (codes "host")) r
 
 -- a connection that was served as HTTP asks, with such a reply to each request
 pub record IsPageHistory (state : PageState) (config : Config) (h : History) : Type 0 where

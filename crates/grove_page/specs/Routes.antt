@@ -3,7 +3,8 @@ use Rattle.std.specs.Prelude.{ℕ, List, [], ◌∷◌, ◌++◌, map, Bool, tru
 use Rattle.http_header.specs.FieldValue.{FieldValue}
 use Rattle.http_header.specs.HeaderMap.{Entries, get_all}
 use Rattle.grove_page.specs.declared.route.Route.{Route}
-use Rattle.grove_page.specs.declared.route.Route.TheVariants.{Page, Lines, Document, Nodes, OnlyLook, LookOrSend, ForeignPage, Nowhere}
+use Rattle.grove_page.specs.declared.route.Route.TheVariants.{Page, Lines, Document, Nodes, Health}
+use Rattle.grove_page.specs.declared.route.Route.TheVariants.{OnlyLook, LookOrSend, ForeignPage, Nowhere}
 
 -- the values of the fields of this name
 abbrev pub values_of : Entries FieldValue → List ℕ → List (List ℕ)
@@ -35,4 +36,5 @@ route_of method path fields =
     if bytes_eq path (codes "/") then look_or_send_of method fields
     else if bytes_eq path (codes "/document") then look_of method Document
     else if bytes_eq path (codes "/nodes") then look_of method Nodes
+    else if bytes_eq path (codes "/health") then look_of method Health
     else Nowhere

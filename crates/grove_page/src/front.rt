@@ -50,4 +50,7 @@ pub trait Front<R> {
     fn snapshot(&self, rt: &R) -> Result<Store, NoMemory>
         requires asks { asks }
         ensures { IfOk result (Led (opening self.now)) };
+
+    /// Learns that a request has come whole.
+    fn note_request(&self) {}
 }

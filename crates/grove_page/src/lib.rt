@@ -6,11 +6,12 @@ pub use page::PAGE;
 pub use replies_sink::{MOST_REPLIES, RepliesSink};
 pub use route::{Route, route_for};
 pub use service::{MOST_KEPT, MOST_LINES};
-pub use serving::{MOST_BODY, serve_page};
+pub use serving::{MOST_BODY, Site, serve_page};
 pub use visiting::visit;
 
 mod desk_front;
 mod front;
+mod hosts;
 mod lines;
 mod origin;
 mod page;

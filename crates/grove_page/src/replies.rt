@@ -1,12 +1,23 @@
-ghost use Rattle.std.specs.Prelude.{OnOk, codes, IsTrue};
+ghost use Rattle.std.specs.Prelude.{◌≡◌, ◌++◌, OnOk, codes, IsTrue};
 ghost use Rattle.http_header.specs.FieldValue.{is_visible_text};
-ghost use Rattle.http_server.specs.Response.{IsBlank, IsResponse};
-ghost use Rattle.grove_page.specs.Pages.{html, json, json_for, error_line};
+ghost use Rattle.http_server.specs.Response.{IsBlank, IsResponse, fields_of};
+ghost use Rattle.grove_page.specs.Pages.{guards, html, json, json_for, error_line};
 
 use bytes::{BufMut, Bytes};
 use http::{HeaderValue, StatusCode, header};
 use http_server::Response;
 use std::alloc::AllocError;
+
+/// That nobody may show it within a page of theirs, or take it for something else.
+fn add_guards(response: &mut Response) -> Result<(), AllocError>
+    ensures fields { OnOk result (fields_of response.new ≡ fields_of response.old ++ guards) }
+    ensures status { response.new.status ≡ response.old.status }
+    ensures body { response.new.body ≡ response.old.body }
+{
+    let exact = HeaderValue::from_static("nosniff");
+    response.add_header(header::X_CONTENT_TYPE_OPTIONS, exact)?;
+    response.add_header(header::X_FRAME_OPTIONS, HeaderValue::from_static("DENY"))
+}
 
 /// A page.
 pub(crate) fn fill_page(response: &mut Response, page: &'static str) -> Result<(), AllocError>
@@ -15,6 +26,9 @@ pub(crate) fn fill_page(response: &mut Response, page: &'static str) -> Result<(
 {
     let kind = HeaderValue::from_static("text/html; charset=utf-8");
     response.add_header(header::CONTENT_TYPE, kind)?;
+    let unframed = HeaderValue::from_static("frame-ancestors 'none'");
+    response.add_header(header::CONTENT_SECURITY_POLICY, unframed)?;
+    add_guards(response)?;
     response.body.push(Bytes::from_static(page.as_bytes()))
 }
 
@@ -30,6 +44,7 @@ pub(crate) fn fill_json(
     response.status = status;
     let kind = HeaderValue::from_static("application/json; charset=utf-8");
     response.add_header(header::CONTENT_TYPE, kind)?;
+    add_guards(response)?;
     response.body.put_slice(lines)
 }
 
@@ -43,5 +58,6 @@ pub(crate) fn fill_allowed(response: &mut Response, methods: &'static str) -> Re
     response.add_header(header::ALLOW, HeaderValue::from_static(methods))?;
     let kind = HeaderValue::from_static("application/json; charset=utf-8");
     response.add_header(header::CONTENT_TYPE, kind)?;
+    add_guards(response)?;
     response.body.put_slice(b"{\"error\":\"method\"}\n")
 }

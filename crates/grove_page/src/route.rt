@@ -15,6 +15,8 @@ pub enum Route {
     Document,
     /// What there is of each node.
     Nodes,
+    /// Whether it is served.
+    Health,
     /// Something that is there, but by another method: it can only be looked at.
     OnlyLook,
     /// Something that is there, but by another method: it can be looked at, and lines can be sent to it.
@@ -33,6 +35,7 @@ pub fn route_for(method: &str, path: &str, fields: &HeaderMap<HeaderValue>) -> R
         "/" => look_or_send(method, fields),
         "/document" => look(method, Route::Document),
         "/nodes" => look(method, Route::Nodes),
+        "/health" => look(method, Route::Health),
         _ => Route::Nowhere,
     }
 }

@@ -1,8 +1,9 @@
 ghost use Rattle.std.specs.Prelude.{◌≡◌, ◌==◌, ◌++◌, count_by, OnOk, OnErr, IfOk, codes, string_bytes};
 ghost use Rattle.http_server.specs.Response.{IsBlank, IsResponse};
 ghost use Rattle.grove_page.specs.Pages.{json, error_line, document_line, nodes_line, has_many_lines, is_long_body};
-ghost use Rattle.grove_page.specs.Pages.{AnswersBody, TakesLines, TakesBody, TellsStore, TellsSession, is_refused};
+ghost use Rattle.grove_page.specs.Pages.{IsHereReply, AnswersBody, TakesLines, TakesBody, TellsStore, TellsSession, is_refused};
 
+use crate::hosts::is_for_here;
 use crate::lines::{document_line, nodes_line};
 use crate::replies::{fill_allowed, fill_json, fill_page};
 use crate::route::{Route, route_for};
@@ -35,6 +36,10 @@ const DEVICE: &[u8] = b"{\"error\":\"device\"}\n";
 
 const ORIGIN: &[u8] = b"{\"error\":\"origin\"}\n";
 
+const HOST: &[u8] = b"{\"error\":\"host\"}\n";
+
+const HEALTHY: &[u8] = b"{\"status\":\"ok\"}\n";
+
 const NOT_FOUND: &[u8] = b"{\"error\":\"not-found\"}\n";
 
 /// Replies to the requests of a connection.
@@ -43,14 +48,20 @@ pub(crate) struct PageService<'a, R, F: Front<R>> {
     pub(crate) rt: &'a R,
     pub(crate) front: &'a F,
     pub(crate) page: &'static str,
+    pub(crate) hosts: &'a [String],
 }
 
 impl<'a, R, F: Front<R>> Model for PageService<'a, R, F> {
+    ghost use Rattle.std.specs.Prelude.{map, string_bytes};
     ghost use Rattle.grove_page.specs.Pages.{PageState};
 
     ghost Value = { PageState };
 
-    ghost view = { λ service. record { page = service.page.now; opening = F.opening service.front.now } };
+    ghost view = { λ service. record {
+      page = service.page.now;
+      hosts = map string_bytes service.hosts.now;
+      opening = F.opening service.front.now;
+    } };
 
     ghost invariant = { λ service. F.asks };
 }
@@ -66,21 +77,35 @@ impl<'a, R: AllocGlobal, F: Front<R>> Service for PageService<'a, R, F> {
         request: &Request<Bytes>,
         response: &mut Response,
     ) -> Result<(), AllocError> {
+        self.front.note_request();
+        if is_for_here(self.hosts, request) {
+            self.answer(request, response)
+        } else {
+            fill_json(response, StatusCode::MISDIRECTED_REQUEST, HOST)
+        }
+    }
+}
+
+impl<'a, R: AllocGlobal, F: Front<R>> PageService<'a, R, F> {
+    /// What is asked for by a request for this server.
+    fn answer(&self, request: &Request<Bytes>, response: &mut Response) -> Result<(), AllocError>
+        requires { IsBlank response.old }
+        ensures { OnOk result (IsHereReply self.now request.now response.new) }
+    {
         let path = request.uri().path();
         match route_for(request.method().as_str(), path, request.headers()) {
             Route::Page => fill_page(response, self.page),
             Route::Lines => self.take_body(request.body().as_slice(), response),
             Route::Document => self.tell_document(response),
             Route::Nodes => self.tell_nodes(response),
+            Route::Health => fill_json(response, StatusCode::OK, HEALTHY),
             Route::OnlyLook => fill_allowed(response, "GET, HEAD"),
             Route::LookOrSend => fill_allowed(response, "GET, HEAD, POST"),
             Route::ForeignPage => fill_json(response, StatusCode::FORBIDDEN, ORIGIN),
             Route::Nowhere => fill_json(response, StatusCode::NOT_FOUND, NOT_FOUND),
         }
     }
-}
 
-impl<'a, R: AllocGlobal, F: Front<R>> PageService<'a, R, F> {
     /// The replies to the lines of a body. A long one is the connection's last.
     fn take_body(&self, lines: &[u8], response: &mut Response) -> Result<(), AllocError>
         requires { IsBlank response.old }

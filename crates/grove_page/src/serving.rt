@@ -1,4 +1,4 @@
-ghost use Rattle.std.specs.Prelude.{◌≡◌, OnOk};
+ghost use Rattle.std.specs.Prelude.{◌≡◌, map, string_bytes, OnOk};
 ghost use Rattle.std.specs.Io.KnownBytes.{Appends, Consumes};
 ghost use Rattle.http_server.specs.declared.state.Config.{Config};
 ghost use Rattle.http_server.specs.History.{History, IsDone};
@@ -15,18 +15,30 @@ use std::io::{Read, Write};
 /// So many bytes may a body have.
 pub const MOST_BODY: usize = 4 * 1024 * 1024;
 
+/// What is shown to whoever looks, and by which names requests may call the server.
+#[derive(Clone, Copy)]
+pub struct Site<'a> {
+    pub page: &'static str,
+    /// Names that a request may have for its host, beside addresses and `localhost`.
+    pub hosts: &'a [String],
+}
+
 /// Serves a connection: reads its requests, and writes what is replied to them, until it is done.
 pub fn serve_page<R: AllocGlobal, F: Front<R>, I: Read, O: Write>(
     rt: &R,
     front: &F,
-    page: &'static str,
+    site: Site<'_>,
     keys: RandomState,
     reader: &mut I,
     writer: &mut O,
 ) -> io::Result<()>
     requires asks { F.asks }
     ensures { (config : Config) × (history : History) × (config.max_body_len ≡ 4194304)
-        × IsPageHistory (record { page = page.now; opening = F.opening front.now }) config history
+        × IsPageHistory (record {
+          page = site.entry.page.now;
+          hosts = map string_bytes site.entry.hosts.now;
+          opening = F.opening front.now;
+        }) config history
         × Consumes (I.remaining reader.old) (I.remaining reader.new) history.received
         × Appends (O.contents writer.old) (O.contents writer.new) history.sent
         × OnOk result (IsDone history) }
@@ -34,6 +46,12 @@ pub fn serve_page<R: AllocGlobal, F: Front<R>, I: Read, O: Write>(
     let mut config = Config::default();
     config.max_body_len = MOST_BODY;
     let mut connection = Connection::new(rt.alloc(), keys, config);
-    let mut service = PageService { rt, front, page };
+    let Site { page, hosts } = site;
+    let mut service = PageService {
+        rt,
+        front,
+        page,
+        hosts,
+    };
     serve(&mut connection, &mut service, reader, writer)
 }

@@ -1,14 +1,14 @@
 ghost use Rattle.std.specs.Prelude.{◌≡◌, false};
 
+use crate::busy::tell_busy;
 use crate::host::Host;
 use crate::minutes::tell_minutes;
 use crate::seats::Seats;
 use crate::service::Service;
 use crate::talking::{Caller, serve_caller};
 use grove_desk::{Desk, Opening};
-use grove_session::{WriterSink, write_whole};
 use std::marker::Brand;
-use std::net::{Shutdown, SocketAddr, TcpListener, TcpStream};
+use std::net::{SocketAddr, TcpListener};
 use std::sync::Wait;
 use std::time::Clock;
 use std::{io, thread};
@@ -17,9 +17,6 @@ use std::{io, thread};
 const NO_DESCRIPTOR_HERE: i32 = 24;
 
 const NO_DESCRIPTOR_AT_ALL: i32 = 23;
-
-/// What a connection is told that there is no seat for.
-const BUSY_LINE: &[u8] = b"{\"error\":\"busy\"}\n";
 
 /// Serves connections, as many at once as there are seats, until one can't be accepted and the others have ended. A
 /// connection that there is no descriptor for waits for one; one that no thread can be started for is closed.
@@ -113,7 +110,7 @@ fn seated<R: Wait + Eprint>(
     if !tells_busy || seats.take_free(rt) {
         return Some(caller);
     }
-    tell_busy(&caller.stream);
+    tell_busy(&caller.stream, seats.talk());
     if let Some(log) = seats.log() {
         let number = caller.number;
         log.tell(rt, format_args!("connection {number} was told busy"));
@@ -140,13 +137,6 @@ fn tell_threadless<R: Wait + Eprint>(rt: &R, seats: &Seats, number: u64) {
             format_args!("connection {number} cannot be served: no thread"),
         );
     }
-}
-
-/// Says that there is no seat. Nobody waits for a client that takes nothing.
-fn tell_busy(stream: &TcpStream) {
-    let _at_once = stream.set_nonblocking(true);
-    let _told = write_whole(&mut WriterSink::new(stream), BUSY_LINE);
-    let _ended = stream.shutdown(Shutdown::Write);
 }
 
 /// Whether a descriptor is all that was wanting.

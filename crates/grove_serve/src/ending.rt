@@ -42,12 +42,12 @@ impl Ending {
         }
     }
 
-    /// How requests ended that may idle for so many seconds.
-    pub fn of_requests(ended: io::Result<()>, idle: Option<u32>) -> Ending {
+    /// How requests ended that may idle for so many seconds, where the time for one may have been up.
+    pub fn of_requests(ended: io::Result<()>, idle: Option<u32>, was_late: bool) -> Ending {
         match (ended, idle) {
             (Ok(()), _) => Ending::RequestsEnded,
             (Err(error), _) if error.kind() == ErrorKind::OutOfMemory => Ending::Memory,
-            (Err(error), Some(seconds)) if is_late(&error) => Ending::Idle(seconds),
+            (Err(error), Some(seconds)) if was_late || is_late(&error) => Ending::Idle(seconds),
             (Err(_), _) => Ending::Broken,
         }
     }

@@ -5,6 +5,7 @@ pub use connections::serve;
 pub use host::Host;
 pub use service::{Manner, Patience, Service, Talk};
 
+mod busy;
 mod connections;
 mod ending;
 mod guest;

@@ -3,10 +3,10 @@ use crate::guest::Guest;
 use crate::host::Host;
 use crate::seats::Seats;
 use crate::service::Talk;
-use crate::timed_stream::TimedStream;
+use crate::timed_stream::{Awaited, TimedStream};
 use crate::watching::{SeatedDesk, session_at};
 use grove_desk::{Desk, Opening};
-use grove_page::{PAGE, serve_page};
+use grove_page::{PAGE, Site, serve_page};
 use grove_session::{ReaderSource, SessionFault, WriterSink};
 use std::cell::Cell;
 use std::hash::RandomState;
@@ -58,7 +58,13 @@ fn answer_in_time<B: Opening, R: Host>(
         return Ending::Untimed;
     }
     let is_late = Cell::new(false);
-    let mut source = ReaderSource::new(TimedStream::new(rt, stream, longest, &is_late));
+    let mut source = ReaderSource::new(TimedStream::new(
+        rt,
+        stream,
+        Awaited::Line,
+        longest,
+        &is_late,
+    ));
     let mut sink = WriterSink::new(stream);
     match session_at(rt, desk, guest, &mut source, &mut sink) {
         Err(SessionFault::Read) if is_late.get() => Ending::Idle(seconds),
@@ -66,7 +72,7 @@ fn answer_in_time<B: Opening, R: Host>(
     }
 }
 
-/// Requests of HTTP over the stream, which may send nothing for so many seconds, or for ever.
+/// Requests of HTTP over the stream, each of which may take so many seconds to come, or for ever.
 fn answer_requests<B: Opening, R: Host>(
     rt: &R,
     desk: &Desk<B>,
@@ -82,9 +88,23 @@ fn answer_requests<B: Opening, R: Host>(
     if stream.set_read_timeout(longest).is_err() || stream.set_write_timeout(longest).is_err() {
         return Ending::Untimed;
     }
-    let mut reader = stream;
+    let (has_come, was_late) = (Cell::new(false), Cell::new(false));
+    let front = SeatedDesk::new(desk, seats, guest, &has_come);
+    let site = Site {
+        page: PAGE,
+        hosts: &[],
+    };
     let mut writer = stream;
-    let front = SeatedDesk::new(desk, seats, guest);
-    let ended = serve_page(rt, &front, PAGE, keys, &mut reader, &mut writer);
-    Ending::of_requests(ended, idle)
+    let ended = match longest {
+        Some(longest) => {
+            let awaited = Awaited::Request(&has_come);
+            let mut reader = TimedStream::new(rt, stream, awaited, longest, &was_late);
+            serve_page(rt, &front, site, keys, &mut reader, &mut writer)
+        }
+        None => {
+            let mut reader = stream;
+            serve_page(rt, &front, site, keys, &mut reader, &mut writer)
+        }
+    };
+    Ending::of_requests(ended, idle, was_late.get())
 }

@@ -20,15 +20,25 @@ impl LimitedRead for &TcpStream {
     }
 }
 
-/// A connection that may idle for so long and no longer: a read of it fails once a line has been waited for all that
-/// time. Bytes without a line feed win none, and the time in which a line is answered doesn't count. What it reads is
-/// what the stream gives.
+/// What is waited for over a connection.
+#[derive(Clone, Copy)]
+pub enum Awaited<'a> {
+    /// A line, which a line feed ends.
+    Line,
+    /// A request. Once one has come, whoever answers it sets this.
+    Request(&'a Cell<bool>),
+}
+
+/// A connection that may idle for so long and no longer: a read of it fails once a line, or a request, has been waited
+/// for all that time. A part of one wins none, and the time in which one is answered doesn't count. What it reads is what
+/// the stream gives.
 #[derive(Drop)]
 pub struct TimedStream<'a, R, S> {
     clock: &'a R,
     stream: S,
+    awaited: Awaited<'a>,
     longest: Duration,
-    /// Since when a line has been waited for; nothing, where the last one has just come.
+    /// Since when it has been waited for; nothing, where the last one has just come.
     since: Option<Instant>,
     /// Whether the time was up.
     is_late: &'a Cell<bool>,
@@ -39,12 +49,14 @@ impl<'a, R: Clock, S: LimitedRead> TimedStream<'a, R, S> {
     pub fn new(
         clock: &'a R,
         stream: S,
+        awaited: Awaited<'a>,
         longest: Duration,
         is_late: &'a Cell<bool>,
     ) -> TimedStream<'a, R, S> {
         TimedStream {
             clock,
             stream,
+            awaited,
             longest,
             since: None,
             is_late,
@@ -57,12 +69,21 @@ impl<'a, R: Clock, S: LimitedRead> TimedStream<'a, R, S> {
         ensures { self.new.stream ≡ self.old.stream }
     {
         let now = Instant::now(self.clock)?;
+        let has_come = self.has_come();
         let since = match self.since {
-            Some(since) => since,
-            None => now,
+            Some(since) if !has_come => since,
+            _ => now,
         };
         self.since = Some(since);
         Ok(self.longest.saturating_sub(now.duration_since(since)))
+    }
+
+    /// Has a request come since this was last asked?
+    fn has_come(&self) -> bool {
+        match self.awaited {
+            Awaited::Line => false,
+            Awaited::Request(has_come) => has_come.replace(false),
+        }
     }
 
     /// Reads before the time is up.
@@ -86,7 +107,7 @@ impl<R: Clock, S: LimitedRead> Read for TimedStream<'_, R, S> {
 
     fn read(&mut self, buffer: &mut [u8]) -> io::Result<usize> {
         let count = self.read_in_time(buffer)?;
-        if buffer[..count].contains(&b'\n') {
+        if matches!(self.awaited, Awaited::Line) && buffer[..count].contains(&b'\n') {
             self.since = None;
         }
         Ok(count)

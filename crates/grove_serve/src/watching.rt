@@ -11,6 +11,7 @@ use grove_session::{AnswerFault, Answers, SessionFault, Sink, Source, session};
 use grove_store::Store;
 use grove_tree::NoMemory;
 use std::alloc::AllocGlobal;
+use std::cell::Cell;
 use std::marker::Model;
 
 /// A visitor of a desk who is told of.
@@ -103,6 +104,8 @@ pub struct SeatedDesk<'a, B: Opening> {
     desk: &'a Desk<B>,
     seats: &'a Seats,
     guest: Option<&'a Guest<'a>>,
+    /// Set once a request has come.
+    has_come: &'a Cell<bool>,
 }
 
 impl<'a, B: Opening> Model for SeatedDesk<'a, B> {
@@ -114,8 +117,18 @@ impl<'a, B: Opening> Model for SeatedDesk<'a, B> {
 }
 
 impl<'a, B: Opening> SeatedDesk<'a, B> {
-    pub fn new(desk: &'a Desk<B>, seats: &'a Seats, guest: Option<&'a Guest<'a>>) -> Self {
-        SeatedDesk { desk, seats, guest }
+    pub fn new(
+        desk: &'a Desk<B>,
+        seats: &'a Seats,
+        guest: Option<&'a Guest<'a>>,
+        has_come: &'a Cell<bool>,
+    ) -> Self {
+        SeatedDesk {
+            desk,
+            seats,
+            guest,
+            has_come,
+        }
     }
 }
 
@@ -140,5 +153,9 @@ impl<'a, B: Opening, R: Host> Front<R> for SeatedDesk<'a, B> {
 
     fn snapshot(&self, rt: &R) -> Result<Store, NoMemory> {
         Desk::snapshot(self.desk, rt, rt.alloc())
+    }
+
+    fn note_request(&self) {
+        self.has_come.set(true);
     }
 }

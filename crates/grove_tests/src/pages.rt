@@ -4,7 +4,7 @@ use crate::desks::small_store;
 use crate::fixtures::Host;
 use bytes::{Buf, Bytes};
 use grove_desk::{Desk, Opening};
-use grove_page::{PAGE, serve_page};
+use grove_page::{PAGE, Site, serve_page};
 use grove_store::Store;
 use std::hash::RandomState;
 use std::marker::Brand;
@@ -12,10 +12,10 @@ use std::random::RandomSource;
 use std::{io, str};
 
 /// A line that is done, one that is refused, and a look at what they leave.
-const REQUESTS: &[u8] = b"POST / HTTP/1.1\r\nhost: a\r\ncontent-length: 30\r\n\r\n\
+const REQUESTS: &[u8] = b"POST / HTTP/1.1\r\nhost: localhost\r\ncontent-length: 30\r\n\r\n\
 {\"batch\":[[[\"add\",\"/a\",1]]]}\r\n\
-POST / HTTP/1.1\r\nhost: a\r\ncontent-length: 4\r\n\r\nnull\
-GET /document HTTP/1.1\r\nhost: a\r\n\r\n";
+POST / HTTP/1.1\r\nhost: localhost\r\ncontent-length: 4\r\n\r\nnull\
+GET /document HTTP/1.1\r\nhost: localhost\r\n\r\n";
 
 const REPLY: &str = "\r\n\r\n{\"places\":[0],\"replies\":[[11]],\"round\":1}\nHTTP/1.1 400 ";
 
@@ -48,7 +48,11 @@ fn add_and_look<B: Opening, R: Host>(rt: &R, store: Store)
     let requests: Bytes = Bytes::from_static(REQUESTS);
     let mut reader = requests.reader();
     let mut writer: Vec<u8> = Vec::new(rt.alloc());
-    let served = serve_page(rt, &desk, PAGE, keys, &mut reader, &mut writer);
+    let site = Site {
+        page: PAGE,
+        hosts: &[],
+    };
+    let served = serve_page(rt, &desk, site, keys, &mut reader, &mut writer);
     assert!(rt; served.is_ok());
     let text = str::from_utf8(&writer).unwrap_or("");
     assert!(rt; text.starts_with("HTTP/1.1 200 "));
