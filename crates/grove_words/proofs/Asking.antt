@@ -14,7 +14,7 @@ use Rattle.grove_words.specs.PlainWords.{is_option}
 use Rattle.grove_words.specs.Steps.{verb_named}
 use Rattle.grove_words.proofs.Words.{IsFaulty, or_faulty, or_later, not_none, hyphens, top_rules, top_long, top_short, IsOption, option_refused, HasNoFlag, no_flag, no_bundle, differs, Kind, hyphens_kind, option_kind, plain_kind, kind_of}
 use Rattle.grove_words.specs.CommandLines.{Verb}
-use Rattle.grove_words.specs.CommandLines.{Judge, Check, Plan, Draw, Run, Audit, Serve, Page, Ask}
+use Rattle.grove_words.specs.CommandLines.{Judge, Check, Plan, Draw, Run, Audit, Tree, Serve, Page, Ask, Save}
 
 -- clap's statements hold of this command line
 
@@ -70,9 +70,11 @@ is_one_of Plan = record { met = refl; turns = refl; enters = λ rest. refl; fail
 is_one_of Draw = record { met = refl; turns = refl; enters = λ rest. refl; fails = λ rest. refl; named = refl }
 is_one_of Run = record { met = refl; turns = refl; enters = λ rest. refl; fails = λ rest. refl; named = refl }
 is_one_of Audit = record { met = refl; turns = refl; enters = λ rest. refl; fails = λ rest. refl; named = refl }
+is_one_of Tree = record { met = refl; turns = refl; enters = λ rest. refl; fails = λ rest. refl; named = refl }
 is_one_of Serve = record { met = refl; turns = refl; enters = λ rest. refl; fails = λ rest. refl; named = refl }
 is_one_of Page = record { met = refl; turns = refl; enters = λ rest. refl; fails = λ rest. refl; named = refl }
 is_one_of Ask = record { met = refl; turns = refl; enters = λ rest. refl; fails = λ rest. refl; named = refl }
+is_one_of Save = record { met = refl; turns = refl; enters = λ rest. refl; fails = λ rest. refl; named = refl }
 
 module _ (verb : Verb) (rest : List Text) where
   stop_is : (walk top_rules names nothing_held (word_of verb ∷ rest)).stopped ≡ Some (word_of verb, rest)
@@ -106,11 +108,13 @@ which word =
     by_word (codes "draw") word (a_command Draw) (λ draw.
     by_word (codes "run") word (a_command Run) (λ run.
     by_word (codes "audit") word (a_command Audit) (λ audit.
+    by_word (codes "tree") word (a_command Tree) (λ tree.
     by_word (codes "serve") word (a_command Serve) (λ serve.
     by_word (codes "page") word (a_command Page) (λ page.
     by_word (codes "ask") word (a_command Ask) (λ ask.
+    by_word (codes "save") word (a_command Save) (λ save.
     by_word (codes "help") word a_help (λ help.
-    neither (rw (judge, check, plan, draw, run, audit, serve, page, ask, help) refl)))))))))))
+    neither (rw (judge, check, plan, draw, run, audit, tree, serve, page, ask, save, help) refl)))))))))))))
 
 -- a word that is no command
 

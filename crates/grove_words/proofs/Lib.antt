@@ -4,3 +4,4 @@ pub mod Words
 pub mod TakenWords
 pub mod Orders
 pub mod Rules
+pub mod Values

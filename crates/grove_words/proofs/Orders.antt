@@ -15,8 +15,8 @@ use Rattle.grove_words.specs.declared.order.Order.{Order}
 use Rattle.grove_words.specs.declared.order.Order.TheVariants as order
 use Rattle.grove_words.specs.declared.order.Place.{Place}
 use Rattle.std.specs.declared.net.socket_addr.SocketAddr.{SocketAddr}
-use Rattle.grove_words.specs.CommandLines.{grove_command, serves, text_given, Verb, Judge, Check, Plan, Draw, Run, Audit, Serve, Page, Ask, AskFor, AskToShow, AreWrong, Chooses, IsFor, IsPlace, IsServer}
-use Rattle.grove_words.specs.Invocations.{lines_given, lines_in, name_in, verb_of, AskForOrder, IsAskedBy, SaysOrder}
+use Rattle.grove_words.specs.CommandLines.{calls, grove_command, serves, text_given, texts_given, texts_in, Verb, Judge, Check, Plan, Draw, Run, Audit, Tree, Serve, Page, Ask, Save, AskFor, AskToShow, AreWrong, Chooses, GoTogether, IsFor, IsPlace, IsServer}
+use Rattle.grove_words.specs.Invocations.{name_in, verb_of, AskForOrder, IsAskedBy, SaysOrder}
 use Rattle.grove_words.specs.Orders.{verb_for, SaysCommand}
 use Rattle.grove_words.specs.Steps.{verb_named, HasName, IsFound, IsFoundIn, IsPlaceless, IsRefusedFor, IsToldWords}
 use Rattle.grove_words.proofs.Documents.{document_in}
@@ -73,38 +73,52 @@ wants_place words word rows at serving nowhere verb name asks =
     nowhere given.0 given.1
 
 wants_server : (words : List Text) (word : Text) (rows : List Row)
-    → subcommand_of grove_command words ≡ Some (word, rows) → verb_named word ≡ Ask
+    → subcommand_of grove_command words ≡ Some (word, rows) → calls (verb_named word) ≡ true
     → ((server : SocketAddr) → IsServer (text_given words) server → ⊥) → (verb : Verb) (name : Option Text)
     → AskFor words verb name → ⊥
 wants_server words word rows at asking nowhere verb name asks =
     let is : IsFor verb name (Some (word, rows)) = subst (IsFor verb name) at asks.found in
     let same : verb_named word ≡ verb = ap verb_named is.0 ∙ (is_one_of verb).named in
-    let given = asks.addressed (sym same ∙ asking) in
+    let given = asks.addressed (ap calls (sym same) ∙ asking) in
     nowhere given.0 given.1
+
+-- and so are those whose options don't go together
+wants_fit : (words : List Text) (word : Text) (rows : List Row)
+    → subcommand_of grove_command words ≡ Some (word, rows)
+    → (GoTogether (verb_named word) (text_given words) → ⊥) → (verb : Verb) (name : Option Text)
+    → AskFor words verb name → ⊥
+wants_fit words word rows at apart verb name asks =
+    let is : IsFor verb name (Some (word, rows)) = subst (IsFor verb name) at asks.found in
+    let same : verb_named word ≡ verb = ap verb_named is.0 ∙ (is_one_of verb).named in
+    apart (subst (λ v. GoTogether v (text_given words)) (sym same) asks.together)
 
 -- what was found is what the words ask for
 
 -- a command that serves says where
-placed_by : (texts : Text → Option Text) (it : Command) → SaysCommand texts it → serves (verb_for it) ≡ true
-    → (place : Place) × IsPlace texts place
-placed_by texts (command.Serve serving) says placed = (serving.place, says.place)
-placed_by texts (command.Page serving) says placed = (serving.place, says.place)
-placed_by texts command.Judge says placed = absurd (cc)
-placed_by texts command.Check says placed = absurd (cc)
-placed_by texts (command.Plan in_document) says placed = absurd (cc)
-placed_by texts (command.Draw form) says placed = absurd (cc)
-placed_by texts (command.Run workers) says placed = absurd (cc)
-placed_by texts command.Audit says placed = absurd (cc)
+placed_by : (texts : Text → Option Text) (lists : Text → List Text) (it : Command) → SaysCommand texts lists it
+    → serves (verb_for it) ≡ true → (place : Place) × IsPlace texts place
+placed_by texts lists (command.Serve serving) says placed = (serving.place, says.place)
+placed_by texts lists (command.Page serving) says placed = (serving.place, says.place)
+placed_by texts lists command.Judge says placed = absurd (cc)
+placed_by texts lists command.Check says placed = absurd (cc)
+placed_by texts lists (command.Plan in_document) says placed = absurd (cc)
+placed_by texts lists (command.Draw form) says placed = absurd (cc)
+placed_by texts lists (command.Run workers) says placed = absurd (cc)
+placed_by texts lists command.Audit says placed = absurd (cc)
+placed_by texts lists (command.Tree adds_parents) says placed = absurd (cc)
+placed_by texts lists command.Table says placed = absurd (cc)
 
-no_asking : (it : Command) → verb_for it ≡ Ask → ⊥
-no_asking command.Judge asks = cc
-no_asking command.Check asks = cc
-no_asking (command.Plan in_document) asks = cc
-no_asking (command.Draw form) asks = cc
-no_asking (command.Run workers) asks = cc
-no_asking command.Audit asks = cc
-no_asking (command.Serve serving) asks = cc
-no_asking (command.Page serving) asks = cc
+pub no_calling : (it : Command) → calls (verb_for it) ≡ true → ⊥
+no_calling command.Judge calling = cc
+no_calling command.Check calling = cc
+no_calling (command.Plan in_document) calling = cc
+no_calling (command.Draw form) calling = cc
+no_calling (command.Run workers) calling = cc
+no_calling command.Audit calling = cc
+no_calling (command.Tree adds_parents) calling = cc
+no_calling command.Table calling = cc
+no_calling (command.Serve serving) calling = cc
+no_calling (command.Page serving) calling = cc
 
 -- with a command
 module _ (words : List Text) (word : Text) (rows : List Row)
@@ -121,32 +135,47 @@ module _ (words : List Text) (word : Text) (rows : List Row)
   texts_are = ap (λ (found : Option (Text × List Row)). λ (name : Text). option_and_then
       (λ (f : Text × List Row). one_of name f.1) found) at
 
-  lines_are : lines_given words ≡ lines_in rows
-  lines_are = ap (λ (found : Option (Text × List Row)). unwrap_or
-      (option_and_then (λ (f : Text × List Row). all_of (codes "LINE") f.1) found) []) at
+  lists_are : texts_given words ≡ texts_in rows
+  lists_are = ap (λ (found : Option (Text × List Row)). λ (name : Text). unwrap_or
+      (option_and_then (λ (f : Text × List Row). all_of name f.1) found) []) at
 
-  says_given : (it : Order) → SaysOrder (λ name. one_of name rows) (lines_in rows) it
-      → SaysOrder (text_given words) (lines_given words) it
+  says_given : (it : Order) → SaysOrder (λ name. one_of name rows) (texts_in rows) it
+      → SaysOrder (text_given words) (texts_given words) it
   says_given it says =
-      subst (λ texts. SaysOrder texts (lines_given words) it) (sym texts_are)
-      (subst (λ lines. SaysOrder (λ name. one_of name rows) lines it) (sym lines_are) says)
+      subst (λ texts. SaysOrder texts (texts_given words) it) (sym texts_are)
+      (subst (λ lists. SaysOrder (λ name. one_of name rows) lists it) (sym lists_are) says)
+
+  together_given : (verb : Verb) → GoTogether verb (λ name. one_of name rows) → GoTogether verb (text_given words)
+  together_given verb together = subst (GoTogether verb) (sym texts_are) together
 
   asked_in : fault_of grove_command words ≡ [] → (it : Order) → verb_of it ≡ verb_named word
-      → HasName (document_in rows) it
-      → SaysOrder (text_given words) (lines_given words) it → AskForOrder words it
-  asked_in taken (order.Do command document) verb name says = record {
+      → HasName (document_in rows) it → GoTogether (verb_of it) (text_given words)
+      → SaysOrder (text_given words) (texts_given words) it → AskForOrder words it
+  asked_in taken (order.Do command document) verb name together says = record {
     taken = taken;
     found = for_word taken (verb_for command) (name_in document) verb name;
-    placed = placed_by (text_given words) command says;
-    addressed = λ asks. absurd (no_asking command asks);
+    placed = placed_by (text_given words) (texts_given words) command says;
+    addressed = λ calling. absurd (no_calling command calling);
+    together = together;
   }
-  asked_in taken (order.Ask server lines) verb name says = (
+  asked_in taken (order.Ask server lines) verb name together says = (
     document_in rows,
     record {
       taken = taken;
       found = for_word taken Ask (document_in rows) verb refl;
       placed = λ serving. absurd (cc);
-      addressed = λ asks. (server, says.0);
+      addressed = λ calling. (server, says.0);
+      together = together;
+    },
+  )
+  asked_in taken (order.Save server file) verb name together says = (
+    document_in rows,
+    record {
+      taken = taken;
+      found = for_word taken Save (document_in rows) verb refl;
+      placed = λ serving. absurd (cc);
+      addressed = λ calling. (server, says.0);
+      together = together;
     },
   )
 
@@ -154,8 +183,11 @@ module _ (words : List Text) (word : Text) (rows : List Row)
       → IsAskedBy words invocation
   found_asked taken invocation is =
       let says = says_given invocation.order is.said in
+      let together : GoTogether (verb_of invocation.order) (text_given words) =
+      subst (λ verb. GoTogether verb (text_given words)) (sym is.verb)
+      (together_given (verb_named word) is.together) in
       record {
-        asked = asked_in taken invocation.order is.verb is.name says;
+        asked = asked_in taken invocation.order is.verb is.name together says;
         said = says;
         explain = subst (λ (texts : Text → Option Text). Chooses true false
             (texts (codes "explain")) invocation.explain) (sym texts_are) is.explain;
@@ -171,7 +203,7 @@ bare_asked words at taken invocation is plain =
     ap (option_and_then (λ (f : Text × List Row). one_of (codes "explain") f.1)) at in
     record {
       asked = subst (AskForOrder words) (sym is) judges;
-      said = subst (SaysOrder (text_given words) (lines_given words)) (sym is) tt;
+      said = subst (SaysOrder (text_given words) (texts_given words)) (sym is) tt;
       explain = subst (λ (text : Option Text). Chooses true false text invocation.explain) (sym none) plain;
     }
 
@@ -201,10 +233,16 @@ told_placeless words (Some (word, rows)) error taken at (inl (serving, refused))
     refused_told words (IsPlace (λ name. one_of name rows)) (IsPlace (text_given words)) error taken
     (ap IsPlace (sym (texts_are words word rows (sym at))))
     (wants_place words word rows (sym at) serving) refused
-told_placeless words (Some (word, rows)) error taken at (inr (asking, refused)) =
+told_placeless words (Some (word, rows)) error taken at (inr (inl (asking, refused))) =
     refused_told words (IsServer (λ name. one_of name rows)) (IsServer (text_given words)) error taken
     (ap IsServer (sym (texts_are words word rows (sym at))))
     (wants_server words word rows (sym at) asking) refused
+told_placeless words (Some (word, rows)) error taken at (inr (inr (inl memory))) = inl (inl memory)
+told_placeless words (Some (word, rows)) error taken at (inr (inr (inr (invalid, apart)))) = inr (
+  invalid,
+  taken,
+  wants_fit words word rows (sym at) (λ fits. apart (subst (GoTogether (verb_named word)) (texts_are words word rows (sym at)) fits)),
+)
 
 pub certain : (words : List Text) (verb : Verb) (name : Option Text) (error : Error) → AskFor words verb name
     → IsToldWords words error → kind_of error ≡ OutOfMemory
@@ -244,7 +282,9 @@ shown_told words error (inr version) (inr nowhere) = absurd (not_both (fault_of 
 pub not_wrong : (words : List Text) (it : Order) → AskForOrder words it → AreWrong words → ⊥
 not_wrong words (order.Do command document) asks wrong = wrong.no_order (verb_for command) (name_in document) asks
 not_wrong words (order.Ask server lines) (name, asks) wrong = wrong.no_order Ask name asks
+not_wrong words (order.Save server file) (name, asks) wrong = wrong.no_order Save name asks
 
 pub not_help : (words : List Text) (it : Order) → AskForOrder words it → AskToShow words → ⊥
 not_help words (order.Do command document) asks = not_shown words (verb_for command) (name_in document) asks
 not_help words (order.Ask server lines) (name, asks) = not_shown words Ask name asks
+not_help words (order.Save server file) (name, asks) = not_shown words Save name asks

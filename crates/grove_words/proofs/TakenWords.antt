@@ -9,7 +9,7 @@ use Rattle.clap.specs.Kinds.{or_else, Kinds}
 use Rattle.clap.proofs.OnLiterals.{clap_on_literals}
 use Rattle.clap.proofs.WalkLemmas.{walk_stopped}
 use Rattle.clap.proofs.FaultLemmas.{fault_ends, stopped_fault}
-use Rattle.grove_words.specs.CommandLines.{command_with, grove_command, reading, serves, shape_for, Verb, Judge, Check, Plan, Draw, Run, Audit, Serve, Page, Ask, AskFor, IsFor}
+use Rattle.grove_words.specs.CommandLines.{calls, command_with, grove_command, reading, text_given, serves, shape_for, Verb, Judge, Check, Plan, Draw, Run, Audit, Tree, Serve, Page, Ask, Save, AskFor, GoTogether, IsFor}
 use Rattle.grove_words.specs.PlainWords.{AreDocument, CommandsAreOrders, IsPlain, NoCommandJudges}
 use Rattle.grove_words.proofs.Words.{hyphens, top_rules, leaf_rules, HasNoFlag, no_flag, differs, met_plain}
 use Rattle.grove_words.proofs.Documents.{leaf, leaf_fault, leaf_reads, walked_plain, hyphens_after}
@@ -120,9 +120,11 @@ command_is Plan = refl
 command_is Draw = refl
 command_is Run = refl
 command_is Audit = refl
+command_is Tree = refl
 command_is Serve = refl
 command_is Page = refl
 command_is Ask = refl
+command_is Save = refl
 
 -- a command of a document alone has no place
 no_place : (verb : Verb) → (shape_for verb).rules ≡ reading → serves verb ≡ true → ⊥
@@ -134,11 +136,36 @@ no_place Plan alone serving = cc
 no_place Draw alone serving = cc
 no_place Run alone serving = cc
 no_place Audit alone serving = cc
+no_place Tree alone serving = cc
 no_place Ask alone serving = cc
+no_place Save alone serving = cc
 
-no_server : (verb : Verb) → (shape_for verb).rules ≡ reading → verb ≡ Ask → ⊥
-no_server verb alone asks = let same : (shape_for Ask).rules ≡ reading =
-    subst (λ v. (shape_for v).rules ≡ reading) asks alone in cc
+no_server : (verb : Verb) → (shape_for verb).rules ≡ reading → calls verb ≡ true → ⊥
+no_server Ask alone calling = cc
+no_server Save alone calling = cc
+no_server Judge alone calling = cc
+no_server Check alone calling = cc
+no_server Plan alone calling = cc
+no_server Draw alone calling = cc
+no_server Run alone calling = cc
+no_server Audit alone calling = cc
+no_server Tree alone calling = cc
+no_server Serve alone calling = cc
+no_server Page alone calling = cc
+
+-- and no options that could be apart
+together_alone : (verb : Verb) (words : List Text) → (shape_for verb).rules ≡ reading → GoTogether verb (text_given words)
+together_alone Tree words alone = absurd (cc)
+together_alone Serve words alone = absurd (cc)
+together_alone Page words alone = absurd (cc)
+together_alone Judge words alone = tt
+together_alone Check words alone = tt
+together_alone Plan words alone = tt
+together_alone Draw words alone = tt
+together_alone Run words alone = tt
+together_alone Audit words alone = tt
+together_alone Ask words alone = tt
+together_alone Save words alone = tt
 
 -- words of a command and its document alone ask for it
 pub commands_are_orders : CommandsAreOrders
@@ -157,7 +184,8 @@ commands_are_orders verb words document (alone, rest, is, are) =
           ∙ leaf_taken (word_of verb) rest document are);
       found = subst (IsFor verb document) (sym found) (refl, named);
       placed = λ serving. absurd (no_place verb alone serving);
-      addressed = λ asks. absurd (no_server verb alone asks);
+      addressed = λ calling. absurd (no_server verb alone calling);
+      together = together_alone verb words alone;
     }
 
 -- and no words, or two hyphens alone, ask to judge standard input
@@ -167,7 +195,8 @@ judges_bare words taken none = record {
   taken = taken;
   found = subst (IsFor Judge None) (sym none) (refl, refl);
   placed = λ serving. absurd (cc);
-  addressed = λ asks. absurd (cc);
+  addressed = λ calling. absurd (cc);
+  together = tt;
 }
 
 pub no_command_judges : NoCommandJudges

@@ -1,5 +1,5 @@
 -- For the proofs alone: what the steps of building and of reading a command line give.
-use Rattle.std.specs.Prelude.{◌≡◌, ◌⊎◌, ℕ, List, [], Option, None, Some, codes, true, false, if◌then◌else◌}
+use Rattle.std.specs.Prelude.{◌≡◌, ◌≢◌, ◌⊎◌, Result, Ok, Err, ℕ, List, [], Option, None, Some, codes, true, false, if◌then◌else◌}
 use Rattle.std.specs.Str.{bytes_eq}
 use Rattle.clap.specs.Words.{App, HasKind, Row, Rule, Shape, fault_of, first_of, new_app, one_of, rule_of, shape_of}
 use Rattle.clap.specs.Values.{kind_of}
@@ -10,10 +10,11 @@ use Rattle.clap.specs.declared.error.kind.ErrorKind.TheVariants.{InvalidValue, O
 use Rattle.grove_words.specs.declared.order.Command.TheVariants as command
 use Rattle.grove_words.specs.declared.order.Document.TheVariants.{StandardInput}
 use Rattle.grove_words.specs.declared.order.Invocation.{Invocation}
+use Rattle.grove_words.specs.declared.order.LogForm.{LogForm}
 use Rattle.grove_words.specs.declared.order.Order.{Order}
 use Rattle.grove_words.specs.declared.order.Order.TheVariants as order
-use Rattle.grove_words.specs.CommandLines.{grove_command, serves, Verb, Judge, Check, Plan, Draw, Run, Audit, Serve, Page, Ask, AskFor, Chooses, IsPlace, IsServer}
-use Rattle.grove_words.specs.Invocations.{lines_in, name_in, verb_of, SaysOrder}
+use Rattle.grove_words.specs.CommandLines.{calls, grove_command, log_word, serves, texts_in, Verb, Judge, Check, Plan, Draw, Run, Audit, Tree, Serve, Page, Ask, Save, AskFor, Chooses, GoTogether, IsPlace, IsServer}
+use Rattle.grove_words.specs.Invocations.{name_in, verb_of, SaysOrder}
 
 -- an argument has this rule, and is its command's alone
 abbrev pub HasRule : Rule → Arg → Type 0
@@ -38,21 +39,30 @@ verb_named word =
     else if bytes_eq word (codes "draw") then Draw
     else if bytes_eq word (codes "run") then Run
     else if bytes_eq word (codes "audit") then Audit
+    else if bytes_eq word (codes "tree") then Tree
     else if bytes_eq word (codes "serve") then Serve
     else if bytes_eq word (codes "page") then Page
     else if bytes_eq word (codes "ask") then Ask
+    else if bytes_eq word (codes "save") then Save
     else Judge
+
+-- a text is read as the form of a log that it is the word of
+abbrev pub NamesLog : {E : Type 0} → List ℕ → Result LogForm E → Type 0
+NamesLog text (Ok form) = text ≡ log_word form
+NamesLog text (Err e) = (form : LogForm) → text ≢ log_word form
 
 -- an order's document has this name, if it has one
 abbrev pub HasName : Option (List ℕ) → Order → Type 0
 HasName name (order.Do command document) = name_in document ≡ name
 HasName name (order.Ask server lines) = Unit {0}
+HasName name (order.Save server file) = Unit {0}
 
 -- this was found under a command's word
 pub record IsFoundIn (word : List ℕ) (rows : List Row) (invocation : Invocation) : Type 0 where
   pub verb : verb_of invocation.order ≡ verb_named word
   pub name : HasName (first_of (codes "DOC") rows) invocation.order
-  pub said : SaysOrder (λ name. one_of name rows) (lines_in rows) invocation.order
+  pub said : SaysOrder (λ name. one_of name rows) (texts_in rows) invocation.order
+  pub together : GoTogether (verb_named word) (λ name. one_of name rows)
   pub explain : Chooses true false (one_of (codes "explain") rows) invocation.explain
 
 -- this was found, with a command's word or with none
@@ -65,16 +75,22 @@ abbrev pub IsRefusedFor : {A : Type 0} → (A → Type 0) → Error → Type 0
 IsRefusedFor {A} IsWanted error =
     (kind_of error ≡ OutOfMemory) ⊎ ((kind_of error ≡ InvalidValue) × ((a : A) → ¬ IsWanted a))
 
--- and the word is that of a command for which the texts give no place, or no server
+-- or a command's options don't go together
+abbrev pub AreApart : Verb → (List ℕ → Option (List ℕ)) → Error → Type 0
+AreApart verb texts error =
+    (kind_of error ≡ OutOfMemory) ⊎ ((kind_of error ≡ InvalidValue) × (¬ GoTogether verb texts))
+
+-- and the word is that of a command for which the texts give no place, or no server, or don't go together
 abbrev pub IsUnplaced : List ℕ → (List ℕ → Option (List ℕ)) → Error → Type 0
 IsUnplaced word texts error = ((serves (verb_named word) ≡ true) × IsRefusedFor (IsPlace texts) error)
-    ⊎ ((verb_named word ≡ Ask) × IsRefusedFor (IsServer texts) error)
+    ⊎ (((calls (verb_named word) ≡ true) × IsRefusedFor (IsServer texts) error)
+    ⊎ AreApart (verb_named word) texts error)
 
 abbrev pub IsPlaceless : Option (List ℕ × List Row) → Error → Type 0
 IsPlaceless None error = kind_of error ≡ OutOfMemory
 IsPlaceless (Some (word, rows)) error = IsUnplaced word (λ name. one_of name rows) error
 
--- words that clap takes, and that are no order all the same: they have no place where one is asked for
+-- words that clap takes, and that are no order all the same: they lack a place, or don't go together
 abbrev pub IsNowhere : List (List ℕ) → Error → Type 0
 IsNowhere words error = (kind_of error ≡ InvalidValue) × (fault_of grove_command words ≡ [])
     × ((verb : Verb) (name : Option (List ℕ)) → ¬ AskFor words verb name)

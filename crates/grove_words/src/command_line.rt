@@ -1,28 +1,21 @@
-ghost use Rattle.std.specs.Prelude.{◌≡◌, ◌≢◌, ◌≤◌, ℕ, List, Option, [], true, false, codes, map, Some, None, IfOk, IfErr, IfSome, IsErrAnd, string_bytes};
-ghost use Rattle.clap.specs.Words.{rows_of, fault_of, first_value, found_of, kind_of, one_text, subcommand_of, subcommand_rows_of};
-ghost use Rattle.grove_words.specs.CommandLines.{Verb, AreWorkers, AreWrong, AskFor, AskToShow, Chooses, IsAddress, IsIdle, IsNamed, IsPlace, IsPort, IsServer};
-ghost use Rattle.grove_words.specs.Invocations.{lines_in, name_in, verb_of, IsAskedBy, SaysOrder};
+ghost use Rattle.std.specs.Prelude.{◌≡◌, ℕ, List, Option, codes, map, IfOk, IfErr, IsErrAnd, OnOk, string_bytes};
+ghost use Rattle.clap.specs.Words.{rows_of, first_value, found_of, one_text, subcommand_rows_of};
+ghost use Rattle.grove_words.specs.CommandLines.{texts_in, Verb, Tree, AreWrong, AskFor, AskToShow, GoTogether, IsPlace};
+ghost use Rattle.grove_words.specs.Invocations.{name_in, verb_of, IsAskedBy, SaysOrder};
 ghost use Rattle.grove_words.specs.NoOrders.{HasText, TellsShown, TellsWrong};
-ghost use Rattle.grove_words.specs.Orders.{SaysServing};
+ghost use Rattle.grove_words.specs.Orders.{verb_for, SaysCommand, SaysServing};
 ghost use Rattle.grove_words.specs.Steps.{verb_named, HasName, IsFound, IsPlaceless, IsRefusedFor, IsToldWords, IsUnplaced};
 
 use crate::definitions::command_line;
 use crate::no_order::{NoOrder, no_order};
-use crate::order::{
-    Command, Document, Form, Invocation, Order, Patience, Place, Port, Serving, Workers,
+use crate::options::{
+    file_in, form_in, http_seats_in, idle_in, is_set, log_in, takes_flag, texts_of, workers_in,
 };
-use clap::error::ErrorKind;
+use crate::order::{Command, Document, Invocation, Order, Patience, Serving};
+use crate::places::{place_in, server_in};
+use crate::togetherness::go_together;
 use clap::{ArgMatches, Error};
-use std::alloc::{AllocError, Global};
-use std::net::{IpAddr, SocketAddr};
-
-/// The number of workers where the words don't say it, and the greatest.
-const FEW_WORKERS: u32 = 4;
-
-const MOST_WORKERS: u32 = 16;
-
-/// For how many seconds a connection may be let idle at most, where there is a limit: a day.
-const LONGEST_IDLE: u32 = 86_400;
+use std::alloc::Global;
 
 /// What whoever names a file without a command is told.
 const FILE_TIP: &str = "\n  tip: a file comes after its command, as in 'grove judge FILE'\n";
@@ -91,9 +84,11 @@ fn invocation_in<'a>(alloc: Global, matches: &ArgMatches<'a>) -> Result<Invocati
 fn order_with<'a>(alloc: Global, word: &str, given: &ArgMatches<'a>) -> Result<Order<'a>, Error>
     ensures verb { IfOk result (λ order. verb_of order ≡ verb_named word.now) }
     ensures name { IfOk result (HasName (first_value (found_of given.now) (codes "DOC"))) }
-    ensures said { IfOk result (SaysOrder (one_text (found_of given.now)) (lines_in (rows_of (found_of given.now)))) }
+    ensures said { IfOk result (SaysOrder (one_text (found_of given.now)) (texts_in (rows_of (found_of given.now)))) }
+    ensures together { OnOk result (GoTogether (verb_named word.now) (one_text (found_of given.now))) }
     ensures refused { IfErr result (IsUnplaced word.now (one_text (found_of given.now))) }
 {
+    go_together(alloc, word, given)?;
     let command = match word {
         "check" => Command::Check,
         "plan" => Command::Plan {
@@ -106,12 +101,19 @@ fn order_with<'a>(alloc: Global, word: &str, given: &ArgMatches<'a>) -> Result<O
             workers: workers_in(given),
         },
         "audit" => Command::Audit,
+        "tree" => tree_command(given),
         "serve" => Command::Serve(serving_in(alloc, given)?),
         "page" => Command::Page(serving_in(alloc, given)?),
         "ask" => {
             return Ok(Order::Ask {
                 server: server_in(alloc, given)?,
-                lines: lines_given(alloc, given)?,
+                lines: texts_of(alloc, given, "LINE")?,
+            });
+        }
+        "save" => {
+            return Ok(Order::Save {
+                server: server_in(alloc, given)?,
+                file: file_in(given),
             });
         }
         _judge => Command::Judge,
@@ -132,9 +134,24 @@ fn document_in<'a>(given: &ArgMatches<'a>) -> Document<'a>
     }
 }
 
+/// What is done with a tree by path.
+fn tree_command<'a>(given: &ArgMatches<'_>) -> Command<'a>
+    ensures verb { verb_for result ≡ Tree }
+    ensures said { SaysCommand (one_text (found_of given.now)) (texts_in (rows_of (found_of given.now))) result }
+{
+    if takes_flag(given, "csv") {
+        Command::Table
+    } else {
+        Command::Tree {
+            adds_parents: is_set(given, "parents"),
+        }
+    }
+}
+
 /// Where and how a command serves.
-fn serving_in(alloc: Global, given: &ArgMatches<'_>) -> Result<Serving, Error>
-    ensures said { IfOk result (SaysServing (one_text (found_of given.now))) }
+fn serving_in<'a>(alloc: Global, given: &ArgMatches<'a>) -> Result<Serving<'a>, Error>
+    ensures said { IfOk result
+        (SaysServing (one_text (found_of given.now)) (texts_in (rows_of (found_of given.now)))) }
     ensures refused { IfErr result (IsRefusedFor (IsPlace (one_text (found_of given.now)))) }
 {
     Ok(Serving {
@@ -144,131 +161,8 @@ fn serving_in(alloc: Global, given: &ArgMatches<'_>) -> Result<Serving, Error>
             idle: idle_in(given),
             tells_busy: is_set(given, "busy"),
         },
-        verbose: is_set(given, "verbose"),
+        log: log_in(given),
+        http_seats: http_seats_in(given),
+        hosts: texts_of(alloc, given, "host")?,
     })
-}
-
-/// The place that a command serves at.
-fn place_in(alloc: Global, given: &ArgMatches<'_>) -> Result<Place, Error>
-    ensures given { IfOk result (IsPlace (one_text (found_of given.now))) }
-    ensures refused { IfErr result (IsRefusedFor (IsPlace (one_text (found_of given.now)))) }
-{
-    let address = address_in(alloc, given)?;
-    let port = port_in(alloc, given)?;
-    Ok(Place { address, port })
-}
-
-/// The server that a command asks.
-fn server_in(alloc: Global, given: &ArgMatches<'_>) -> Result<SocketAddr, Error>
-    ensures given { IfOk result (IsServer (one_text (found_of given.now))) }
-    ensures refused { IfErr result (IsRefusedFor (IsServer (one_text (found_of given.now)))) }
-{
-    let address = address_in(alloc, given)?;
-    match named_port(given) {
-        Some(port) => Ok(SocketAddr::new(address, port)),
-        None => Err(wrong(alloc, "the value of '<P>' is no port")?),
-    }
-}
-
-fn address_in(alloc: Global, given: &ArgMatches<'_>) -> Result<IpAddr, Error>
-    ensures given { IfOk result (IsAddress (one_text (found_of given.now))) }
-    ensures refused { IfErr result (IsRefusedFor (IsAddress (one_text (found_of given.now)))) }
-{
-    match given.get_one::<IpAddr>("address") {
-        Some(address) => Ok(address),
-        None => Err(wrong(alloc, "the value of '<ADDRESS>' is no IP address")?),
-    }
-}
-
-/// The port to listen on. No clause of clap's speaks of options that stand in each other's place, so this is told here.
-fn port_in(alloc: Global, given: &ArgMatches<'_>) -> Result<Port, Error>
-    ensures given { IfOk result (IsPort (one_text (found_of given.now))) }
-    ensures refused { IfErr result (IsRefusedFor (IsPort (one_text (found_of given.now)))) }
-{
-    match (named_port(given), takes_any_port(given)) {
-        (Some(port), false) => Ok(Port::Named(port)),
-        (None, true) => Ok(Port::Any),
-        (Some(_), true) => Err(wrong(alloc, "'--any-port' stands in place of '--port <P>'")?),
-        (None, false) => Err(wrong(alloc, "'--port <P>' or '--any-port' has to be provided")?),
-    }
-}
-
-/// The port that is named. Clap lets none but those from 1 to 65535 through.
-fn named_port(given: &ArgMatches<'_>) -> Option<u16>
-    ensures some { IfSome result (IsNamed (one_text (found_of given.now))) }
-    ensures none { result ≡ None → (port : ℕ) → ¬ IsNamed (one_text (found_of given.now)) port }
-{
-    match given.get_one::<u16>("port") {
-        Some(port) if port >= 1 => Some(port),
-        _ => None,
-    }
-}
-
-fn takes_any_port(given: &ArgMatches<'_>) -> bool
-    ensures set { result ≡ true → one_text (found_of given.now) (codes "any-port") ≡ Some (codes "true") }
-    ensures unset { result ≡ false → one_text (found_of given.now) (codes "any-port") ≢ Some (codes "true") }
-{
-    given.get_one::<bool>("any-port").unwrap_or(false)
-}
-
-/// What words are told that clap takes, and that are no order all the same.
-fn wrong(alloc: Global, message: &str) -> Result<Error, AllocError>
-    ensures { IfOk result (λ error. kind_of error ≡ ErrorKind.InvalidValue) }
-{
-    command_line(alloc)?.error(ErrorKind::InvalidValue, message)
-}
-
-/// The lines of a command.
-fn lines_given<'a>(alloc: Global, given: &ArgMatches<'a>) -> Result<Vec<&'a str>, AllocError>
-    ensures { IfOk result (λ lines. map (λ line. line.now) lines.items ≡ lines_in (rows_of (found_of given.now))) }
-{
-    match given.get_strs("LINE") {
-        Some(lines) => copied(alloc, lines),
-        None => Ok(Vec::new(alloc)),
-    }
-}
-
-fn copied<'a>(alloc: Global, lines: &[&'a str]) -> Result<Vec<&'a str>, AllocError>
-    ensures { IfOk result (λ copy. copy.items ≡ lines.now) }
-{
-    let mut copy = Vec::new(alloc);
-    copy.extend_from_slice(lines)?;
-    Ok(copy)
-}
-
-/// The number of workers, for a command that has one. Clap lets none but those from 1 to 16 through.
-fn workers_in(given: &ArgMatches<'_>) -> Workers
-    ensures { AreWorkers (one_text (found_of given.now) (codes "workers")) result.number }
-{
-    let number = given.get_one::<u32>("workers").unwrap_or(FEW_WORKERS);
-    Workers {
-        number: number.max(1).min(MOST_WORKERS),
-    }
-}
-
-/// The seconds that a connection may idle. Clap lets none but those from 1 to 86,400 through.
-fn idle_in(given: &ArgMatches<'_>) -> Option<u32>
-    ensures given { IsIdle (one_text (found_of given.now) (codes "idle")) result }
-    ensures within { IfSome result (λ seconds. (1 ≤ seconds) × (seconds ≤ 86400)) }
-{
-    let seconds = given.get_one::<u32>("idle")?;
-    Some(seconds.max(1).min(LONGEST_IDLE))
-}
-
-/// Whether a flag is set.
-fn is_set(given: &ArgMatches<'_>, flag: &str) -> bool
-    ensures { Chooses true false (one_text (found_of given.now) flag.now) result }
-{
-    given.get_flag(flag)
-}
-
-/// The form of a drawing, for a command that has one.
-fn form_in(given: &ArgMatches<'_>) -> Form
-    ensures { Chooses Form.Text Form.Svg (one_text (found_of given.now) (codes "text")) result }
-{
-    if given.get_flag("text") {
-        Form::Text
-    } else {
-        Form::Svg
-    }
 }

@@ -1,7 +1,8 @@
-ghost use Rattle.std.specs.Prelude.{◌≡◌, codes, true, IfOk};
+ghost use Rattle.std.specs.Prelude.{◌≡◌, codes, true, Some, IfOk};
 ghost use Rattle.clap.specs.Words.{App, Shape, app_of, with_subcommand};
-ghost use Rattle.grove_words.specs.CommandLines.{Plan, Draw, Run, Ask};
-ghost use Rattle.grove_words.specs.CommandLines.{address_option, command_with, flag, grove_command, numbered, port_option, reading, serving, shape_for, valued, workers_option};
+ghost use Rattle.clap.specs.declared.builder.action.ArgAction.TheVariants.{Append};
+ghost use Rattle.grove_words.specs.CommandLines.{Plan, Draw, Run, Tree, Serve, Ask, Save};
+ghost use Rattle.grove_words.specs.CommandLines.{address_option, calling, command_with, flag, grove_command, numbered, port_option, reading, serving, shape_for, valued, workers_option};
 ghost use Rattle.grove_words.specs.Steps.{no_command, HasRule, HasShape};
 
 use clap::{Arg, ArgAction, value_parser};
@@ -23,11 +24,12 @@ pub fn command_line<'a>(alloc: Global) -> Result<clap::Command<'a>, AllocError>
     let runs = add(draws, run(alloc));
     let about = "Audit a history: what the run of its events gives, if they are a finished run";
     let audits = add(runs, reading(alloc, "audit", about));
-    let about = "Serve sessions with the records of a tree over TCP";
-    let serves = add(audits, serving(alloc, "serve", about));
+    let trees = add(audits, tree(alloc));
+    let serves = add(trees, serve(alloc));
     let about = "Serve the records of a tree over HTTP, with a page to look at them";
     let pages = add(serves, serving(alloc, "page", about));
-    add(pages, ask(alloc))
+    let asks = add(pages, ask(alloc));
+    add(asks, save(alloc))
 }
 
 /// The program with one more command, where there was memory for both.
@@ -57,7 +59,7 @@ fn plan<'a>(alloc: Global) -> Result<clap::Command<'a>, AllocError>
     ensures { IfOk result (HasShape (shape_for Plan)) }
 {
     let about = "Plan a list: the cheapest plan, and the flow that proves it";
-    let help = "Write the document with the plan and the flow in it";
+    let help = "Print the whole document, with the plan and the flow in it";
     reading(alloc, "plan", about)?.arg(flag(alloc, "document", help))
 }
 
@@ -65,7 +67,7 @@ fn draw<'a>(alloc: Global) -> Result<clap::Command<'a>, AllocError>
     ensures { IfOk result (HasShape (shape_for Draw)) }
 {
     let about = "Draw a list's cheapest plan, and the document's own above it where it has one";
-    let help = "Write lines for a terminal, and no SVG";
+    let help = "Print lines for a terminal instead of SVG";
     reading(alloc, "draw", about)?.arg(flag(alloc, "text", help))
 }
 
@@ -86,12 +88,34 @@ fn reading<'a>(
     ensures { IfOk result (HasShape (command_with name.now reading)) }
 {
     let document = Arg::new(alloc, "DOC").help(
-        "The document's file; without it, the document is standard input",
+        "The input's file; without it, standard input is read",
     );
     clap::Command::new(alloc, name)
         .about(about)
         .arg(document)?
         .arg(explain(alloc))
+}
+
+/// The command for trees by path.
+fn tree<'a>(alloc: Global) -> Result<clap::Command<'a>, AllocError>
+    ensures { IfOk result (HasShape (shape_for Tree)) }
+{
+    let about = "Make a document of CSV lines 'path,weight,value', or such lines of a document";
+    let csv = "Read a document, and print its tree as CSV";
+    let parents = "Add each parent that has no line, with weight 1 and value 0";
+    reading(alloc, "tree", about)?
+        .arg(flag(alloc, "csv", csv))?
+        .arg(flag(alloc, "parents", parents))
+}
+
+/// The command that serves sessions, and can serve over HTTP too.
+fn serve<'a>(alloc: Global) -> Result<clap::Command<'a>, AllocError>
+    ensures { IfOk result (HasShape (shape_for Serve)) }
+{
+    let about = "Serve sessions with the records of a tree over TCP";
+    serving(alloc, "serve", about)?
+        .arg(http(alloc))?
+        .arg(http_seats(alloc))
 }
 
 /// A command that serves a document's tree at a port.
@@ -102,12 +126,12 @@ fn serving<'a>(
 ) -> Result<clap::Command<'a>, AllocError>
     ensures { IfOk result (HasShape (command_with name.now serving)) }
 {
-    let any_port = "Listen on a port that is free, in place of --port";
-    let busy = "Tell a connection that finds no seat so, and close it; by default it waits";
-    let verbose = "Tell on standard error of each connection, and each minute of what was done";
+    let any_port = "Listen on any free port, in place of --port";
+    let busy = "If all connections are taken, tell a new one so and close it; by default it waits";
+    let verbose = "Log each connection on standard error, and each minute what was done";
     clap::Command::new(alloc, name)
         .about(about)
-        .arg(tree(alloc))?
+        .arg(document(alloc))?
         .arg(port(alloc, "The port to listen on"))?
         .arg(flag(alloc, "any-port", any_port))?
         .arg(address(alloc, "bind", "The IP address to listen at"))?
@@ -115,27 +139,47 @@ fn serving<'a>(
         .arg(workers(alloc))?
         .arg(idle(alloc))?
         .arg(flag(alloc, "busy", busy))?
-        .arg(flag(alloc, "verbose", verbose))
+        .arg(flag(alloc, "verbose", verbose))?
+        .arg(log(alloc))?
+        .arg(host(alloc))
 }
 
 /// The command that asks the server at a port.
 fn ask<'a>(alloc: Global) -> Result<clap::Command<'a>, AllocError>
     ensures { IfOk result (HasShape (shape_for Ask)) }
 {
-    let lines = "The lines to send; without them, they are those of standard input";
-    clap::Command::new(alloc, "ask")
-        .about("Ask a server: send it lines, and print its replies")
-        .arg(port(alloc, "The server's port").required(true))?
-        .arg(address(alloc, "address", "The server's IP address"))?
-        .arg(explain(alloc))?
-        .arg(
-            Arg::new(alloc, "LINE")
-                .action(ArgAction::Append)
-                .help(lines),
-        )
+    let about = "Ask a server: send it lines, and print its replies";
+    let help = "The lines to send; without them, they are read from standard input";
+    let lines = Arg::new(alloc, "LINE").action(ArgAction::Append).help(help);
+    calling(alloc, "ask", about)?.arg(lines)
 }
 
-fn tree<'a>(alloc: Global) -> Arg<'a>
+/// The command that writes the document of the server at a port into a file.
+fn save<'a>(alloc: Global) -> Result<clap::Command<'a>, AllocError>
+    ensures { IfOk result (HasShape (shape_for Save)) }
+{
+    let about = "Save a server's tree and records in a file, over HTTP";
+    let help = "The file to write; if it is there, it is replaced in one step";
+    let file = Arg::new(alloc, "FILE").help(help).required(true);
+    calling(alloc, "save", about)?.arg(file)
+}
+
+/// A command that is a client of the server at a port.
+fn calling<'a>(
+    alloc: Global,
+    name: &'static str,
+    about: &'static str,
+) -> Result<clap::Command<'a>, AllocError>
+    ensures { IfOk result (HasShape (command_with name.now calling)) }
+{
+    clap::Command::new(alloc, name)
+        .about(about)
+        .arg(port(alloc, "The server's port").required(true))?
+        .arg(address(alloc, "address", "The server's IP address"))?
+        .arg(explain(alloc))
+}
+
+fn document<'a>(alloc: Global) -> Arg<'a>
     ensures { HasRule (record (valued (codes "DOC") (codes "tree")) { required = true }) result }
 {
     let help = "The file of the document with the tree and its records";
@@ -145,14 +189,14 @@ fn tree<'a>(alloc: Global) -> Arg<'a>
 fn explain<'a>(alloc: Global) -> Arg<'a>
     ensures { HasRule (flag (codes "explain")) result }
 {
-    let help = "Say on standard error why a file or a port failed";
+    let help = "If a file or a port fails, print the system's reason on standard error";
     flag(alloc, "explain", help)
 }
 
 fn workers<'a>(alloc: Global) -> Arg<'a>
     ensures { HasRule workers_option result }
 {
-    let help = "How many workers run the lists at once";
+    let help = "How many threads run the lists at once";
     valued(alloc, "workers", "workers", "N", help)
         .value_parser(value_parser!(u32).range(1..=16))
         .default_value("4")
@@ -161,7 +205,7 @@ fn workers<'a>(alloc: Global) -> Arg<'a>
 fn idle<'a>(alloc: Global) -> Arg<'a>
     ensures { HasRule (numbered (codes "idle") 1 86400) result }
 {
-    let help = "End a connection that sends no whole line for so long; by default none is ended";
+    let help = "Close a connection that sends no whole line for so long; by default none is closed";
     valued(alloc, "idle", "idle", "SECONDS", help).value_parser(value_parser!(u32).range(1..=86400))
 }
 
@@ -169,6 +213,36 @@ fn port<'a>(alloc: Global, help: &'static str) -> Arg<'a>
     ensures { HasRule port_option result }
 {
     valued(alloc, "port", "port", "P", help).value_parser(value_parser!(u16).range(1..=65535))
+}
+
+fn http<'a>(alloc: Global) -> Arg<'a>
+    ensures { HasRule (numbered (codes "http") 1 65535) result }
+{
+    let help = "Serve the page and its requests over HTTP too, at this port";
+    valued(alloc, "http", "http", "PORT", help).value_parser(value_parser!(u16).range(1..=65535))
+}
+
+fn http_seats<'a>(alloc: Global) -> Arg<'a>
+    ensures { HasRule (numbered (codes "http-seats") 1 1024) result }
+{
+    let help = "How many connections over HTTP are served at once; by default 64";
+    valued(alloc, "http-seats", "http-seats", "N", help).value_parser(value_parser!(u32).range(
+        1..=1024,
+    ))
+}
+
+fn log<'a>(alloc: Global) -> Arg<'a>
+    ensures { HasRule (valued (codes "log") (codes "log")) result }
+{
+    let help = "The form of the log of --verbose: text, or json; by default text";
+    valued(alloc, "log", "log", "FORM", help)
+}
+
+fn host<'a>(alloc: Global) -> Arg<'a>
+    ensures { HasRule (record (valued (codes "host") (codes "host")) { action = Some Append }) result }
+{
+    let help = "A name by which requests over HTTP may call this host; may be repeated";
+    valued(alloc, "host", "host", "NAME", help).action(ArgAction::Append)
 }
 
 fn address<'a>(alloc: Global, word: &'static str, help: &'static str) -> Arg<'a>

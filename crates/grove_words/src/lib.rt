@@ -5,11 +5,15 @@ pub use command_line::order_of;
 pub use laws::word_laws;
 pub use no_order::{NoOrder, not_text};
 pub use order::{
-    Command, Document, Form, Invocation, Order, Patience, Place, Port, Serving, Workers,
+    Command, Document, Form, Invocation, LogForm, Order, Patience, Place, Port, Serving, Workers,
 };
 
 mod command_line;
 mod definitions;
 mod laws;
+mod log_form;
 mod no_order;
+mod options;
 mod order;
+mod places;
+mod togetherness;

@@ -23,16 +23,16 @@ pub fn not_text(alloc: Global) -> NoOrder
     ensures wrong { TellsWrong result }
     ensures text { HasText result }
 {
-    match not_text_error(alloc) {
+    match wrong(alloc, "an argument of the command line is not UTF-8") {
         Ok(error) => no_order(alloc, &error, ""),
         Err(AllocError) => NoOrder::Memory,
     }
 }
 
-fn not_text_error(alloc: Global) -> Result<Error, AllocError>
+/// What words are told that clap takes, and that are no order all the same.
+pub fn wrong(alloc: Global, message: &str) -> Result<Error, AllocError>
     ensures { IfOk result (λ error. kind_of error ≡ ErrorKind.InvalidValue) }
 {
-    let message = "a word of the command line is not UTF-8";
     command_line(alloc)?.error(ErrorKind::InvalidValue, message)
 }
 

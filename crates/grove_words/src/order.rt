@@ -14,7 +14,7 @@ pub struct Invocation<'a> {
 pub enum Order<'a> {
     /// A command is done with a document.
     Do {
-        command: Command,
+        command: Command<'a>,
         document: Document<'a>,
     },
     /// A server is asked these lines, or those of standard input if there are none.
@@ -22,11 +22,16 @@ pub enum Order<'a> {
         server: SocketAddr,
         lines: Vec<&'a str>,
     },
+    /// A server's document is written into the file of this name.
+    Save {
+        server: SocketAddr,
+        file: &'a str,
+    },
 }
 
 /// What is done with a document.
-#[derive(Clone, Copy)]
-pub enum Command {
+#[derive(Drop)]
+pub enum Command<'a> {
     Judge,
     Check,
     /// The plan is written in its document, or alone.
@@ -34,10 +39,14 @@ pub enum Command {
     Draw { form: Form },
     Run { workers: Workers },
     Audit,
+    /// A document is made of a tree's lines by path, with the parents that have no line if they are to be added.
+    Tree { adds_parents: bool },
+    /// Its tree is written as such lines.
+    Table,
     /// Its store is served to sessions.
-    Serve(Serving),
+    Serve(Serving<'a>),
     /// Its store is served over HTTP.
-    Page(Serving),
+    Page(Serving<'a>),
 }
 
 /// Where a document is.
@@ -49,13 +58,26 @@ pub enum Document<'a> {
 }
 
 /// Where and how a store is served.
-#[derive(Clone, Copy)]
-pub struct Serving {
+#[derive(Drop)]
+pub struct Serving<'a> {
     pub place: Place,
     pub workers: Workers,
     pub patience: Patience,
-    /// Whether standard error is told of connections.
-    pub verbose: bool,
+    /// The form of the log of connections on standard error, if there is one.
+    pub log: Option<LogForm>,
+    /// How many connections are served at once at the place's port for HTTP.
+    pub http_seats: u32,
+    /// The names by which requests over HTTP may call the host.
+    pub hosts: Vec<&'a str>,
+}
+
+/// How a log is written.
+#[derive(Clone, Copy)]
+pub enum LogForm {
+    /// A line of names and values for each event.
+    Text,
+    /// A line with an object of JSON for each.
+    Json,
 }
 
 /// How many workers run lists at once.
@@ -71,6 +93,8 @@ pub struct Workers {
 pub struct Place {
     pub address: IpAddr,
     pub port: Port,
+    /// A second port, for HTTP, if one is asked for.
+    pub http: Option<u16>,
 }
 
 /// Which port is listened on.

@@ -2,9 +2,9 @@ use Rattle.std.proofs.Common.{◌≡◌, codes, subst, true, false, List, Option
 use Rattle.clap.specs.Words.{Row, Text, found_of, one_of, one_text, rows_of}
 use Rattle.clap.specs.declared.parser.matches.ArgMatches.TheViews.{out-ArgMatches}
 use Rattle.clap.proofs.WalkLemmas.{first_value-rows, one_text-rows}
-use Rattle.grove_words.specs.CommandLines.{Chooses}
-use Rattle.grove_words.specs.Invocations.{lines_in, SaysOrder}
-use Rattle.grove_words.specs.Steps.{HasName, IsFound, IsPlaceless, IsUnplaced}
+use Rattle.grove_words.specs.CommandLines.{texts_in, Chooses, GoTogether}
+use Rattle.grove_words.specs.Invocations.{SaysOrder}
+use Rattle.grove_words.specs.Steps.{verb_named, HasName, IsFound, IsPlaceless, IsUnplaced}
 use Rattle.grove_words.proofs.Asking.{found_is}
 use Rattle.grove_words.proofs.command_line.invocation_in.Goals as goal
 
@@ -18,7 +18,8 @@ returns-in-Ok-clause-found c =
     (record {
       verb = c.in-Ok.ensures.verb;
       name = subst (λ name. HasName name c.in-Ok.order) (first_value-rows found (codes "DOC")) c.in-Ok.ensures.name;
-      said = subst (λ given. SaysOrder given (lines_in (rows_of found)) c.in-Ok.order) texts c.in-Ok.ensures.said;
+      said = subst (λ given. SaysOrder given (texts_in (rows_of found)) c.in-Ok.order) texts c.in-Ok.ensures.said;
+      together = subst (GoTogether (verb_named c.in-Some.word.now)) texts c.in-Ok.ensures.together;
       explain = subst (λ text. Chooses true false text c.is_set.result)
           (one_text-rows found (codes "explain")) c.is_set.ensures;
     })

@@ -1,18 +1,12 @@
-use Rattle.std.proofs.Common.{[], Some, codes, rules, true}
+use Rattle.std.proofs.Common.{Some, codes, rules}
 use Rattle.std.proofs.lemmas.Result.{IfOk-weaker}
 use Rattle.clap.specs.Words.{new_rule}
 use Rattle.clap.specs.declared.builder.action.ArgAction.TheVariants.{Append}
-use Rattle.grove_words.specs.CommandLines.{command_with, port_option}
-use Rattle.grove_words.specs.Steps.{HasRule, HasShape}
-use Rattle.grove_words.proofs.Rules.{none_yet, one_more}
+use Rattle.grove_words.specs.Steps.{HasRule}
+use Rattle.grove_words.proofs.Rules.{one_more}
 use Rattle.grove_words.proofs.definitions.ask.Goals as goal
 
 pub returns : goal.returns
 returns c =
-    let bare : HasShape (command_with (codes "ask") []) c.about.result = none_yet _ _ c.new.ensures.app c.new.ensures.local c.about.ensures in
-    let lines : HasRule (record (new_rule (codes "LINE")) { action = Some Append }) c.help.result = search rules in
-    let port : HasRule (record port_option { required = true }) c.required.result = search rules in
-    let with_port = one_more c.in_ok-arg.ensures bare port in
-    let with_address = one_more c.in_ok-arg-2.ensures with_port c.address.ensures in
-    let with_explain = one_more c.in_ok-arg-3.ensures with_address c.explain.ensures in
-    IfOk-weaker c.arg-4.result _ _ (λ command adds. one_more adds with_explain lines) c.arg-4.ensures
+    let lines : HasRule (record (new_rule (codes "LINE")) { action = Some Append }) c.help-lines.result = search rules in
+    IfOk-weaker c.arg.result _ _ (λ command adds. one_more adds c.in_ok-calling.ensures lines) c.arg.ensures

@@ -1,4 +1,4 @@
-use Rattle.grove_words.specs.CommandLines.{Judge, Check, Plan, Draw, Run, Audit, Serve, Page, Ask}
+use Rattle.grove_words.specs.CommandLines.{Judge, Check, Plan, Draw, Run, Audit, Tree, Serve, Page, Ask, Save}
 use Rattle.grove_words.specs.CommandLines.{shape_for}
 use Rattle.grove_words.specs.Steps.{no_command}
 use Rattle.grove_words.proofs.definitions.command_line.Goals as goal
@@ -11,6 +11,8 @@ returns c =
     let draws = c.add-draws.ensures _ (shape_for Draw) plans c.draw.ensures in
     let runs = c.add-runs.ensures _ (shape_for Run) draws c.run.ensures in
     let audits = c.add-audits.ensures _ (shape_for Audit) runs c.reading-3.ensures in
-    let serves = c.add-serves.ensures _ (shape_for Serve) audits c.serving.ensures in
-    let pages = c.add-pages.ensures _ (shape_for Page) serves c.serving-2.ensures in
-    c.add.ensures _ (shape_for Ask) pages c.ask.ensures
+    let trees = c.add-trees.ensures _ (shape_for Tree) audits c.tree.ensures in
+    let serves = c.add-serves.ensures _ (shape_for Serve) trees c.serve.ensures in
+    let pages = c.add-pages.ensures _ (shape_for Page) serves c.serving.ensures in
+    let asks = c.add-asks.ensures _ (shape_for Ask) pages c.ask.ensures in
+    c.add.ensures _ (shape_for Save) asks c.save.ensures

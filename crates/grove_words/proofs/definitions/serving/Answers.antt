@@ -8,7 +8,7 @@ use Rattle.grove_words.proofs.definitions.serving.Goals as goal
 pub returns : goal.returns
 returns c =
     let bare : HasShape (command_with c.args.name.now []) c.about.result = none_yet _ _ c.new.ensures.app c.new.ensures.local c.about.ensures in
-    let with_tree = one_more c.in_ok-arg.ensures bare c.tree.ensures in
+    let with_tree = one_more c.in_ok-arg.ensures bare c.document.ensures in
     let with_port = one_more c.in_ok-arg-2.ensures with_tree c.port.ensures in
     let with_any_port = one_more c.in_ok-arg-3.ensures with_port c.flag.ensures in
     let with_address = one_more c.in_ok-arg-4.ensures with_any_port c.address.ensures in
@@ -16,4 +16,6 @@ returns c =
     let with_workers = one_more c.in_ok-arg-6.ensures with_explain c.workers.ensures in
     let with_idle = one_more c.in_ok-arg-7.ensures with_workers c.idle.ensures in
     let with_busy = one_more c.in_ok-arg-8.ensures with_idle c.flag-2.ensures in
-    IfOk-weaker c.arg-9.result _ _ (λ command adds. one_more adds with_busy c.flag-3.ensures) c.arg-9.ensures
+    let with_verbose = one_more c.in_ok-arg-9.ensures with_busy c.flag-3.ensures in
+    let with_log = one_more c.in_ok-arg-10.ensures with_verbose c.log.ensures in
+    IfOk-weaker c.arg-11.result _ _ (λ command adds. one_more adds with_log c.host.ensures) c.arg-11.ensures
