@@ -1,0 +1,56 @@
+ghost use Rattle.std.specs.Prelude.{map, IfOk};
+ghost use Rattle.csv.specs.Records.{fields_of};
+ghost use Rattle.grove_table.specs.Tables.{AreLines, AreLinesOf};
+
+use crate::fields::{is_header, line_of, see_header};
+use crate::line_numbers::LineNumbers;
+use crate::rows::rows_in;
+use crate::{Line, TableFault};
+use csv::ByteRecord;
+use std::alloc::Global;
+
+/// The most bytes of a table.
+const MOST_BYTES: usize = 4_194_304;
+
+/// The lines of a text of CSV.
+pub fn read_table(alloc: Global, text: &[u8]) -> Result<Vec<Line>, TableFault>
+    ensures { IfOk result (λ lines. AreLinesOf text.now lines.items) }
+{
+    if text.len() > MOST_BYTES {
+        return Err(TableFault::Limit);
+    }
+    let rows = rows_in(alloc, text)?;
+    let mut numbers = LineNumbers::new(text);
+    match rows.split_first() {
+        Some((first, below)) if is_header(first) => {
+            see_header(alloc, first, numbers.number_from(start_of(first)))?;
+            lines_of(alloc, below, &mut numbers)
+        }
+        _ => lines_of(alloc, &rows, &mut numbers),
+    }
+}
+
+/// The lines that rows are.
+fn lines_of(
+    alloc: Global,
+    rows: &[ByteRecord],
+    numbers: &mut LineNumbers<'_>,
+) -> Result<Vec<Line>, TableFault>
+    ensures { IfOk result (λ lines. AreLines (map fields_of rows.now) lines.items) }
+{
+    let mut lines = Vec::new(alloc);
+    for place in 0..rows.len() {
+        let row = &rows[place];
+        let number = numbers.number_from(start_of(row));
+        lines.push(line_of(alloc, row, number)?)?;
+    }
+    Ok(lines)
+}
+
+/// The place in its text at which the reader began to look for a row.
+fn start_of(row: &ByteRecord) -> u64 {
+    match row.position() {
+        Some(position) => position.byte(),
+        None => 0,
+    }
+}
