@@ -12,10 +12,10 @@ from dataclasses import dataclass, field
 
 from listening import Place
 
-READING = ("judge", "check", "plan", "draw", "run", "audit")
+READING = ("judge", "check", "plan", "draw", "run", "audit", "tree")
 SERVING = ("serve", "page")
-VALUED = ("--tree", "--port", "--bind", "--address", "--workers", "--idle")
-FLAGS = ("--explain", "--document", "--text", "--any-port", "--busy", "--verbose")
+VALUED = ("--tree", "--port", "--bind", "--address", "--workers", "--idle", "--http", "--http-seats", "--host", "--log")
+FLAGS = ("--explain", "--document", "--text", "--any-port", "--busy", "--verbose", "--csv", "--parents")
 # What the program takes of a document: no more than a byte above the longest history.
 MOST_BYTES = 67_108_864
 # The name that a document has for the program.

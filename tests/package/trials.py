@@ -21,9 +21,15 @@ from nginx_trial import behind_nginx
 from packages import LIBRARIES, PROGRAM, Packages, called, copy_of_checkout, package
 from sweeps.program import Tally
 
-# What a unit file has to have, and what that of a server.
-GRANTED = ["DynamicUser=yes", "NoNewPrivileges=yes", "MemoryMax=", "TasksMax=", "--verbose"]
-SERVERS = {"grove-page.service": ["--explain", "--idle"], "grove-serve.service": ["--explain", "--idle"]}
+# What a unit file of a service has to have, and what each.
+GRANTED = ["DynamicUser=yes", "NoNewPrivileges=yes", "MemoryMax=", "TasksMax="]
+UNITS = {
+    "grove-page.service": [*GRANTED, "--verbose", "--explain", "--idle"],
+    "grove-save.service": [*GRANTED, "--explain", "Type=oneshot", "StateDirectory=grove"],
+    "grove-save.timer": ["OnCalendar=", "WantedBy=timers.target"],
+    "grove-serve.service": [*GRANTED, "--verbose", "--explain", "--idle"],
+    "grove-work.service": [*GRANTED, "--verbose"],
+}
 
 
 @dataclass(frozen=True)
@@ -110,11 +116,11 @@ def owned(packages: Packages, _room: Path, tally: Tally) -> None:
 def unit_files(packages: Packages, _room: Path, tally: Tally) -> None:
     """They pass systemd's own check, and have the limits."""
     units = sorted((packages.prefix / "lib/systemd/system").iterdir())
-    note_equal(tally, "the files", [unit.name for unit in units], [*SERVERS, "grove-work.service"])
+    note_equal(tally, "the files", [unit.name for unit in units], [*UNITS])
     for unit in units:
         ran = called("systemd-analyze", "verify", unit, env=with_manual(packages.prefix))
         note_silent(tally, unit.name, ran)
-        for line in GRANTED + SERVERS.get(unit.name, []):
+        for line in UNITS.get(unit.name, []):
             note_equal(tally, f"{unit.name}: {line}", line in unit.read_text(), True)
 
 

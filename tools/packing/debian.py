@@ -138,7 +138,7 @@ def write_control(source: Source, placed: list[Placed], files: list[Placed], fol
         libc=libc_of(content_of(placed, PROGRAM), content_of(placed, LOADED)),
     )
     sums = [f"{hashlib.md5(each.content).hexdigest()}  {each.path}\n" for each in files if each.target is None]
-    services = " ".join(Path(each.path).name for each in placed if each.path.endswith(".service"))
+    services = " ".join(Path(each.path).name for each in placed if each.path.endswith((".service", ".timer")))
     before = BEFORE_REMOVAL.format(units=services, modules=f"{PREFIX}/{OWN}")
     install(
         [

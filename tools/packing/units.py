@@ -1,4 +1,4 @@
-"""Unit files of systemd for `grove serve`, `grove page` and the worker of `cluster/`."""
+"""Unit files of systemd for `grove serve`, `grove page`, `grove save` and the worker of `cluster/`."""
 
 from __future__ import annotations
 
@@ -43,6 +43,54 @@ LimitNOFILE=64
 
 [Install]
 WantedBy=multi-user.target
+"""
+
+SAVE = """\
+# grove save as a service that runs once: the tree and records of a server, kept in a file. Its timer runs it.
+#
+#   systemctl enable --now grove-save.timer
+#   systemctl start grove-save      # once, now
+#
+# A server begins with what was kept by: install -m 644 /var/lib/grove/tree.json /etc/grove/tree.json
+[Unit]
+Description=grove save, the records of a server in a file
+Documentation=man:grove(1)
+After=network.target grove-page.service grove-serve.service
+
+[Service]
+Type=oneshot
+# The words before the file. `systemctl edit grove-save` gives others (Environment= again), and so does a line
+# GROVE_SAVE="--port 8080" in /etc/default/grove. The port is that of `grove page`, or of --http of `grove serve`.
+#   --explain   if the server can't be reached or the file not be written, the journal gets the system's reason.
+Environment="GROVE_SAVE=--port 8080 --explain"
+EnvironmentFile=-/etc/default/grove
+ExecStart=@PREFIX@/bin/grove save $GROVE_SAVE /var/lib/grove/tree.json
+# The file is replaced in one step: status 1 (the server has no document) and 3 (it can't be reached, or the file not be
+# written) leave the one before.
+StateDirectory=grove
+
+# Limits.
+MemoryMax=256M
+TasksMax=16
+LimitNOFILE=64
+
+@RIGHTS@
+"""
+
+SAVE_TIMER = """\
+# Each quarter of an hour the records of a server are kept in a file (grove-save.service).
+[Unit]
+Description=grove save, each quarter of an hour
+Documentation=man:grove(1)
+
+[Timer]
+OnCalendar=*:0/15
+AccuracySec=10s
+# A time that was missed while the machine was off is made up for.
+Persistent=yes
+
+[Install]
+WantedBy=timers.target
 """
 
 WORK = """\
@@ -142,7 +190,12 @@ def units(prefix: str, server_memory: str) -> dict[str, str]:
     """The unit files by name, for a program below this prefix."""
     place = {"PREFIX": prefix, "SERVER_MEMORY": server_memory}
     servers = {f"grove-{of['COMMAND']}.service": filled(UNIT, {**of, **OF_SERVER, **place}) for of in (SERVE, PAGE)}
-    return {**servers, "grove-work.service": filled(WORK, {**OF_WORK, **place})}
+    return {
+        **servers,
+        "grove-save.service": filled(SAVE, {**OF_SERVER, **place}),
+        "grove-save.timer": SAVE_TIMER,
+        "grove-work.service": filled(WORK, {**OF_WORK, **place}),
+    }
 
 
 def filled(text: str, values: dict[str, str]) -> str:

@@ -1,8 +1,8 @@
 -- What is read of bytes nests no deeper than what is read again.
-use Rattle.std.proofs.Common.{◌≡◌, ℕ, ◌≤◌, nat_lt, Bool, true, false, List, length, Option, Some, None, is_some, ap, IfOk}
+use Rattle.std.proofs.Common.{◌≡◌, ℕ, ◌≤◌, nat_lt, Bool, true, false, List, length, Option, Some, None, is_some, ap, arith, subst, sym, IfOk}
 use Rattle.std.specs.Prelude.{Result, Ok, Err, if◌then◌else◌}
 use Rattle.std.specs.Str.{is_utf8}
-use Rattle.serde_json.specs.Data.{Data, depth}
+use Rattle.serde_json.specs.Data.{Data, depth, string}
 use Rattle.serde_json.specs.Find.{as_object}
 use Rattle.serde_json.specs.Read.{read}
 use Rattle.serde_json.proofs.Nesting.{depth-read}
@@ -14,8 +14,8 @@ use Rattle.grove_wire.specs.Outcomes.{◌>>=◌, or_fault, Gives}
 use Rattle.grove_wire.specs.Places.{whole_of}
 use Rattle.grove_wire.specs.Reading.{value_of, object_at, version_in, document_within, document_of, history_of}
 use Rattle.grove_words.specs.declared.order.Command.{Command}
-use Rattle.grove_words.specs.declared.order.Command.TheVariants.{Judge, Check, Plan, Draw, Run, Audit, Serve, Page}
-use Rattle.grove.specs.Outcomes.{document_for}
+use Rattle.grove_words.specs.declared.order.Command.TheVariants.{Judge, Check, Plan, Draw, Run, Audit, Tree, Table, Serve, Page}
+use Rattle.grove.specs.Outcomes.{document_for, text_of_table}
 
 -- a document that tells a version that there is
 abbrev versioned : Data → Result Data WireFault
@@ -49,6 +49,16 @@ level_within most bytes d is =
     (past_limit (nat_lt most (length bytes)) d
     ((or_fault BadJson (value_of bytes) >>= object_at (whole_of Whole)) >>= versioned) is)))
 
+-- a text nests nothing
+past_utf8 : (test : Bool) (bytes : List ℕ) (d : Data) → (if test then Ok (string bytes) else Err (Shape (whole_of Whole))) ≡ Ok d → d ≡ string bytes
+past_utf8 true bytes d is = cc
+past_utf8 false bytes d is = absurd (cc)
+
+level_text : (bytes : List ℕ) (d : Data) → text_of_table bytes ≡ Ok d → depth d ≤ 127
+level_text bytes d is =
+    let same : d ≡ string bytes = past_utf8 (is_utf8 bytes) bytes d (past_limit (nat_lt 4194304 (length bytes)) d _ is) in
+    subst (λ (x : Data). depth x ≤ 127) (sym same) (omega arith)
+
 -- so for each command
 pub shallow_for : (command : Command) (bytes : List ℕ) (d : Data) → document_for command bytes ≡ Ok d → depth d ≤ 127
 unfolding document_of history_of
@@ -58,6 +68,8 @@ shallow_for (Plan in_document) bytes d is = level_within 4194304 bytes d is
 shallow_for (Draw form) bytes d is = level_within 4194304 bytes d is
 shallow_for (Run workers) bytes d is = level_within 4194304 bytes d is
 shallow_for Audit bytes d is = level_within 67108864 bytes d is
+shallow_for (Tree adds_parents) bytes d is = level_text bytes d is
+shallow_for Table bytes d is = level_within 4194304 bytes d is
 shallow_for (Serve serving) bytes d is = level_within 4194304 bytes d is
 shallow_for (Page serving) bytes d is = level_within 4194304 bytes d is
 
@@ -66,6 +78,11 @@ pub shallow_document : {T : Type 0} (seen : T → Data) (bytes : List ℕ) (resu
     → IfOk result (λ (x : T). depth (seen x) ≤ 127)
 shallow_document seen bytes (Ok x) gives = shallow_for Judge bytes (seen x) gives
 shallow_document seen bytes (Err fault) gives = tt
+
+pub shallow_text : {T : Type 0} (seen : T → Data) (bytes : List ℕ) (result : Result T WireFault) → Gives seen result (text_of_table bytes)
+    → IfOk result (λ (x : T). depth (seen x) ≤ 127)
+shallow_text seen bytes (Ok x) gives = level_text bytes (seen x) gives
+shallow_text seen bytes (Err fault) gives = tt
 
 pub shallow_history : {T : Type 0} (seen : T → Data) (bytes : List ℕ) (result : Result T WireFault) → Gives seen result (history_of bytes)
     → IfOk result (λ (x : T). depth (seen x) ≤ 127)

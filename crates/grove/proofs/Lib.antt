@@ -2,4 +2,5 @@ pub mod NoOrders
 pub mod Orders
 pub mod Printing
 pub mod Saying
+pub mod Texts
 pub mod Levels

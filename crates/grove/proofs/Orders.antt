@@ -1,5 +1,5 @@
 -- What comes of the order that was found is what the words ask for.
-use Rattle.std.proofs.Common.{◌≡◌, ◌≢◌, ◌≤◌, ◌∙◌, ℕ, Bool, ap, refl, sym, subst, true, false, List, [], Option, Some, None, IfSome, IfOk, IfErr, OnOk, Result, Ok, Err, inl, inr, ◌⊎◌, arith, ◌++◌, take}
+use Rattle.std.proofs.Common.{◌≡◌, ◌≢◌, ◌≤◌, ◌∙◌, ℕ, Bool, ap, refl, sym, subst, true, false, ◌||◌, List, [], Option, Some, None, IfSome, IfOk, IfErr, OnOk, Result, Ok, Err, inl, inr, ◌⊎◌, arith, ◌++◌, take}
 use Rattle.std.specs.Io.KnownBytes.{Appends, Keeps}
 use Rattle.grove_words.specs.declared.order.Command.{Command}
 use Rattle.grove_words.specs.declared.order.Command.TheVariants as command
@@ -7,14 +7,14 @@ use Rattle.grove_words.specs.declared.order.Document.{Document}
 use Rattle.grove_words.specs.declared.order.Order.{Order}
 use Rattle.grove_words.specs.declared.order.Order.TheVariants as order
 use Rattle.grove_words.specs.declared.order.Serving.{Serving}
-use Rattle.grove_words.specs.CommandLines.{has_place, serves, text_given, Verb, Ask, Serve, Page, AskFor, AskToExplain, AskToServe, IsPlace, NameDevice}
-use Rattle.grove_words.specs.Invocations.{lines_given, name_in, AskForOrder, SaysOrder}
+use Rattle.grove_words.specs.CommandLines.{calls, has_place, serves, text_given, texts_given, Verb, Judge, Check, Plan, Draw, Run, Audit, Tree, Serve, Page, Ask, Save, AskFor, AskToExplain, AskToServe, IsPlace, NameDevice}
+use Rattle.grove_words.specs.Invocations.{name_in, AskForOrder, SaysOrder}
 use Rattle.grove_words.specs.Orders.{verb_for, SaysCommand}
 use Rattle.grove_words.proofs.Orders.{not_shown, same_name, same_verb}
 use Rattle.grove_answer.specs.Outcomes.{Outcome, ThenSays}
 use Rattle.grove.specs.declared.answer.Stop.{Stop}
 use Rattle.grove.specs.declared.answer.Stop.TheVariants as stop
-use Rattle.grove.specs.Answers.{serving_of, HasFile, IsAsGoodAs, IsAsked, IsCommandDone, IsGivenUp, IsLost, IsObeyed, IsStopped}
+use Rattle.grove.specs.Answers.{serving_of, HasFile, IsAsGoodAs, IsAsked, IsCommandDone, IsGivenUp, IsLost, IsObeyed, IsSaved, IsStopped, IsUnsaved}
 use Rattle.grove.specs.Endings.{stop_line, Blames, MayHint, NamesPlace, SaysListening, SaysRefusal, SaysStop, SaysWhy}
 use Rattle.grove.specs.Outcomes.{document_for, outcome_status, outcome_text, IsOutcome, IsOutcomeFor, MaySay, Prints}
 use Rattle.grove.specs.Runs.{streams, Answers, AskToAsk, Does, DoesAt, Invites, Spares, Stops, Streams, Tells}
@@ -45,7 +45,7 @@ refusal_printed (Ok lines) status old new is out one = let none : ◌≡◌ {A =
 refusal_printed (Err fault) status old new is out one = (fault, out)
 
 -- a place that a command serves at is given by the words
-place_given : (words : List (List ℕ)) (it : Command) (serving : Serving) → SaysCommand (text_given words) it
+place_given : (words : List (List ℕ)) (it : Command) (serving : Serving) → SaysCommand (text_given words) (texts_given words) it
     → serving_of it ≡ Some serving
     → (serves (verb_for it) ≡ true) × IsPlace (text_given words) serving.place
 place_given words (command.Serve given) serving said at = let same : given ≡ serving =
@@ -58,6 +58,8 @@ place_given words (command.Plan in_document) serving said at = absurd (cc)
 place_given words (command.Draw form) serving said at = absurd (cc)
 place_given words (command.Run workers) serving said at = absurd (cc)
 place_given words command.Audit serving said at = absurd (cc)
+place_given words (command.Tree adds_parents) serving said at = absurd (cc)
+place_given words command.Table serving said at = absurd (cc)
 
 -- a reason is said only where it is asked for
 says_why : (words : List (List ℕ)) (explain : Bool) (HasFailed IsSound : Type 0) (why : Stop)
@@ -119,7 +121,7 @@ spares_nothing words before after = record {
 -- ---- a command that is done with its document
 
 module _ (words : List (List ℕ)) (it : Command) (document : Document)
-    (asked : AskFor words (verb_for it) (name_in document)) (said : SaysCommand (text_given words) it) where
+    (asked : AskFor words (verb_for it) (name_in document)) (said : SaysCommand (text_given words) (texts_given words) it) where
   -- what is said of bytes is what the words ask for
   for_words : (verb : Verb) (name : Option (List ℕ)) (bytes : List ℕ) (outcome : Outcome) → AskFor words verb name
       → IsOutcome it bytes outcome → IsOutcomeFor words verb bytes outcome
@@ -239,7 +241,7 @@ module _ (words : List (List ℕ)) (it : Command) (document : Document)
     spares = spares_nothing words before _;
   }
 
--- ---- a server that is asked
+-- ---- a server that is called
 
 pub same_hint : (old new : Option (List ℕ)) (failed fails : Bool) → new ≡ old → fails ≡ failed
     → MayHint failed fails old new
@@ -247,24 +249,112 @@ same_hint old new failed fails same sound =
     subst (λ f. MayHint failed f old new) (sym sound)
     (subst (λ xs. MayHint failed failed old xs) (sym same) (no_hint failed old))
 
-blames_place : (InFailed OutFailed IsSound : Type 0) (words : List (List ℕ)) (name : Option (List ℕ)) (why : Stop)
-    → AskFor words Ask name → Blames (Unit {0}) IsSound why
-    → Blames (InFailed ⊎ (OutFailed ⊎ NameDevice words)) IsSound why
-blames_place InFailed OutFailed IsSound words name (stop.Device failure) asked any =
-    inr (inr (Ask, name, asked, inr refl))
-blames_place InFailed OutFailed IsSound words name stop.Memory asked sound = sound
+-- what is saved, or refused, ends with few statuses
+few_saved : (before after : Streams) (status : ℕ) → IsSaved before after status → status ≤ 1
+few_saved before after status is = by_output is.output
+  where
+    by_output : ((status ≡ 0) × Keeps before.output after.output)
+        ⊎ ((status ≡ 1) × SaysRefusal before.output after.output) → status ≤ 1
+    by_output (inl (none, kept)) = omega arith
+    by_output (inr (one, said)) = omega arith
 
-module _ (words : List (List ℕ)) (name : Option (List ℕ)) (asked : AskFor words Ask name) where
-  no_other : (verb : Verb) (other : Option (List ℕ)) → AskFor words verb other → verb ≢ Ask → ⊥
-  no_other verb other asks differs = differs (same_verb words verb Ask other name asks asked)
+refusal_saved : (before after : Streams) (status : ℕ) → IsSaved before after status → status ≡ 1
+    → SaysRefusal before.output after.output
+refusal_saved before after status is = by_output is.output
+  where
+    by_output : ((status ≡ 0) × Keeps before.output after.output)
+        ⊎ ((status ≡ 1) × SaysRefusal before.output after.output) → status ≡ 1 → SaysRefusal before.output after.output
+    by_output (inl (none, kept)) one = absurd (omega arith)
+    by_output (inr (is_one, said)) one = said
+
+or_right : (b : Bool) → (b || true) ≡ true
+or_right true = refl
+or_right false = refl
+
+has_a_place : (verb : Verb) → calls verb ≡ true → has_place verb ≡ true
+has_a_place verb calling = ap (λ (b : Bool). serves verb || b) calling ∙ or_right (serves verb)
+
+blames_place : (InFailed OutFailed IsSound : Type 0) (words : List (List ℕ)) (name : Option (List ℕ)) (why : Stop)
+    → (verb : Verb) → calls verb ≡ true → AskFor words verb name → Blames (Unit {0}) IsSound why
+    → Blames (InFailed ⊎ (OutFailed ⊎ NameDevice words)) IsSound why
+blames_place InFailed OutFailed IsSound words name (stop.Device failure) verb calling asked any =
+    inr (inr (verb, name, asked, inr (has_a_place verb calling)))
+blames_place InFailed OutFailed IsSound words name stop.Memory verb calling asked sound = sound
+
+-- a command that is a server's client serves nothing
+serves_none : (verb : Verb) → calls verb ≡ true → serves verb ≡ true → ⊥
+serves_none Judge calling serving = cc
+serves_none Check calling serving = cc
+serves_none Plan calling serving = cc
+serves_none Draw calling serving = cc
+serves_none Run calling serving = cc
+serves_none Audit calling serving = cc
+serves_none Tree calling serving = cc
+serves_none Serve calling serving = cc
+serves_none Page calling serving = cc
+serves_none Ask calling serving = cc
+serves_none Save calling serving = cc
+
+module _ (words : List (List ℕ)) (name : Option (List ℕ)) (client : Verb) (is_client : calls client ≡ true)
+    (asked : AskFor words client name) where
+  no_other : (verb : Verb) (other : Option (List ℕ)) → AskFor words verb other → calls verb ≡ false → ⊥
+  no_other verb other asks differs =
+      let same : calls client ≡ false = subst (λ v. calls v ≡ false) (same_verb words verb client other name asks asked) differs in
+      cc
 
   not_served : (verb : Verb) (other : Option (List ℕ)) → AskFor words verb other → serves verb ≡ true → ⊥
   not_served verb other asks serving =
-      let none : false ≡ true = subst (λ v. serves v ≡ true) (same_verb words verb Ask other name asks asked) serving in
-      cc
+      serves_none client is_client (subst (λ v. serves v ≡ true) (same_verb words verb client other name asks asked) serving)
 
+  saved_does : (before after : Streams) (status : ℕ) → IsSaved before after status → Does words before after status
+  saved_does before after status is =
+      let most : status ≤ 1 = few_saved before after status is in
+      record {
+        answers = record {
+          answered = λ verb asks other. absurd (no_other verb None asks other);
+          read = λ verb n asks other. absurd (no_other verb n asks other);
+          served = λ verb n asks serving. absurd (not_served verb n asks serving);
+          refused = λ one. inl (refusal_saved before after status is one);
+          taken = λ verb n asks two. omega arith;
+        };
+        tells = tells_nothing words client name before after status asked (λ two. omega arith);
+        stops = goes_on words before after status (omega arith);
+        spares = record {
+          hinted = λ few. same_hint before.errors after.errors before.errors_failed after.errors_failed is.errors.0
+              is.errors.1;
+          quiet_errors = λ shown few. absurd (not_shown words client name asked shown);
+          sound_input = λ few. is.sound.0;
+          sound_output = λ few. is.sound.1;
+        };
+      }
+
+  unsaved_does : (before middle : Streams) (errors : Option (List ℕ)) (fails : Bool) (why : Stop) (explain : Bool)
+      → IsUnsaved before middle why
+      → AskToExplain words explain → (fails ≡ false → SaysStop (explain ≡ true) why middle.errors errors)
+      → Does words before (record middle { errors = errors; errors_failed = fails }) 3
+  unsaved_does before middle errors fails why explain lost explains told = record {
+    answers = record {
+      answered = λ verb asks other. absurd (no_other verb None asks other);
+      read = λ verb n asks other. absurd (no_other verb n asks other);
+      served = λ verb n asks serving. inr refl;
+      refused = λ one. absurd (cc);
+      taken = λ verb n asks two. cc;
+    };
+    tells = tells_nothing words client name before _ 3 asked (λ two. cc);
+    stops = record {
+      status = omega arith;
+      blamed = λ three sound. says_why words explain _ _ why before.errors middle.errors errors explains lost.errors.0
+          (told sound) (blames_place _ _ _ words name why client is_client asked lost.blamed);
+      unprinted = λ three sound. inl (lost.unprinted sound);
+    };
+    spares = spares_nothing words before _;
+  }
+
+module _ (words : List (List ℕ)) (name : Option (List ℕ)) (asked : AskFor words Ask name) where
   asked_does : (before after : Streams) (status : ℕ) → IsAsked before after status → Does words before after status
   asked_does before after status is =
+      let no_other = no_other words name Ask refl asked in
+      let not_served = not_served words name Ask refl asked in
       let most : status ≤ 1 = is.status in
       record {
         answers = record {
@@ -291,8 +381,8 @@ module _ (words : List (List ℕ)) (name : Option (List ℕ)) (asked : AskFor wo
       → Does words before (record middle { errors = errors; errors_failed = fails }) 3
   lost_does before middle errors fails why explain lost explains told = record {
     answers = record {
-      answered = λ verb asks other. absurd (no_other verb None asks other);
-      read = λ verb n asks other. absurd (no_other verb n asks other);
+      answered = λ verb asks other. absurd (no_other words name Ask refl asked verb None asks other);
+      read = λ verb n asks other. absurd (no_other words name Ask refl asked verb n asks other);
       served = λ verb n asks serving. inr refl;
       refused = λ one. absurd (cc);
       taken = λ verb n asks two. cc;
@@ -301,7 +391,7 @@ module _ (words : List (List ℕ)) (name : Option (List ℕ)) (asked : AskFor wo
     stops = record {
       status = omega arith;
       blamed = λ three sound. says_why words explain _ _ why before.errors middle.errors errors explains lost.errors.0
-          (told sound) (blames_place _ _ _ words name why asked lost.blamed);
+          (told sound) (blames_place _ _ _ words name why Ask refl asked lost.blamed);
       unprinted = λ three sound. inr (inr (name, asked));
     };
     spares = spares_nothing words before _;
@@ -310,16 +400,18 @@ module _ (words : List (List ℕ)) (name : Option (List ℕ)) (asked : AskFor wo
 -- ---- any order
 
 pub obeyed_does : (words : List (List ℕ)) (it : Order) (before after : Streams) (status : ℕ) → AskForOrder words it
-    → SaysOrder (text_given words) (lines_given words) it
+    → SaysOrder (text_given words) (texts_given words) it
     → IsObeyed it before after status → Does words before after status
 obeyed_does words (order.Do command document) before after status asked said is =
     done_does words command document asked said before after status is
 obeyed_does words (order.Ask place lines) before after status (name, asked) said is =
     asked_does words name asked before after status is
+obeyed_does words (order.Save server file) before after status (name, asked) said is =
+    saved_does words name Save refl asked before after status is
 
 pub given_up_does : (words : List (List ℕ)) (it : Order) (before middle : Streams) (errors : Option (List ℕ))
     (fails : Bool) (why : Stop) (explain : Bool)
-    → AskForOrder words it → SaysOrder (text_given words) (lines_given words) it → AskToExplain words explain
+    → AskForOrder words it → SaysOrder (text_given words) (texts_given words) it → AskToExplain words explain
     → IsGivenUp it before middle why
     → (fails ≡ false → SaysStop (explain ≡ true) why middle.errors errors)
     → Does words before (record middle { errors = errors; errors_failed = fails }) 3
@@ -327,6 +419,8 @@ given_up_does words (order.Do command document) before middle errors fails why e
     stopped_does words command document asked said before middle errors fails why explain is explains told
 given_up_does words (order.Ask place lines) before middle errors fails why explain (name, asked) said explains is told =
     lost_does words name asked before middle errors fails why explain is explains told
+given_up_does words (order.Save server file) before middle errors fails why explain (name, asked) said explains is told =
+    unsaved_does words name Save refl asked before middle errors fails why explain is explains told
 
 -- what asking a server gives
 pub is_asked : (before after : Streams) (result : Result ℕ Stop) → IfOk result (λ status. status ≤ 1)
@@ -342,6 +436,24 @@ pub is_lost : (before after : Streams) (result : Result ℕ Stop)
 is_lost before after (Ok status) blamed errors = tt
 is_lost before after (Err why) blamed errors = record { blamed = blamed; errors = errors }
 
+-- what saving gives
+pub is_saved : (before after : Streams) (result : Result ℕ Stop)
+    → IfOk result (λ status. ((status ≡ 0) × Keeps before.output after.output)
+    ⊎ ((status ≡ 1) × SaysRefusal before.output after.output))
+    → OnOk result ((after.input_failed ≡ before.input_failed) × (after.output_failed ≡ before.output_failed))
+    → (after.errors ≡ before.errors) × (after.errors_failed ≡ before.errors_failed) → IfOk result (IsSaved before after)
+is_saved before after (Ok status) said sound errors = record { output = said; sound = sound; errors = errors }
+is_saved before after (Err why) said sound errors = tt
+
+pub is_unsaved : (before after : Streams) (result : Result ℕ Stop)
+    → IfErr result (λ _. after.output_failed ≡ false → Keeps before.output after.output)
+    → IfErr result (Blames (Unit {0})
+    ((after.input_failed ≡ before.input_failed) × (after.output_failed ≡ before.output_failed)))
+    → (after.errors ≡ before.errors) × (after.errors_failed ≡ before.errors_failed) → IfErr result (IsUnsaved before after)
+is_unsaved before after (Ok status) kept blamed errors = tt
+is_unsaved before after (Err why) kept blamed errors =
+    record { unprinted = kept; blamed = blamed; errors = errors }
+
 -- it ends with no status of wrong words
 pub obeyed_few : (it : Order) (before after : Streams) (status : ℕ) → IsObeyed it before after status → status ≡ 2 → ⊥
 obeyed_few (order.Do command document) before after status done two =
@@ -349,14 +461,18 @@ obeyed_few (order.Do command document) before after status done two =
     let same : status ≡ outcome_status done.said.2 = done.said.4 in
     omega arith
 obeyed_few (order.Ask place lines) before after status is two = let few : status ≤ 1 = is.status in omega arith
+obeyed_few (order.Save server file) before after status is two =
+    let few : status ≤ 1 = few_saved before after status is in omega arith
 
 -- words that ask for a file have an order for one
 pub has_file : (words : List (List ℕ)) (it : Order) (verb : Verb) (name : Option (List ℕ)) → AskForOrder words it
-    → AskFor words verb name → verb ≢ Ask → name ≢ None → HasFile it
+    → AskFor words verb name → calls verb ≡ false → name ≢ None → HasFile it
 has_file words (order.Do command document) verb name asked asks other named = λ none.
     named (sym (same_name words (verb_for command) verb (name_in document) name asked asks) ∙ none)
 has_file words (order.Ask place lines) verb name (called, asked) asks other named =
-    absurd (other (same_verb words verb Ask name called asks asked))
+    absurd (no_other words called Ask refl asked verb name asks other)
+has_file words (order.Save server file) verb name (called, asked) asks other named =
+    absurd (no_other words called Save refl asked verb name asks other)
 
 -- ---- what is awaited
 

@@ -13,7 +13,7 @@ use Rattle.grove_wire.specs.Reading.{document_of, document_within, history_of}
 use Rattle.grove_words.specs.CommandLines.{has_place, serves}
 use Rattle.grove_words.specs.Orders.{verb_for}
 use Rattle.grove_words.specs.declared.order.Command.{Command}
-use Rattle.grove_words.specs.declared.order.Command.TheVariants.{Judge, Check, Plan, Draw, Run, Audit, Serve, Page}
+use Rattle.grove_words.specs.declared.order.Command.TheVariants.{Judge, Check, Plan, Draw, Run, Audit, Tree, Table, Serve, Page}
 use Rattle.grove_words.specs.declared.order.Serving.{Serving}
 use Rattle.grove_answer.specs.Outcomes.{Outcome, ThenSays}
 use Rattle.grove.specs.declared.answer.Answer.{Answer}
@@ -22,12 +22,15 @@ use Rattle.grove.specs.declared.answer.Stop.{Stop}
 use Rattle.grove.specs.declared.answer.Stop.TheVariants.{Device, Memory}
 use Rattle.grove.specs.Answers.{most_bytes, printed, serving_of, HasStatus, IsAnswerTo, IsAsGoodAs, IsCutOff, IsDevice, IsListen}
 use Rattle.grove.specs.Endings.{stop_line, Blames, IsHintLine, MayHint, NamesPlace}
-use Rattle.grove.specs.Outcomes.{document_for, MaySay, outcome_status, outcome_text}
+use Rattle.grove.specs.Outcomes.{document_for, MaySay, outcome_status, outcome_text, text_of_table}
 
 -- ---- what is read
 
 over_limit : (most : ℕ) (bytes : List ℕ) → most < length bytes → document_within most bytes ≡ Err (Limit (whole_of Whole))
 over_limit most bytes h = let over : nat_lt most (length bytes) ≡ true = search rules in cond-true (nat_lt most (length bytes)) _ _ over
+
+over_text : (bytes : List ℕ) → 4194304 < length bytes → text_of_table bytes ≡ Err (Limit (whole_of Whole))
+over_text bytes h = let over : nat_lt 4194304 (length bytes) ≡ true = search rules in cond-true (nat_lt 4194304 (length bytes)) _ _ over
 
 -- more bytes than a command takes are over its limit
 over_most : (command : Command) (bytes : List ℕ) → most_bytes command < length bytes → document_for command bytes ≡ Err (Limit (whole_of Whole))
@@ -38,6 +41,8 @@ over_most (Plan in_document) bytes h = over_limit 4194304 bytes h
 over_most (Draw form) bytes h = over_limit 4194304 bytes h
 over_most (Run workers) bytes h = over_limit 4194304 bytes h
 over_most Audit bytes h = over_limit 67108864 bytes h
+over_most (Tree adds_parents) bytes h = over_text bytes h
+over_most Table bytes h = over_limit 4194304 bytes h
 over_most (Serve serving) bytes h = over_limit 4194304 bytes h
 over_most (Page serving) bytes h = over_limit 4194304 bytes h
 
@@ -134,6 +139,8 @@ placed (Plan in_document) serving at = absurd (cc)
 placed (Draw form) serving at = absurd (cc)
 placed (Run workers) serving at = absurd (cc)
 placed Audit serving at = absurd (cc)
+placed (Tree adds_parents) serving at = absurd (cc)
+placed Table serving at = absurd (cc)
 placed (Serve it) serving at = refl
 placed (Page it) serving at = refl
 

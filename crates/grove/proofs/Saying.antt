@@ -7,7 +7,7 @@ use Rattle.grove_store.specs.StoreStates.{StoreState}
 use Rattle.grove_wire.specs.declared.fault.WireFault.{WireFault}
 use Rattle.grove_wire.specs.Reading.{tree_in}
 use Rattle.grove_words.specs.declared.order.Command.{Command}
-use Rattle.grove_words.specs.declared.order.Command.TheVariants.{Judge, Check, Plan, Draw, Run, Audit, Serve, Page}
+use Rattle.grove_words.specs.declared.order.Command.TheVariants.{Judge, Check, Plan, Draw, Run, Audit, Tree, Table, Serve, Page}
 use Rattle.grove_words.specs.declared.order.Serving.{Serving}
 use Rattle.grove_answer.specs.Outcomes.{Outcome, ThenSays}
 use Rattle.grove.specs.Answers.{serving_of, IsOpenedFrom}
@@ -30,6 +30,8 @@ says_tree (Plan in_document) serving document outcome at says = absurd (cc)
 says_tree (Draw form) serving document outcome at says = absurd (cc)
 says_tree (Run workers) serving document outcome at says = absurd (cc)
 says_tree Audit serving document outcome at says = absurd (cc)
+says_tree (Tree adds_parents) serving document outcome at says = absurd (cc)
+says_tree Table serving document outcome at says = absurd (cc)
 
 says_line : (found : Result (Rows × List ℤ) WireFault) (IsStored : Rows × List ℤ → Type 0) (serving : Serving)
     (line : List ℕ) → IsOkAnd found IsStored
@@ -44,6 +46,18 @@ pub says_served : (command : Command) (serving : Serving) (document : Data) (sto
     → MaySay command document (Ok line)
 says_served command serving document store line at opened names =
     says_tree command serving document (Ok line) at (says_line (tree_in document) _ serving line opened names)
+
+-- the parts of the lines of a place with a port for HTTP
+pub http_joined : (line text address : List ℕ) (port : ℕ) → text ≡ address
+    → line ++ (codes "listening " ++ (text ++ (codes ":" ++ (decimal port ++ codes " over http\n"))))
+    ≡ line ++ (codes "listening " ++ address ++ codes ":" ++ decimal port ++ codes " over http" ++ 10 ∷ [])
+http_joined line text address port same =
+    let Ends : List ℕ → Type 0 = λ a. line ++ (codes "listening " ++ (text ++ (codes ":" ++ (decimal port ++ codes " over http\n"))))
+    ≡ line ++ (codes "listening " ++ a ++ codes ":" ++ decimal port ++ codes " over http" ++ 10 ∷ []) in
+    let end : List ℕ = codes " over http" ++ 10 ∷ [] in
+    subst Ends same (ap (λ rest. line ++ (codes "listening " ++ rest))
+    (sym (append_assoc (text ++ codes ":" ++ decimal port) (codes " over http") (10 ∷ [])
+    ∙ append_assoc (text ++ codes ":") (decimal port) end ∙ append_assoc text (codes ":") (decimal port ++ end))))
 
 -- the parts of the line of a place, as they are joined and as they are told
 pub line_joined : (text address : List ℕ) (port : ℕ) → text ≡ address

@@ -15,7 +15,7 @@ use Rattle.grove_words.specs.declared.no_order.NoOrder.TheVariants as no
 use Rattle.grove_words.specs.declared.order.Command.{Command}
 use Rattle.grove_words.specs.declared.order.Command.TheVariants.{Audit, Serve, Page}
 use Rattle.grove_words.specs.declared.order.Order.{Order}
-use Rattle.grove_words.specs.declared.order.Order.TheVariants.{Do, Ask}
+use Rattle.grove_words.specs.declared.order.Order.TheVariants.{Do, Ask, Save}
 use Rattle.grove_words.specs.declared.order.Place.{Place}
 use Rattle.grove_words.specs.declared.order.Serving.{Serving}
 use Rattle.grove_answer.specs.Outcomes.{Outcome, ThenSays}
@@ -23,7 +23,7 @@ use Rattle.grove.specs.declared.answer.Answer.{Answer}
 use Rattle.grove.specs.declared.answer.Answer.TheVariants.{Done, Refused, Listen}
 use Rattle.grove.specs.declared.answer.Stop.{Stop}
 use Rattle.grove.specs.declared.answer.Stop.TheVariants as stop
-use Rattle.grove.specs.Endings.{refusal_line, stop_line, Blames, MayHint, NamesPlace, SaysSomething}
+use Rattle.grove.specs.Endings.{refusal_line, stop_line, Blames, MayHint, NamesPlace, SaysRefusal, SaysSomething}
 use Rattle.grove.specs.Outcomes.{document_for, outcome_status, outcome_text, IsOutcome, MaySay}
 use Rattle.grove.specs.Runs.{Streams}
 
@@ -127,18 +127,34 @@ pub record IsLost (before after : Streams) (why : Stop) : Type 0 where
       ((after.input_failed ≡ before.input_failed) × (after.output_failed ≡ before.output_failed)) why
   pub errors : (after.errors ≡ before.errors) × (after.errors_failed ≡ before.errors_failed)
 
+-- a server's document was saved, or refused
+pub record IsSaved (before after : Streams) (status : ℕ) : Type 0 where
+  pub output : ((status ≡ 0) × Keeps before.output after.output) ⊎ ((status ≡ 1) × SaysRefusal before.output after.output)
+  pub sound : (after.input_failed ≡ before.input_failed) × (after.output_failed ≡ before.output_failed)
+  pub errors : (after.errors ≡ before.errors) × (after.errors_failed ≡ before.errors_failed)
+
+-- that was stopped
+pub record IsUnsaved (before after : Streams) (why : Stop) : Type 0 where
+  pub unprinted : after.output_failed ≡ false → Keeps before.output after.output
+  pub blamed : Blames (Unit {0})
+      ((after.input_failed ≡ before.input_failed) × (after.output_failed ≡ before.output_failed)) why
+  pub errors : (after.errors ≡ before.errors) × (after.errors_failed ≡ before.errors_failed)
+
 -- so for each order
 abbrev pub IsObeyed : Order → Streams → Streams → ℕ → Type 0
 IsObeyed (Do command document) = IsCommandDone command (name_in document)
-IsObeyed (Ask place lines) = IsAsked
+IsObeyed (Ask server lines) = IsAsked
+IsObeyed (Save server file) = IsSaved
 
 abbrev pub HasFile : Order → Type 0
 HasFile (Do command document) = name_in document ≢ None
-HasFile (Ask place lines) = ⊥
+HasFile (Ask server lines) = ⊥
+HasFile (Save server file) = ⊥
 
 abbrev pub IsGivenUp : Order → Streams → Streams → Stop → Type 0
 IsGivenUp (Do command document) = IsStopped command (name_in document)
-IsGivenUp (Ask place lines) = IsLost
+IsGivenUp (Ask server lines) = IsLost
+IsGivenUp (Save server file) = IsUnsaved
 
 -- ---- what words come to that are no order
 

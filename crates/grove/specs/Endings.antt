@@ -1,5 +1,5 @@
 -- What the program says where it has no answer, and the lines of refusals and of ports.
-use Rattle.std.specs.Prelude.{◌≡◌, ◌≢◌, ◌≤◌, ◌⊎◌, ℕ, Bool, true, codes, decimal, List, [], ◌∷◌, ◌++◌, take, Option}
+use Rattle.std.specs.Prelude.{◌≡◌, ◌≢◌, ◌≤◌, ◌⊎◌, ℕ, Bool, true, codes, decimal, List, [], ◌∷◌, ◌++◌, take, Option, None, Some}
 use Rattle.std.specs.Io.KnownBytes.{Appends, Keeps}
 use Rattle.std.specs.Net.Addr.{ipv4_octets, ipv6_segments}
 use Rattle.std.specs.Net.Text.{ipv4_text, ipv6_text}
@@ -56,14 +56,23 @@ address_text (V6 address) = codes "[" ++ ipv6_text (ipv6_segments address) ++ co
 abbrev pub listening_line : IpAddr → ℕ → List ℕ
 listening_line address port = codes "listening " ++ address_text address ++ codes ":" ++ decimal port ++ 10 ∷ []
 
+-- the lines for a place: a second one if a port for HTTP is listened on too
+abbrev pub http_line : IpAddr → ℕ → List ℕ
+http_line address port =
+    codes "listening " ++ address_text address ++ codes ":" ++ decimal port ++ codes " over http" ++ 10 ∷ []
+
+abbrev pub place_lines : IpAddr → ℕ → Option ℕ → List ℕ
+place_lines address port None = listening_line address port
+place_lines address port (Some http) = listening_line address port ++ http_line address http
+
 -- the port that is listened on is the one that was named, or any
 abbrev pub IsPortFor : Port → ℕ → Type 0
 IsPortFor Any port = (1 ≤ port) × (port ≤ 65535)
 IsPortFor (Named asked) port = port ≡ asked
 
--- the text is the line for a place that was asked for
+-- the text is the lines for a place that was asked for
 abbrev pub NamesPlace : Place → List ℕ → Type 0
-NamesPlace place text = (port : ℕ) × IsPortFor place.port port × (text ≡ listening_line place.address port)
+NamesPlace place text = (port : ℕ) × IsPortFor place.port port × (text ≡ place_lines place.address port place.http)
 
 -- standard output got the line for such a place
 abbrev pub SaysListening : (Place → Type 0) → Option (List ℕ) → Option (List ℕ) → Type 0

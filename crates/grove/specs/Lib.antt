@@ -3,3 +3,4 @@ pub mod Askings
 pub mod Endings
 pub mod Outcomes
 pub mod Runs
+pub mod Saving

@@ -1,18 +1,48 @@
 -- What each command may say of bytes, and what the program prints of it.
-use Rattle.std.specs.Prelude.{◌≡◌, ◌⊎◌, ℕ, ◌≤◌, ℤ, true, false, List, take, Option, Result, Ok, Err}
+use Rattle.std.specs.Prelude.{◌≡◌, ◌⊎◌, ℕ, ◌≤◌, ℤ, Bool, true, false, List, [], ◌∷◌, ◌++◌, length, nat_lt, if◌then◌else◌, take, Option, Result, Ok, Err}
+use Rattle.std.specs.Str.{is_utf8}
 use Rattle.std.specs.Io.KnownBytes.{Appends, Keeps}
-use Rattle.serde_json.specs.Data.{Data}
+use Rattle.serde_json.specs.Data.{Data, string}
 use Rattle.grove_tree.specs.Trees.{Rows}
 use Rattle.grove_wire.specs.declared.fault.WireFault.{WireFault}
 use Rattle.grove_wire.specs.Reading.{document_of, history_of, tree_in}
-use Rattle.grove_words.specs.CommandLines.{text_given, Verb}
+use Rattle.grove_wire.specs.declared.fault.WireFault.TheVariants.{Limit, Shape}
+use Rattle.grove_wire.specs.declared.place.Part.TheVariants.{Whole}
+use Rattle.grove_wire.specs.Documents.{document_text}
+use Rattle.grove_wire.specs.Places.{whole_of}
+use Rattle.grove_table.specs.declared.line.Line.{Line}
+use Rattle.grove_table.specs.declared.tree_making.Absent.{Absent}
+use Rattle.grove_table.specs.declared.tree_making.Absent.TheVariants.{Refused, Added}
+use Rattle.grove_table.specs.Tables.{AreLinesOf, IsTreeOf}
+use Rattle.grove_table.specs.Texts.{table_text}
+use Rattle.grove_words.specs.CommandLines.{text_given, texts_given, Verb}
 use Rattle.grove_words.specs.Orders.{verb_for, SaysCommand}
 use Rattle.grove_words.specs.declared.order.Command.{Command}
-use Rattle.grove_words.specs.declared.order.Command.TheVariants.{Judge, Check, Plan, Draw, Run, Audit, Serve, Page}
+use Rattle.grove_words.specs.declared.order.Command.TheVariants.{Judge, Check, Plan, Draw, Run, Audit, Tree, Table, Serve, Page}
 use Rattle.grove_words.specs.declared.order.Place.{Place}
 use Rattle.grove_answer.specs.Outcomes.{Outcome, ThenSays, task_in, trial_in, claim_in, sketch_in, batch_in, history_in, IsJudged, IsChecked, IsPlannedTask, IsDrawn, IsRunBatch, IsAudited}
 use Rattle.grove_answer.specs.PlannedDocuments.{IsPlannedDocument}
 use Rattle.grove.specs.Endings.{refusal_line, NamesPlace}
+
+-- ---- tree: the document of a table's text, and the table of a document
+
+-- whether nodes are added that lines need above others, and that have none
+abbrev pub absent_for : Bool → Absent
+absent_for true = Added
+absent_for false = Refused
+
+-- a document of the tree of the lines of the text
+abbrev pub IsMade : Absent → List ℕ → List ℕ → Type 0
+IsMade absent text lines = (table : List Line) × AreLinesOf text table × (tree : Rows) × (records : List ℤ)
+    × IsTreeOf absent table tree records × (lines ≡ document_text tree records ++ 10 ∷ [])
+
+abbrev pub SaysTable : Bool → Data → Outcome → Type 0
+SaysTable adds_parents document (Ok lines) =
+    (text : List ℕ) × (document ≡ string text) × IsMade (absent_for adds_parents) text lines
+SaysTable adds_parents document (Err fault) = Unit {0}
+
+abbrev pub IsListed : Rows × List ℤ → Outcome → Type 0
+IsListed (tree, records) outcome = outcome ≡ Ok (table_text tree records)
 
 -- ---- serve and page: the line of the place that is listened at
 
@@ -29,12 +59,23 @@ MaySay (Plan true) document = ThenSays (task_in document) (IsPlannedDocument doc
 MaySay (Draw form) document = ThenSays (sketch_in document) IsDrawn
 MaySay (Run workers) document = ThenSays (batch_in document) IsRunBatch
 MaySay Audit document = ThenSays (history_in document) IsAudited
+MaySay (Tree adds_parents) document = SaysTable adds_parents document
+MaySay Table document = ThenSays (tree_in document) IsListed
 MaySay (Serve serving) document = ThenSays (tree_in document) (IsServed serving.place)
 MaySay (Page serving) document = ThenSays (tree_in document) (IsServed serving.place)
 
--- the document that bytes are for a command; an audit's may be longer
+-- the text that bytes are
+abbrev pub utf8_text : List ℕ → Result Data WireFault
+utf8_text bytes = if is_utf8 bytes then Ok (string bytes) else Err (Shape (whole_of Whole))
+
+-- the text that is to be a table, if it is one and isn't too long
+abbrev pub text_of_table : List ℕ → Result Data WireFault
+text_of_table bytes = if nat_lt 4194304 (length bytes) then Err (Limit (whole_of Whole)) else utf8_text bytes
+
+-- the document that bytes are for a command; an audit's may be longer, and a table's is its text
 abbrev pub document_for : Command → List ℕ → Result Data WireFault
 document_for Audit bytes = history_of bytes
+document_for (Tree adds_parents) bytes = text_of_table bytes
 document_for _ bytes = document_of bytes
 
 abbrev pub IsOutcome : Command → List ℕ → Outcome → Type 0
@@ -43,7 +84,7 @@ IsOutcome command bytes = ThenSays (document_for command bytes) (MaySay command)
 -- by the words, which ask for the command in a verb and the options that they have
 abbrev pub IsOutcomeFor : List (List ℕ) → Verb → List ℕ → Outcome → Type 0
 IsOutcomeFor words verb bytes outcome =
-    (command : Command) × (verb_for command ≡ verb) × SaysCommand (text_given words) command
+    (command : Command) × (verb_for command ≡ verb) × SaysCommand (text_given words) (texts_given words) command
     × IsOutcome command bytes outcome
 
 -- ---- what is printed

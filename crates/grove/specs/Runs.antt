@@ -1,7 +1,7 @@
 -- What the program does by its words.
 use Rattle.std.specs.Prelude.{◌≡◌, ◌≢◌, ◌≤◌, ◌⊎◌, ℕ, Bool, true, false, List, Option, None, IfSome}
 use Rattle.std.specs.Io.KnownBytes.{Keeps}
-use Rattle.grove_words.specs.CommandLines.{serves, Verb, Ask, AreWrong, AskFor, AskToExplain, AskToServe, AskToShow, NameDevice}
+use Rattle.grove_words.specs.CommandLines.{calls, serves, Verb, Ask, AreWrong, AskFor, AskToExplain, AskToServe, AskToShow, NameDevice}
 use Rattle.grove.specs.Endings.{MayHint, SaysListening, SaysRefusal, SaysSomething, SaysWhy}
 use Rattle.grove.specs.Outcomes.{IsOutcomeFor, Prints}
 
@@ -32,9 +32,9 @@ AskToAsk words = (name : Option (List ℕ)) × AskFor words Ask name
 -- what is answered to an order
 pub record Answers (words : List (List ℕ)) (before after : Streams) (status : ℕ) : Type 0 where
   -- a document is answered: standard input, if it is known; and some bytes, in any case
-  pub answered : (verb : Verb) → AskFor words verb None → verb ≢ Ask
+  pub answered : (verb : Verb) → AskFor words verb None → calls verb ≡ false
       → IfSome before.input (λ document. Prints (IsOutcomeFor words verb document) status before.output after.output)
-  pub read : (verb : Verb) (name : Option (List ℕ)) → AskFor words verb name → verb ≢ Ask
+  pub read : (verb : Verb) (name : Option (List ℕ)) → AskFor words verb name → calls verb ≡ false
       → (bytes : List ℕ) × Prints (IsOutcomeFor words verb bytes) status before.output after.output
   -- serving ends only by a refusal, or by what stops it
   pub served : (verb : Verb) (name : Option (List ℕ)) → AskFor words verb name → serves verb ≡ true → (status ≡ 1)

@@ -2,6 +2,7 @@ use crate::failure::Failure;
 use grove_base::Hint;
 use grove_serve::Service;
 use grove_session::ReadFault;
+use grove_table::TableFault;
 use grove_wire::Fault;
 use std::alloc::{AllocError, AllocFailed};
 
@@ -10,10 +11,17 @@ use std::alloc::{AllocError, AllocFailed};
 pub enum Answer {
     /// The command is done: lines for standard output, status 0.
     Done(String),
-    /// The document is refused: a line for standard output, status 1, and the fault that it is for.
-    Refused { line: String, fault: Fault },
+    /// The document is refused: a line for standard output, status 1, and what it is for.
+    Refused { line: String, cause: Cause },
     /// A port is listened on: the line that says so, for standard output, and what is served there.
     Listen { line: String, service: Service },
+}
+
+/// Why a document, or a table, is refused.
+#[derive(Drop)]
+pub enum Cause {
+    Document(Fault),
+    Table(TableFault),
 }
 
 /// An answer, and what a person is told beside it.

@@ -10,10 +10,11 @@ ghost use Rattle.grove.specs.Answers.{IsAnswerTo};
 ghost use Rattle.grove.specs.Endings.{Blames};
 ghost use Rattle.grove.specs.Outcomes.{document_for, MaySay};
 
-use crate::answer::{Answer, Response, Stop};
+use crate::answer::{Answer, Cause, Response, Stop};
 use crate::document::read_for;
 use crate::hinting::hint_beside;
 use crate::serving::serve_document;
+use crate::tables::{answer_to_table, table_of};
 use grove_answer::{
     Refusal, audit_document, check_document, draw_document, judge_document, plan_document,
     planned_document, run_document,
@@ -28,11 +29,11 @@ use std::net::{Net, TcpListener, TcpStream};
 /// What a command answers to the bytes of its document, and what a person is told beside it.
 pub fn response_to<R: Host + Net<Listener = TcpListener, Stream = TcpStream>>(
     rt: &R,
-    command: Command,
+    command: &Command<'_>,
     bytes: &[u8],
 ) -> Result<Response, Stop>
-    ensures said { IfOk result (λ response. IsAnswerTo command (document_for command bytes.now) response.answer) }
-    ensures blamed { IfErr result (Blames (has_place (verb_for command) ≡ true) ⊤) }
+    ensures said { IfOk result (λ response. IsAnswerTo command.now (document_for command.now bytes.now) response.answer) }
+    ensures blamed { IfErr result (Blames (has_place (verb_for command.now) ≡ true) ⊤) }
 {
     let alloc = rt.alloc();
     match read_for(alloc, command, bytes) {
@@ -52,23 +53,25 @@ pub fn response_to<R: Host + Net<Listener = TcpListener, Stream = TcpStream>>(
 /// What a command answers to its document.
 fn answer_to<R: Host + Net<Listener = TcpListener, Stream = TcpStream>>(
     rt: &R,
-    command: Command,
+    command: &Command<'_>,
     document: &Value,
 ) -> Result<Answer, Stop>
     requires { depth (view document.now) ≤ 127 }
-    ensures said { IfOk result (IsAnswerTo command (Ok (view document.now))) }
-    ensures blamed { IfErr result (Blames (has_place (verb_for command) ≡ true) ⊤) }
+    ensures said { IfOk result (IsAnswerTo command.now (Ok (view document.now))) }
+    ensures blamed { IfErr result (Blames (has_place (verb_for command.now) ≡ true) ⊤) }
 {
     let alloc = rt.alloc();
     match command {
         Command::Judge => done(alloc, judge_document(alloc, document)),
         Command::Check => done(alloc, check_document(alloc, document)),
-        Command::Plan { in_document } => done(alloc, plan_for(alloc, document, in_document)),
-        Command::Draw { form } => done(alloc, draw_document(alloc, document, form_of(form))),
+        Command::Plan { in_document } => done(alloc, plan_for(alloc, document, *in_document)),
+        Command::Draw { form } => done(alloc, draw_document(alloc, document, form_of(*form))),
         Command::Run { workers } => {
             done(alloc, run_document(rt, alloc, document, workers.number))
         }
         Command::Audit => done(alloc, audit_document(alloc, document)),
+        Command::Tree { adds_parents } => answer_to_table(alloc, document, *adds_parents),
+        Command::Table => done(alloc, table_of(alloc, document)),
         Command::Serve(serving) => serve_document(rt, document, serving, Talk::Lines),
         Command::Page(serving) => serve_document(rt, document, serving, Talk::Requests),
     }
@@ -97,7 +100,10 @@ pub fn refused(alloc: Global, refusal: Refusal) -> Result<Answer, Stop>
     match refusal {
         Refusal::Fault { fault, text } => {
             let line = format!(in alloc; "refused {text}\n")?;
-            Ok(Answer::Refused { line, fault })
+            Ok(Answer::Refused {
+                line,
+                cause: Cause::Document(fault),
+            })
         }
         Refusal::Memory => Err(Stop::Memory),
     }

@@ -1,5 +1,5 @@
 ghost use Rattle.std.specs.Prelude.{◌≡◌, ◌≢◌, ℕ, List, Option, None, false, map, string_bytes, IfOk, IfErr};
-ghost use Rattle.grove_words.specs.CommandLines.{Ask, Verb, AskFor};
+ghost use Rattle.grove_words.specs.CommandLines.{calls, Verb, AskFor};
 ghost use Rattle.grove_words.specs.NoOrders.{HasText};
 ghost use Rattle.grove_words.specs.Invocations.{name_in};
 ghost use Rattle.grove.specs.Answers.{HasFile, IsCommandDone, IsGivenUp, IsObeyed, IsStopped, IsToldNoOrder};
@@ -14,6 +14,7 @@ use crate::explained::Explained;
 use crate::failure::StreamErrors;
 use crate::hinting::awaited_by;
 use crate::output::{add, print, report, say_stop, tell};
+use crate::saving::save;
 use grove_serve::Host;
 use grove_session::{Sink, Source};
 use grove_words::{Command, Document, NoOrder, Order, order_of};
@@ -38,7 +39,7 @@ pub fn run_command<
         (streams (I.remaining input.new) (I.has_failed input.new) (O.contents out.new) (O.has_failed out.new)
         (E.contents err.new) (E.has_failed err.new)) result }
     ensures unread { result ≡ 2 → input.new ≡ input.old }
-    ensures apart { (verb : Verb) (name : Option (List ℕ)) → AskFor (map string_bytes words.now) verb name → verb ≢ Ask
+    ensures apart { (verb : Verb) (name : Option (List ℕ)) → AskFor (map string_bytes words.now) verb name → calls verb ≡ false
         → name ≢ None → input.new ≡ input.old }
 {
     run_at(rt, words, false, input, out, err)
@@ -57,7 +58,7 @@ pub fn run_at<
         (streams (I.remaining input.new) (I.has_failed input.new) (O.contents out.new) (O.has_failed out.new)
         (E.contents err.new) (E.has_failed err.new)) result }
     ensures unread { result ≡ 2 → input.new ≡ input.old }
-    ensures apart { (verb : Verb) (name : Option (List ℕ)) → AskFor (map string_bytes words.now) verb name → verb ≢ Ask
+    ensures apart { (verb : Verb) (name : Option (List ℕ)) → AskFor (map string_bytes words.now) verb name → calls verb ≡ false
         → name ≢ None → input.new ≡ input.old }
 {
     match order_of(rt.alloc(), words) {
@@ -92,7 +93,7 @@ fn invite<E: Sink>(alloc: Global, order: &Order<'_>, is_typed: bool, err: &mut E
         document: Document::StandardInput,
     } = order
     {
-        add(alloc, awaited_by(alloc, *command), err);
+        add(alloc, awaited_by(alloc, command), err);
     }
 }
 
@@ -116,8 +117,9 @@ fn obey<
     ensures apart { HasFile order.now → input.new ≡ input.old }
 {
     match order {
-        Order::Do { command, document } => do_command(rt, *command, *document, input, out, err),
+        Order::Do { command, document } => do_command(rt, command, *document, input, out, err),
         Order::Ask { server, lines } => ask(rt, *server, lines, input, out),
+        Order::Save { server, file } => save(rt, *server, file, out),
     }
 }
 
@@ -129,18 +131,18 @@ fn do_command<
     E: Sink,
 >(
     rt: &R,
-    command: Command,
+    command: &Command<'_>,
     document: Document<'_>,
     input: &mut I,
     out: &mut O,
     err: &mut E,
 ) -> Result<u8, Stop>
-    ensures done { IfOk result (IsCommandDone command (name_in document.entry)
+    ensures done { IfOk result (IsCommandDone command.now (name_in document.entry)
         (streams (I.remaining input.old) (I.has_failed input.old) (O.contents out.old) (O.has_failed out.old)
         (E.contents err.old) (E.has_failed err.old))
         (streams (I.remaining input.new) (I.has_failed input.new) (O.contents out.new) (O.has_failed out.new)
         (E.contents err.new) (E.has_failed err.new))) }
-    ensures stopped { IfErr result (IsStopped command (name_in document.entry)
+    ensures stopped { IfErr result (IsStopped command.now (name_in document.entry)
         (streams (I.remaining input.old) (I.has_failed input.old) (O.contents out.old) (O.has_failed out.old)
         (E.contents err.old) (E.has_failed err.old))
         (streams (I.remaining input.new) (I.has_failed input.new) (O.contents out.new) (O.has_failed out.new)

@@ -5,7 +5,7 @@ ghost use Rattle.grove_wire.specs.Outcomes.{Gives};
 ghost use Rattle.grove_words.specs.Invocations.{name_in};
 ghost use Rattle.grove.specs.Answers.{most_bytes, IsAsGoodAs};
 ghost use Rattle.grove.specs.Endings.{Blames};
-ghost use Rattle.grove.specs.Outcomes.{document_for};
+ghost use Rattle.grove.specs.Outcomes.{document_for, text_of_table, utf8_text};
 
 use crate::answer::Stop;
 use crate::explained::Explained;
@@ -13,22 +13,31 @@ use crate::failure::Failure;
 use crate::file_source::FileSource;
 use grove_serve::Host;
 use grove_session::{ReadFault, Source, read_whole};
-use grove_wire::{MOST_BYTES, MOST_HISTORY_BYTES, WireFault, read_document, read_history};
+use grove_wire::{
+    MOST_BYTES, MOST_HISTORY_BYTES, Part, Place, WireFault, read_document, read_history,
+};
 use grove_words::{Command, Document};
 use serde_json::Value;
 use std::alloc::Global;
 use std::fs;
 use std::rt::Files;
 
+/// Where a fault of a whole text is.
+const WHOLE: Place = Place {
+    part: Part::Whole,
+    at: None,
+    item: None,
+};
+
 /// The bytes of a command's document, which are one too many if it is too long.
 pub fn document_bytes<R: Host + Files, I: Source>(
     rt: &R,
-    command: Command,
+    command: &Command<'_>,
     document: Document<'_>,
     input: &mut I,
 ) -> Result<Vec<u8>, Stop>
     ensures read { IfOk result
-        (λ bytes. IsAsGoodAs command (name_in document.entry) (I.remaining input.old) bytes.items) }
+        (λ bytes. IsAsGoodAs command.now (name_in document.entry) (I.remaining input.old) bytes.items) }
     ensures sound { OnOk result (I.has_failed input.new ≡ I.has_failed input.old) }
     ensures blamed { IfErr result
         (Blames ((I.has_failed input.new ≡ true) ⊎ (name_in document.entry ≢ None))
@@ -43,8 +52,8 @@ pub fn document_bytes<R: Host + Files, I: Source>(
 }
 
 /// How many bytes a command's document has at most.
-fn most_bytes(command: Command) -> usize
-    ensures most { result ≡ most_bytes command }
+fn most_bytes(command: &Command<'_>) -> usize
+    ensures most { result ≡ most_bytes command.now }
     ensures few { result ≤ 67108864 }
 {
     match command {
@@ -69,13 +78,38 @@ fn file_bytes<R: Host + Files>(rt: &R, name: &str, most: usize) -> Result<Vec<u8
 }
 
 /// The document that the bytes are for a command.
-#[tactic(auto, using(crate::proofs::Levels::shallow_document, crate::proofs::Levels::shallow_history))]
-pub fn read_for(alloc: Global, command: Command, bytes: &[u8]) -> Result<Value, WireFault>
-    ensures read { Gives (λ document. view document) result (document_for command bytes.now) }
+#[tactic(auto, using(crate::proofs::Levels::shallow_document, crate::proofs::Levels::shallow_history, crate::proofs::Levels::shallow_text))]
+pub fn read_for(alloc: Global, command: &Command<'_>, bytes: &[u8]) -> Result<Value, WireFault>
+    ensures read { Gives (λ document. view document) result (document_for command.now bytes.now) }
     ensures shallow { IfOk result (λ document. depth (view document) ≤ 127) }
 {
     match command {
         Command::Audit => read_history(alloc, bytes),
+        Command::Tree { .. } => read_text(alloc, bytes),
         _ => read_document(alloc, bytes),
+    }
+}
+
+/// The text that is to be a table.
+fn read_text(alloc: Global, bytes: &[u8]) -> Result<Value, WireFault>
+    ensures { Gives (λ document. view document) result (text_of_table bytes.now) }
+{
+    if bytes.len() > MOST_BYTES {
+        return Err(WireFault::Limit(WHOLE));
+    }
+    read_utf8(alloc, bytes)
+}
+
+/// The text that bytes are.
+#[tactic(auto, using(crate::proofs::Texts::text_read, crate::proofs::Texts::text_refused))]
+fn read_utf8(alloc: Global, bytes: &[u8]) -> Result<Value, WireFault>
+    ensures { Gives (λ document. view document) result (utf8_text bytes.now) }
+{
+    match str::from_utf8(bytes) {
+        Ok(text) => match String::from_str(alloc, text) {
+            Ok(text) => Ok(Value::String(text)),
+            Err(_) => Err(WireFault::Memory),
+        },
+        Err(_) => Err(WireFault::Shape(WHOLE)),
     }
 }

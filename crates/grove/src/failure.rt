@@ -18,6 +18,8 @@ pub enum Failure {
     Open(io::Error),
     Read(io::Error),
     Write(io::Error),
+    /// The file of a save couldn't be written, or put in its place.
+    Save(io::Error),
     Listen(Place, io::Error),
     Reach(SocketAddr, io::Error),
     Lose(SocketAddr, Loss),
@@ -27,7 +29,10 @@ impl Failure {
     /// Why it stops the program.
     pub fn stop(self) -> Stop {
         match self {
-            Failure::Open(error) | Failure::Listen(_, error) | Failure::Reach(_, error)
+            Failure::Open(error)
+            | Failure::Save(error)
+            | Failure::Listen(_, error)
+            | Failure::Reach(_, error)
                 if error.kind() == ErrorKind::OutOfMemory => { Stop::Memory }
             _ => Stop::Device(Some(self)),
         }
@@ -91,7 +96,11 @@ fn reason(alloc: Global, order: &Order<'_>, failure: Failure) -> Result<String, 
             format!(in alloc; "cannot read {file}: {error}")
         }
         Failure::Write(error) => format!(in alloc; "cannot write standard output: {error}"),
-        Failure::Listen(Place { address, port }, error) => match port {
+        Failure::Save(error) => {
+            let file = file_of(alloc, order)?;
+            format!(in alloc; "cannot save {file}: {error}")
+        }
+        Failure::Listen(Place { address, port, .. }, error) => match port {
             Port::Named(port) => {
                 let address = SocketAddr::new(address, port);
                 format!(in alloc; "cannot listen on {address}: {error}")
@@ -125,6 +134,7 @@ fn file_of(alloc: Global, order: &Order<'_>) -> Result<String, AllocError> {
             document: Document::Named(name),
             ..
         } => *name,
+        Order::Save { file, .. } => *file,
         _ => "standard input",
     };
     let mut shown = String::new(alloc);

@@ -1,6 +1,7 @@
-use crate::answer::Answer;
+use crate::answer::{Answer, Cause};
 use grove_base::{Hint, NoMemory};
 use grove_hint::{Asked, awaited, hint, oversight};
+use grove_wire::{Fault, WireFault};
 use grove_words::Command;
 use serde_json::Value;
 use std::alloc::Global;
@@ -9,15 +10,27 @@ use std::alloc::Global;
 /// `document` is what the bytes are read as. Without memory for it there is nothing.
 pub fn hint_beside(
     alloc: Global,
-    command: Command,
+    command: &Command<'_>,
     bytes: &[u8],
     document: Option<&Value>,
     answer: &Answer,
 ) -> Option<Hint> {
     let told = match (answer, document) {
-        (Answer::Refused { fault, .. }, _) => {
-            hint(alloc, asked_by(command), bytes, document, *fault).map(|hint| Some(hint))
-        }
+        (
+            Answer::Refused {
+                cause: Cause::Document(fault),
+                ..
+            },
+            _,
+        ) => refusal_hint(alloc, command, bytes, document, *fault).map(|hint| Some(hint)),
+        (
+            Answer::Refused {
+                cause: Cause::Table(fault),
+                ..
+            },
+            _,
+        ) => grove_table::hint(alloc, fault).map(|hint| Some(hint)),
+        (Answer::Done(_), Some(Value::String(_))) => Ok(None),
         (Answer::Done(_), Some(document)) => oversight(alloc, asked_by(command), document),
         _ => Ok(None),
     };
@@ -27,15 +40,38 @@ pub fn hint_beside(
     }
 }
 
+/// Why a document is refused.
+fn refusal_hint(
+    alloc: Global,
+    command: &Command<'_>,
+    bytes: &[u8],
+    document: Option<&Value>,
+    fault: Fault,
+) -> Result<Hint, NoMemory> {
+    match (command, fault) {
+        (Command::Tree { .. }, Fault::Wire(WireFault::Shape(_))) => {
+            Hint::new(alloc, "the table is not UTF-8")
+        }
+        (command, fault) => hint(alloc, asked_by(command), bytes, document, fault),
+    }
+}
+
 /// What a command's document is to be.
-pub fn awaited_by(alloc: Global, command: Command) -> Option<Hint> {
-    match awaited(alloc, asked_by(command)) {
+pub fn awaited_by(alloc: Global, command: &Command<'_>) -> Option<Hint> {
+    let awaited = match command {
+        Command::Tree { .. } => Hint::new(
+            alloc,
+            "\"tree\" awaits lines of path,weight,value on standard input, up to their end (Ctrl-D)",
+        ),
+        command => awaited(alloc, asked_by(command)),
+    };
+    match awaited {
         Ok(hint) => Some(hint),
         Err(NoMemory) => None,
     }
 }
 
-fn asked_by(command: Command) -> Asked {
+fn asked_by(command: &Command<'_>) -> Asked {
     match command {
         Command::Judge => Asked::Judge,
         Command::Check => Asked::Check,
@@ -44,5 +80,6 @@ fn asked_by(command: Command) -> Asked {
         Command::Run { .. } => Asked::Run,
         Command::Audit => Asked::Audit,
         Command::Serve(_) | Command::Page(_) => Asked::Serve,
+        Command::Tree { .. } | Command::Table => Asked::Tree,
     }
 }

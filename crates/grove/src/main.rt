@@ -24,8 +24,12 @@ mod file_sink;
 mod file_source;
 mod hinting;
 mod output;
+mod replacing;
+mod response;
+mod saving;
 mod server;
 mod serving;
+mod tables;
 
 /// As large a block as the C library's allocator takes a sign from.
 const KEPT: usize = 1 << 24;

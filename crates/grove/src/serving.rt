@@ -1,4 +1,4 @@
-ghost use Rattle.std.specs.Prelude.{◌≡◌, ◌≤◌, ◌⊎◌, Some, Ok, true, ⊤, IfOk, IfErr, IfSome, IsOkAnd, string_bytes};
+ghost use Rattle.std.specs.Prelude.{◌≡◌, ◌++◌, ◌≤◌, ◌⊎◌, Some, Ok, true, ⊤, IfOk, IfErr, IfSome, IsOkAnd, string_bytes};
 ghost use Rattle.serde_json.specs.View.{view};
 ghost use Rattle.grove_store.specs.StoreStates.{opened};
 ghost use Rattle.grove_wire.specs.Reading.{tree_in};
@@ -6,14 +6,14 @@ ghost use Rattle.grove_words.specs.declared.order.Command.{Command};
 ghost use Rattle.grove_answer.specs.Outcomes.{ThenSays};
 ghost use Rattle.grove_answer.specs.Says.{refusal_outcome};
 ghost use Rattle.grove.specs.Answers.{serving_of, IsAnswerTo, IsOpenedFrom};
-ghost use Rattle.grove.specs.Endings.{address_text, listening_line, IsPortFor, NamesPlace};
+ghost use Rattle.grove.specs.Endings.{address_text, http_line, listening_line, place_lines, IsPortFor, NamesPlace};
 ghost use Rattle.grove.specs.Outcomes.{IsServed};
 
 use crate::answer::{Answer, Stop};
 use crate::answering::refused;
 use crate::failure::Failure;
 use grove_answer::{Refusal, or_refuse};
-use grove_serve::{Host, Manner, Patience, Service, Talk};
+use grove_serve::{Door, Host, LogForm, Manner, Patience, Service, Talk};
 use grove_store::{NoStore, Store};
 use grove_wire::read_tree;
 use grove_words::{Place, Port, Serving, Workers};
@@ -21,36 +21,56 @@ use serde_json::Value;
 use std::alloc::{AllocError, Global};
 use std::net::{IpAddr, Net, TcpListener, TcpStream};
 
+/// How many connections to a store are served at once at the port of its command.
+const SEATS: u32 = 16;
+
 /// A service with the document's tree and records, which listens already, or why there is none.
 pub fn serve_document<R: Host + Net<Listener = TcpListener, Stream = TcpStream>>(
     rt: &R,
     document: &Value,
-    serving: Serving,
+    serving: &Serving<'_>,
     talk: Talk,
 ) -> Result<Answer, Stop>
-    ensures { (command : Command) → serving_of command ≡ Some serving
+    ensures { (command : Command) → serving_of command ≡ Some serving.now
         → IfOk result (IsAnswerTo command (Ok (view document.now))) }
 {
     let alloc = rt.alloc();
     match open_store(alloc, document, serving.workers) {
         Ok(store) => {
-            let Door { listener, line } = open_door(rt, alloc, serving.place)?;
-            let manner = Manner {
-                talk,
-                patience: Patience {
-                    idle: serving.patience.idle,
-                    tells_busy: serving.patience.tells_busy,
-                },
-                is_verbose: serving.verbose,
-            };
+            let manner = manner_of(alloc, serving)?;
+            let Doors { door, http, line } = open_doors(rt, alloc, serving, talk)?;
             let service = Service {
                 store,
-                listener,
+                door,
+                http,
                 manner,
             };
             Ok(Answer::Listen { line, service })
         }
         Err(refusal) => refused(alloc, refusal),
+    }
+}
+
+/// How connections are served.
+fn manner_of(alloc: Global, serving: &Serving<'_>) -> Result<Manner, AllocError> {
+    let mut hosts = Vec::new(alloc);
+    for host in &serving.hosts {
+        hosts.push(String::from_str(alloc, host)?)?;
+    }
+    Ok(Manner {
+        patience: Patience {
+            idle: serving.patience.idle,
+            tells_busy: serving.patience.tells_busy,
+        },
+        log: serving.log.map(form_of_log),
+        hosts,
+    })
+}
+
+fn form_of_log(form: grove_words::LogForm) -> LogForm {
+    match form {
+        grove_words::LogForm::Text => LogForm::Text,
+        grove_words::LogForm::Json => LogForm::Json,
     }
 }
 
@@ -68,28 +88,68 @@ fn open_store(alloc: Global, document: &Value, workers: Workers) -> Result<Store
     }
 }
 
-/// A port that is listened on, and the line that says so.
+/// The ports that are listened on, and the lines that say so.
 #[derive(Drop)]
-struct Door {
-    listener: TcpListener,
+struct Doors {
+    door: Door,
+    http: Option<Door>,
     line: String,
 }
 
 /// Listens at the place.
-fn open_door<R: Host + Net<Listener = TcpListener, Stream = TcpStream>>(
+fn open_doors<R: Host + Net<Listener = TcpListener, Stream = TcpStream>>(
     rt: &R,
     alloc: Global,
-    place: Place,
-) -> Result<Door, Stop>
-    ensures { IfOk result (λ door. NamesPlace place (string_bytes door.line)) }
+    serving: &Serving<'_>,
+    talk: Talk,
+) -> Result<Doors, Stop>
+    ensures { IfOk result (λ doors. NamesPlace serving.now.place (string_bytes doors.line)) }
 {
-    let listener = match TcpListener::bind(rt, (place.address, asked_port(place.port))) {
-        Ok(listener) => listener,
-        Err(error) => return Err(Failure::Listen(place, error).stop()),
-    };
+    let place = serving.place;
+    let listener = listener_at(rt, place)?;
     let port = port_of(&listener, place)?;
-    let line = line_for(alloc, place, port)?;
-    Ok(Door { listener, line })
+    let http = http_door(rt, serving)?;
+    let line = lines_for(alloc, place, port)?;
+    let door = Door {
+        listener,
+        talk,
+        seats: SEATS,
+    };
+    Ok(Doors { door, http, line })
+}
+
+/// Listens at the place's port.
+fn listener_at<R: Host + Net<Listener = TcpListener, Stream = TcpStream>>(
+    rt: &R,
+    place: Place,
+) -> Result<TcpListener, Stop> {
+    match TcpListener::bind(rt, (place.address, asked_port(place.port))) {
+        Ok(listener) => Ok(listener),
+        Err(error) => Err(Failure::Listen(place, error).stop()),
+    }
+}
+
+/// Listens at the place's port for HTTP, if it has one.
+fn http_door<R: Host + Net<Listener = TcpListener, Stream = TcpStream>>(
+    rt: &R,
+    serving: &Serving<'_>,
+) -> Result<Option<Door>, Stop> {
+    let Some(port) = serving.place.http else {
+        return Ok(None);
+    };
+    let listener = listener_at(
+        rt,
+        Place {
+            address: serving.place.address,
+            port: Port::Named(port),
+            http: None,
+        },
+    )?;
+    Ok(Some(Door {
+        listener,
+        talk: Talk::Requests,
+        seats: serving.http_seats,
+    }))
 }
 
 /// The port that the system is asked for: at 0 it chooses one.
@@ -123,6 +183,30 @@ fn chosen_port(listener: &TcpListener, place: Place) -> Result<u16, Stop>
     } else {
         Ok(port)
     }
+}
+
+/// The lines that say what is listened on.
+fn lines_for(alloc: Global, place: Place, port: u16) -> Result<String, AllocError>
+    ensures { IfOk result (λ lines. string_bytes lines ≡ place_lines place.address port place.http) }
+{
+    let line = line_for(alloc, place, port)?;
+    match place.http {
+        Some(http) => lines_with_http(alloc, &line, place.address, http),
+        None => Ok(line),
+    }
+}
+
+/// The line, and one for a port for HTTP.
+fn lines_with_http(
+    alloc: Global,
+    line: &str,
+    address: IpAddr,
+    port: u16,
+) -> Result<String, AllocError>
+    ensures { IfOk result (λ lines. string_bytes lines ≡ line.now ++ http_line address port) }
+{
+    let address = address_text(alloc, address)?;
+    format!(in alloc; "{line}listening {address}:{port} over http\n")
 }
 
 /// The line that says where sessions are served.

@@ -7,6 +7,7 @@ pub enum Asked {
     Draw,
     Run,
     Audit,
+    Tree,
     Serve,
 }
 
@@ -20,6 +21,7 @@ impl Asked {
             Asked::Draw => ("draw", &["nodes", "list"], "plan"),
             Asked::Run => ("run", &["nodes", "lists"], ""),
             Asked::Audit => ("audit", &["nodes", "jobs", "events"], "standing"),
+            Asked::Tree => ("tree", &["nodes"], ""),
             Asked::Serve => ("serve", &["nodes"], ""),
         }
     }

@@ -31,12 +31,13 @@ fn serve_as<B: Opening + Send + Sync, R: Host>(rt: &R, service: Service)
 {
     let Service {
         store,
-        listener,
+        door,
         manner,
+        ..
     } = service;
     let desk = Desk::<B>::open(rt.alloc(), store, false);
-    let seats = Seats::new(manner);
-    serve_at(rt, &desk, &seats, &listener);
+    let seats = Seats::new(door.talk, manner);
+    serve_at(rt, &desk, &seats, &door.listener);
 }
 
 /// Serves the listener's connections at the desk, each in its seat.

@@ -3,7 +3,7 @@
 
 pub use connections::serve;
 pub use host::Host;
-pub use service::{Manner, Patience, Service, Talk};
+pub use service::{Door, LogForm, Manner, Patience, Service, Talk};
 
 mod busy;
 mod connections;

@@ -25,14 +25,14 @@ pub struct Seats {
 
 impl Seats {
     /// All seats, free.
-    pub fn new(manner: Manner) -> Seats {
+    pub fn new(talk: Talk, manner: Manner) -> Seats {
         Seats {
             free: Mutex::new(MOST_CONNECTIONS),
             left: Condvar::new(),
             long_body: Mutex::new(()),
-            talk: manner.talk,
+            talk,
             patience: manner.patience,
-            log: manner.is_verbose.then(|| Log::new()),
+            log: manner.log.map(|_form| Log::new()),
         }
     }
 

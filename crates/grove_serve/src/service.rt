@@ -5,17 +5,38 @@ use std::net::TcpListener;
 #[derive(Drop)]
 pub struct Service {
     pub store: Store,
-    pub listener: TcpListener,
+    pub door: Door,
+    /// Where the same store is served over HTTP beside that, if anywhere.
+    pub http: Option<Door>,
     pub manner: Manner,
 }
 
-/// How a store is served.
-#[derive(Clone, Copy)]
-pub struct Manner {
+/// A port that is listened on.
+#[derive(Drop)]
+pub struct Door {
+    pub listener: TcpListener,
     pub talk: Talk,
+    /// How many connections are served there at once.
+    pub seats: u32,
+}
+
+/// How a store is served.
+#[derive(Drop)]
+pub struct Manner {
     pub patience: Patience,
-    /// Whether standard error is told of connections, and of lines that are refused.
-    pub is_verbose: bool,
+    /// The form of what standard error is told of connections and refusals, if it is told.
+    pub log: Option<LogForm>,
+    /// Names that requests may have for their host, beside addresses and `localhost`.
+    pub hosts: Vec<String>,
+}
+
+/// The form of a log's lines.
+#[derive(Clone, Copy)]
+pub enum LogForm {
+    /// Names and values, each pair apart by a blank.
+    Text,
+    /// The same as an object of JSON.
+    Json,
 }
 
 /// What is talked over a connection.
@@ -30,7 +51,7 @@ pub enum Talk {
 /// What is done with connections that idle, and with those that find no seat.
 #[derive(Clone, Copy)]
 pub struct Patience {
-    /// After how many seconds without a whole line a connection is ended; without it, never.
+    /// After how many seconds without a whole line, or a whole request, a connection is ended; without it, never.
     pub idle: Option<u32>,
     /// Whether a connection that finds no seat is told so and closed; else it waits.
     pub tells_busy: bool,

@@ -42,7 +42,8 @@ fn lines_of(
     for place in 0..rows.len() {
         let row = &rows[place];
         let number = numbers.number_from(start_of(row));
-        lines.push(line_of(alloc, row, number)?)?;
+        let line = line_of(alloc, row, number)?;
+        lines.push(line)?;
     }
     Ok(lines)
 }

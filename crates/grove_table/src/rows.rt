@@ -1,8 +1,7 @@
-ghost use Rattle.std.specs.Prelude.{◌≡◌, false, map, IfOk};
-ghost use Rattle.csv.specs.Reading.{builder_config, builder_names_headers, builder_trim, strip_bom, AreRecords};
+ghost use Rattle.std.specs.Prelude.{map, IfOk};
+ghost use Rattle.csv.specs.Reading.{strip_bom, AreRecords};
 ghost use Rattle.csv.specs.Records.{fields_of};
 ghost use Rattle.csv.specs.declared.parser.State.TheVariants as st;
-ghost use Rattle.csv.specs.declared.reader.Trim.TheVariants as trim;
 ghost use Rattle.grove_table.specs.Tables.{table_config};
 
 use crate::TableFault;
@@ -23,7 +22,11 @@ pub fn rows_in(alloc: Global, text: &[u8]) -> Result<Vec<ByteRecord>, TableFault
 fn records_in(alloc: Global, text: &[u8]) -> Result<Vec<ByteRecord>, Error>
     ensures { IfOk result (λ rows. AreRecords table_config st.StartRecord (strip_bom text.now) (map fields_of rows.items)) }
 {
-    let rdr = table_reader().from_reader(alloc, text);
+    let rdr = ReaderBuilder::new()
+        .has_headers(false)
+        .flexible(true)
+        .comment(Some(b'#'))
+        .from_reader(alloc, text);
     let mut rows = Vec::new(alloc);
     for row in rdr.into_byte_records() {
         if rows.push(row?).is_err() {
@@ -31,18 +34,4 @@ fn records_in(alloc: Global, text: &[u8]) -> Result<Vec<ByteRecord>, Error>
         }
     }
     Ok(rows)
-}
-
-/// How a table is read.
-fn table_reader() -> ReaderBuilder
-    ensures config { builder_config result ≡ table_config }
-    ensures bare { builder_names_headers result ≡ false }
-    ensures untrimmed { builder_trim result ≡ trim.None }
-{
-    let mut builder = ReaderBuilder::new();
-    builder
-        .has_headers(false)
-        .flexible(true)
-        .comment(Some(b'#'));
-    builder
 }

@@ -94,10 +94,13 @@ fn grown_of(alloc: Global, lines: &[Line], sprouts: &[Sprout<'_>]) -> Result<Gro
         let Some(sprout) = sprouts.get(*at) else {
             return Err(TableFault::Unlike);
         };
+        let Ok(next) = u32::try_from(grown.rows.len()) else {
+            return Err(TableFault::Unlike);
+        };
         let Some(number) = numbers.get_mut(*at) else {
             return Err(TableFault::Unlike);
         };
-        *number = grown.rows.len() as u32;
+        *number = next;
         let parent = match sprout.parent {
             Some(parent) => numbers.get(parent).copied(),
             None => None,

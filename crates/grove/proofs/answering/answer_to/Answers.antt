@@ -31,3 +31,7 @@ pub returns-in-Audit-clause-said : goal.returns-in-Audit-clause-said
 returns-in-Audit-clause-said g c =
     rw c.in-Audit.is (c.done-in-Audit.ensures.said command.Audit
     (view c.args.document.now) refl c.audit_document.ensures)
+
+pub returns-in-Table-clause-said : goal.returns-in-Table-clause-said
+returns-in-Table-clause-said g c =
+    rw c.in-Table.is (c.done-in-Table.ensures.said command.Table (view c.args.document.now) refl c.table_of.ensures)

@@ -9,16 +9,16 @@ use Rattle.grove.proofs.command.do_command.Goals as goal
 
 pub returns-clause-done : goal.returns-clause-done
 returns-clause-done g c =
-    let found = document_for c.args.command c.deref.result.now in
+    let found = document_for c.args.command.now c.deref.result.now in
     let answer = c.in_ok-answer.field-0.answer in
     let says = c.in_ok-answer.ensures.said in
-    let good = subst (IsAsGoodAs c.args.command (name_in c.args.document) (g.I.Source.remaining c.args.input.now))
+    let good = subst (IsAsGoodAs c.args.command.now (name_in c.args.document) (g.I.Source.remaining c.args.input.now))
     (sym c.deref.ensures.value) c.in_ok-bytes.ensures.read in
     let printed = c.in_ok-status.ensures.printed in
-    let said = whole_said c.args.command found answer c.in_ok-status.status _ _ says printed.0 printed.1 in
+    let said = whole_said c.args.command.now found answer c.in_ok-status.status _ _ says printed.0 printed.1 in
     record {
       said = (c.deref.result.now, good, said.0, said.1, said.2, said.3);
-      served = served_refused c.args.command found answer c.in_ok-status.status says printed.0;
+      served = served_refused c.args.command.now found answer c.in_ok-status.status says printed.0;
       sound = (c.in_ok-bytes.ensures.sound, printed.2);
       hinted = c.add.ensures;
     }
@@ -46,17 +46,17 @@ returns-in_err-answer-clause-stopped g c =
 
 pub returns-in_err-status-clause-stopped : goal.returns-in_err-status-clause-stopped
 returns-in_err-status-clause-stopped g c =
-    let found = document_for c.args.command c.deref.result.now in
+    let found = document_for c.args.command.now c.deref.result.now in
     let answer = c.in_ok-answer.field-0.answer in
     let says = c.in_ok-answer.ensures.said in
-    let good = subst (IsAsGoodAs c.args.command (name_in c.args.document) (g.I.Source.remaining c.args.input.now))
+    let good = subst (IsAsGoodAs c.args.command.now (name_in c.args.document) (g.I.Source.remaining c.args.input.now))
     (sym c.deref.ensures.value) c.in_ok-bytes.ensures.read in
     let cut = c.in_err-status.ensures.cut in
-    let part = part_said c.args.command found answer _ _ _ says cut.1 in
+    let part = part_said c.args.command.now found answer _ _ _ says cut.1 in
     let p = err_from_is_err_and c.from_residual-in_err-status.result c.from_residual-in_err-status.ensures.1 in
     rw (p.1, p.2) (record {
       part = inr (c.deref.result.now, good, part.0, part.1, part.2, part.3);
-      unprinted = line_said c.args.command found answer _ _ _ says cut.1;
-      blamed = blames_printing _ _ _ c.args.command found answer _ _ _ c.in_err-status.field-0.0 says cut.0 cut.1;
+      unprinted = line_said c.args.command.now found answer _ _ _ says cut.1;
+      blamed = blames_printing _ _ _ c.args.command.now found answer _ _ _ c.in_err-status.field-0.0 says cut.0 cut.1;
       errors = (refl, refl);
     })

@@ -1,5 +1,5 @@
-use Rattle.std.proofs.Common.{refl}
-use Rattle.grove.proofs.Orders.{is_asked, is_lost}
+use Rattle.std.proofs.Common.{refl, rules}
+use Rattle.grove.proofs.Orders.{is_asked, is_lost, is_saved, is_unsaved}
 use Rattle.grove.proofs.command.obey.Goals as goal
 
 pub returns-in-Do-clause-obeyed : goal.returns-in-Do-clause-obeyed
@@ -14,3 +14,11 @@ returns-in-Ask-clause-obeyed g c =
 
 pub returns-in-Ask-clause-given_up : goal.returns-in-Ask-clause-given_up
 returns-in-Ask-clause-given_up g c = rw c.in-Ask.is (is_lost _ _ c.ask.result c.ask.ensures.blamed (refl, refl))
+
+pub returns-in-Save-clause-obeyed : goal.returns-in-Save-clause-obeyed
+returns-in-Save-clause-obeyed g c =
+    rw c.in-Save.is (is_saved _ _ c.save.result c.save.ensures.saved (search rules) (refl, refl))
+
+pub returns-in-Save-clause-given_up : goal.returns-in-Save-clause-given_up
+returns-in-Save-clause-given_up g c =
+    rw c.in-Save.is (is_unsaved _ _ c.save.result c.save.ensures.unprinted (search rules) (refl, refl))

@@ -4,4 +4,4 @@ use Rattle.grove_table.specs.Tables.{AreLines}
 use Rattle.grove_table.proofs.reading.lines_of.Given as goal
 
 abbrev pub invariant-loop-place : goal.invariant-loop-place
-invariant-loop-place l = AreLines (take l.place (map fields_of l.rows)) l.lines.items
+invariant-loop-place l = AreLines (map fields_of (take l.place l.rows)) l.lines.items

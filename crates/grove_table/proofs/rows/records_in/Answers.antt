@@ -1,26 +1,37 @@
-use Rattle.std.proofs.Common.{Bor, List, ℕ, ◌≡◌, ◌∙◌, sym, refl, rules, inl, inr, true, map, Some, ◌∷◌, []}
+use Rattle.std.proofs.Common.{Bor, List, ℕ, ◌≡◌, ◌∙◌, ap, sym, refl, rules, inl, inr, true, map, Some, ◌∷◌, []}
 use Rattle.std.specs.Result.{is_ok}
 use Rattle.std.proofs.lemmas.List.{map-append}
-use Rattle.csv.specs.Reading.{Reached, strip_bom}
+use Rattle.csv.specs.Reading.{builder_config, builder_names_headers, builder_trim, Reached, strip_bom}
+use Rattle.csv.specs.declared.parser.Config.{Config}
+use Rattle.csv.specs.declared.reader.ReaderBuilder.{ReaderBuilder}
 use Rattle.csv.specs.Records.{fields_of}
 use Rattle.csv.specs.declared.parser.State.TheVariants as st
 use Rattle.csv.proofs.ReadFacts.{rows-end, rows-more}
 use Rattle.grove_table.specs.Tables.{table_config}
 use Rattle.grove_table.proofs.rows.records_in.Goals as goal
 
+-- how a builder reads once it takes comments
+abbrev with_comments : Config → Config
+with_comments config = record config { comment = Some 35 }
+
+abbrev commenting : ReaderBuilder → Config
+commenting builder = with_comments (builder_config builder)
+
 pub loop-row-init : goal.loop-row-init
 unfolding Reached
 loop-row-init c =
     let fr = c.from_reader-rdr.ensures in
-    let e = c.table_reader.ensures in
+    let bare = c.has_headers.ensures in
+    let flexible = c.flexible.ensures in
+    let commented = c.comment.ensures in
     let start = c.into_iter-row-iterator.ensures.into_iter_gives ∙ refl in
     let rdr = c.into_byte_records-row-items.ensures.rdr in
     let left = c.into_byte_records-row-items.ensures.left in
     rw (start, rdr, c.new-rows.ensures.items) (
-      fr.trim ∙ e.untrimmed,
-      inr (inr (fr.has_headers ∙ e.bare, fr.headers)),
+      fr.trim ∙ ap builder_trim commented ∙ ap builder_trim flexible ∙ ap builder_trim bare ∙ c.new.ensures.trim,
+      inr (inr (fr.has_headers ∙ ap builder_names_headers commented ∙ ap builder_names_headers flexible ∙ ap builder_names_headers bare, fr.headers)),
       left,
-      fr.config ∙ e.config,
+      fr.config ∙ ap builder_config commented ∙ ap commenting flexible ∙ ap commenting bare ∙ ap with_comments c.new.ensures.config,
       strip_bom c.args.text.now,
       fr.source,
       (sym fr.state, refl),

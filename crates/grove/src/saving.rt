@@ -1,0 +1,77 @@
+ghost use Rattle.std.specs.Prelude.{◌≡◌, ◌≢◌, ◌⊎◌, ⊤, false, IfOk, IfErr, OnOk};
+ghost use Rattle.std.specs.Io.KnownBytes.{Keeps};
+ghost use Rattle.grove.specs.Endings.{Blames, SaysRefusal};
+
+use crate::answer::Stop;
+use crate::explained::Explained;
+use crate::failure::Failure;
+use crate::file_source::FileSource;
+use crate::output::tell;
+use crate::replacing::replace;
+use crate::response::{NoDocument, document_in};
+use crate::server::Loss;
+use grove_serve::Host;
+use grove_session::{ReadFault, Sink, WriterSink, read_whole, write_whole};
+use std::alloc::Global;
+use std::net::{Net, SocketAddr, TcpListener, TcpStream};
+use std::rt::Files;
+
+/// The most bytes of a response: those of a document, and of what stands before it.
+const MOST_BYTES: usize = 4_194_304 + 65_536;
+
+/// Saves the document of the server at the address in the file, which is replaced in one step. Gives the status of the
+/// process: 0, or 1 if what the server sends is no document, and the file is as it was.
+pub fn save<R: Host + Files + Net<Listener = TcpListener, Stream = TcpStream>, O: Sink>(
+    rt: &R,
+    server: SocketAddr,
+    file: &str,
+    out: &mut O,
+) -> Result<u8, Stop>
+    ensures saved { IfOk result
+        (λ status. ((status ≡ 0) × Keeps (O.contents out.old) (O.contents out.new))
+        ⊎ ((status ≡ 1) × SaysRefusal (O.contents out.old) (O.contents out.new))) }
+    ensures sound { OnOk result (O.has_failed out.new ≡ O.has_failed out.old) }
+    ensures unprinted { IfErr result (λ _. O.has_failed out.new ≡ false → Keeps (O.contents out.old) (O.contents out.new)) }
+    ensures blamed { IfErr result (Blames ⊤ (O.has_failed out.new ≡ O.has_failed out.old)) }
+{
+    let alloc = rt.alloc();
+    let response = fetched(rt, alloc, server)?;
+    match document_in(alloc, &response) {
+        Ok(document) => {
+            replace(rt, alloc, file, document)?;
+            Ok(0)
+        }
+        Err(NoDocument::Refused(fault)) => {
+            tell(&format!(in alloc; "refused {fault}\n")?, out)?;
+            Ok(1)
+        }
+        Err(NoDocument::Cut) => Err(Failure::Lose(server, Loss::Closed).stop()),
+        Err(NoDocument::Memory) => Err(Stop::Memory),
+    }
+}
+
+/// All that the server sends when it is asked for its document.
+fn fetched<R: Host + Net<Listener = TcpListener, Stream = TcpStream>>(
+    rt: &R,
+    alloc: Global,
+    server: SocketAddr,
+) -> Result<Vec<u8>, Stop> {
+    let stream = match TcpStream::connect(rt, server) {
+        Ok(stream) => stream,
+        Err(error) => return Err(Failure::Reach(server, error).stop()),
+    };
+    let request = format!(in alloc;
+        "GET /document HTTP/1.1\r\nHost: {server}\r\nConnection: close\r\n\r\n"
+    )?;
+    // A server that takes no more of the request may have answered all the same.
+    let _sent = write_whole(&mut WriterSink::new(&stream), request.as_bytes());
+    let mut source = FileSource::new(&stream);
+    match read_whole(alloc, &mut source, MOST_BYTES) {
+        Ok(response) => Ok(response),
+        Err(ReadFault::Memory) => Err(Stop::Memory),
+        Err(ReadFault::Device) => {
+            let loss = source.error().map_or(Loss::Closed, Loss::Failed);
+            Err(Failure::Lose(server, loss).stop())
+        }
+    }
+}
