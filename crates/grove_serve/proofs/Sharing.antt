@@ -3,11 +3,16 @@ use denote.Param.Send.{IsSend, IsSync, sendable}
 use Rattle.std.proofs.Crossing.{crosses}
 use Rattle.std.specs.contracts.net.TcpStream as TcpStream
 use Rattle.grove_serve.specs.contracts.seats.Seats as Seats
+use Rattle.grove_serve.specs.contracts.service.Door as Door
 use Rattle.grove_serve.specs.contracts.talking.Caller as Caller
 
 -- threads may share seats
 pub Seats-sync : IsSync Seats.the_row
-Seats-sync = search (sendable, crosses) depth 40
+Seats-sync = search (sendable, crosses) depth 60 fits 20000
+
+-- and doors
+pub Door-sync : IsSync Door.the_row
+Door-sync = search (sendable, crosses) depth 40
 
 stream-send : IsSend TcpStream.the_row
 stream-send = search (sendable, crosses) depth 40

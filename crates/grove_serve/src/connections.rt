@@ -4,13 +4,11 @@ use crate::busy::tell_busy;
 use crate::host::Host;
 use crate::minutes::tell_minutes;
 use crate::seats::Seats;
-use crate::service::Service;
+use crate::service::{Door, Service};
 use crate::talking::{Caller, serve_caller};
 use grove_desk::{Desk, Opening};
 use std::marker::Brand;
-use std::net::{SocketAddr, TcpListener};
-use std::sync::Wait;
-use std::time::Clock;
+use std::net::SocketAddr;
 use std::{io, thread};
 
 /// The system's numbers of the errors that there is no descriptor left for this process, and none for any.
@@ -18,8 +16,8 @@ const NO_DESCRIPTOR_HERE: i32 = 24;
 
 const NO_DESCRIPTOR_AT_ALL: i32 = 23;
 
-/// Serves connections, as many at once as there are seats, until one can't be accepted and the others have ended. A
-/// connection that there is no descriptor for waits for one; one that no thread can be started for is closed.
+/// Serves connections, as many at once as there are seats, until none can be accepted any more and the others have ended.
+/// A connection that there is no descriptor for waits for one; one that no thread can be started for is closed.
 pub fn serve<R: Host>(rt: &R, service: Service) {
     serve_as::<Brand, R>(rt, service);
 }
@@ -32,69 +30,103 @@ fn serve_as<B: Opening + Send + Sync, R: Host>(rt: &R, service: Service)
     let Service {
         store,
         door,
+        http,
         manner,
-        ..
     } = service;
     let desk = Desk::<B>::open(rt.alloc(), store, false);
-    let seats = Seats::new(door.talk, manner);
-    serve_at(rt, &desk, &seats, &door.listener);
+    let seats = Seats::new(&door, http.as_ref(), manner);
+    serve_at(rt, &desk, &seats, &door, http.as_ref());
 }
 
-/// Serves the listener's connections at the desk, each in its seat.
+/// Serves the connections of the doors at the desk, and tells of each minute meanwhile.
 fn serve_at<B: Opening + Send + Sync, R: Host>(
     rt: &R,
     desk: &Desk<B>,
     seats: &Seats,
-    listener: &TcpListener,
+    door: &Door,
+    http: Option<&Door>,
 ) {
     thread::scope(thread::scope_env(), rt, |scope| {
         if seats.log().is_some() {
             let _told = scope.spawn(move || tell_minutes(rt, desk, seats));
         }
-        for _ in rt.forever() {
-            match next_seated(rt, seats, listener) {
-                Ok(Some(caller)) => {
-                    let number = caller.number;
-                    let spawned = scope.spawn(move || serve_caller(rt, desk, seats, caller));
-                    if spawned.is_err() {
-                        tell_threadless(rt, seats, number);
-                        seats.leave(rt);
-                    }
-                }
-                Ok(None) => {}
-                Err(_) => break,
-            }
-        }
+        open(rt, desk, seats, door, http);
         if let Some(log) = seats.log() {
             log.close(rt);
         }
     });
 }
 
+/// Serves the connections of both doors, if there are two.
+fn open<B: Opening + Send + Sync, R: Host>(
+    rt: &R,
+    desk: &Desk<B>,
+    seats: &Seats,
+    door: &Door,
+    http: Option<&Door>,
+) {
+    thread::scope(thread::scope_env(), rt, |scope| {
+        if let Some(http) = http {
+            let served = scope.spawn(move || welcome(rt, desk, seats, http));
+            if served.is_err() {
+                tell_unserved(rt, seats);
+            }
+        }
+        welcome(rt, desk, seats, door);
+    });
+}
+
+/// Serves a door's connections, each in its seat.
+fn welcome<B: Opening + Send + Sync, R: Host>(rt: &R, desk: &Desk<B>, seats: &Seats, door: &Door) {
+    thread::scope(thread::scope_env(), rt, |scope| {
+        for _ in rt.forever() {
+            match next_seated(rt, seats, door) {
+                Ok(Some(caller)) => {
+                    let number = caller.number;
+                    let spawned = scope.spawn(move || serve_caller(rt, desk, seats, caller));
+                    if spawned.is_err() {
+                        tell_threadless(rt, seats, number);
+                        seats.pool(door.talk).leave(rt);
+                    }
+                }
+                Ok(None) => {}
+                Err(_) => break,
+            }
+        }
+    });
+}
+
 /// The next connection, in a seat; nobody, where there was no seat or no descriptor for it, which is waited for then. A
 /// connection that isn't told of seats isn't accepted until it has one.
-fn next_seated<R: Wait + Clock + Eprint>(
-    rt: &R,
-    seats: &Seats,
-    listener: &TcpListener,
-) -> io::Result<Option<Caller>> {
+fn next_seated<R: Host>(rt: &R, seats: &Seats, door: &Door) -> io::Result<Option<Caller>> {
     let tells_busy = seats.patience().tells_busy;
+    let pool = seats.pool(door.talk);
     if !tells_busy {
-        seats.take(rt);
+        pool.take(rt);
     }
-    match listener.accept() {
+    match door.listener.accept() {
         Ok((stream, address)) => {
             let number = tell_arrival(rt, seats, address);
-            Ok(seated(rt, seats, Caller { stream, number }, tells_busy))
+            let talk = door.talk;
+            Ok(seated(
+                rt,
+                seats,
+                Caller {
+                    stream,
+                    number,
+                    talk,
+                },
+                tells_busy,
+            ))
         }
         Err(error) if wants_descriptor(&error) => {
             if let Some(log) = seats.log() {
                 log.want_descriptor(rt);
             }
             if !tells_busy {
-                seats.leave(rt);
+                pool.leave(rt);
             }
-            seats.wait(rt);
+            pool.wait(rt);
             Ok(None)
         }
         Err(error) => Err(error),
@@ -102,16 +134,11 @@ fn next_seated<R: Wait + Clock + Eprint>(
 }
 
 /// The caller, in a seat that it has or takes. Where there is none for it, it is told so.
-fn seated<R: Wait + Eprint>(
-    rt: &R,
-    seats: &Seats,
-    caller: Caller,
-    tells_busy: bool,
-) -> Option<Caller> {
-    if !tells_busy || seats.take_free(rt) {
+fn seated<R: Host>(rt: &R, seats: &Seats, caller: Caller, tells_busy: bool) -> Option<Caller> {
+    if !tells_busy || seats.pool(caller.talk).take_free(rt) {
         return Some(caller);
     }
-    tell_busy(&caller.stream, seats.talk());
+    tell_busy(&caller.stream, caller.talk);
     if let Some(log) = seats.log() {
         let number = caller.number;
         log.tell(rt, format_args!("connection {number} was told busy"));
@@ -120,7 +147,7 @@ fn seated<R: Wait + Eprint>(
 }
 
 /// Tells that a connection was taken, and gives its number.
-fn tell_arrival<R: Wait + Eprint>(rt: &R, seats: &Seats, address: SocketAddr) -> u64 {
+fn tell_arrival<R: Host>(rt: &R, seats: &Seats, address: SocketAddr) -> u64 {
     let Some(log) = seats.log() else {
         return 0;
     };
@@ -131,12 +158,19 @@ fn tell_arrival<R: Wait + Eprint>(rt: &R, seats: &Seats, address: SocketAddr) ->
 }
 
 /// Tells that there was no thread for the connection.
-fn tell_threadless<R: Wait + Eprint>(rt: &R, seats: &Seats, number: u64) {
+fn tell_threadless<R: Host>(rt: &R, seats: &Seats, number: u64) {
     if let Some(log) = seats.log() {
         log.tell(
             rt,
             format_args!("connection {number} cannot be served: no thread"),
         );
+    }
+}
+
+/// Tells that there was no thread to accept the connections of the second port.
+fn tell_unserved<R: Host>(rt: &R, seats: &Seats) {
+    if let Some(log) = seats.log() {
+        log.tell(rt, "requests over HTTP cannot be served: no thread");
     }
 }
 

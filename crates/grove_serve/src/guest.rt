@@ -8,6 +8,7 @@ use std::alloc::AllocGlobal;
 use std::cell::Cell;
 use std::fmt::Display;
 use std::sync::Wait;
+use std::time::Clock;
 
 /// What is told beside a refusal that is about no part of its line.
 const LONG_LINE: &str =
@@ -42,7 +43,7 @@ impl<'a> Guest<'a> {
     }
 
     /// Tells that the line after those which are answered is refused, and why, with a hint if there is memory for it.
-    pub fn tell_refusal<R: Wait + Eprint + AllocGlobal>(
+    pub fn tell_refusal<R: Wait + Clock + Eprint + AllocGlobal>(
         &self,
         rt: &R,
         line: &[u8],
@@ -56,7 +57,7 @@ impl<'a> Guest<'a> {
     }
 
     /// Tells that the line is refused for the fault of this name.
-    fn tell_fault<R: Wait + Eprint + AllocGlobal>(
+    fn tell_fault<R: Wait + Clock + Eprint + AllocGlobal>(
         &self,
         rt: &R,
         line: &[u8],
@@ -73,12 +74,16 @@ impl<'a> Guest<'a> {
     }
 
     /// Tells that the line after those which are answered is too long.
-    pub fn tell_long_line<R: Wait + Eprint>(&self, rt: &R) {
+    pub fn tell_long_line<R: Wait + Clock + Eprint + AllocGlobal>(&self, rt: &R) {
         self.tell_line(rt, format_args!("long-line; {LONG_LINE}"));
     }
 
     /// Tells this of the line after those which are answered, which is refused.
-    fn tell_line<R: Wait + Eprint, D: Display + Drop>(&self, rt: &R, told: D) {
+    fn tell_line<R: Wait + Clock + Eprint + AllocGlobal, D: Display + Drop>(
+        &self,
+        rt: &R,
+        told: D,
+    ) {
         self.log.count_refusal();
         let number = self.number;
         let place = self.lines.get().saturating_add(1);
@@ -89,7 +94,7 @@ impl<'a> Guest<'a> {
     }
 
     /// Tells that the connection has ended, and why.
-    pub fn tell_end<R: Wait + Eprint>(&self, rt: &R, ending: Ending) {
+    pub fn tell_end<R: Wait + Clock + Eprint + AllocGlobal>(&self, rt: &R, ending: Ending) {
         let number = self.number;
         let lines = self.lines.get();
         let noun = if lines == 1 { "line" } else { "lines" };

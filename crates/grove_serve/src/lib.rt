@@ -12,6 +12,7 @@ mod guest;
 mod host;
 mod log;
 mod minutes;
+mod pool;
 mod seats;
 mod service;
 mod talking;

@@ -1,12 +1,16 @@
+use crate::service::LogForm;
+use serde_json::Value;
+use std::alloc::{AllocError, AllocGlobal};
 use std::fmt::Display;
 use std::sync::atomic::{AtomicBool, AtomicU64, Ordering};
 use std::sync::{Condvar, Mutex, Wait};
-use std::time::{Clock, Duration};
+use std::time::{Clock, Duration, SystemTime, UNIX_EPOCH};
 
 /// What standard error is told of a server's connections, a line at a time, and what is counted of them for each
 /// minute. Where standard error fails, nothing else does.
 #[derive(Drop)]
 pub struct Log {
+    form: LogForm,
     /// Whoever writes a line has it meanwhile.
     pen: Mutex<()>,
     connections: AtomicU64,
@@ -20,8 +24,10 @@ pub struct Log {
 }
 
 impl Log {
-    pub fn new() -> Log {
+    /// A log whose lines have this form.
+    pub fn new(form: LogForm) -> Log {
         Log {
+            form,
             pen: Mutex::new(()),
             connections: AtomicU64::new(0),
             lines: AtomicU64::new(0),
@@ -32,10 +38,19 @@ impl Log {
         }
     }
 
-    /// Tells a line.
-    pub fn tell<R: Wait + Eprint, D: Display + Drop>(&self, rt: &R, line: D) {
+    /// Tells a line. As an object it is left out if there is no memory for it.
+    pub fn tell<R: Wait + Clock + Eprint + AllocGlobal, D: Display + Drop>(&self, rt: &R, line: D) {
         let _pen = self.pen.lock(rt);
-        let _told = rt.eprintln(line);
+        match self.form {
+            LogForm::Text => {
+                let _told = rt.eprintln(line);
+            }
+            LogForm::Json => {
+                if let Ok(object) = object_of(rt, line) {
+                    let _told = rt.eprintln(object);
+                }
+            }
+        }
     }
 
     /// The number of the next connection, from 1.
@@ -66,7 +81,7 @@ impl Log {
     }
 
     /// Tells that no descriptor is left for the next connection, once until one is taken.
-    pub fn want_descriptor<R: Wait + Eprint>(&self, rt: &R) {
+    pub fn want_descriptor<R: Wait + Clock + Eprint + AllocGlobal>(&self, rt: &R) {
         if !self.is_wanting.swap(true, Ordering::SeqCst) {
             self.tell(rt, "no descriptor is left for the next connection");
         }
@@ -90,5 +105,26 @@ impl Log {
             .closed
             .wait_timeout_while(rt, is_closed, longest, |is_closed| !*is_closed);
         *is_closed
+    }
+}
+
+/// The line as an object of JSON, with the time in seconds since 1970, which is 0 if the clock gives none.
+fn object_of<R: Wait + Clock + Eprint + AllocGlobal, D: Display + Drop>(
+    rt: &R,
+    line: D,
+) -> Result<String, AllocError> {
+    let alloc = rt.alloc();
+    let event = Value::String(format!(in alloc; "{line}")?).to_string(alloc)?;
+    let time = seconds_now(rt);
+    format!(in alloc; "{{\"event\":{event},\"time\":{time}}}")
+}
+
+fn seconds_now<R: Clock>(rt: &R) -> u64 {
+    let Ok(now) = SystemTime::now(rt) else {
+        return 0;
+    };
+    match now.duration_since(UNIX_EPOCH) {
+        Ok(since) => since.as_secs(),
+        Err(_) => 0,
     }
 }

@@ -4,8 +4,6 @@ use crate::seats::Seats;
 use grove_base::NoMemory;
 use grove_desk::{Desk, Opening};
 use grove_store::Store;
-use std::alloc::AllocGlobal;
-use std::sync::Wait;
 use std::time::Duration;
 
 /// How many seconds a minute has.
@@ -29,7 +27,7 @@ pub fn tell_minutes<B: Opening, R: Host>(rt: &R, desk: &Desk<B>, seats: &Seats) 
 }
 
 /// Tells of a minute with so many lines, where so many rounds were run before it, and gives how many have been since.
-fn tell_minute<B: Opening, R: Wait + Eprint + AllocGlobal>(
+fn tell_minute<B: Opening, R: Host>(
     rt: &R,
     desk: &Desk<B>,
     log: &Log,

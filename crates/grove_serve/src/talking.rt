@@ -10,6 +10,7 @@ use grove_page::{PAGE, Site, serve_page};
 use grove_session::{ReaderSource, SessionFault, WriterSink};
 use std::cell::Cell;
 use std::hash::RandomState;
+use std::io::{self, Read};
 use std::net::TcpStream;
 use std::time::Duration;
 
@@ -19,16 +20,21 @@ pub struct Caller {
     pub stream: TcpStream,
     /// Its number in the log, if there is one.
     pub number: u64,
+    pub talk: Talk,
 }
 
 /// A session, or requests, over the connection, which is closed then and leaves its seat. What ends it ends it alone,
 /// and nobody is left there to be told of it.
 pub fn serve_caller<B: Opening, R: Host>(rt: &R, desk: &Desk<B>, seats: &Seats, caller: Caller) {
-    let Caller { stream, number } = caller;
+    let Caller {
+        stream,
+        number,
+        talk,
+    } = caller;
     // No reply is to wait until the one before it has arrived.
     let _at_once = stream.set_nodelay(true);
     let guest = seats.log().map(|log| Guest::new(log, number));
-    let ending = match (seats.talk(), seats.patience().idle) {
+    let ending = match (talk, seats.patience().idle) {
         (Talk::Lines, None) => {
             let mut source = ReaderSource::new(&stream);
             let mut sink = WriterSink::new(&stream);
@@ -42,7 +48,7 @@ pub fn serve_caller<B: Opening, R: Host>(rt: &R, desk: &Desk<B>, seats: &Seats, 
     }
     // Whoever waits for the seat may wait for the descriptor.
     drop(stream);
-    seats.leave(rt);
+    seats.pool(talk).leave(rt);
 }
 
 /// A session over the stream, which may idle for so many seconds. A client that takes nothing of its replies idles too.
@@ -90,21 +96,33 @@ fn answer_requests<B: Opening, R: Host>(
     }
     let (has_come, was_late) = (Cell::new(false), Cell::new(false));
     let front = SeatedDesk::new(desk, seats, guest, &has_come);
-    let site = Site {
-        page: PAGE,
-        hosts: &[],
-    };
-    let mut writer = stream;
     let ended = match longest {
         Some(longest) => {
             let awaited = Awaited::Request(&has_come);
             let mut reader = TimedStream::new(rt, stream, awaited, longest, &was_late);
-            serve_page(rt, &front, site, keys, &mut reader, &mut writer)
+            serve_site(rt, &front, seats, keys, &mut reader, stream)
         }
         None => {
             let mut reader = stream;
-            serve_page(rt, &front, site, keys, &mut reader, &mut writer)
+            serve_site(rt, &front, seats, keys, &mut reader, stream)
         }
     };
     Ending::of_requests(ended, idle, was_late.get())
+}
+
+/// Requests that the reader gives, under the names of the server, with the responses over the stream.
+fn serve_site<B: Opening, R: Host, I: Read>(
+    rt: &R,
+    front: &SeatedDesk<'_, B>,
+    seats: &Seats,
+    keys: RandomState,
+    reader: &mut I,
+    stream: &TcpStream,
+) -> io::Result<()> {
+    let site = Site {
+        page: PAGE,
+        hosts: seats.hosts(),
+    };
+    let mut writer = stream;
+    serve_page(rt, front, site, keys, reader, &mut writer)
 }

@@ -1,4 +1,4 @@
-use Rattle.std.proofs.Common.{◌≡◌, subst}
+use Rattle.std.proofs.Common.{◌≡◌, true, subst}
 use Rattle.grove_desk.specs.Desks.{DeskState, VisitState, IsShared}
 use Rattle.grove_desk.specs.declared.told.Told.{Told}
 use Rattle.grove_page.specs.Pages.{ends_refused, is_refused, Visits, VisitsDesk}

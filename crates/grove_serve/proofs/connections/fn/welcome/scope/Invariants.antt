@@ -1,4 +1,4 @@
-use Rattle.grove_serve.proofs.connections.fn.serve_at.scope.Given as goal
+use Rattle.grove_serve.proofs.connections.fn.welcome.scope.Given as goal
 
 abbrev pub invariant-loop : goal.invariant-loop
 invariant-loop g l = (goal.iterator-loop g).can_next l.iterator' × (goal.iterator-loop g).is_finite l.iterator'
