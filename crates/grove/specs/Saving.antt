@@ -1,4 +1,4 @@
--- What of a server is saved in a file.
+-- For the proofs alone: what of a server is saved in a file.
 use Rattle.std.specs.Prelude.{ℕ, List, IsOkAnd}
 use Rattle.std.specs.Result.{is_ok}
 use Rattle.grove_wire.specs.Reading.{document_of, tree_in}
