@@ -28,8 +28,10 @@ TRIED = "lines of the longest length, and honest ones beside them"
 LONGEST_LINE = 1_048_576
 CLIENTS = 16
 LINES = 3
-# How many seconds after the last reply is looked once more.
+# How many MB more than before a server may have at any time, and after how many seconds how many more.
+MOST_AT_ONCE = 64
 LATER = 1.0
+MOST_LATER = 16
 # In seconds. Without other work an honest line takes a fraction of a millisecond; half of them wait for three large lines at most.
 LONGEST_WAIT = 2.0
 MOST_LARGE_LINES = 3
@@ -37,25 +39,22 @@ MOST_LARGE_LINES = 3
 SERVER_MEMORY = re.search(r"^server_memory=(\S+)$", (Path(__file__).parents[2] / "grove").read_text(), re.MULTILINE)[1]
 
 
-# A check of a plan, and one of a flow.
+# Checks of a list, of a plan and of a flow.
+LIST_OF_CHECK = b'{"check":{"flow":[],"plan":[],"list":['
 STEPS = b'{"check":{"list":[["get","/a"]],"flow":[],"plan":['
 ROWS = b'{"check":{"list":[["get","/a"]],"plan":[["lock","/a"],["access",0],["unlock","/a"]],"flow":['
 BATCH = b'{"batch":[%s]}\n' % b",".join([b"[%s]" % b",".join([b'["get","/a"]'] * 64)] * 256)
+# One list more than a batch may have, each with one access more than a list may have, of all items that are looked at.
+LONG_LISTS = b",".join([b"[%s]" % b",".join([b'["a","a","a","a","a"]'] * 65)] * 257)
+BATCH_TWICE = b'{"batch":[%s],"batch":[%s]}\n' % (LONG_LISTS, LONG_LISTS)
+NAMES = b"{" + b",".join(b'"%x":0' % number for number in range(100_000)) + b"}"
 WHOLE_ROW = b'{"above":0,"first":0,"held":0,"last":0,"node":"/","own":0}'
-SHAPE, LIMIT, NO_PATH = (b'{"error":"%s"}' % name for name in (b"shape", b"limit", b"no-path"))
+ERROR, SHAPE, LIMIT, NO_PATH = (b'{"error":"%s' % name for name in (b"", b"shape", b"limit", b"no-path"))
+# What stands in place of steps and of rows, and can't be read as one.
+NO_STEPS = (b"[0]", b"[[]]", b'["a"]', b"[0,0]", b'["",0]', b"{}", b'{"":0}', b'[{"":0}]', b'[""]', b'""')
+NO_ROWS = (b"{}", b'{"":0}', b"[0]", b'{"node":"/"}', b'{"own":0}', b'{"own":[]}')
 
 Ask = Callable[[bytes], bytes]
-
-
-class Room(NamedTuple):
-    """How many MB more than before a server may take at once, and later."""
-
-    at_once: int
-    later: int
-
-
-# Of lines that have many steps or rows of a form, or many names, more is kept while they are read; and bodies are kept whole.
-LITTLE, MUCH = Room(64, 16), Room(96, 32)
 
 
 class Way(NamedTuple):
@@ -69,24 +68,37 @@ class Way(NamedTuple):
 def tries(program: str, room: str) -> list[Try]:
     """Each line is of one item, again and again."""
     tcp, http = Way("serve", send_lines, asked_lines), Way("page", send_body, asked_bodies)
-    names = b"{" + b",".join(b'"%x":0' % number for number in range(100_000)) + b"}"
     cases = [
-        ("objects that nobody looks at", tcp, longest(b'{"weights":[', b'{"":0}', b"]}"), b'{"waits"', LITTLE),
-        ("names that nobody looks at", tcp, b'{"weights":%s}\n' % names, b'{"waits"', LITTLE),
-        ("names in place of one request", tcp, names + b"\n", SHAPE, MUCH),
-        ("objects in place of accesses", tcp, longest(b'{"plan":[', b'{"":0}', b"]}"), LIMIT, LITTLE),
-        ("objects in place of lists", tcp, longest(b'{"batch":[', b'{"":0}', b"]}"), LIMIT, LITTLE),
-        ("arrays in a list", tcp, longest(b'{"batch":[[', b"[0]", b"]]}"), LIMIT, LITTLE),
-        ("texts in an access", tcp, longest(b'{"plan":[[', b'"a"', b"]]}"), SHAPE, LITTLE),
-        ("lists that are done", tcp, BATCH, b'{"places"', LITTLE),
-        ("arrays in place of steps", tcp, longest(STEPS, b'["",0]', b"]}}"), SHAPE, LITTLE),
-        ("steps at no node", tcp, longest(STEPS, b'["lock",""]', b"]}}"), NO_PATH, MUCH),
-        ("rows with one member", tcp, longest(ROWS, b'{"own":0}', b"]}}"), SHAPE, LITTLE),
-        ("rows of a flow", tcp, longest(ROWS, WHOLE_ROW, b"]}}"), b'{"error":"rows"}', MUCH),
-        ("rows with one member, in bodies", http, longest(ROWS, b'{"own":0}', b"]}}"), SHAPE, LITTLE),
-        ("steps at no node, in bodies", http, longest(STEPS, b'["lock",""]', b"]}}"), NO_PATH, MUCH),
+        ("objects that nobody looks at", tcp, longest(b'{"weights":[', b'{"":0}', b"]}"), b'{"waits"'),
+        ("names that nobody looks at", tcp, b'{"weights":%s}\n' % NAMES, b'{"waits"'),
+        ("names in place of one request", tcp, NAMES + b"\n", SHAPE),
+        ("objects in place of accesses", tcp, longest(b'{"plan":[', b'{"":0}', b"]}"), LIMIT),
+        ("objects in place of lists", tcp, longest(b'{"batch":[', b'{"":0}', b"]}"), LIMIT),
+        ("arrays in a list", tcp, longest(b'{"batch":[[', b"[0]", b"]]}"), LIMIT),
+        ("arrays in the list of a check", tcp, longest(LIST_OF_CHECK, b"[0]", b"]}}"), LIMIT),
+        ("arrays in a version", tcp, longest(LIST_OF_CHECK + b'],"version":[', b"[0]", b"]}}"), SHAPE),
+        ("texts in an access", tcp, longest(b'{"plan":[[', b'"a"', b"]]}"), SHAPE),
+        ("arrays in an access", tcp, longest(b'{"plan":[["get","/",', b"[0]", b"]]}"), SHAPE),
+        ("objects in an access of a batch", tcp, longest(b'{"batch":[[["get","/",', b"{}", b"]]]}"), SHAPE),
+        ("arrays in place of a path", tcp, longest(b'{"plan":[["get",[', b"[0]", b"]]]}"), SHAPE),
+        ("a long path", tcp, b'{"plan":[["get","%s"]]}\n' % (b"a" * (LONGEST_LINE - 64)), NO_PATH),
+        ("lists that are done", tcp, BATCH, b'{"places"'),
+        ("lists of texts, twice", tcp, BATCH_TWICE, LIMIT),
+        ("a plan that is told twice", tcp, longest(STEPS, b"[0]", b'],"plan":[]}}'), ERROR),
+        ("locks of no node", tcp, longest(STEPS, b'["lock",""]', b"]}}"), NO_PATH),
+        ("unlocks of no node", tcp, longest(STEPS, b'["unlock",""]', b"]}}"), NO_PATH),
+        ("locks", tcp, longest(STEPS, b'["lock","/"]', b"]}}"), ERROR),
+        ("unlocks", tcp, longest(STEPS, b'["unlock","/"]', b"]}}"), ERROR),
+        ("accesses in a plan", tcp, longest(STEPS, b'["access",0]', b"]}}"), ERROR),
+        ("rows of a flow", tcp, longest(ROWS, WHOLE_ROW, b"]}}"), b'{"error":"rows"}'),
+        ("rows with one member, in bodies", http, longest(ROWS, b'{"own":0}', b"]}}"), SHAPE),
+        ("rows of a flow, in bodies", http, longest(ROWS, WHOLE_ROW, b"]}}"), b'{"error":"rows"}'),
+        ("unlocks, in bodies", http, longest(STEPS, b'["unlock","/"]', b"]}}"), ERROR),
+        ("names in place of one request, in bodies", http, NAMES + b"\n", SHAPE),
+        *((f"{item.decode()} in place of steps", tcp, longest(STEPS, item, b"]}}"), SHAPE) for item in NO_STEPS),
+        *((f"{item.decode()} in place of rows", tcp, longest(ROWS, item, b"]}}"), SHAPE) for item in NO_ROWS),
     ]
-    return [Try(what, partial(flood, program, way, line, wanted, most)) for what, way, line, wanted, most in cases]
+    return [Try(what, partial(flood, program, way, line, wanted)) for what, way, line, wanted in cases]
 
 
 def longest(before: bytes, item: bytes, after: bytes) -> bytes:
@@ -141,7 +153,7 @@ def asked_bodies(port: int) -> Iterator[Ask]:
 # ---- a flood
 
 
-def flood(program: str, way: Way, line: bytes, wanted: bytes, most: Room, tally: Tally) -> None:
+def flood(program: str, way: Way, line: bytes, wanted: bytes, tally: Tally) -> None:
     store = Store(json.loads(TREE))
     environment = {**os.environ, "GLIBC_TUNABLES": SERVER_MEMORY}
     with Serving(program, TREE, command=way.command, env=environment) as server, way.honest(server.port) as ask:
@@ -155,8 +167,8 @@ def flood(program: str, way: Way, line: bytes, wanted: bytes, most: Room, tally:
             client.start()
         waits = honest_waits(store, server, ask, replies, tally)
         time.sleep(LATER)
-        note_memory(taken(server, "VmHWM") - at_first, most.at_once << 20, "at once", tally)
-        note_memory(taken(server, "VmRSS") - at_first, most.later << 20, "a second later", tally)
+        note_memory(taken(server, "VmHWM") - at_first, MOST_AT_ONCE << 20, "at once", tally)
+        note_memory(taken(server, "VmRSS") - at_first, MOST_LATER << 20, "a second later", tally)
         are_measured.set()
         for client in clients:
             client.join()
