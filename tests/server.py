@@ -124,8 +124,14 @@ def talk(port, text, piece=PIECE, leaves=False, host=HOST):
 
 def talk_in_turn(port, lines):
     """Sends each line once the reply to the one before has come, as long as the other side doesn't close."""
+    with connected(port) as connection:
+        return ask_in_turn(connection, lines)
+
+
+def ask_in_turn(connection, lines):
+    """The same on a connection, on which nothing more is sent then."""
     came = []
-    with connected(port) as connection, connection.makefile("rb") as replies:
+    with connection.makefile("rb") as replies:
         try:
             for line in lines:
                 connection.sendall(line)

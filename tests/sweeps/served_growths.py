@@ -1,36 +1,47 @@
 """Each growth of a server refused, alone: it ends with `memory` before it listens, or a session ends before some line, with
-the replies of those before; the next session is whole, over the store that those lines left."""
+the replies of those before; the next session is whole, over the store that those lines left. With `--verbose` the end of
+each session is told, with its reason, and each line that is refused, though maybe without its hint."""
 
 from __future__ import annotations
 
 import json
+from collections.abc import Callable
 from functools import partial
 
-from server import NotListening, Serving, talk_in_turn
+from server import NotListening, Serving, ask_in_turn, connected, talk_in_turn
 from store import Store
 
 from sweeps.connections import REPLIES, TEXT, TREE
 from sweeps.growths import is_told, library_in, refusing
 from sweeps.program import MEMORY, Ran, Tally, Try
-from sweeps.talks import note_replies
+from sweeps.talks import lines_of, note_replies
+from sweeps.verbose import LINES, Telling, arrival, ended, fits, refusals
 
 TRIED = "growths of a server refused, each alone, and the lines asked after it"
 # No server here takes more growths for ten lines.
 MOST_GROWTHS = 20_000
 # Each part has every growth of so many.
 PARTS = 8
+# How long a line on standard error is waited for.
+LONGEST = 20.0
+
+Ask = Callable[[str, dict, str, Tally], None]
 
 
 def tries(program: str, room: str) -> list[Try]:
     library = library_in(room)
-    firsts = range(1, PARTS + 1)
-    return [Try(f"each {PARTS}th growth from {at} on", partial(refuse_each, program, library, at)) for at in firsts]
+    ways = [("", ask_twice), (", verbose", tell_twice)]
+    return [
+        Try(f"each {PARTS}th growth from {at} on{how}", partial(refuse_each, program, library, at, ask))
+        for how, ask in ways
+        for at in range(1, PARTS + 1)
+    ]
 
 
-def refuse_each(program: str, library: str, first: int, tally: Tally) -> None:
+def refuse_each(program: str, library: str, first: int, ask: Ask, tally: Tally) -> None:
     for number in range(first, MOST_GROWTHS, PARTS):
         with refusing(library, number) as (how, ends):
-            ask_twice(program, how, f"growth {number} refused", tally)
+            ask(program, how, f"growth {number} refused", tally)
             if not is_told(ends):
                 return
     tally.blame(f"growth {number} refused", "there are still more of them")
@@ -50,3 +61,43 @@ def ask_twice(program: str, how: dict, where: str, tally: Tally) -> None:
             note_replies(store, TEXT, server.talk(TEXT), f"{where}, after it", tally)
     except NotListening as ended:
         tally.compare(where, Ran(*ended.ended), MEMORY)
+
+
+def tell_twice(program: str, how: dict, where: str, tally: Tally) -> None:
+    """Has lines answered, some of which are refused, and sees what is told of them; where anything is wanting, once more."""
+    store = Store(json.loads(TREE))
+    try:
+        with Telling(program, **how) as server:
+            wants = session_told(server, store, where, tally)
+            if wants:
+                wants = session_told(server, store, f"{where}, after it", tally)
+                tally.note(f"{where}, after it", wants and f"once more there is no {wants}")
+    except NotListening as not_listening:
+        status, out, _ = not_listening.ended
+        tally.note(where, None if (status, out) == (MEMORY.status, b"") else f"it ended with {status}, {out!r}")
+
+
+def session_told(server: Telling, store: Store, where: str, tally: Tally) -> str | None:
+    """Has the next session answer the lines, compares what is told of it, and gives what is wanting for want of memory."""
+    before = len(server.told())
+    number = 1 if before == 0 else 2
+    with connected(server.port) as client:
+        came = ask_in_turn(client, list(LINES))
+        comes = arrival(number, client)
+    count = len(lines_of(came))
+    note_replies(store, b"".join(LINES[:count]), came, where, tally)
+    is_cut = count < len(LINES)
+    wanted = [comes, *refusals(number, came), ended(number, count, "no memory" if is_cut else "its input ended")]
+    told = server.told_of(before + len(wanted), LONGEST)[before:]
+    if count == 0 and told == [comes, f"connection {number} cannot be served: no thread"]:
+        return "thread"
+    hintless = [is_hintless(want, line) for want, line in zip(wanted, told)]
+    fitting = [fits(want, line) or less for want, line, less in zip(wanted, told, hintless)]
+    is_told = len(told) == len(wanted) and all(fitting) and is_cut + sum(hintless) <= 1
+    tally.note(f"{where}, what is told", None if is_told else f"wanted {wanted}; came {told}")
+    return "reply" if is_cut else "hint" if any(hintless) else None
+
+
+def is_hintless(want: str, came: str) -> bool:
+    """Is this the line that is wanted, without its hint?"""
+    return want.endswith("; hint") and came == want.removesuffix("; hint")
