@@ -68,6 +68,14 @@ claim_in document = do
   flow ← flow_in trial.0.tree document
   Ok (trial.0, trial.1, flow)
 
+-- the same of a document over a tree that is there: a list, a plan and a flow
+unfoldable pub claim_over : Rows → Data → Result (List Access × List Step × List FlowRow) WireFault
+claim_over tree document = do
+  list ← list_in tree document
+  plan ← plan_in tree document
+  flow ← flow_in tree document
+  Ok (list, plan, flow)
+
 unfoldable pub batch_in : Data → Result (Rows × List ℤ × List (List Access)) WireFault
 batch_in document = do
   stored ← tree_in document
@@ -121,8 +129,11 @@ abbrev pub checked_outcome : Rows → Result ℕ ProofFault → Outcome
 checked_outcome tree (Ok sum) = Ok (codes "cost " ++ decimal sum ++ codes "\n")
 checked_outcome tree (Err fault) = Err (proof_text tree fault)
 
+abbrev pub IsCheckedOver : Rows → List Access × List Step × List FlowRow → Outcome → Type 0
+IsCheckedOver tree (list, plan, flow) outcome = (checked : Result ℕ ProofFault) × ChecksAs tree list plan flow checked × (outcome ≡ checked_outcome tree checked)
+
 abbrev pub IsChecked : Task × List Step × List FlowRow → Outcome → Type 0
-IsChecked (task, plan, flow) outcome = (checked : Result ℕ ProofFault) × ChecksAs task.tree task.list plan flow checked × (outcome ≡ checked_outcome task.tree checked)
+IsChecked (task, plan, flow) = IsCheckedOver task.tree (task.list, plan, flow)
 
 -- ---- plan: the settled plan, with its cost and a flow that proves it least
 
@@ -133,9 +144,12 @@ plan_lines tree planned =
     ++ codes "\nflow " ++ compact_text (flow_data tree planned.flow)
     ++ codes "\n"
 
+abbrev pub IsPlannedOver : Rows → List Access → Outcome → Type 0
+IsPlannedOver tree list outcome =
+    (planned : Planned) × IsPlannedList tree list planned × (outcome ≡ Ok (plan_lines tree planned))
+
 abbrev pub IsPlannedTask : Task → Outcome → Type 0
-IsPlannedTask task outcome =
-    (planned : Planned) × IsPlannedList task.tree task.list planned × (outcome ≡ Ok (plan_lines task.tree planned))
+IsPlannedTask task = IsPlannedOver task.tree task.list
 
 -- ---- draw: the pictures of the settled plan and of the document's own, if it has one, unless that has a fault
 

@@ -2,12 +2,12 @@
 #![tactic(auto)]
 
 pub use auditing::audit_document;
-pub use checking::check_document;
+pub use checking::{check_document, check_over};
 pub use documents::planned_document;
 pub use drawing::{draw_document, drawing_of};
 pub use judging::judge_document;
 pub use laws::refusal_laws;
-pub use planning::plan_document;
+pub use planning::{plan_document, plan_over};
 pub use refusal::{Refusal, or_refuse};
 pub use running::run_document;
 

@@ -1,16 +1,19 @@
 ghost use Rattle.std.specs.Prelude.{◌≡◌, IfOk, string_bytes};
 ghost use Rattle.serde_json.specs.View.{view};
 ghost use Rattle.grove_build.specs.Batches.{IsPlanned as IsPlannedList};
-ghost use Rattle.grove_answer.specs.Says.{IsFitting, Says};
-ghost use Rattle.grove_answer.specs.Outcomes.{ThenSays, task_in, plan_lines, IsPlannedTask};
+ghost use Rattle.grove_access.specs.Lists.{nodes_of, AreNodes};
+ghost use Rattle.grove_wire.specs.Reading.{list_in};
+ghost use Rattle.grove_answer.specs.Says.{Says};
+ghost use Rattle.grove_answer.specs.Outcomes.{ThenSays, task_in, plan_lines, IsPlannedOver, IsPlannedTask};
 
-use crate::reading::{Task, read_task};
+use crate::reading::read_task;
 use crate::refusal::{Refusal, or_refuse};
 use crate::texts::{flow_text, plan_text};
 use grove_access::AccessList;
 use grove_base::NoMemory;
 use grove_build::{Planned, plan};
 use grove_tree::Tree;
+use grove_wire::read_list;
 use serde_json::Value;
 use std::alloc::Global;
 
@@ -19,15 +22,23 @@ pub fn plan_document(alloc: Global, document: &Value) -> Result<String, Refusal>
     ensures { Says (ThenSays (task_in (view document.now)) IsPlannedTask) result }
 {
     let task = or_refuse(alloc, read_task(alloc, document))?;
-    plan_task(alloc, &task)
+    plan_list(alloc, &task.tree, &task.list)
 }
 
-fn plan_task(alloc: Global, task: &Task) -> Result<String, Refusal>
-    requires { IsFitting task.now }
-    ensures { Says (IsPlannedTask task.now) result }
+/// The same lines for the list of a document, over a tree that is there.
+pub fn plan_over(alloc: Global, tree: &Tree, document: &Value) -> Result<String, Refusal>
+    ensures { Says (ThenSays (list_in tree.now (view document.now)) (IsPlannedOver tree.now)) result }
 {
-    let planned = plan(alloc, &task.tree, &task.list)?;
-    Ok(plan_lines(alloc, &task.tree, &task.list, &planned)?)
+    let list = or_refuse(alloc, read_list(alloc, tree, document))?;
+    plan_list(alloc, tree, &list)
+}
+
+fn plan_list(alloc: Global, tree: &Tree, list: &AccessList) -> Result<String, Refusal>
+    requires { AreNodes tree.now (nodes_of list.now) }
+    ensures { Says (IsPlannedOver tree.now list.now) result }
+{
+    let planned = plan(alloc, tree, list)?;
+    Ok(plan_lines(alloc, tree, list, &planned)?)
 }
 
 fn plan_lines(

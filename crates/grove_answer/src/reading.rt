@@ -7,7 +7,7 @@ ghost use Rattle.grove_wire.specs.Histories.{said_standing};
 ghost use Rattle.grove_wire.specs.Outcomes.{Gives, if_there};
 ghost use Rattle.grove_wire.specs.Reading.{plan_in};
 ghost use Rattle.grove_answer.specs.Says.{IsFitting};
-ghost use Rattle.grove_answer.specs.Outcomes.{task_in, trial_in, claim_in, sketch_in, batch_in, history_in};
+ghost use Rattle.grove_answer.specs.Outcomes.{task_in, trial_in, claim_in, claim_over, sketch_in, batch_in, history_in};
 
 use grove_access::{AccessList, Records};
 use grove_core::{Event, Job};
@@ -72,6 +72,22 @@ pub fn read_claim(alloc: Global, document: &Value) -> Result<(Task, Plan, Flow),
     let (task, plan) = read_trial(alloc, document)?;
     let flow = read_flow(alloc, &task.tree, document)?;
     Ok((task, plan, flow))
+}
+
+/// The document's list, plan and flow, over a tree that is there.
+#[tactic(auto, unfolding(crate::specs::Outcomes::claim_over))]
+pub fn read_claim_over(
+    alloc: Global,
+    tree: &Tree,
+    document: &Value,
+) -> Result<(AccessList, Plan, Flow), WireFault>
+    ensures read { Gives (λ claim. (claim.0, claim.1, claim.2)) result (claim_over tree.now (view document.now)) }
+    ensures fits { IfOk result (λ claim. AreNodes tree.now (nodes_of claim.0)) }
+{
+    let list = read_list(alloc, tree, document)?;
+    let plan = read_plan(alloc, tree, document)?;
+    let flow = read_flow(alloc, tree, document)?;
+    Ok((list, plan, flow))
 }
 
 /// The document's tree and list, and a plan for them where it has one.
