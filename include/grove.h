@@ -1,8 +1,8 @@
 /* What the commands of grove say of a document, in a C program: docs/LIBRARY.md tells how to link it.
  *
- * Each call takes the bytes of a document (docs/FORMATS.md) and a buffer, and puts the text there that the command of
- * its name prints. A call keeps nothing, reads no file and starts no thread, so calls may run in any number of threads
- * at once, each with a buffer of its own.
+ * Most calls take the bytes of a document (docs/FORMATS.md) and a buffer, and put the text there that the command of
+ * their name prints. They keep nothing, so they may run in any number of threads at once, each with a buffer of its
+ * own. The calls by a handle, at the end, keep a tree in it. No call reads a file or starts a thread.
  *
  * What a caller owes, which nothing tests:
  * - `document_length` bytes stand at `document`, and nobody writes to them during the call;
@@ -32,7 +32,9 @@ enum {
     /* There is no room for lines or a fault of `length` bytes, and `text` is as it was. */
     GROVE_ROOM = 2,
     /* An allocation failed, and `text` is as it was; `length` is 0. */
-    GROVE_MEMORY = 3
+    GROVE_MEMORY = 3,
+    /* The handle holds nothing, and `text` is as it was; `length` is 0. */
+    GROVE_CLOSED = 4
 };
 
 /* How a call ended, and how long its text is. The text isn't ended by a NUL, and behind it `text` is as it was. */
@@ -62,6 +64,39 @@ grove_told grove_c_draw_text(const uint8_t *document, size_t document_length, ui
 
 /* `grove audit`: what the run of the document's jobs replies and leaves that its events are, if that is finished. */
 grove_told grove_c_audit(const uint8_t *document, size_t document_length, uint8_t *text, size_t room);
+
+/* A handle that holds a tree, or nothing: what a call keeps for the next. It begins as GROVE_NOTHING.
+ *
+ * What a caller owes of a handle, which nothing tests:
+ * - it is GROVE_NOTHING, or what the last call by it left there; only calls change it, and nobody copies it;
+ * - one call at a time has it, and it is no part of the call's other arguments. Between calls it may go to another
+ *   thread, by a lock, or the start or the end of a thread;
+ * - it is closed once it isn't needed any more, or else its memory is never given back. */
+typedef struct grove_tree {
+    void *held;
+} grove_tree;
+
+#define GROVE_NOTHING {NULL}
+
+/* Reads the document's `nodes`, and holds their tree; what was held before is let go. It has no lines: if it is done,
+ * `text` is as it was, and `length` is 0. If it isn't done, the handle is as it was. */
+grove_told grove_c_tree_open(
+    grove_tree *tree, const uint8_t *document, size_t document_length, uint8_t *text, size_t room
+);
+
+/* `grove plan` over the tree that is held: the document's `list` is planned. It needs no `nodes`, and nobody looks at
+ * those that it has. */
+grove_told grove_c_tree_plan(
+    grove_tree *tree, const uint8_t *document, size_t document_length, uint8_t *text, size_t room
+);
+
+/* `grove check` over the tree that is held, likewise: of the document's `list`, `plan` and `flow`. */
+grove_told grove_c_tree_check(
+    grove_tree *tree, const uint8_t *document, size_t document_length, uint8_t *text, size_t room
+);
+
+/* Lets go what the handle holds: it is GROVE_NOTHING then. */
+void grove_c_tree_close(grove_tree *tree);
 
 #ifdef __cplusplus
 }

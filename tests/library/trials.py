@@ -3,6 +3,7 @@
 from __future__ import annotations
 
 import ctypes
+import json
 import os
 import shutil
 import subprocess
@@ -22,6 +23,8 @@ LIBRARY = TOP / "out/library"
 # The longest that a command may take.
 SECONDS = 600.0
 STRICT = ["-Wall", "-Wextra", "-pedantic", "-Werror"]
+# A program counts the blocks that it has, and refuses one.
+WRAPS = [f"-Wl,--wrap={name}" for name in ("malloc", "realloc", "free")]
 HERE = Path(__file__).resolve().parent
 MANIFEST = """\
 [package]
@@ -120,16 +123,40 @@ def valgrind(_given: Given, room: Path, tally: Tally) -> None:
     words = ["valgrind", "--quiet", "--error-exitcode=9", "--leak-check=full", "--show-leak-kinds=all"]
     for name in ("settings.json", "slow-log.json"):
         note_equal(tally, name, example_on(room, EXAMPLES / name, *words).returncode, 0)
+    compile_handles(room, tally)
+    document, bare, _ = written_for_handles(room, EXAMPLES / "two-leaves-certified.json")
+    note_well(tally, "handles", called(*words, room / "program", document, bare))
 
 
 def buffers(_given: Given, room: Path, tally: Tally) -> None:
     """Each call with no room, one byte too little, just enough and 1 GiB; with each allocation failed in turn; and
     again and again."""
-    wraps = [f"-Wl,--wrap={name}" for name in ("malloc", "realloc", "free")]
-    note_well(tally, "compiled", compiled("tests/library/buffers.c", room, "libgrove.a", "-O1", *wraps))
+    note_well(tally, "compiled", compiled("tests/library/buffers.c", room, "libgrove.a", "-O1", *WRAPS))
     for name in ("settings.json", "orders-history.json", "two-leaves-certified.json", "stock-let-go-early.json"):
         ran = called(room / "program", EXAMPLES / name)
         note_well(tally, name, ran)
+
+
+def handles(_given: Given, room: Path, tally: Tally) -> None:
+    """The calls by a handle, likewise."""
+    compile_handles(room, tally)
+    for name in ("settings.json", "two-leaves-certified.json"):
+        document, bare, strange = written_for_handles(room, EXAMPLES / name)
+        note_well(tally, name, called(room / "program", document, document, bare, strange))
+
+
+def compile_handles(room: Path, tally: Tally) -> None:
+    note_well(tally, "compiled handles", compiled("tests/library/handles.c", room, "libgrove.a", "-g", "-O1", *WRAPS))
+
+
+def written_for_handles(room: Path, document: Path) -> list[Path]:
+    """The document with its plan and flow; and that without its nodes, and with others, which are no tree."""
+    whole = json.loads(planned(document.read_bytes()))
+    bare = {name: value for name, value in whole.items() if name != "nodes"}
+    written = {"whole": whole, "bare": bare, "strange": {**bare, "nodes": 7}}
+    for name, parts in written.items():
+        (room / name).write_text(json.dumps(parts))
+    return [room / name for name in written]
 
 
 # ---- Rust
@@ -277,6 +304,7 @@ TRIALS = [
     Trial("example_in_c", example_in_c, ("cc",)),
     Trial("header_in_cpp", header_in_cpp, ("c++",)),
     Trial("buffers", buffers, ("cc",)),
+    Trial("handles", handles, ("cc",)),
     Trial("valgrind", valgrind, ("cc", "valgrind")),
     Trial("rust", rust, ("cargo",)),
     Trial("python", python, ("python3",)),

@@ -1,2 +1,5 @@
 pub mod Levels
 pub mod Tellings
+pub mod LooseValues
+pub mod HandleValues
+pub mod Opened

@@ -1,3 +1,5 @@
 pub mod Sayings
 pub mod Tellings
 pub mod Endings
+pub mod Handles
+pub mod Openings

@@ -3,15 +3,24 @@
 //! Each export takes the bytes of a document and a buffer. The header include/grove.h says what a caller owes.
 #![tactic(auto, using(crate::proofs::Tellings::tells))]
 
+ghost use Rattle.std.specs.Prelude.{◌≡◌, None};
+ghost use Rattle.grove_c.specs.Handles.{Asks, Opens};
 ghost use Rattle.grove_c.specs.Sayings.{AuditSays, CheckSays, DocumentSays, DrawSays, JudgeSays, PlanSays};
+ghost use Rattle.grove_c.specs.Sayings.{ClaimSays, ListPlanSays};
 ghost use Rattle.grove_c.specs.Tellings.{Tells};
 
 use grove_draw::Form;
+pub use handle::Handle;
+use opening::{open, tree_opened};
 use sayings::{audited, checked, drawn, judged, planned, planned_in_document};
 use std::alloc::Global;
 pub use telling::Told;
-use telling::tell;
+use telling::{tell, told_closed};
 
+mod handle;
+mod kept;
+mod loose;
+mod opening;
 mod sayings;
 mod telling;
 
@@ -69,4 +78,65 @@ pub extern "C" fn grove_c_audit(alloc: Global, document: &[u8], text: &mut [u8])
     ensures { Tells (AuditSays document.now) text.old text.new result }
 {
     tell(&audited(alloc, document), text)
+}
+
+/// Reads a document, and has the handle hold the tree of its nodes.
+#[unsafe(no_mangle)]
+pub extern "C" fn grove_c_tree_open(
+    alloc: Global,
+    tree: &mut Handle,
+    document: &[u8],
+    text: &mut [u8],
+) -> Told
+    ensures { Opens document.now tree.old.value tree.new.value text.old text.new result }
+{
+    open(alloc, tree_opened(alloc, document), tree, text)
+}
+
+/// The cost of the settled plan of a document's list over the tree that is held, the plan, and the flow that proves it.
+#[unsafe(no_mangle)]
+pub extern "C" fn grove_c_tree_plan(
+    alloc: Global,
+    tree: &mut Handle,
+    document: &[u8],
+    text: &mut [u8],
+) -> Told
+    ensures { Asks (λ rows. ListPlanSays rows document.now) tree.old.value tree.new.value text.old text.new result }
+{
+    match tree.take(alloc) {
+        Some(kept) => {
+            let told = kept.plan(alloc, document, text);
+            tree.hold(kept);
+            told
+        }
+        None => told_closed(),
+    }
+}
+
+/// The cost of a document's plan over the tree that is held, where its flow proves the plan least.
+#[unsafe(no_mangle)]
+pub extern "C" fn grove_c_tree_check(
+    alloc: Global,
+    tree: &mut Handle,
+    document: &[u8],
+    text: &mut [u8],
+) -> Told
+    ensures { Asks (λ rows. ClaimSays rows document.now) tree.old.value tree.new.value text.old text.new result }
+{
+    match tree.take(alloc) {
+        Some(kept) => {
+            let told = kept.check(alloc, document, text);
+            tree.hold(kept);
+            told
+        }
+        None => told_closed(),
+    }
+}
+
+/// Lets go what the handle holds.
+#[unsafe(no_mangle)]
+pub extern "C" fn grove_c_tree_close(alloc: Global, tree: &mut Handle)
+    ensures { tree.new.value ≡ None }
+{
+    *tree = Handle::empty(alloc);
 }

@@ -5,12 +5,14 @@ ghost use Rattle.grove_answer.specs.Says.{Says};
 ghost use Rattle.grove_wire.specs.Outcomes.{Gives};
 ghost use Rattle.grove_wire.specs.Reading.{document_of};
 ghost use Rattle.grove_c.specs.Sayings.{AuditSays, CheckSays, DocumentSays, DrawSays, JudgeSays, PlanSays};
+ghost use Rattle.grove_c.specs.Sayings.{ClaimSays, ListPlanSays};
 
 use grove_answer::{
-    Refusal, audit_document, check_document, draw_document, judge_document, or_refuse,
-    plan_document, planned_document,
+    Refusal, audit_document, check_document, check_over, draw_document, judge_document, or_refuse,
+    plan_document, plan_over, planned_document,
 };
 use grove_draw::Form;
+use grove_tree::Tree;
 use grove_wire::{WireFault, read_document, read_history};
 use serde_json::Value;
 use std::alloc::Global;
@@ -70,4 +72,20 @@ pub fn audited(alloc: Global, bytes: &[u8]) -> Result<String, Refusal>
 {
     let document = or_refuse(alloc, read_history(alloc, bytes))?;
     audit_document(alloc, &document)
+}
+
+/// What `plan` says of a document over a tree that is there.
+pub fn planned_over(alloc: Global, tree: &Tree, bytes: &[u8]) -> Result<String, Refusal>
+    ensures { Says (ListPlanSays tree.now bytes.now) result }
+{
+    let document = or_refuse(alloc, read_document(alloc, bytes))?;
+    plan_over(alloc, tree, &document)
+}
+
+/// What `check` says of it.
+pub fn checked_over(alloc: Global, tree: &Tree, bytes: &[u8]) -> Result<String, Refusal>
+    ensures { Says (ClaimSays tree.now bytes.now) result }
+{
+    let document = or_refuse(alloc, read_document(alloc, bytes))?;
+    check_over(alloc, tree, &document)
 }

@@ -15,7 +15,7 @@ pub struct Told {
 
 /// How a call ended. The numbers are those of the program's statuses, but for `Room`.
 #[derive(Clone, Copy)]
-enum Status {
+pub enum Status {
     /// The buffer begins with the lines that the command prints.
     Done = 0,
     /// It begins with the fault for which the document is refused.
@@ -24,6 +24,8 @@ enum Status {
     Room = 2,
     /// A growth was refused, and the buffer is as it was.
     Memory = 3,
+    /// The handle holds nothing that the call is about, and the buffer is as it was.
+    Closed = 4,
 }
 
 impl Status {
@@ -41,15 +43,32 @@ pub fn tell(said: &Result<String, Refusal>, buffer: &mut [u8]) -> Told
     match said {
         Ok(lines) => put(Status::Done, lines.as_bytes(), buffer),
         Err(Refusal::Fault { fault: _, text }) => put(Status::Refused, text.as_bytes(), buffer),
-        Err(Refusal::Memory) => Told {
-            status: Status::Memory.number(),
-            length: 0,
-        },
+        Err(Refusal::Memory) => told_memory(),
+    }
+}
+
+/// A growth was refused.
+pub fn told_memory() -> Told
+    ensures { result ≡ record { status = 3; length = 0 } }
+{
+    Told {
+        status: Status::Memory.number(),
+        length: 0,
+    }
+}
+
+/// The handle holds nothing that the call is about.
+pub fn told_closed() -> Told
+    ensures { result ≡ record { status = 4; length = 0 } }
+{
+    Told {
+        status: Status::Closed.number(),
+        length: 0,
     }
 }
 
 /// Has the buffer begin with the text, if it has room for all of it.
-fn put(status: Status, text: &[u8], buffer: &mut [u8]) -> Told
+pub fn put(status: Status, text: &[u8], buffer: &mut [u8]) -> Told
     ensures { IsPut (number_of status) text.now buffer.old buffer.new result }
 {
     let length = text.len();

@@ -1,0 +1,16 @@
+use Rattle.std.proofs.Common.{refl, subst}
+use Rattle.std.specs.Prelude.{Result}
+use Rattle.std.specs.declared.alloc.Global.{Global}
+use Rattle.std_alloc.specs.declared.boxed.Box.{Box}
+use Rattle.grove_answer.specs.declared.refusal.Refusal.{Refusal}
+use Rattle.grove_c.specs.declared.kept.Kept.{Kept}
+use Rattle.grove_c.specs.Openings.{IsOpening}
+use Rattle.grove_c.proofs.Opened.{stays}
+use Rattle.grove_c.proofs.opening.open.Goals as goal
+
+-- the handle isn't touched
+pub returns-in-Err : goal.returns-in-Err
+returns-in-Err c bytes is =
+    let held = c.args.handle.now.value in
+    stays bytes c.args.text.now c.tell-in-Err.new.buffer c.tell-in-Err.result held held c.in-Err.refusal refl c.tell-in-Err.ensures
+    (subst (λ (opening : Result (Box Kept Global) Refusal). IsOpening bytes opening) c.in-Err.is is)
