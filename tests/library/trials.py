@@ -13,8 +13,6 @@ from pathlib import Path
 from typing import Callable
 
 from comparing import Answer, all_documents, by_program, note_answers, read_answers, streams_of
-from lines import LINES
-from stores import by_server, note_replies, replies_in, stream_of
 from sweeps.documents import EXAMPLES
 from sweeps.program import Tally
 
@@ -47,7 +45,6 @@ class Given:
 
     program: str
     documents: int
-    lines: int
 
 
 @dataclass(frozen=True)
@@ -236,23 +233,6 @@ def note_same(given: Given, room: Path, tally: Tally, words: list[str | Path], *
     tally.blame("faults among them", None if refused > len(documents) else f"only {refused}")
 
 
-def rust_store_says_the_same(given: Given, room: Path, tally: Tally) -> None:
-    """What a server replies, to the byte, by a store in a process."""
-    note_same_store(given, tally, [built_in_rust("replies", room, tally)])
-
-
-def python_store_says_the_same(given: Given, _room: Path, tally: Tally) -> None:
-    note_same_store(given, tally, ["python3", "-B", HERE / "replies.py"], env=with_package())
-
-
-def note_same_store(given: Given, tally: Tally, words: list[str | Path], **how) -> None:
-    for seed in range(-(-given.lines // LINES)):
-        document, lines, wanted = by_server(given.program, seed, planned)
-        ran = called(*words, stdin=None, input=stream_of(document, lines), text=False, **how)
-        tally.blame("it ran", None if ran.returncode == 0 else f"status {ran.returncode}: {ran.stderr[-2000:]!r}")
-        note_replies(tally, seed, lines, replies_in(ran.stdout), wanted)
-
-
 def built_in_rust(name: str, room: Path, tally: Tally) -> Path:
     """A program of this folder that uses the crate."""
     project = room / name
@@ -312,6 +292,4 @@ TRIALS = [
     Trial("c_says_the_same", c_says_the_same, ("cc",)),
     Trial("rust_says_the_same", rust_says_the_same, ("cargo",)),
     Trial("python_says_the_same", python_says_the_same, ("python3",)),
-    Trial("rust_store_says_the_same", rust_store_says_the_same, ("cargo",)),
-    Trial("python_store_says_the_same", python_store_says_the_same, ("python3",)),
 ]

@@ -32,10 +32,6 @@ class NoMemory(Error, MemoryError):
     """An allocation failed."""
 
 
-class Closed(Error):
-    """The store was closed."""
-
-
 class BadPath(Error, ValueError):
     """This is no path from the root down, as `/` or `/a/b`, or no node has it."""
 

@@ -1,11 +1,11 @@
-"""What the library keeps from call to call: a tree that it has read, or a store."""
+"""What the library keeps from call to call: a tree that it has read."""
 
 from __future__ import annotations
 
 import weakref
 from threading import Lock
 
-from .library import TREE_CLOSE, Handle, Kept, close, say_kept
+from .library import Handle, Kept, close, say_kept
 
 
 class KeptTree:
@@ -14,8 +14,8 @@ class KeptTree:
     def __init__(self, document: bytes) -> None:
         self.handle, self.lock = Handle(), Lock()
         # (At the end of the process another thread may be in a call.)
-        weakref.finalize(self, close, TREE_CLOSE, self.handle).atexit = False
-        say_kept(Kept.TREE_OPEN, self.handle, document)
+        weakref.finalize(self, close, self.handle).atexit = False
+        say_kept(Kept.OPEN, self.handle, document)
 
     def say(self, call: Kept, question: bytes) -> str:
         """What a call says of a question: a document without nodes."""

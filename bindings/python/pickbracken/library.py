@@ -9,9 +9,9 @@ from functools import lru_cache
 from pathlib import Path
 from typing import Any, Callable, Iterator, List
 
-from .faults import Closed, NoMemory, Refused
+from .faults import NoMemory, Refused
 
-DONE, REFUSED, ROOM, MEMORY, CLOSED = 0, 1, 2, 3, 4
+DONE, REFUSED, ROOM, MEMORY = 0, 1, 2, 3
 # The room that a text is given at first.
 FIRST_ROOM = 16_384
 
@@ -23,7 +23,7 @@ class Told(ctypes.Structure):
 
 
 class Handle(ctypes.Structure):
-    """What a tree or a store is kept by. It's changed by the calls below alone, and is never copied."""
+    """What a tree is kept by. It's changed by the calls below alone, and is never copied."""
 
     _fields_ = [("held", ctypes.c_void_p)]
 
@@ -43,15 +43,13 @@ class Command(Enum):
 class Kept(Enum):
     """A call with a handle, which takes a text and says another."""
 
-    TREE_OPEN = "grove_c_tree_open"
-    TREE_PLAN = "grove_c_tree_plan"
-    TREE_CHECK = "grove_c_tree_check"
-    STORE_OPEN = "grove_c_store_open"
-    STORE_ANSWER = "grove_c_store_answer"
+    OPEN = "grove_c_tree_open"
+    PLAN = "grove_c_tree_plan"
+    CHECK = "grove_c_tree_check"
 
 
-# The calls with a handle that take no text.
-REPLY, TREE_CLOSE, STORE_CLOSE = "grove_c_store_reply", "grove_c_tree_close", "grove_c_store_close"
+# The call with a handle that takes no text.
+CLOSE = "grove_c_tree_close"
 
 
 def places() -> Iterator[Path]:
@@ -82,9 +80,7 @@ def typed(library: ctypes.CDLL) -> ctypes.CDLL:
         declare(library, command.value, [*text, *text], Told)
     for kept in Kept:
         declare(library, kept.value, [handle, *text, *text], Told)
-    declare(library, REPLY, [handle, *text], Told)
-    for close in (TREE_CLOSE, STORE_CLOSE):
-        declare(library, close, [handle], None)
+    declare(library, CLOSE, [handle], None)
     return library
 
 
@@ -111,27 +107,18 @@ def say_kept(kept: Kept, handle: Handle, text: bytes) -> str:
     return text_of(lambda said, room: call(ctypes.byref(handle), text, len(text), said, room))
 
 
-def answer_line(handle: Handle, line: bytes) -> str:
-    """The reply of a store to a line. A line is given once: a reply that has no room is copied afterwards."""
-    answer, reply = call_of(Kept.STORE_ANSWER.value), call_of(REPLY)
-    text = ctypes.create_string_buffer(FIRST_ROOM)
-    told = answer(ctypes.byref(handle), line, len(line), text, FIRST_ROOM)
-    if told.status != ROOM:
-        return told_by(told, text)
-    return text_of(lambda text, room: reply(ctypes.byref(handle), text, room), told.length)
-
-
-def close(name: str, handle: Handle) -> None:
+def close(handle: Handle) -> None:
     """Lets go what a handle holds, if it holds anything."""
-    call_of(name)(ctypes.byref(handle))
+    call_of(CLOSE)(ctypes.byref(handle))
 
 
 # Makes a call with a buffer and its length.
 Call = Callable[["ctypes.Array[ctypes.c_char]", int], Told]
 
 
-def text_of(call: Call, room: int = FIRST_ROOM) -> str:
+def text_of(call: Call) -> str:
     """What a call says, which is made once more where its text has no room."""
+    room = FIRST_ROOM
     while True:
         text = ctypes.create_string_buffer(room)
         told = call(text, room)
@@ -146,6 +133,6 @@ def told_by(told: Told, text: ctypes.Array[ctypes.c_char]) -> str:
         return text.raw[: told.length].decode()
     if told.status == REFUSED:
         raise Refused(text.raw[: told.length].decode())
-    if told.status == CLOSED:
-        raise Closed("it is closed")
-    raise NoMemory("memory")
+    if told.status == MEMORY:
+        raise NoMemory("memory")
+    raise AssertionError(f"status {told.status}, though a handle holds what was opened")

@@ -79,14 +79,14 @@ class Drawing:
 
 def plan(tree: Tree, accesses: Iterable[Access]) -> Plan:
     """The settled plan: no legal plan of the list costs less, and of all that cost as little it is the latest."""
-    return plan_of(lines_of(tree.kept.say(Kept.TREE_PLAN, written(None, accesses))))
+    return plan_of(lines_of(tree.kept.say(Kept.PLAN, written(None, accesses))))
 
 
 def check(tree: Tree, accesses: Iterable[Access], plan: Plan) -> int:
     """What a plan costs that its flow proves to be least. Else it is refused, whoever made the two; the cost that the
     plan tells isn't looked at."""
     question = written(None, accesses, plan.steps, plan.flow)
-    return cost_in(lines_of(tree.kept.say(Kept.TREE_CHECK, question)))
+    return cost_in(lines_of(tree.kept.say(Kept.CHECK, question)))
 
 
 def judge(tree: Tree, accesses: Iterable[Access], steps: Sequence[Step]) -> Judgement:

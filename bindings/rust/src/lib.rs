@@ -2,9 +2,8 @@
 //!
 //! A [`Tree`] has a weight for each node, which is what it costs others to find the node locked. For a list of
 //! accesses [`Tree::plan`] gives the settled plan: it obeys the tree protocol, and no legal plan costs less. Its
-//! [`Certificate`] proves that, and [`Tree::check`] sees it, whoever made plan and certificate. A [`Store`] has the
-//! records of a tree, and runs batches of lists on them. All that is grove's, which is proved; this crate hands documents
-//! and lines to its static library, and reads the answers.
+//! [`Certificate`] proves that, and [`Tree::check`] sees it, whoever made plan and certificate. The planner and the
+//! checker are those of grove, which are proved; this crate hands documents to its static library, and reads the answers.
 //!
 //! ```
 //! use pickbracken::{Access, Step, Tree};
@@ -25,7 +24,6 @@ pub use access::{Access, Op, Reply};
 pub use error::{Error, Fault};
 pub use plan::{Certificate, FlowRow, Judgement, Plan, Step};
 pub use planning::Form;
-pub use store::{Round, Store, Weights};
 pub use tree::Tree;
 
 mod access;
@@ -36,5 +34,4 @@ mod kept;
 mod library;
 mod plan;
 mod planning;
-mod store;
 mod tree;

@@ -19,7 +19,7 @@ const MEMORY: u32 = 3;
 /// The room that a text is given at first.
 const FIRST_ROOM: usize = 16_384;
 
-/// What a tree or a store is kept by. It is never copied.
+/// What a tree is kept by. It is never copied.
 #[repr(C)]
 struct Handle {
     held: *mut c_void,
@@ -70,22 +70,6 @@ unsafe extern "C" {
         room: usize,
     ) -> Told;
     fn grove_c_tree_close(tree: *mut Handle);
-    fn grove_c_store_open(
-        store: *mut Handle,
-        document: *const u8,
-        length: usize,
-        text: *mut u8,
-        room: usize,
-    ) -> Told;
-    fn grove_c_store_answer(
-        store: *mut Handle,
-        line: *const u8,
-        length: usize,
-        text: *mut u8,
-        room: usize,
-    ) -> Told;
-    fn grove_c_store_reply(store: *mut Handle, text: *mut u8, room: usize) -> Told;
-    fn grove_c_store_close(store: *mut Handle);
 }
 
 /// A command, as the library has a call for it.
@@ -115,7 +99,7 @@ impl Command {
 
     /// What the command says of a document.
     pub(crate) fn say(self, document: &[u8]) -> Result<String, Error> {
-        text_of(FIRST_ROOM, |text| told(self.call(), document, text))
+        text_of(|text| told(self.call(), document, text))
     }
 }
 
@@ -128,24 +112,18 @@ unsafe impl Send for KeptTree {}
 impl KeptTree {
     pub(crate) fn open(document: &[u8]) -> Result<KeptTree, Error> {
         let mut tree = KeptTree(Handle::NOTHING);
-        text_of(FIRST_ROOM, |text| {
-            told_kept(grove_c_tree_open, &mut tree.0, document, text)
-        })?;
+        text_of(|text| told_kept(grove_c_tree_open, &mut tree.0, document, text))?;
         Ok(tree)
     }
 
     /// What `plan` says of a document with the nodes of the tree, of which the question is the rest.
     pub(crate) fn plan(&mut self, question: &[u8]) -> Result<String, Error> {
-        text_of(FIRST_ROOM, |text| {
-            told_kept(grove_c_tree_plan, &mut self.0, question, text)
-        })
+        text_of(|text| told_kept(grove_c_tree_plan, &mut self.0, question, text))
     }
 
     /// What `check` says of it.
     pub(crate) fn check(&mut self, question: &[u8]) -> Result<String, Error> {
-        text_of(FIRST_ROOM, |text| {
-            told_kept(grove_c_tree_check, &mut self.0, question, text)
-        })
+        text_of(|text| told_kept(grove_c_tree_check, &mut self.0, question, text))
     }
 }
 
@@ -156,47 +134,9 @@ impl Drop for KeptTree {
     }
 }
 
-/// A store that the library has, until it is dropped.
-pub(crate) struct KeptStore(Handle);
-
-// SAFETY: as for a tree.
-unsafe impl Send for KeptStore {}
-
-impl KeptStore {
-    pub(crate) fn open(document: &[u8]) -> Result<KeptStore, Error> {
-        let mut store = KeptStore(Handle::NOTHING);
-        text_of(FIRST_ROOM, |text| {
-            told_kept(grove_c_store_open, &mut store.0, document, text)
-        })?;
-        Ok(store)
-    }
-
-    /// The reply to a line, which is given once: a reply that has no room is copied afterwards.
-    pub(crate) fn answer(&mut self, line: &[u8]) -> Result<String, Error> {
-        let mut text = buffer(FIRST_ROOM)?;
-        let told = told_kept(grove_c_store_answer, &mut self.0, line, &mut text);
-        match told.status {
-            ROOM => text_of(told.length, |text| self.reply(text)),
-            _ => said(told, text),
-        }
-    }
-
-    fn reply(&mut self, text: &mut [u8]) -> Told {
-        // SAFETY: the handle is what the last call left, and the text is this call's alone.
-        unsafe { grove_c_store_reply(&mut self.0, text.as_mut_ptr(), text.len()) }
-    }
-}
-
-impl Drop for KeptStore {
-    fn drop(&mut self) {
-        // SAFETY: as for a tree.
-        unsafe { grove_c_store_close(&mut self.0) }
-    }
-}
-
 /// What a call says, which is made once more where its text has no room.
-fn text_of(first_room: usize, mut call: impl FnMut(&mut [u8]) -> Told) -> Result<String, Error> {
-    let mut room = first_room;
+fn text_of(mut call: impl FnMut(&mut [u8]) -> Told) -> Result<String, Error> {
+    let mut room = FIRST_ROOM;
     loop {
         let mut text = buffer(room)?;
         let told = call(&mut text);

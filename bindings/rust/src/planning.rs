@@ -15,7 +15,7 @@ pub enum Form {
 }
 
 /// What can't be: an answer that isn't of the form that docs/FORMATS.md has.
-pub(crate) const STRANGE: &str = "the library answers in grove's formats";
+const STRANGE: &str = "the library answers in grove's formats";
 
 impl Tree {
     /// The settled plan of a list: no legal plan costs less, and of all that cost as little it is the latest.
@@ -83,17 +83,11 @@ fn cost_of(answer: &str) -> Option<u64> {
 }
 
 fn read_plan(answer: &str) -> Option<Plan> {
-    let (steps, rows) = (value_of(answer, "plan")?, value_of(answer, "flow")?);
-    plan_of(cost_of(answer)?, &steps, &rows)
-}
-
-/// The plan that a cost, steps and rows are.
-pub(crate) fn plan_of(cost: u64, steps: &Value, rows: &Value) -> Option<Plan> {
     Some(Plan {
-        cost,
-        steps: steps.each(read_step)?,
+        cost: cost_of(answer)?,
+        steps: value_of(answer, "plan")?.each(read_step)?,
         certificate: Certificate {
-            rows: rows.each(read_row)?,
+            rows: value_of(answer, "flow")?.each(read_row)?,
         },
     })
 }
@@ -130,7 +124,7 @@ fn read_judgement(answer: &str) -> Option<Judgement> {
     })
 }
 
-pub(crate) fn read_reply(value: &Value) -> Option<Reply> {
+fn read_reply(value: &Value) -> Option<Reply> {
     match value.text() {
         Some("ok") => Some(Reply::Stored),
         Some("range") => Some(Reply::Range),

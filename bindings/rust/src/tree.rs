@@ -111,8 +111,9 @@ pub(crate) fn question(
     steps: Option<&[Step]>,
     certificate: Option<&Certificate>,
 ) -> String {
-    let mut text = format!("{{\"version\":{VERSION},\"list\":");
-    write_list(&mut text, list);
+    let mut text = format!("{{\"version\":{VERSION},\"list\":[");
+    join(&mut text, list, write_access);
+    text.push(']');
     if let Some(steps) = steps {
         text.push_str(",\"plan\":[");
         join(&mut text, steps, write_step);
@@ -125,12 +126,6 @@ pub(crate) fn question(
     }
     text.push('}');
     text
-}
-
-pub(crate) fn write_list(text: &mut String, list: &[Access]) {
-    text.push('[');
-    join(text, list, write_access);
-    text.push(']');
 }
 
 /// A node of a tree that isn't laid out yet.

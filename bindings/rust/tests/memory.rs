@@ -1,6 +1,6 @@
 //! Ten thousand calls of each kind leave the memory of the process as it was.
 
-use pickbracken::{Access, Store, Tree, document};
+use pickbracken::{Access, Tree, document};
 use std::fs;
 
 /// More than this is no noise, and less than what ten thousand trees take.
@@ -20,7 +20,6 @@ fn ten_thousand_calls_keep_nothing() {
         let tree = Tree::from_weights([("/", 5), ("/a", 1), ("/b", 1)]).unwrap();
         let plan = tree.plan(&list).unwrap();
         tree.check(&list, &plan).unwrap();
-        Store::open(&tree).unwrap().batch(&[&list]).unwrap();
         document::judge(b"{").unwrap_err();
     };
     (0..500).for_each(|_| each());
