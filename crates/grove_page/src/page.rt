@@ -321,8 +321,8 @@ function takeLook({ nodes, round }) {
   const isAnew = isOfAnother(nodes, round);
   const when = timeNow();
   if (isAnew) {
-    byId("anew").textContent = `The server was started anew between ${lookedAt} and ${when}; before, it had done`
-      + ` ${counted(rounds ?? 0, "round")}.`;
+    const before = rounds === undefined ? "" : `; before, it had done ${counted(rounds, "round")}`;
+    byId("anew").textContent = `The server was started anew between ${lookedAt} and ${when}${before}.`;
   }
   [rounds, lookedAt] = [round, when];
   takeNodes(nodes, isAnew);
