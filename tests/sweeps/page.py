@@ -74,7 +74,6 @@ ELSEWHERE = ["elsewhere.example", "localhost.", "localhost.example", "a.localhos
 ELSEWHERE += ["1.2.3.256"]
 ELSEWHERE += ["01.2.3.4", "0x7f.0.0.1", "2130706433", "127.0.0.1.", "local", "localhost_", ""]
 HOSTS = [(f"host: {name}",) for name in HERE + ELSEWHERE]
-HOSTS += [("host: localhost", "host: localhost"), ("host: localhost", "host: elsewhere.example")]
 ROWS = [
     ("GET", "/", None),
     ("HEAD", "/", None),
