@@ -15,26 +15,27 @@ from packages import PROGRAM, TOP, Packages, Root, called, libraries
 from server import HOST, Server, free_port
 from sweeps.program import Tally
 
-# What README shows to be called, with what comes of it; but for servers and who asks them, which are tried as such.
-SHOWN = re.compile(r"^\$ \./grove (?!serve|page|ask)(.*)\n((?:(?!\$ |```).*\n)*)", re.M)
+# What pages show to be called, with what comes of it; but for servers and who asks them, which are tried as such.
+SHOWN = re.compile(r"^\$ \./grove (?!serve|page|ask|save)(.*)\n((?:(?!\$ |```).*\n)*)", re.M)
 READERS = ["judge", "plan", "plan --document", "draw", "draw --text", "check", "run --workers 1", "audit"]
 # The files of the C library that it may be linked with.
 C_LIBRARY = {"libc.so.6", "libm.so.6", "ld-linux-x86-64.so.2"}
 SERVING = ["--explain", "--verbose", "--idle", "600"]
 
 
-def commands_of_readme(packages: Packages, room: Path, tally: Tally) -> None:
-    """Each command that README shows prints what README shows."""
+def commands_of_pages(packages: Packages, room: Path, tally: Tally) -> None:
+    """Each command that README.md and docs/COMMANDS.md show prints what they show."""
     root = Root(packages, room / "root")
     linked = {library.name for library in libraries(packages.prefix / "bin/grove")}
     note_equal(tally, "what it is linked with beside the C library", linked - C_LIBRARY, set())
-    shown = SHOWN.findall((TOP / "README.md").read_text(encoding="utf-8"))
+    pages = [(TOP / name).read_text(encoding="utf-8") for name in ("README.md", "docs/COMMANDS.md")]
+    shown = [found for page in pages for found in SHOWN.findall(page)]
     for words, wanted in shown:
-        # Beside a refusal README may leave the hint out.
+        # Beside a refusal a page may leave the hint out.
         came = said_in(root, words.split())
         note_equal(tally, words, came if "hint: " in wanted else came.partition("hint: ")[0], wanted)
     unshown = set(COMMANDS) - {words.split()[0] for words, _ in shown}
-    note_equal(tally, "commands that README doesn't show so", unshown, {"serve", "page", "ask"})
+    note_equal(tally, "commands that no page shows so", unshown, {"serve", "page", "ask", "save"})
     note_equal(tally, "--version", said_in(root, ["--version"]), f"grove {packages.version}\n")
     document = (TOP / "examples/two-leaves.json").read_text()
     judged = "cost 3\nreplies [10,20]\nrecords [0,10,20]\n"

@@ -15,7 +15,7 @@ from typing import Callable
 from at_hand import completed_by_bash, completed_by_zsh, manual, names_of_manual
 from bindings_trial import crate, linked_in_c, no_pip, pip_install, wheel
 from cluster_trial import cluster, is_absent
-from in_root import commands_of_readme, commands_on_examples, paged, served
+from in_root import commands_of_pages, commands_on_examples, paged, served
 from looking import below, note_equal, note_silent, with_manual
 from nginx_trial import behind_nginx
 from packages import LIBRARIES, PROGRAM, Packages, called, copy_of_checkout, package
@@ -150,7 +150,7 @@ def lintian(packages: Packages, _room: Path, tally: Tally) -> None:
 TRIALS = [
     Trial("twice_the_same", twice_the_same),
     Trial("refused", refused),
-    Trial("commands_of_readme", commands_of_readme, ("chroot", "ldd")),
+    Trial("commands_of_pages", commands_of_pages, ("chroot", "ldd")),
     Trial("commands_on_examples", commands_on_examples, ("chroot", "ldd")),
     Trial("served", served, ("chroot", "ldd")),
     Trial("paged", paged, ("chroot", "ldd")),
