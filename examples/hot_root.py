@@ -1,10 +1,10 @@
 #!/usr/bin/env python3
-"""hot_root.py [MILLISECONDS]: 64 orders by 16 threads, with a lock for each node of a tree: first record locks, then plans.
+"""hot_root.py [MILLISECONDS]: 64 orders by 16 threads, with a lock for each node: first record locks, then plans.
 
-Each order charges the root, its region and its team, and then works for five accesses at a node of its own. An access takes
-20 milliseconds, or as many as are given. The first bar is of orders that lock their four records from the root down and
-hold them to the end; the second of orders that lock and unlock as `grove plan` says. The plans stand in hot_root.json, so
-this needs nothing but Python.
+Each order charges the root, its region and its team, and then works for five accesses at a node of its own. An access
+takes 20 milliseconds, or as many as are given. The first bar is of orders that lock their four records from the root
+down and hold them to the end; the second of orders that lock and unlock as `grove plan` says. The plans stand in
+hot_root.json, so this needs nothing but Python.
 """
 from __future__ import annotations
 

@@ -1,8 +1,8 @@
 """Stamps the libraries that `rt ci` proved and left in crates/*/out, so that `rt lib` takes them.
 
-`rt ci` leaves a library without the stamp by which `rt lib` and `rt check` know what it was made of, and they would prove it
-again. Here one that is newer than all of its crate's sources, and whose libraries below are stamped or were, gets the stamp
-that `rt lib` would give it. With a kit that has no such stamps, nothing is done.
+`rt ci` leaves a library without the stamp by which `rt lib` and `rt check` know what it was made of, and they would
+prove it again. Here one that is newer than all of its crate's sources, and whose libraries below are stamped or were,
+gets the stamp that `rt lib` would give it. With a kit that has no such stamps, nothing is done.
 """
 from __future__ import annotations
 

@@ -1,5 +1,5 @@
-"""Sixteen clients that send all their lines ahead: each line sees what the client's earlier ones did, and nothing is lost
-or put in another order among the lines of the others.
+"""Sixteen clients that send all their lines ahead: each line sees what the client's earlier ones did, and nothing is
+lost or put in another order among the lines of the others.
 
 Each client writes records of its own, which nobody else looks at, and all of them add to one.
 """
@@ -65,7 +65,7 @@ def crowd(program: str, workers: int, piece: int, tally: Tally) -> None:
 
 
 def wait_for_replies(program: str, tally: Tally) -> None:
-    """A client sends lines and the beginning of one more, and nothing else until it has the replies to the whole ones."""
+    """A client sends lines and the beginning of one more, and nothing else until the whole ones are answered."""
     line = b'{"batch":[[["add","/all",1]]]}\n'
     with Serving(program, document()) as server, connected(server.port) as client, client.makefile("rb") as replies:
         for count in (1, 2, 50):
@@ -161,7 +161,8 @@ class Client:
         """The client's own lists see what its earlier ones did, in the order of their places; the last list adds to the
         record of all, which only rises."""
         found = json.loads(reply)
-        if found.keys() != {"places", "replies", "round"} or not len(lists) == len(found["places"]) == len(found["replies"]):
+        is_round = found.keys() == {"places", "replies", "round"}
+        if not is_round or not len(lists) == len(found["places"]) == len(found["replies"]):
             return f"came {reply[:200]!r}"
         if found["round"] <= self.round:
             return f"round {found['round']} after round {self.round}"

@@ -1,6 +1,6 @@
-/* Preloaded before a program, holds some of its threads before they are started: those whose numbers, from 1, are at least
-   HELD_FROM. Says so by one byte on the descriptor whose number stands in HELD_TELL, and lets the thread start once a byte
-   comes on that in HELD_UNTIL. */
+/* Preloaded before a program, holds some of its threads before they are started: those whose numbers, from 1, are at
+   least HELD_FROM. Says so by one byte on the descriptor whose number stands in HELD_TELL, and lets the thread start
+   once a byte comes on that in HELD_UNTIL. */
 #define _GNU_SOURCE
 #include <dlfcn.h>
 #include <pthread.h>

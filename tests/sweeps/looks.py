@@ -1,6 +1,6 @@
 """Looks at a store over HTTP that a long round has: a line waits for the store, then clients ask for the document or
-the nodes, and nobody else is there who could wake anyone. All of them are answered, each time. And where a round is held
-until lines wait for the next one, and then looks: these find what the round left, before any of the lines."""
+the nodes, and nobody else is there who could wake anyone. All of them are answered, each time. And where a round is
+held until lines wait for the next one, and then looks: these find what the round left, before any of the lines."""
 
 from __future__ import annotations
 
@@ -128,7 +128,7 @@ def look_once(store: Store, clients: list[Client], line: bytes, lasts: float, wh
 
 
 class Holding(NamedTuple):
-    """How to start a program whose later threads are held, the descriptor that tells of each, and the one that ends it."""
+    """How to start a program whose later threads are held: what tells of each, and what ends it."""
 
     how: dict
     tells: int
@@ -198,7 +198,7 @@ def look_beside_held(
 
 
 def comes_to_wait(server: Serving, send: Callable[[], None]) -> None:
-    """Sends what brings a thread of the server, all of which wait, to wait for something else, and waits until it does."""
+    """Sends what brings a thread of the server to wait for something else, and waits until it does."""
     before = all_asleep(server)
     send()
     ends = time.monotonic() + LONGEST

@@ -1,4 +1,4 @@
-"""`grove save` at a server, at none, and at ones that send no document: the file is the server's document, or as it was."""
+"""`grove save` at a server, at none, and at ones that send no document: the file is theirs, or as it was."""
 
 from __future__ import annotations
 
@@ -123,7 +123,8 @@ def documents(program: str, room: str, tally: Tally) -> None:
         file = fresh(room, "document")
         with Canned(text) as server:
             tally.compare(f"{text!r}", save(program, server.port, file), SAVED)
-            wanted = b"GET /document HTTP/1.1\r\nHost: %s:%d\r\nConnection: close\r\n\r\n" % (HOST.encode(), server.port)
+            place = f"{HOST}:{server.port}"
+            wanted = f"GET /document HTTP/1.1\r\nHost: {place}\r\nConnection: close\r\n\r\n".encode()
             tally.note("what is asked", None if server.head == wanted else f"{server.head!r}")
         note_folder(tally, "the file", file, DOCUMENT)
 

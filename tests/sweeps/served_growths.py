@@ -1,6 +1,7 @@
-"""Each growth of a server refused, alone: it ends with `memory` before it listens, or a session ends before some line, with
-the replies of those before; the next session is whole, over the store that those lines left. With `--verbose` the end of
-each session is told, with its reason, and each line that is refused, though maybe without its hint."""
+"""Each growth of a server refused, alone: it ends with `memory` before it listens, or a session ends before some
+line, with the replies of those before; the next session is whole, over the store that those lines left. With
+`--verbose` the end of each session is told, with its reason, and each line that is refused, though maybe without its
+hint."""
 
 from __future__ import annotations
 
@@ -64,7 +65,7 @@ def ask_twice(program: str, how: dict, where: str, tally: Tally) -> None:
 
 
 def tell_twice(program: str, how: dict, where: str, tally: Tally) -> None:
-    """Has lines answered, some of which are refused, and sees what is told of them; where anything is wanting, once more."""
+    """Has lines answered, some of which are refused, and sees what is logged of them; if anything lacks, once more."""
     store = Store(json.loads(TREE))
     try:
         with Telling(program, **how) as server:
@@ -78,7 +79,7 @@ def tell_twice(program: str, how: dict, where: str, tally: Tally) -> None:
 
 
 def session_told(server: Telling, store: Store, where: str, tally: Tally) -> str | None:
-    """Has the next session answer the lines, compares what is told of it, and gives what is wanting for want of memory."""
+    """Has the next session answer the lines, compares what is logged, and gives what lacks for lack of memory."""
     before = len(server.told())
     number = 1 if before == 0 else 2
     with connected(server.port) as client:

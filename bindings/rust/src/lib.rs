@@ -3,7 +3,7 @@
 //! A [`Tree`] has a weight for each node, which is what it costs others to find the node locked. For a list of
 //! accesses [`Tree::plan`] gives the settled plan: it obeys the tree protocol, and no legal plan costs less. Its
 //! [`Certificate`] proves that, and [`Tree::check`] sees it, whoever made plan and certificate. The planner and the
-//! checker are those of grove, which are proved; this crate hands documents to its static library, and reads the answers.
+//! checker are those of grove, which are proved; this crate hands documents to its library, and reads the answers.
 //!
 //! ```
 //! use pickbracken::{Access, Step, Tree};

@@ -1,5 +1,6 @@
 -- What is read of bytes nests no deeper than what is read again.
-use Rattle.std.proofs.Common.{◌≡◌, ℕ, ◌≤◌, nat_lt, Bool, true, false, List, length, Option, Some, None, is_some, ap, arith, subst, sym, IfOk}
+use Rattle.std.proofs.Common.{◌≡◌, ℕ, ◌≤◌, nat_lt, Bool, true, false, List, length, Option, Some, None, is_some, ap}
+use Rattle.std.proofs.Common.{arith, subst, sym, IfOk}
 use Rattle.std.specs.Prelude.{Result, Ok, Err, if◌then◌else◌}
 use Rattle.std.specs.Str.{is_utf8}
 use Rattle.serde_json.specs.Data.{Data, depth, string}
@@ -14,7 +15,8 @@ use Rattle.grove_wire.specs.Outcomes.{◌>>=◌, or_fault, Gives}
 use Rattle.grove_wire.specs.Places.{whole_of}
 use Rattle.grove_wire.specs.Reading.{value_of, object_at, version_in, document_within, document_of, history_of}
 use Rattle.grove_words.specs.declared.order.Command.{Command}
-use Rattle.grove_words.specs.declared.order.Command.TheVariants.{Judge, Check, Plan, Draw, Run, Audit, Tree, Table, Serve, Page}
+use Rattle.grove_words.specs.declared.order.Command.TheVariants.{Judge, Check, Plan, Draw, Run, Audit, Tree, Table}
+use Rattle.grove_words.specs.declared.order.Command.TheVariants.{Serve, Page}
 use Rattle.grove.specs.Outcomes.{document_for, text_of_table}
 
 -- a document that tells a version that there is
@@ -50,13 +52,15 @@ level_within most bytes d is =
     ((or_fault BadJson (value_of bytes) >>= object_at (whole_of Whole)) >>= versioned) is)))
 
 -- a text nests nothing
-past_utf8 : (test : Bool) (bytes : List ℕ) (d : Data) → (if test then Ok (string bytes) else Err (Shape (whole_of Whole))) ≡ Ok d → d ≡ string bytes
+past_utf8 : (test : Bool) (bytes : List ℕ) (d : Data)
+    → (if test then Ok (string bytes) else Err (Shape (whole_of Whole))) ≡ Ok d → d ≡ string bytes
 past_utf8 true bytes d is = cc
 past_utf8 false bytes d is = absurd (cc)
 
 level_text : (bytes : List ℕ) (d : Data) → text_of_table bytes ≡ Ok d → depth d ≤ 127
 level_text bytes d is =
-    let same : d ≡ string bytes = past_utf8 (is_utf8 bytes) bytes d (past_limit (nat_lt 4194304 (length bytes)) d _ is) in
+    let same : d ≡ string bytes = past_utf8 (is_utf8 bytes) bytes d
+    (past_limit (nat_lt 4194304 (length bytes)) d _ is) in
     subst (λ (x : Data). depth x ≤ 127) (sym same) (omega arith)
 
 -- so for each command
@@ -79,7 +83,8 @@ pub shallow_document : {T : Type 0} (seen : T → Data) (bytes : List ℕ) (resu
 shallow_document seen bytes (Ok x) gives = shallow_for Judge bytes (seen x) gives
 shallow_document seen bytes (Err fault) gives = tt
 
-pub shallow_text : {T : Type 0} (seen : T → Data) (bytes : List ℕ) (result : Result T WireFault) → Gives seen result (text_of_table bytes)
+pub shallow_text : {T : Type 0} (seen : T → Data) (bytes : List ℕ) (result : Result T WireFault)
+    → Gives seen result (text_of_table bytes)
     → IfOk result (λ (x : T). depth (seen x) ≤ 127)
 shallow_text seen bytes (Ok x) gives = level_text bytes (seen x) gives
 shallow_text seen bytes (Err fault) gives = tt

@@ -1,5 +1,7 @@
 -- What comes of the order that was found is what the words ask for.
-use Rattle.std.proofs.Common.{◌≡◌, ◌≢◌, ◌≤◌, ◌∙◌, ℕ, Bool, ap, refl, sym, subst, true, false, ◌||◌, List, [], Option, Some, None, IfSome, IfOk, IfErr, OnOk, Result, Ok, Err, inl, inr, ◌⊎◌, arith, ◌++◌, take}
+use Rattle.std.proofs.Common.{◌≡◌, ◌≢◌, ◌≤◌, ◌∙◌, ℕ, Bool, ap, refl, sym, subst, true, false, ◌||◌, List, [], Option}
+use Rattle.std.proofs.Common.{Some, None, IfSome, IfOk, IfErr, OnOk, Result, Ok, Err, inl, inr, ◌⊎◌, arith, ◌++◌}
+use Rattle.std.proofs.Common.{take}
 use Rattle.std.specs.Io.KnownBytes.{Appends, Keeps}
 use Rattle.grove_words.specs.declared.order.Command.{Command}
 use Rattle.grove_words.specs.declared.order.Command.TheVariants as command
@@ -7,14 +9,17 @@ use Rattle.grove_words.specs.declared.order.Document.{Document}
 use Rattle.grove_words.specs.declared.order.Order.{Order}
 use Rattle.grove_words.specs.declared.order.Order.TheVariants as order
 use Rattle.grove_words.specs.declared.order.Serving.{Serving}
-use Rattle.grove_words.specs.CommandLines.{calls, has_place, serves, text_given, texts_given, Verb, Judge, Check, Plan, Draw, Run, Audit, Tree, Serve, Page, Ask, Save, AskFor, AskToExplain, AskToServe, IsPlace, NameDevice}
+use Rattle.grove_words.specs.CommandLines.{calls, has_place, serves, text_given, texts_given, Verb, Judge, Check}
+use Rattle.grove_words.specs.CommandLines.{Plan, Draw, Run, Audit, Tree, Serve, Page, Ask, Save, AskFor, AskToExplain}
+use Rattle.grove_words.specs.CommandLines.{AskToServe, IsPlace, NameDevice}
 use Rattle.grove_words.specs.Invocations.{name_in, AskForOrder, SaysOrder}
 use Rattle.grove_words.specs.Orders.{verb_for, SaysCommand}
 use Rattle.grove_words.proofs.Orders.{not_shown, same_name, same_verb}
 use Rattle.grove_answer.specs.Outcomes.{Outcome, ThenSays}
 use Rattle.grove.specs.declared.answer.Stop.{Stop}
 use Rattle.grove.specs.declared.answer.Stop.TheVariants as stop
-use Rattle.grove.specs.Answers.{serving_of, HasFile, IsAsGoodAs, IsAsked, IsCommandDone, IsGivenUp, IsLost, IsObeyed, IsSaved, IsStopped, IsUnsaved}
+use Rattle.grove.specs.Answers.{serving_of, HasFile, IsAsGoodAs, IsAsked, IsCommandDone, IsGivenUp, IsLost, IsObeyed}
+use Rattle.grove.specs.Answers.{IsSaved, IsStopped, IsUnsaved}
 use Rattle.grove.specs.Endings.{stop_line, Blames, MayHint, NamesPlace, SaysListening, SaysRefusal, SaysStop, SaysWhy}
 use Rattle.grove.specs.Outcomes.{document_for, outcome_status, outcome_text, IsOutcome, IsOutcomeFor, MaySay, Prints}
 use Rattle.grove.specs.Runs.{streams, Answers, AskToAsk, Does, DoesAt, Invites, Spares, Stops, Streams, Tells}
@@ -45,7 +50,8 @@ refusal_printed (Ok lines) status old new is out one = let none : ◌≡◌ {A =
 refusal_printed (Err fault) status old new is out one = (fault, out)
 
 -- a place that a command serves at is given by the words
-place_given : (words : List (List ℕ)) (it : Command) (serving : Serving) → SaysCommand (text_given words) (texts_given words) it
+place_given : (words : List (List ℕ)) (it : Command) (serving : Serving)
+    → SaysCommand (text_given words) (texts_given words) it
     → serving_of it ≡ Some serving
     → (serves (verb_for it) ≡ true) × IsPlace (text_given words) serving.place
 place_given words (command.Serve given) serving said at = let same : given ≡ serving =
@@ -121,7 +127,8 @@ spares_nothing words before after = record {
 -- ---- a command that is done with its document
 
 module _ (words : List (List ℕ)) (it : Command) (document : Document)
-    (asked : AskFor words (verb_for it) (name_in document)) (said : SaysCommand (text_given words) (texts_given words) it) where
+    (asked : AskFor words (verb_for it) (name_in document))
+    (said : SaysCommand (text_given words) (texts_given words) it) where
   -- what is said of bytes is what the words ask for
   for_words : (verb : Verb) (name : Option (List ℕ)) (bytes : List ℕ) (outcome : Outcome) → AskFor words verb name
       → IsOutcome it bytes outcome → IsOutcomeFor words verb bytes outcome
@@ -299,12 +306,14 @@ module _ (words : List (List ℕ)) (name : Option (List ℕ)) (client : Verb) (i
     (asked : AskFor words client name) where
   no_other : (verb : Verb) (other : Option (List ℕ)) → AskFor words verb other → calls verb ≡ false → ⊥
   no_other verb other asks differs =
-      let same : calls client ≡ false = subst (λ v. calls v ≡ false) (same_verb words verb client other name asks asked) differs in
+      let same : calls client ≡ false = subst (λ v. calls v ≡ false)
+      (same_verb words verb client other name asks asked) differs in
       cc
 
   not_served : (verb : Verb) (other : Option (List ℕ)) → AskFor words verb other → serves verb ≡ true → ⊥
   not_served verb other asks serving =
-      serves_none client is_client (subst (λ v. serves v ≡ true) (same_verb words verb client other name asks asked) serving)
+      serves_none client is_client (subst (λ v. serves v ≡ true) (same_verb words verb client other name asks asked)
+      serving)
 
   saved_does : (before after : Streams) (status : ℕ) → IsSaved before after status → Does words before after status
   saved_does before after status is =
@@ -419,7 +428,8 @@ given_up_does words (order.Do command document) before middle errors fails why e
     stopped_does words command document asked said before middle errors fails why explain is explains told
 given_up_does words (order.Ask place lines) before middle errors fails why explain (name, asked) said explains is told =
     lost_does words name asked before middle errors fails why explain is explains told
-given_up_does words (order.Save server file) before middle errors fails why explain (name, asked) said explains is told =
+given_up_does words (order.Save server file) before middle errors fails why explain (name, asked) said explains is
+    told =
     unsaved_does words name Save refl asked before middle errors fails why explain is explains told
 
 -- what asking a server gives
@@ -449,7 +459,8 @@ pub is_unsaved : (before after : Streams) (result : Result ℕ Stop)
     → IfErr result (λ _. after.output_failed ≡ false → Keeps before.output after.output)
     → IfErr result (Blames (Unit {0})
     ((after.input_failed ≡ before.input_failed) × (after.output_failed ≡ before.output_failed)))
-    → (after.errors ≡ before.errors) × (after.errors_failed ≡ before.errors_failed) → IfErr result (IsUnsaved before after)
+    → (after.errors ≡ before.errors) × (after.errors_failed ≡ before.errors_failed)
+    → IfErr result (IsUnsaved before after)
 is_unsaved before after (Ok status) kept blamed errors = tt
 is_unsaved before after (Err why) kept blamed errors =
     record { unprinted = kept; blamed = blamed; errors = errors }

@@ -13,7 +13,8 @@ use Rattle.grove_wire.specs.Reading.{document_of, document_within, history_of}
 use Rattle.grove_words.specs.CommandLines.{has_place, serves}
 use Rattle.grove_words.specs.Orders.{verb_for}
 use Rattle.grove_words.specs.declared.order.Command.{Command}
-use Rattle.grove_words.specs.declared.order.Command.TheVariants.{Judge, Check, Plan, Draw, Run, Audit, Tree, Table, Serve, Page}
+use Rattle.grove_words.specs.declared.order.Command.TheVariants.{Judge, Check, Plan, Draw, Run, Audit, Tree, Table}
+use Rattle.grove_words.specs.declared.order.Command.TheVariants.{Serve, Page}
 use Rattle.grove_words.specs.declared.order.Serving.{Serving}
 use Rattle.grove_answer.specs.Outcomes.{Outcome, ThenSays}
 use Rattle.grove.specs.declared.answer.Answer.{Answer}
@@ -30,7 +31,8 @@ over_limit : (most : ℕ) (bytes : List ℕ) → most < length bytes → documen
 over_limit most bytes h = let over : nat_lt most (length bytes) ≡ true = search rules in cond-true (nat_lt most (length bytes)) _ _ over
 
 over_text : (bytes : List ℕ) → 4194304 < length bytes → text_of_table bytes ≡ Err (Limit (whole_of Whole))
-over_text bytes h = let over : nat_lt 4194304 (length bytes) ≡ true = search rules in cond-true (nat_lt 4194304 (length bytes)) _ _ over
+over_text bytes h = let over : nat_lt 4194304 (length bytes) ≡ true = search rules
+    in cond-true (nat_lt 4194304 (length bytes)) _ _ over
 
 -- more bytes than a command takes are over its limit
 over_most : (command : Command) (bytes : List ℕ) → most_bytes command < length bytes → document_for command bytes ≡ Err (Limit (whole_of Whole))

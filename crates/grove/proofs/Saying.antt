@@ -7,7 +7,8 @@ use Rattle.grove_store.specs.StoreStates.{StoreState}
 use Rattle.grove_wire.specs.declared.fault.WireFault.{WireFault}
 use Rattle.grove_wire.specs.Reading.{tree_in}
 use Rattle.grove_words.specs.declared.order.Command.{Command}
-use Rattle.grove_words.specs.declared.order.Command.TheVariants.{Judge, Check, Plan, Draw, Run, Audit, Tree, Table, Serve, Page}
+use Rattle.grove_words.specs.declared.order.Command.TheVariants.{Judge, Check, Plan, Draw, Run, Audit, Tree, Table}
+use Rattle.grove_words.specs.declared.order.Command.TheVariants.{Serve, Page}
 use Rattle.grove_words.specs.declared.order.Serving.{Serving}
 use Rattle.grove_answer.specs.Outcomes.{Outcome, ThenSays}
 use Rattle.grove.specs.Answers.{serving_of, IsOpenedFrom}
@@ -52,7 +53,8 @@ pub http_joined : (line text address : List ℕ) (port : ℕ) → text ≡ addre
     → line ++ (codes "listening " ++ (text ++ (codes ":" ++ (decimal port ++ codes " over http\n"))))
     ≡ line ++ (codes "listening " ++ address ++ codes ":" ++ decimal port ++ codes " over http" ++ 10 ∷ [])
 http_joined line text address port same =
-    let Ends : List ℕ → Type 0 = λ a. line ++ (codes "listening " ++ (text ++ (codes ":" ++ (decimal port ++ codes " over http\n"))))
+    let Ends : List ℕ → Type 0 = λ a. line
+    ++ (codes "listening " ++ (text ++ (codes ":" ++ (decimal port ++ codes " over http\n"))))
     ≡ line ++ (codes "listening " ++ a ++ codes ":" ++ decimal port ++ codes " over http" ++ 10 ∷ []) in
     let end : List ℕ = codes " over http" ++ 10 ∷ [] in
     subst Ends same (ap (λ rest. line ++ (codes "listening " ++ rest))

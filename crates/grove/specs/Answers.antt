@@ -1,5 +1,6 @@
 -- For the proofs alone: the answers that are made of what may be said, and what is printed of them.
-use Rattle.std.specs.Prelude.{◌≡◌, ◌≢◌, ◌≤◌, ◌⊎◌, ℕ, Bool, true, false, List, take, Option, None, Some, IfSome, Result, Ok, Err, string_bytes, IsOkAnd}
+use Rattle.std.specs.Prelude.{◌≡◌, ◌≢◌, ◌≤◌, ◌⊎◌, ℕ, Bool, true, false, List, take, Option, None, Some, IfSome, Result}
+use Rattle.std.specs.Prelude.{Ok, Err, string_bytes, IsOkAnd}
 use Rattle.std.specs.Io.KnownBytes.{Appends, Keeps}
 use Rattle.serde_json.specs.Data.{Data}
 use Rattle.grove_session.specs.declared.fault.ReadFault.{ReadFault}
@@ -129,7 +130,8 @@ pub record IsLost (before after : Streams) (why : Stop) : Type 0 where
 
 -- a server's document was saved, or refused
 pub record IsSaved (before after : Streams) (status : ℕ) : Type 0 where
-  pub output : ((status ≡ 0) × Keeps before.output after.output) ⊎ ((status ≡ 1) × SaysRefusal before.output after.output)
+  pub output : ((status ≡ 0) × Keeps before.output after.output)
+      ⊎ ((status ≡ 1) × SaysRefusal before.output after.output)
   pub sound : (after.input_failed ≡ before.input_failed) × (after.output_failed ≡ before.output_failed)
   pub errors : (after.errors ≡ before.errors) × (after.errors_failed ≡ before.errors_failed)
 

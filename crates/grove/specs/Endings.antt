@@ -1,5 +1,6 @@
 -- What the program says where it has no answer, and the lines of refusals and of ports.
-use Rattle.std.specs.Prelude.{◌≡◌, ◌≢◌, ◌≤◌, ◌⊎◌, ℕ, Bool, true, codes, decimal, List, [], ◌∷◌, ◌++◌, take, Option, None, Some}
+use Rattle.std.specs.Prelude.{◌≡◌, ◌≢◌, ◌≤◌, ◌⊎◌, ℕ, Bool, true, codes, decimal, List, [], ◌∷◌, ◌++◌, take, Option}
+use Rattle.std.specs.Prelude.{None, Some}
 use Rattle.std.specs.Io.KnownBytes.{Appends, Keeps}
 use Rattle.std.specs.Net.Addr.{ipv4_octets, ipv6_segments}
 use Rattle.std.specs.Net.Text.{ipv4_text, ipv6_text}
@@ -26,10 +27,12 @@ Blames HasFailed IsSound Memory = IsSound
 abbrev pub IsReasonLine : List ℕ → Type 0
 IsReasonLine line = (reason : List ℕ) × IsSaid reason × (line ≡ reason ++ 10 ∷ [])
 
--- standard error got the line of a stop, or, only where that is asked for, the line of a reason and then that of the stop
+-- standard error got the line of a stop, or, only where that is asked for, the line of a reason and then that of the
+-- stop
 abbrev pub SaysStop : Type 0 → Stop → Option (List ℕ) → Option (List ℕ) → Type 0
 SaysStop IsAsked why old new =
-    Appends old new (stop_line why) ⊎ (IsAsked × (line : List ℕ) × IsReasonLine line × Appends old new (line ++ stop_line why))
+    Appends old new (stop_line why)
+    ⊎ (IsAsked × (line : List ℕ) × IsReasonLine line × Appends old new (line ++ stop_line why))
 
 -- and the stop is such a one
 abbrev pub SaysWhy : Type 0 → Type 0 → Type 0 → Option (List ℕ) → Option (List ℕ) → Type 0
@@ -85,5 +88,6 @@ IsHintLine line = (hint : List ℕ) × IsHint hint × (line ≡ hint ++ 10 ∷ [
 
 -- standard error got nothing or the line of a hint, or it failed, and got only the first bytes of one
 abbrev pub MayHint : Bool → Bool → Option (List ℕ) → Option (List ℕ) → Type 0
-MayHint failed fails old new = ((fails ≡ failed) × (Keeps old new ⊎ ((line : List ℕ) × IsHintLine line × Appends old new line)))
+MayHint failed fails old new = ((fails ≡ failed)
+    × (Keeps old new ⊎ ((line : List ℕ) × IsHintLine line × Appends old new line)))
     ⊎ ((fails ≡ true) × (line : List ℕ) × IsHintLine line × (count : ℕ) × Appends old new (take count line))

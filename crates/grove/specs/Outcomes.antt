@@ -1,5 +1,6 @@
 -- What each command may say of bytes, and what the program prints of it.
-use Rattle.std.specs.Prelude.{◌≡◌, ◌⊎◌, ℕ, ◌≤◌, ℤ, Bool, true, false, List, [], ◌∷◌, ◌++◌, length, nat_lt, if◌then◌else◌, take, Option, Result, Ok, Err}
+use Rattle.std.specs.Prelude.{◌≡◌, ◌⊎◌, ℕ, ◌≤◌, ℤ, Bool, true, false, List, [], ◌∷◌, ◌++◌, length, nat_lt}
+use Rattle.std.specs.Prelude.{if◌then◌else◌, take, Option, Result, Ok, Err}
 use Rattle.std.specs.Str.{is_utf8}
 use Rattle.std.specs.Io.KnownBytes.{Appends, Keeps}
 use Rattle.serde_json.specs.Data.{Data, string}
@@ -18,9 +19,11 @@ use Rattle.grove_table.specs.Texts.{table_text}
 use Rattle.grove_words.specs.CommandLines.{text_given, texts_given, Verb}
 use Rattle.grove_words.specs.Orders.{verb_for, SaysCommand}
 use Rattle.grove_words.specs.declared.order.Command.{Command}
-use Rattle.grove_words.specs.declared.order.Command.TheVariants.{Judge, Check, Plan, Draw, Run, Audit, Tree, Table, Serve, Page}
+use Rattle.grove_words.specs.declared.order.Command.TheVariants.{Judge, Check, Plan, Draw, Run, Audit, Tree, Table}
+use Rattle.grove_words.specs.declared.order.Command.TheVariants.{Serve, Page}
 use Rattle.grove_words.specs.declared.order.Place.{Place}
-use Rattle.grove_answer.specs.Outcomes.{Outcome, ThenSays, task_in, trial_in, claim_in, sketch_in, batch_in, history_in, IsJudged, IsChecked, IsPlannedTask, IsDrawn, IsRunBatch, IsAudited}
+use Rattle.grove_answer.specs.Outcomes.{Outcome, ThenSays, task_in, trial_in, claim_in, sketch_in, batch_in, history_in}
+use Rattle.grove_answer.specs.Outcomes.{IsJudged, IsChecked, IsPlannedTask, IsDrawn, IsRunBatch, IsAudited}
 use Rattle.grove_answer.specs.PlannedDocuments.{IsPlannedDocument}
 use Rattle.grove.specs.Endings.{refusal_line, NamesPlace}
 

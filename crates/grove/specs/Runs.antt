@@ -1,7 +1,8 @@
 -- What the program does by its words.
 use Rattle.std.specs.Prelude.{◌≡◌, ◌≢◌, ◌≤◌, ◌⊎◌, ℕ, Bool, true, false, List, Option, None, IfSome}
 use Rattle.std.specs.Io.KnownBytes.{Keeps}
-use Rattle.grove_words.specs.CommandLines.{calls, serves, Verb, Ask, AreWrong, AskFor, AskToExplain, AskToServe, AskToShow, NameDevice}
+use Rattle.grove_words.specs.CommandLines.{calls, serves, Verb, Ask, AreWrong, AskFor, AskToExplain, AskToServe}
+use Rattle.grove_words.specs.CommandLines.{AskToShow, NameDevice}
 use Rattle.grove.specs.Endings.{MayHint, SaysListening, SaysRefusal, SaysSomething, SaysWhy}
 use Rattle.grove.specs.Outcomes.{IsOutcomeFor, Prints}
 

@@ -32,7 +32,8 @@ pub fn response_to<R: Host + Net<Listener = TcpListener, Stream = TcpStream>>(
     command: &Command<'_>,
     bytes: &[u8],
 ) -> Result<Response, Stop>
-    ensures said { IfOk result (λ response. IsAnswerTo command.now (document_for command.now bytes.now) response.answer) }
+    ensures said { IfOk result (λ response. IsAnswerTo command.now (document_for command.now bytes.now)
+        response.answer) }
     ensures blamed { IfErr result (Blames (has_place (verb_for command.now) ≡ true) ⊤) }
 {
     let alloc = rt.alloc();

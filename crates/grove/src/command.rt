@@ -24,8 +24,8 @@ use std::rt::Files;
 
 /// Does what the words after the program's name ask for, and gives the status of the process: 0 done, 1 refused,
 /// 2 wrong words, found before anything is read, 3 no answer or one that couldn't be printed. A document without
-/// a name is read from `input`. Beside a refusal of the document a hint may go to `err`, and beside an answer to one that
-/// has a member which nothing uses and which resembles one that is used.
+/// a name is read from `input`. Beside a refusal of the document a hint may go to `err`, and beside an answer to one
+/// that has a member which nothing uses and which resembles one that is used.
 #[tactic(auto, using(crate::proofs::Orders::uninvited_does))]
 pub fn run_command<
     R: Host + Files + Net<Listener = TcpListener, Stream = TcpStream>,
@@ -39,7 +39,8 @@ pub fn run_command<
         (streams (I.remaining input.new) (I.has_failed input.new) (O.contents out.new) (O.has_failed out.new)
         (E.contents err.new) (E.has_failed err.new)) result }
     ensures unread { result ≡ 2 → input.new ≡ input.old }
-    ensures apart { (verb : Verb) (name : Option (List ℕ)) → AskFor (map string_bytes words.now) verb name → calls verb ≡ false
+    ensures apart { (verb : Verb) (name : Option (List ℕ)) → AskFor (map string_bytes words.now) verb name
+        → calls verb ≡ false
         → name ≢ None → input.new ≡ input.old }
 {
     run_at(rt, words, false, input, out, err)
@@ -58,7 +59,8 @@ pub fn run_at<
         (streams (I.remaining input.new) (I.has_failed input.new) (O.contents out.new) (O.has_failed out.new)
         (E.contents err.new) (E.has_failed err.new)) result }
     ensures unread { result ≡ 2 → input.new ≡ input.old }
-    ensures apart { (verb : Verb) (name : Option (List ℕ)) → AskFor (map string_bytes words.now) verb name → calls verb ≡ false
+    ensures apart { (verb : Verb) (name : Option (List ℕ)) → AskFor (map string_bytes words.now) verb name
+        → calls verb ≡ false
         → name ≢ None → input.new ≡ input.old }
 {
     match order_of(rt.alloc(), words) {

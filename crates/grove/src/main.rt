@@ -54,8 +54,8 @@ fn main(rt: HostRuntime) -> ExitCode {
 }
 
 /// Lets the C library's allocator keep what is freed, else threads wait for each other at the system's memory. It keeps
-/// about as much as the largest block that it gave back so far: here one is asked for, and given back untouched. Where it
-/// is refused, all goes on without.
+/// about as much as the largest block that it gave back so far: here one is asked for, and given back untouched. Where
+/// it is refused, all goes on without.
 fn keep_freed_memory(alloc: Global) {
     let block: Result<Vec<u8>, _> = Vec::with_capacity(alloc, KEPT);
     drop(block);

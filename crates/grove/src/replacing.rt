@@ -9,8 +9,9 @@ use std::fs::{self, OpenFile};
 use std::io;
 use std::rt::Files;
 
-/// Puts the bytes in the file of a name, which has its old bytes or all the new ones whenever the machine stops. They go to a
-/// new file beside it first, which is synced and then given the name. Where that fails, the new file is taken away.
+/// Puts the bytes in the file of a name, which has its old bytes or all the new ones whenever the machine stops. They
+/// go to a new file beside it first, which is synced and then given the name. Where that fails, the new file is taken
+/// away.
 pub fn replace<R: Host + Files>(
     rt: &R,
     alloc: Global,

@@ -31,7 +31,8 @@ pub fn save<R: Host + Files + Net<Listener = TcpListener, Stream = TcpStream>, O
         (λ status. ((status ≡ 0) × Keeps (O.contents out.old) (O.contents out.new))
         ⊎ ((status ≡ 1) × SaysRefusal (O.contents out.old) (O.contents out.new))) }
     ensures sound { OnOk result (O.has_failed out.new ≡ O.has_failed out.old) }
-    ensures unprinted { IfErr result (λ _. O.has_failed out.new ≡ false → Keeps (O.contents out.old) (O.contents out.new)) }
+    ensures unprinted { IfErr result (λ _. O.has_failed out.new ≡ false
+        → Keeps (O.contents out.old) (O.contents out.new)) }
     ensures blamed { IfErr result (Blames ⊤ (O.has_failed out.new ≡ O.has_failed out.old)) }
 {
     let alloc = rt.alloc();

@@ -1,5 +1,6 @@
 -- For the proofs alone: the records that a transaction has out, and what it has done to them.
-use Rattle.std.specs.Prelude.{◌≡◌, ℕ, ◌<◌, ◌==◌, ℤ, List, [], ◌∷◌, ◌++◌, length, take, slice_get, Option, Some, None, if◌then◌else◌}
+use Rattle.std.specs.Prelude.{◌≡◌, ℕ, ◌<◌, ◌==◌, ℤ, List, [], ◌∷◌, ◌++◌, length, take, slice_get, Option, Some, None}
+use Rattle.std.specs.Prelude.{if◌then◌else◌}
 use Rattle.grove_access.specs.declared.access.Access.{Access}
 use Rattle.grove_access.specs.declared.reply.Reply.{Reply}
 use Rattle.grove_access.specs.declared.known.Known.{Known}
@@ -41,7 +42,8 @@ without (k ∷ known) node = if k.node == node then known else k ∷ without kno
 -- each node with its present value
 abbrev pub settled : List Entry → List Known → List Known
 settled entries [] = []
-settled entries (k ∷ known) = record { node = k.node; value = value_after entries k.node k.value } ∷ settled entries known
+settled entries (k ∷ known) = record { node = k.node; value = value_after entries k.node k.value }
+    ∷ settled entries known
 
 -- a carry whose present values are made the known ones
 abbrev pub carry_settled : Carried → Carried
@@ -56,7 +58,8 @@ AreApart (k ∷ known) = (known_at known k.node ≡ None) × AreApart known
 pub record IsSound (known : List Known) (entries : List Entry) : Type 0 where
   pub apart : AreApart known
   pub replied : (i : ℕ) (e : Entry) → slice_get entries i ≡ Some e
-      → (value : ℤ) × (known_at known e.access.node ≡ Some value) × (e.reply ≡ answer e.access.op (value_after (take i entries) e.access.node value))
+      → (value : ℤ) × (known_at known e.access.node ≡ Some value)
+      × (e.reply ≡ answer e.access.op (value_after (take i entries) e.access.node value))
 
 -- the access of this number may be done: it is one of the list, its node is out, and there is room for an entry
 pub record CanApply (list : List Access) (number : ℕ) (carry : Carried) : Type 0 where
@@ -73,4 +76,7 @@ pub record IsApplied (list : List Access) (number : ℕ) (reply : Reply) (old ne
   pub listed : slice_get list number ≡ Some access
   pub out : present_at old access.node ≡ Some value
   pub answered : reply ≡ answer access.op value
-  pub added : new ≡ record old { entries = old.entries ++ record { number = number; access = access; reply = reply } ∷ [] }
+  pub added : new ≡ record old {
+    entries = old.entries ++ record { number = number; access = access; reply = reply }
+        ∷ [];
+  }

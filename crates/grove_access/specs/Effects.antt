@@ -1,5 +1,6 @@
 -- What accesses do to records, and lists done one after the other.
-use Rattle.std.specs.Prelude.{ℕ, ◌^◌, ℤ, pos, neg_ℤ, ◌+ℤ◌, ◌-ℤ◌, int_le, int_lt, Bool, ◌&&◌, List, [], ◌∷◌, slice_set, slice_index_or, if◌then◌else◌}
+use Rattle.std.specs.Prelude.{ℕ, ◌^◌, ℤ, pos, neg_ℤ, ◌+ℤ◌, ◌-ℤ◌, int_le, int_lt, Bool, ◌&&◌, List, [], ◌∷◌, slice_set}
+use Rattle.std.specs.Prelude.{slice_index_or, if◌then◌else◌}
 use Rattle.grove_access.specs.declared.access.Op.{Op}
 use Rattle.grove_access.specs.declared.access.Op.TheVariants.{Get, Set, Add, Take}
 use Rattle.grove_access.specs.declared.access.Access.{Access}

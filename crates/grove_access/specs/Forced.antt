@@ -7,7 +7,8 @@ use Rattle.grove_tree.specs.Trees.{Rows, IsAbove, is_above, is_at}
 abbrev pub IsCommon : Rows → List ℕ → ℕ → Type 0
 IsCommon rows nodes node = (access target : ℕ) → slice_get nodes access ≡ Some target → IsAbove rows node target
 
--- a node that the list forces: above some accessed node, and below every node that is above all accessed nodes, so at or below their lowest common one
+-- a node that the list forces: above some accessed node, and below every node that is above all accessed nodes, so at
+-- or below their lowest common one
 pub record IsForcedByTree (rows : Rows) (nodes : List ℕ) (node : ℕ) : Type 0 where
   pub access : ℕ
   pub target : ℕ
@@ -33,7 +34,8 @@ is_forced rows nodes node =
 abbrev pub forced_nodes : Rows → List ℕ → List ℕ
 forced_nodes rows nodes = passing_below (length rows) (is_forced rows nodes)
 
--- the accesses of a node itself: whether there are any, the first, and the end of the last, which is one more than its number
+-- the accesses of a node itself: whether there are any, the first, and the end of the last, which is one more than its
+-- number
 abbrev pub names_at : List ℕ → ℕ → ℕ → Bool
 names_at nodes node access = is_at node (slice_get nodes access)
 

@@ -17,4 +17,5 @@ in_bucket (k ∷ known) bucket = (if k.node % 256 == bucket then 1 else 0) + in_
 
 -- each count is how many nodes fall into its bucket, or it is full
 abbrev pub Counts : List ℕ → List Known → Type 0
-Counts counts known = (bucket count : ℕ) → slice_get counts bucket ≡ Some count → count < 255 → count ≡ in_bucket known bucket
+Counts counts known = (bucket count : ℕ) → slice_get counts bucket ≡ Some count → count < 255
+    → count ≡ in_bucket known bucket

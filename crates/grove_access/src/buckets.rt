@@ -12,8 +12,8 @@ const BUCKETS: usize = 256;
 /// So many nodes are looked at one by one, and not counted.
 const FEW: usize = 16;
 
-/// How many nodes fall into each of a few buckets, by their numbers, so that most nodes that aren't among them are known
-/// not to be without a look at each. A count that reached 255 stays there.
+/// How many nodes fall into each of a few buckets, by their numbers, so that most nodes that aren't among them are
+/// known not to be without a look at each. A count that reached 255 stays there.
 #[derive(Debug, Drop)]
 pub struct Buckets {
     /// Empty where there are never more than a few nodes.
@@ -32,7 +32,8 @@ impl Buckets {
 
     /// Is it known that the node isn't among those counted?
     pub fn rule_out(&self, node: Node) -> bool
-        ensures { result ≡ true → (known : List Known) → Counts self.now.counts.items known → known_at known node ≡ None }
+        ensures { result ≡ true → (known : List Known) → Counts self.now.counts.items known
+            → known_at known node ≡ None }
     {
         let bucket = bucket_of(node);
         bucket < self.counts.len() && self.counts[bucket] == 0
@@ -40,7 +41,8 @@ impl Buckets {
 
     /// Counts a node more.
     pub fn add(&mut self, node: Node)
-        ensures { (known : List Known) (value : ℤ) → Counts self.old.counts.items known → Counts self.new.counts.items (known ++ record { node = node; value = value } ∷ []) }
+        ensures { (known : List Known) (value : ℤ) → Counts self.old.counts.items known
+            → Counts self.new.counts.items (known ++ record { node = node; value = value } ∷ []) }
     {
         let bucket = bucket_of(node);
         if bucket < self.counts.len() {
@@ -50,7 +52,8 @@ impl Buckets {
 
     /// Counts a node less.
     pub fn remove(&mut self, node: Node)
-        ensures { (known : List Known) (value : ℤ) → known_at known node ≡ Some value → Counts self.old.counts.items known → Counts self.new.counts.items (without known node) }
+        ensures { (known : List Known) (value : ℤ) → known_at known node ≡ Some value
+            → Counts self.old.counts.items known → Counts self.new.counts.items (without known node) }
     {
         let bucket = bucket_of(node);
         if bucket < self.counts.len() {

@@ -1,5 +1,7 @@
-ghost use Rattle.std.specs.Prelude.{◌≡◌, ◌<◌, ◌≤◌, ◌↔◌, [], ◌∷◌, ◌++◌, length, true, false, None, Some, IfOk, IfSome, IfNone, IsTrue, is_some};
-ghost use Rattle.grove_access.specs.Carries.{known_at, present_at, without, carry_settled, IsSound, CanApply, IsApplied};
+ghost use Rattle.std.specs.Prelude.{◌≡◌, ◌<◌, ◌≤◌, ◌↔◌, [], ◌∷◌, ◌++◌, length, true, false, None, Some, IfOk, IfSome};
+ghost use Rattle.std.specs.Prelude.{IfNone, IsTrue, is_some};
+ghost use Rattle.grove_access.specs.Carries.{known_at, present_at, without, carry_settled, IsSound, CanApply};
+ghost use Rattle.grove_access.specs.Carries.{IsApplied};
 
 use crate::buckets::Buckets;
 use crate::carrying::{hold, known_value, note, release, reply_on, settle_all, value_left};
@@ -28,15 +30,31 @@ impl Model for Carry {
 
     ghost Value = { Carried };
 
-    ghost view = { λ carry. record { txn = carry.txn; most_nodes = carry.most_nodes; most_entries = carry.most_entries; known = carry.known.items; entries = carry.entries.items } };
+    ghost view = { λ carry. record {
+      txn = carry.txn;
+      most_nodes = carry.most_nodes;
+      most_entries = carry.most_entries;
+      known = carry.known.items;
+      entries = carry.entries.items;
+    } };
 
-    ghost invariant = { λ carry. IsSound carry.known.items carry.entries.items × (length carry.known.items ≤ carry.most_nodes) × (carry.most_nodes ≤ vec_capacity carry.known) × (length carry.entries.items ≤ carry.most_entries) × (carry.most_entries ≤ vec_capacity carry.entries) × (carry.most_entries ≤ 64) × Counts carry.buckets.counts.items carry.known.items };
+    ghost invariant = { λ carry. IsSound carry.known.items carry.entries.items
+        × (length carry.known.items ≤ carry.most_nodes) × (carry.most_nodes ≤ vec_capacity carry.known)
+        × (length carry.entries.items ≤ carry.most_entries) × (carry.most_entries ≤ vec_capacity carry.entries)
+        × (carry.most_entries ≤ 64) × Counts carry.buckets.counts.items carry.known.items };
 }
 
 impl Carry {
     /// A carry of a transaction with nothing out. It has room for so many nodes, and for each access of the list.
     pub fn new(alloc: Global, txn: u32, list: &AccessList, locks: u32) -> Result<Carry, NoMemory>
-        ensures { IfOk result (λ carry. carry ≡ record { txn = txn; most_nodes = locks; most_entries = length list.now; known = []; entries = [] }) }
+        ensures { IfOk result
+            (λ carry. carry ≡ record {
+              txn = txn;
+              most_nodes = locks;
+              most_entries = length list.now;
+              known = [];
+              entries = [];
+            }) }
     {
         let known = Vec::with_capacity(alloc, locks as usize)?;
         let entries = Vec::with_capacity(alloc, list.len() as usize)?;
@@ -125,8 +143,10 @@ impl Carry {
 
     /// Takes a node in with its record, where it isn't out and there is room.
     pub fn put(&mut self, node: Node, value: i64) -> bool
-        ensures may { IsTrue result ↔ ((known_at self.old.known node ≡ None) × (length self.old.known < self.old.most_nodes)) }
-        ensures put { result ≡ true → self.new ≡ record self.old { known = self.old.known ++ record { node = node; value = value } ∷ [] } }
+        ensures may { IsTrue result
+            ↔ ((known_at self.old.known node ≡ None) × (length self.old.known < self.old.most_nodes)) }
+        ensures put { result ≡ true
+            → self.new ≡ record self.old { known = self.old.known ++ record { node = node; value = value } ∷ [] } }
         ensures unchanged { result ≡ false → self.new ≡ self.old }
     {
         if self.known.len() == self.most_nodes || self.has(node) {

@@ -67,7 +67,8 @@ pub fn hold(known: &mut Vec<Known>, node: Node, value: i64)
 /// Puts an entry at the end, where there is room.
 pub fn note(entries: &mut Vec<Entry>, number: u32, access: Access, reply: Reply)
     requires { vec_len entries.old < vec_capacity entries.old }
-    ensures items { entries.new.items ≡ entries.old.items ++ record { number = number; access = access; reply = reply } ∷ [] }
+    ensures items { entries.new.items ≡ entries.old.items ++ record { number = number; access = access; reply = reply }
+        ∷ [] }
     ensures capacity { vec_capacity entries.new ≡ vec_capacity entries.old }
 {
     entries.push_reserved(Entry {

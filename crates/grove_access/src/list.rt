@@ -1,6 +1,8 @@
-ghost use Rattle.std.specs.Prelude.{◌≡◌, ◌≢◌, ◌<◌, ◌≤◌, ◌↔◌, length, IsTrue, IfOk, IfErr, IsErrOf, Some, None, slice_get};
+ghost use Rattle.std.specs.Prelude.{◌≡◌, ◌≢◌, ◌<◌, ◌≤◌, ◌↔◌, length, IsTrue, IfOk, IfErr, IsErrOf, Some, None};
+ghost use Rattle.std.specs.Prelude.{slice_get};
 ghost use Rattle.grove_access.specs.Lists.{nodes_of, lengths_of, AreNodes};
-ghost use Rattle.grove_access.specs.ListFaults.{AreLengths, AreListed, first_beyond as first_place_beyond, first_bad_length as first_place_of_no_length, list_fault_of};
+ghost use Rattle.grove_access.specs.ListFaults.{AreLengths, AreListed, first_beyond as first_place_beyond};
+ghost use Rattle.grove_access.specs.ListFaults.{first_bad_length as first_place_of_no_length, list_fault_of};
 ghost use Rattle.grove_access.specs.Slots.{slots_before};
 
 use crate::{Access, ListFault};
@@ -34,13 +36,14 @@ impl Model for AccessList {
 }
 
 impl AccessList {
-    /// The accesses as a list over the tree. It is refused where they are too many; else for the first access that names no
-    /// node; else for the first of a bad length; and last for want of memory.
+    /// The accesses as a list over the tree. It is refused where they are too many; else for the first access that
+    /// names no node; else for the first of a bad length; and last for want of memory.
     pub fn new(alloc: Global, tree: &Tree, accesses: &[Access]) -> Result<AccessList, ListFault>
         ensures accesses { IfOk result (λ list. list ≡ accesses.now) }
         ensures faultless { IfOk result (λ list. list_fault_of tree.now accesses.now ≡ None) }
         ensures fitting { IfOk result (λ list. AreNodes tree.now (nodes_of list)) }
-        ensures fault { IfErr result (λ fault. fault ≢ ListFault.Memory → list_fault_of tree.now accesses.now ≡ Some fault) }
+        ensures fault { IfErr result (λ fault. fault ≢ ListFault.Memory → list_fault_of tree.now accesses.now
+            ≡ Some fault) }
         ensures refused { IfErr result (λ fault. fault ≢ ListFault.Memory → ¬ AreListed tree.now accesses.now) }
         ensures memory { IsErrOf result ListFault.Memory → list_fault_of tree.now accesses.now ≡ None }
     {

@@ -20,7 +20,8 @@ no_memory fault other is = let never : true ≡ false =
     subst (λ f. wants_memory (Proof f) ≡ false) is other in absurd (cc)
 
 -- a refusal tells the first fault of a plan with a flow
-pub says_proof : (Z : Type 0) (tree : Rows) (list : List Access) (plan : List Step) (flow : List FlowRow) (fault : ProofFault)
+pub says_proof : (Z : Type 0) (tree : Rows) (list : List Access) (plan : List Step) (flow : List FlowRow)
+    (fault : ProofFault)
     (refusal : Refusal) → IsToldFault tree (Proof fault) refusal
     → (fault ≢ proof.Memory → IsFault tree (nodes_of list) (lengths_of list) plan flow fault)
     → Says {Z = Z} (IsCheckedOver tree (list, plan, flow)) (Err refusal)

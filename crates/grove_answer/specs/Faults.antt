@@ -12,7 +12,8 @@ use Rattle.grove_wire.specs.declared.faults.StandingFault.{StandingFault}
 use Rattle.grove_wire.specs.declared.faults.StandingFault.TheVariants.{Record, Replies}
 use Rattle.grove_answer.specs.declared.refusal.Refusal.{Refusal}
 use Rattle.grove_answer.specs.declared.refusal.Refusal.TheVariants as refusal
-use Rattle.grove_wire.specs.Texts.{wire_text, plan_text, proof_text, run_text, replay_text, FaultFits as PlanFaultFits, ProofFaultFits, RunFaultFits, ReplayFaultFits}
+use Rattle.grove_wire.specs.Texts.{wire_text, plan_text, proof_text, run_text, replay_text, FaultFits as PlanFaultFits}
+use Rattle.grove_wire.specs.Texts.{ProofFaultFits, RunFaultFits, ReplayFaultFits}
 
 abbrev pub standing_text : StandingFault → List ℕ
 standing_text (Record node) = codes "standing records " ++ decimal node

@@ -1,5 +1,6 @@
 -- What each command says of a document: its lines, or the text of the first fault.
-use Rattle.std.specs.Prelude.{◌≡◌, ◌≢◌, ◌⊎◌, ℕ, ◌<◌, ℤ, codes, decimal, List, ◌++◌, length, map, reverse, slice_get, Option, Some, None, option_and_then, Result, Ok, Err}
+use Rattle.std.specs.Prelude.{◌≡◌, ◌≢◌, ◌⊎◌, ℕ, ◌<◌, ℤ, codes, decimal, List, ◌++◌, length, map, reverse, slice_get}
+use Rattle.std.specs.Prelude.{Option, Some, None, option_and_then, Result, Ok, Err}
 use Rattle.serde_json.specs.Data.{Data}
 use Rattle.serde_json.specs.Find.{get}
 use Rattle.serde_json.specs.Written.{compact_text}
@@ -48,7 +49,8 @@ abbrev pub ThenSays : {A : Type 0} → Result A WireFault → (A → Outcome →
 ThenSays (Ok x) MaySay outcome = MaySay x outcome
 ThenSays (Err fault) MaySay outcome = outcome ≡ Err (wire_text fault)
 
--- ---- what is read of a document: a tree with records and a list; then a plan; then a flow; or a tree with records, and lists or a history
+-- ---- what is read of a document: a tree with records and a list; then a plan; then a flow; or a tree with records,
+-- and lists or a history
 
 unfoldable pub task_in : Data → Result Task WireFault
 task_in document = do
@@ -121,7 +123,8 @@ unless_faulty tree (Some fault) lines = Err (plan_text tree fault)
 abbrev pub IsJudged : Task × List Step → Outcome → Type 0
 IsJudged (task, plan) outcome =
     outcome ≡ unless_faulty task.tree (plan_fault_of task.tree (nodes_of task.list) plan)
-    (judge_lines (cost task.tree (lengths_of task.list) plan) (replies_to task.list task.records) (records_after task.list task.records))
+    (judge_lines (cost task.tree (lengths_of task.list) plan) (replies_to task.list task.records)
+    (records_after task.list task.records))
 
 -- ---- check: the cost of a plan with a flow that proves it least, and of any other the first fault
 
@@ -130,7 +133,8 @@ checked_outcome tree (Ok sum) = Ok (codes "cost " ++ decimal sum ++ codes "\n")
 checked_outcome tree (Err fault) = Err (proof_text tree fault)
 
 abbrev pub IsCheckedOver : Rows → List Access × List Step × List FlowRow → Outcome → Type 0
-IsCheckedOver tree (list, plan, flow) outcome = (checked : Result ℕ ProofFault) × ChecksAs tree list plan flow checked × (outcome ≡ checked_outcome tree checked)
+IsCheckedOver tree (list, plan, flow) outcome = (checked : Result ℕ ProofFault) × ChecksAs tree list plan flow checked
+    × (outcome ≡ checked_outcome tree checked)
 
 abbrev pub IsChecked : Task × List Step × List FlowRow → Outcome → Type 0
 IsChecked (task, plan, flow) = IsCheckedOver task.tree (task.list, plan, flow)
@@ -156,7 +160,8 @@ IsPlannedTask task = IsPlannedOver task.tree task.list
 -- a picture of the own plan, which is legal; none where there is no such plan
 abbrev pub PicturesOwn : Task → Option (List Step) → Option Picture → Type 0
 PicturesOwn task None None = Unit {0}
-PicturesOwn task (Some plan) (Some picture) = IsLegal task.tree (nodes_of task.list) plan × IsPictureOf task.tree task.list plan picture
+PicturesOwn task (Some plan) (Some picture) = IsLegal task.tree (nodes_of task.list) plan
+    × IsPictureOf task.tree task.list plan picture
 PicturesOwn task _ _ = ⊥
 
 pub record IsDrawingOf (task : Task) (own : Option (List Step)) (drawing : Drawing) : Type 0 where
@@ -171,7 +176,8 @@ IsDrawn (task, own) outcome =
     (lines : List ℕ) × (outcome
     ≡ unless_faulty task.tree (option_and_then (plan_fault_of task.tree (nodes_of task.list)) own) lines)
 
--- ---- run: the lists, each by its settled plan, brought to the end of some run, and the order in which doing them whole is the same
+-- ---- run: the lists, each by its settled plan, brought to the end of some run, and the order in which doing them
+-- whole is the same
 
 abbrev pub batch_lines : List ℕ → List (List Reply) → List ℤ → List ℕ → List ℕ
 batch_lines order replies records waits =
@@ -206,7 +212,8 @@ past_in history = reverse history.events
 
 -- the events are a finished run by legal plans
 abbrev pub IsFinishedHistory : History → Type 0
-IsFinishedHistory history = AllLegal history.tree history.jobs × IsSerialRun history.tree history.jobs history.records (past_in history)
+IsFinishedHistory history = AllLegal history.tree history.jobs
+    × IsSerialRun history.tree history.jobs history.records (past_in history)
 
 -- the first place at which two lists differ
 abbrev pub DifferFirstAt : {A : Type 0} → List A → List A → ℕ → Type 0
@@ -222,12 +229,17 @@ abbrev pub IsMisstated : Option Standing → List ℤ → List (List Reply) → 
 IsMisstated None records replies text = ⊥
 IsMisstated (Some said) records replies text =
     ((node : ℕ) × DifferFirstAt said.0 records node × (text ≡ codes "standing records " ++ decimal node))
-    ⊎ ((said.0 ≡ records) × ((job : ℕ) × DifferFirstAt said.1 replies job × (text ≡ codes "standing replies " ++ decimal job)))
+    ⊎ ((said.0 ≡ records)
+    × ((job : ℕ) × DifferFirstAt said.1 replies job × (text ≡ codes "standing replies " ++ decimal job)))
 
 abbrev pub IsAudited : History → Outcome → Type 0
 IsAudited history (Ok lines) = IsFinishedHistory history
-    × Stands history.standing (run_records history.jobs history.records (past_in history)) (replies_of history.jobs history.records (past_in history))
+    × Stands history.standing (run_records history.jobs history.records (past_in history))
+    (replies_of history.jobs history.records (past_in history))
     × (lines ≡ run_lines history.tree history.jobs history.records (past_in history))
 IsAudited history (Err text) =
-    ((fault : ReplayFault) × (fault ≢ replay.Memory) × IsReplayFault history.tree history.jobs history.events fault × (text ≡ replay_text history.tree fault))
-    ⊎ (IsFinishedHistory history × IsMisstated history.standing (run_records history.jobs history.records (past_in history)) (replies_of history.jobs history.records (past_in history)) text)
+    ((fault : ReplayFault) × (fault ≢ replay.Memory) × IsReplayFault history.tree history.jobs history.events fault
+    × (text ≡ replay_text history.tree fault))
+    ⊎ (IsFinishedHistory history
+    × IsMisstated history.standing (run_records history.jobs history.records (past_in history))
+    (replies_of history.jobs history.records (past_in history)) text)

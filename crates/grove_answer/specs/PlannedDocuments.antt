@@ -20,7 +20,8 @@ with_member name d (object ms) = object (put name d ms)
 with_member name d other = other
 
 abbrev pub planned_document : Rows → List Step → List FlowRow → Data → Data
-planned_document tree plan flow document = with_member (codes "plan") (plan_data tree plan) (with_member (codes "flow") (flow_data tree flow) document)
+planned_document tree plan flow document = with_member (codes "plan") (plan_data tree plan)
+    (with_member (codes "flow") (flow_data tree flow) document)
 
 -- a text without spaces that is read as the value; where no number in it is a float, there is just one
 pub record IsTextOf (d : Data) (text : List ℕ) : Type 0 where
@@ -32,4 +33,5 @@ pub record IsTextOf (d : Data) (text : List ℕ) : Type 0 where
 abbrev pub IsPlannedDocument : Data → Task → Outcome → Type 0
 IsPlannedDocument document task outcome = (planned : Planned) × IsPlannedList task.tree task.list planned
     × (claim_in (planned_document task.tree planned.plan planned.flow document) ≡ Ok (task, planned.plan, planned.flow))
-    × ((text : List ℕ) × IsTextOf (planned_document task.tree planned.plan planned.flow document) text × (outcome ≡ Ok (text ++ codes "\n")))
+    × ((text : List ℕ) × IsTextOf (planned_document task.tree planned.plan planned.flow document) text
+    × (outcome ≡ Ok (text ++ codes "\n")))

@@ -65,9 +65,12 @@ fn with_plan(
 ) -> Result<Value, NoMemory>
     requires plan { PlanFits tree.now plan.now }
     requires flow { FlowFits tree.now flow.now }
-    ensures value { IfOk result (λ whole. view whole ≡ planned_document tree.now plan.now flow.now (view document.now)) }
-    ensures plan { IfOk result (λ whole. (d : Data) → get (codes "plan") d ≡ Some (plan_data tree.now plan.now) → plan_in tree.now d ≡ Ok plan.now) }
-    ensures flow { IfOk result (λ whole. (d : Data) → get (codes "flow") d ≡ Some (flow_data tree.now flow.now) → flow_in tree.now d ≡ Ok flow.now) }
+    ensures value { IfOk result
+        (λ whole. view whole ≡ planned_document tree.now plan.now flow.now (view document.now)) }
+    ensures plan { IfOk result (λ whole. (d : Data) → get (codes "plan") d ≡ Some (plan_data tree.now plan.now)
+        → plan_in tree.now d ≡ Ok plan.now) }
+    ensures flow { IfOk result (λ whole. (d : Data) → get (codes "flow") d ≡ Some (flow_data tree.now flow.now)
+        → flow_in tree.now d ≡ Ok flow.now) }
 {
     let plan = plan_value(alloc, tree, plan)?;
     let flow = flow_value(alloc, tree, flow)?;
@@ -84,7 +87,8 @@ fn with_plan(
 /// The text of a value, with a line feed after it.
 fn line_of(alloc: Global, value: &Value) -> Result<String, AllocError>
     requires { depth (view value.now) ≤ 127 }
-    ensures { IfOk result (λ line. (text : List ℕ) × IsTextOf (view value.now) text × (string_bytes line ≡ text ++ codes "\n")) }
+    ensures { IfOk result (λ line. (text : List ℕ) × IsTextOf (view value.now) text
+        × (string_bytes line ≡ text ++ codes "\n")) }
 {
     let mut line = value.to_string(alloc)?;
     line.push_str("\n")?;

@@ -27,8 +27,10 @@ pub fn draw_document(alloc: Global, document: &Value, form: Form) -> Result<Stri
 
 /// What is drawn of a document: its list's settled plan and, where it has a plan of its own, that one too.
 pub fn drawing_of(alloc: Global, document: &Value) -> Result<Drawing, Refusal>
-    ensures drawn { IfOk result (λ drawing. IsOkAnd (sketch_in (view document.now)) (λ sketch. IsDrawingOf sketch.0 sketch.1 drawing)) }
-    ensures refused { IfErr result (λ refusal. IfSome (refusal_outcome refusal) (ThenSays (sketch_in (view document.now)) IsDrawn)) }
+    ensures drawn { IfOk result
+        (λ drawing. IsOkAnd (sketch_in (view document.now)) (λ sketch. IsDrawingOf sketch.0 sketch.1 drawing)) }
+    ensures refused { IfErr result
+        (λ refusal. IfSome (refusal_outcome refusal) (ThenSays (sketch_in (view document.now)) IsDrawn)) }
 {
     let (task, own) = or_refuse(alloc, read_sketch(alloc, document))?;
     draw(alloc, &task, &own)
@@ -62,7 +64,8 @@ fn own_picture(alloc: Global, task: &Task, own: &Option<Plan>) -> Result<Option<
 
 fn settled_picture(alloc: Global, task: &Task) -> Result<Picture, NoMemory>
     requires { IsFitting task.now }
-    ensures { IfOk result (λ picture. (plan : List Step) × IsSettled task.now.tree (nodes_of task.now.list) (lengths_of task.now.list) plan
+    ensures { IfOk result (λ picture. (plan : List Step)
+        × IsSettled task.now.tree (nodes_of task.now.list) (lengths_of task.now.list) plan
         × IsPictureOf task.now.tree task.now.list plan picture) }
 {
     let planned = plan(alloc, &task.tree, &task.list)?;

@@ -37,7 +37,9 @@ fn judge_trial(alloc: Global, task: Task, plan: &Plan) -> Result<String, Refusal
 #[tactic(auto, using(crate::proofs::Records::records_keep_number))]
 fn lines_of(alloc: Global, task: Task, cost: u64) -> Result<String, NoMemory>
     requires { IsFitting task }
-    ensures { IfOk result (λ lines. string_bytes lines ≡ judge_lines cost (replies_to task.list task.records) (records_after task.list task.records)) }
+    ensures { IfOk result
+        (λ lines. string_bytes lines ≡ judge_lines cost (replies_to task.list task.records)
+        (records_after task.list task.records)) }
 {
     let Task {
         tree,

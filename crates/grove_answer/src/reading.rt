@@ -114,7 +114,8 @@ fn read_own_plan(alloc: Global, tree: &Tree, document: &Value) -> Result<Option<
 /// The document's tree and lists.
 #[tactic(auto, unfolding(crate::specs::Outcomes::batch_in))]
 pub fn read_batch(alloc: Global, document: &Value) -> Result<Batch, WireFault>
-    ensures read { Gives (λ batch. (batch.tree, batch.records, batch.lists.items)) result (batch_in (view document.now)) }
+    ensures read { Gives (λ batch. (batch.tree, batch.records, batch.lists.items)) result
+        (batch_in (view document.now)) }
     ensures records { IfOk result (λ batch. length batch.records ≡ length batch.tree) }
     ensures fits { IfOk result (λ batch. All (λ list. AreNodes batch.tree (nodes_of list)) batch.lists.items) }
     ensures few { IfOk result (λ batch. length batch.lists.items ≤ 256) }

@@ -24,8 +24,8 @@ use std::alloc::{AllocError, Global};
 use std::sync::Wait;
 use std::thread::Threads;
 
-/// The lines of a run of a document's lists by so many workers: a serial order, each list's replies, the records, and the
-/// waits of each node.
+/// The lines of a run of a document's lists by so many workers: a serial order, each list's replies, the records, and
+/// the waits of each node.
 pub fn run_document<R: Threads + Wait + Sync>(
     rt: &R,
     alloc: Global,
@@ -84,7 +84,8 @@ fn run_jobs<R: Threads + Wait + Sync>(
 /// The lines of a finished run, with the order by which it is serial.
 pub(crate) fn run_lines(alloc: Global, core: &Core<'_>, order: &[u32]) -> Result<String, NoMemory>
     requires { order.now ≡ placement_order core.now.tree core.now.jobs (past_of core.now) }
-    ensures { IfOk result (λ lines. string_bytes lines ≡ run_lines core.now.tree core.now.jobs core.now.opening (past_of core.now)) }
+    ensures { IfOk result
+        (λ lines. string_bytes lines ≡ run_lines core.now.tree core.now.jobs core.now.opening (past_of core.now)) }
 {
     // That there is a record for each node is told with the jobs.
     let _jobs = core.jobs();
@@ -101,7 +102,9 @@ fn batch_lines(
     records: &[i64],
     waits: &[u32],
 ) -> Result<String, NoMemory>
-    ensures { IfOk result (λ lines. string_bytes lines ≡ batch_lines order.now (map (λ list. list.now) replies.now) records.now waits.now) }
+    ensures { IfOk result
+        (λ lines. string_bytes lines ≡ batch_lines order.now (map (λ list. list.now) replies.now)
+        records.now waits.now) }
 {
     let order = counts_text(alloc, order)?;
     let replies = lists_text(alloc, replies)?;
@@ -112,7 +115,9 @@ fn batch_lines(
 
 /// The waits of each node.
 fn waits_of(alloc: Global, core: &Core<'_>) -> Result<Vec<u32>, AllocError>
-    ensures { IfOk result (λ waits. waits.items ≡ map (waits_of core.now.jobs (past_of core.now)) (numbers_below (length core.now.tree))) }
+    ensures { IfOk result
+        (λ waits. waits.items ≡ map (waits_of core.now.jobs (past_of core.now))
+        (numbers_below (length core.now.tree))) }
 {
     let mut waits = Vec::new(alloc);
     for number in 0..core.tree().len() {

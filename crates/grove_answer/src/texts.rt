@@ -1,6 +1,7 @@
 ghost use Rattle.std.specs.Prelude.{◌≡◌, length, map, IfOk, string_bytes};
 ghost use Rattle.serde_json.specs.Written.{compact_text};
-ghost use Rattle.grove_wire.specs.Writing.{plan_data, flow_data, PlanFits, FlowFits, array_of, count_data, number_data, reply_data};
+ghost use Rattle.grove_wire.specs.Writing.{plan_data, flow_data, PlanFits, FlowFits, array_of, count_data, number_data};
+ghost use Rattle.grove_wire.specs.Writing.{reply_data};
 
 use grove_access::{Records, Reply};
 use grove_base::NoMemory;

@@ -1,4 +1,5 @@
-//! What every crate stands on: the error of a growth refused; a line for a person; numbers below a bound, counted and added up.
+//! What every crate stands on: the error of a growth refused; a line for a person; numbers below a bound, counted and
+//! added up.
 #![tactic(auto)]
 
 pub use hint::Hint;

@@ -7,8 +7,8 @@ use std::alloc::Global;
 /// The greatest number of characters that are said.
 const MOST: usize = 400;
 
-/// The text as one that can stand in a line: what can't be shown is shown as `?`, what is too long is cut off, and an empty
-/// one is a `?`.
+/// The text as one that can stand in a line: what can't be shown is shown as `?`, what is too long is cut off, and an
+/// empty one is a `?`.
 pub fn said(alloc: Global, text: &str) -> Result<String, NoMemory>
     ensures { IfOk result (λ said. IsSaid (string_bytes said)) }
 {

@@ -1,5 +1,5 @@
-//! Makes calls, one group for each word, and where a call is refused memory makes it again on the same values. Each answer
-//! is a line, and `memory` stands before it where it was refused first.
+//! Makes calls, one group for each word, and where a call is refused memory makes it again on the same values. Each
+//! answer is a line, and `memory` stands before it where it was refused first.
 
 mod desks;
 mod planning;

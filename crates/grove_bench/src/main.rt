@@ -1,4 +1,5 @@
-//! Makes the calls of the libraries for the benchmarks and the sweeps, one for each word. Without words it prints nothing.
+//! Makes the calls of the libraries for the benchmarks and the sweeps, one for each word. Without words it prints
+//! nothing.
 #![tactic(auto)]
 
 mod again;

@@ -10,8 +10,8 @@ use Rattle.grove_proof.specs.declared.flow.FlowRow.{FlowRow}
 use Rattle.grove_proof.specs.Flows.{IsCertificate}
 use Rattle.grove_build.specs.Settled.{IsSettled}
 
--- A cut of a whole tree: rows of some of its nodes, in its order, each with its parent, name and weight. The origin of a
--- cut node is its number in the whole tree; numbers of no node have origins of no node.
+-- A cut of a whole tree: rows of some of its nodes, in its order, each with its parent, name and weight. The origin of
+-- a cut node is its number in the whole tree; numbers of no node have origins of no node.
 pub record IsCut (whole cut : Rows) (origin : ℕ → ℕ) : Type 0 where
   pub some : 0 < length cut
   pub rises : (a b : ℕ) → a < b → origin a < origin b
@@ -31,12 +31,20 @@ abbrev pub plan_at_origin : (ℕ → ℕ) → List Step → List Step
 plan_at_origin origin plan = map (step_at_origin origin) plan
 
 abbrev pub row_at_origin : (ℕ → ℕ) → FlowRow → FlowRow
-row_at_origin origin row = record { node = origin row.node; above = row.above; held = row.held; first = row.first; last = row.last; own = row.own }
+row_at_origin origin row = record {
+  node = origin row.node;
+  above = row.above;
+  held = row.held;
+  first = row.first;
+  last = row.last;
+  own = row.own;
+}
 
 abbrev pub flow_at_origin : (ℕ → ℕ) → List FlowRow → List FlowRow
 flow_at_origin origin flow = map (row_at_origin origin) flow
 
--- a plan over a cut is legal, least or settled for a list exactly where it is so over the whole tree, and costs the same
+-- a plan over a cut is legal, least or settled for a list exactly where it is so over the whole tree, and costs the
+-- same
 abbrev pub CutsKeepLegal : Type 0
 CutsKeepLegal = (whole cut : Rows) (origin : ℕ → ℕ) → IsCut whole cut origin → (nodes : List ℕ) (plan : List Step)
     → IsLegal cut nodes plan ↔ IsLegal whole (map origin nodes) (plan_at_origin origin plan)
@@ -46,17 +54,23 @@ CutsKeepCost = (whole cut : Rows) (origin : ℕ → ℕ) → IsCut whole cut ori
     → cost whole lengths (plan_at_origin origin plan) ≡ cost cut lengths plan
 
 abbrev pub CutsKeepLeast : Type 0
-CutsKeepLeast = (whole cut : Rows) (origin : ℕ → ℕ) → IsTree whole → IsCut whole cut origin → (nodes lengths : List ℕ) (plan : List Step)
-    → AreNodes cut nodes → IsLeast cut nodes lengths plan ↔ IsLeast whole (map origin nodes) lengths (plan_at_origin origin plan)
+CutsKeepLeast = (whole cut : Rows) (origin : ℕ → ℕ) → IsTree whole → IsCut whole cut origin
+    → (nodes lengths : List ℕ) (plan : List Step)
+    → AreNodes cut nodes → IsLeast cut nodes lengths plan
+    ↔ IsLeast whole (map origin nodes) lengths (plan_at_origin origin plan)
 
 abbrev pub CutsKeepSettled : Type 0
-CutsKeepSettled = (whole cut : Rows) (origin : ℕ → ℕ) → IsTree whole → IsCut whole cut origin → (nodes lengths : List ℕ) (plan : List Step)
-    → AreNodes cut nodes → IsSettled cut nodes lengths plan ↔ IsSettled whole (map origin nodes) lengths (plan_at_origin origin plan)
+CutsKeepSettled = (whole cut : Rows) (origin : ℕ → ℕ) → IsTree whole → IsCut whole cut origin
+    → (nodes lengths : List ℕ) (plan : List Step)
+    → AreNodes cut nodes → IsSettled cut nodes lengths plan
+    ↔ IsSettled whole (map origin nodes) lengths (plan_at_origin origin plan)
 
 -- and a flow certifies a cost over both or neither
 abbrev pub CutsKeepCertificates : Type 0
-CutsKeepCertificates = (whole cut : Rows) (origin : ℕ → ℕ) → IsTree whole → IsCut whole cut origin → (nodes lengths : List ℕ) (flow : List FlowRow) (claim : ℕ)
-    → AreNodes cut nodes → IsCertificate cut nodes lengths flow claim ↔ IsCertificate whole (map origin nodes) lengths (flow_at_origin origin flow) claim
+CutsKeepCertificates = (whole cut : Rows) (origin : ℕ → ℕ) → IsTree whole → IsCut whole cut origin
+    → (nodes lengths : List ℕ) (flow : List FlowRow) (claim : ℕ)
+    → AreNodes cut nodes → IsCertificate cut nodes lengths flow claim
+    ↔ IsCertificate whole (map origin nodes) lengths (flow_at_origin origin flow) claim
 
 -- a cut of a tree is a tree, and within the limits where the tree is
 abbrev pub CutsAreTrees : Type 0

@@ -18,10 +18,12 @@ abbrev pub AddsAtMost : List Kept → Kept → List Kept → Type 0
 AddsAtMost before new after = (place : ℕ) (kept : Kept) → slice_get after place ≡ Some kept
     → (kept ≡ new) ⊎ ((earlier : ℕ) × (slice_get before earlier ≡ Some kept))
 
--- the lists of a batch that have to be planned: some of them, no two with the same targets, and none for which something is kept
+-- the lists of a batch that have to be planned: some of them, no two with the same targets, and none for which
+-- something is kept
 pub record AreMissing (plans : List Kept) (lists : List (List Access)) (parts : List (Bor (List Access))) : Type 0 where
   pub few : length parts ≤ length lists
-  pub among : (place : ℕ) (part : Bor (List Access)) → slice_get parts place ≡ Some part → (k : ℕ) × (slice_get lists k ≡ Some part.now)
+  pub among : (place : ℕ) (part : Bor (List Access)) → slice_get parts place ≡ Some part → (k : ℕ)
+      × (slice_get lists k ≡ Some part.now)
   pub unlike : AreUnlike parts
   pub lacked : (place : ℕ) (part : Bor (List Access)) → slice_get parts place ≡ Some part → IsKeptIn plans part.now → ⊥
 

@@ -1,6 +1,7 @@
--- For the proofs alone: the network of a list's nodes: arcs and needs in the rows' order, and the flow's rows read back from amounts in
--- that order.
-use Rattle.std.specs.Prelude.{◌≡◌, ℕ, ◌<◌, ◌≤◌, length, slice_get, map, ◌+◌, ◌*◌, suc, List, [], ◌∷◌, ◌++◌, slice_index, Option, Some, None, ℤ, pos, neg_ℤ, int_lt, if◌then◌else◌, IfSome}
+-- For the proofs alone: the network of a list's nodes: arcs and needs in the rows' order, and the flow's rows read back
+-- from amounts in that order.
+use Rattle.std.specs.Prelude.{◌≡◌, ℕ, ◌<◌, ◌≤◌, length, slice_get, map, ◌+◌, ◌*◌, suc, List, [], ◌∷◌, ◌++◌, slice_index}
+use Rattle.std.specs.Prelude.{Option, Some, None, ℤ, pos, neg_ℤ, int_lt, if◌then◌else◌, IfSome}
 use Rattle.grove_tree.specs.Trees.{Rows, weight_of, IsTree}
 use Rattle.grove_access.specs.Lists.{AreNodes}
 use Rattle.grove_access.specs.ListFaults.{AreLengths}
@@ -180,9 +181,11 @@ pub record IsSpan (tree : Rows) (nodes lengths : List ℕ) (rows : List SpanRow)
   pub paired : length lengths ≡ length nodes
 
 -- Amounts that meet the needs of the rows' network, and its latest places along them, as gaps.
-pub record IsSolved (tree : Rows) (lengths : List ℕ) (m : ℕ) (rows : List SpanRow) (amounts gaps : List ℕ) : Type 0 where
-  pub solved : List ℤ
-  pub solution : IsSolution (needs_of tree rows) (arcs_from (2 * length rows) 0 rows) amounts solved
-  pub places : List ℤ
-  pub latest : IsLatest (2 * length rows + 1) (arcs_from (2 * length rows) 0 rows) amounts (pos (slots_before lengths m)) places
-  pub are_gaps : AreGaps lengths m places gaps
+pub record IsSolved (tree : Rows) (lengths : List ℕ) (m : ℕ) (rows : List SpanRow) (amounts gaps : List ℕ) : Type 0
+  where
+    pub solved : List ℤ
+    pub solution : IsSolution (needs_of tree rows) (arcs_from (2 * length rows) 0 rows) amounts solved
+    pub places : List ℤ
+    pub latest : IsLatest (2 * length rows + 1) (arcs_from (2 * length rows) 0 rows) amounts
+        (pos (slots_before lengths m)) places
+    pub are_gaps : AreGaps lengths m places gaps

@@ -32,5 +32,7 @@ SettledOnce = (rows : Rows) (nodes lengths : List ℕ) (plan other : List Step) 
 
 -- the checker refuses a settled plan with a certificate of its cost for want of memory alone
 abbrev pub SettledIsAccepted : Type 0
-SettledIsAccepted = (rows : Rows) (nodes lengths : List ℕ) (plan : List Step) (flow : List FlowRow) (fault : ProofFault) → IsSettled rows nodes lengths plan
-    → IsCertificate rows nodes lengths flow (cost rows lengths plan) → IsFault rows nodes lengths plan flow fault → fault ≡ Memory
+SettledIsAccepted = (rows : Rows) (nodes lengths : List ℕ) (plan : List Step) (flow : List FlowRow) (fault : ProofFault)
+    → IsSettled rows nodes lengths plan
+    → IsCertificate rows nodes lengths flow (cost rows lengths plan) → IsFault rows nodes lengths plan flow fault
+    → fault ≡ Memory

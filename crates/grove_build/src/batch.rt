@@ -14,8 +14,8 @@ use std::alloc::Global;
 use std::thread::{Threads, join};
 
 /// What the planner answers for each list, in the lists' order. Lists with the same targets are planned once. The only
-/// refusal is for want of memory. Up to `workers` threads plan at once. The gate is called with k, and 0, just before the
-/// k-th of the distinct lists is planned, counted from 0 in the order in which they first occur.
+/// refusal is for want of memory. Up to `workers` threads plan at once. The gate is called with k, and 0, just before
+/// the k-th of the distinct lists is planned, counted from 0 in the order in which they first occur.
 pub fn plan_batch<R: Threads + Sync, G: Gate + Sync>(
     rt: &R,
     alloc: Global,
@@ -46,7 +46,8 @@ pub fn plan_batch<R: Threads + Sync, G: Gate + Sync>(
 /// A copy of the plan at each of the places.
 fn copies_of(alloc: Global, plans: &[Planned], places: &[usize]) -> Result<Vec<Planned>, NoMemory>
     requires { All (λ place. place < length plans.now) places.now }
-    ensures { IfOk result (λ copies. AllZip (λ place planned. slice_get plans.now place ≡ Some planned) places.now copies.items) }
+    ensures { IfOk result
+        (λ copies. AllZip (λ place planned. slice_get plans.now place ≡ Some planned) places.now copies.items) }
 {
     let mut copies = Vec::new(alloc);
     for place in places {
@@ -56,9 +57,9 @@ fn copies_of(alloc: Global, plans: &[Planned], places: &[usize]) -> Result<Vec<P
     Ok(copies)
 }
 
-/// Plans the lists, of which the first has the given number. With two workers or more, a slice of two lists or more is cut
-/// in two and both halves are planned at once, the first by half of the workers; where no thread can be started, the first
-/// half is planned first.
+/// Plans the lists, of which the first has the given number. With two workers or more, a slice of two lists or more is
+/// cut in two and both halves are planned at once, the first by half of the workers; where no thread can be started,
+/// the first half is planned first.
 #[cycle(halving)]
 pub fn plan_parts<R: Threads + Sync, G: Gate + Sync>(
     rt: &R,
@@ -81,8 +82,10 @@ pub fn plan_parts<R: Threads + Sync, G: Gate + Sync>(
     let (late, early) = join(
         rt,
         || -> Result<Vec<Planned>, NoMemory>
-            requires { IsSync R.row × IsSync G.row × (number + count < 2 ^ 32) × (length second.now + count / 2 ≡ count) × All (λ part. AreNodes tree.now (nodes_of part.now)) second.now }
-            ensures { IfOk result (λ all. AllZip (λ part planned. IsPlanned tree.entry.now part.now planned) second.entry.now all.items) }
+            requires { IsSync R.row × IsSync G.row × (number + count < 2 ^ 32) × (length second.now + count / 2 ≡ count)
+                × All (λ part. AreNodes tree.now (nodes_of part.now)) second.now }
+            ensures { IfOk result
+                (λ all. AllZip (λ part planned. IsPlanned tree.entry.now part.now planned) second.entry.now all.items) }
         {
             plan_parts(
                 rt,
@@ -95,8 +98,10 @@ pub fn plan_parts<R: Threads + Sync, G: Gate + Sync>(
             )
         },
         || -> Result<Vec<Planned>, NoMemory>
-            requires { IsSync R.row × IsSync G.row × (number + length first.now < 2 ^ 32) × All (λ part. AreNodes tree.now (nodes_of part.now)) first.now }
-            ensures { IfOk result (λ all. AllZip (λ part planned. IsPlanned tree.entry.now part.now planned) first.entry.now all.items) }
+            requires { IsSync R.row × IsSync G.row × (number + length first.now < 2 ^ 32)
+                × All (λ part. AreNodes tree.now (nodes_of part.now)) first.now }
+            ensures { IfOk result
+                (λ all. AllZip (λ part planned. IsPlanned tree.entry.now part.now planned) first.entry.now all.items) }
         { plan_parts(rt, alloc, tree, gate, workers / 2, number, first) },
     );
     let mut all = early?;

@@ -19,8 +19,8 @@ mod batches;
 /// No more plans are kept.
 const MOST_KEPT: usize = 1024;
 
-/// What was planned over a tree, at most 1024 times, by what a plan depends on beside the tree: the nodes and the lengths
-/// of its list's accesses.
+/// What was planned over a tree, at most 1024 times, by what a plan depends on beside the tree: the nodes and the
+/// lengths of its list's accesses.
 #[derive(Debug, Drop)]
 pub struct KeptPlans {
     plans: IndexMap<Vec<Target>, Planned>,
@@ -63,8 +63,8 @@ impl KeptPlans {
         self.plans.len()
     }
 
-    /// What the planner answers for the list, which is planned only where nothing is kept for it. The only refusal is for
-    /// want of memory.
+    /// What the planner answers for the list, which is planned only where nothing is kept for it. The only refusal is
+    /// for want of memory.
     pub fn plan(
         &mut self,
         alloc: Global,
@@ -102,7 +102,8 @@ impl KeptPlans {
     fn place_of(&self, targets: &Vec<Target>) -> Option<usize>
         ensures stands { IfSome result
             (λ place. (list : List Access) → AreTargetsOf list targets.now.items → IsKeptAt self.now list place) }
-        ensures none { IfNone result ((list : List Access) → AreTargetsOf list targets.now.items → ¬ IsKeptIn self.now list) }
+        ensures none { IfNone result ((list : List Access) → AreTargetsOf list targets.now.items
+            → ¬ IsKeptIn self.now list) }
     {
         self.plans.get_index_of(targets)
     }

@@ -1,5 +1,6 @@
 ghost use Rattle.std.specs.Prelude.{◌≡◌, ◌+◌, ◌*◌, ◌<◌, ◌≤◌, ◌++◌, ◌∷◌, [], length, map, IfOk, OnOk, IfSome};
-ghost use Rattle.grove_build.specs.Networks.{arc, parent_arcs, first_arcs, last_arcs, row_arcs, arcs_from, arc_if, row_names, names_from, needs_from, start_of, HaveOwnParents};
+ghost use Rattle.grove_build.specs.Networks.{arc, parent_arcs, first_arcs, last_arcs, row_arcs, arcs_from, arc_if};
+ghost use Rattle.grove_build.specs.Networks.{row_names, names_from, needs_from, start_of, HaveOwnParents};
 
 use crate::variables::{base_of, lock_of, release_of};
 use grove_flow::{Arc, Network};

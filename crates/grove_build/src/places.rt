@@ -36,7 +36,8 @@ pub fn gaps_of(alloc: Global, slots: &[u32], places: &[i64]) -> Result<Vec<u32>,
     requires rising { AreRising slots.now }
     requires between { (v : ℕ) → IsBetween slots.now (place places.now v) }
     ensures size { IfOk result (λ gaps. length gaps.items ≡ length places.now) }
-    ensures gaps { IfOk result (λ gaps. (v : ℕ) → v < length places.now → IsGap slots.now (place places.now v) (slice_index gaps.items v)) }
+    ensures gaps { IfOk result (λ gaps. (v : ℕ) → v < length places.now
+        → IsGap slots.now (place places.now v) (slice_index gaps.items v)) }
 {
     let mut gaps = Vec::with_capacity(alloc, places.len())?;
     for place in places {

@@ -34,10 +34,13 @@ pub struct Planned {
 /// The settled plan of the list. The only refusal is for want of memory.
 pub fn plan(alloc: Global, tree: &Tree, list: &AccessList) -> Result<Planned, NoMemory>
     requires fits { AreNodes tree.now (nodes_of list.now) }
-    ensures settled { IfOk result (λ planned. IsSettled tree.now (nodes_of list.now) (lengths_of list.now) planned.plan) }
+    ensures settled { IfOk result
+        (λ planned. IsSettled tree.now (nodes_of list.now) (lengths_of list.now) planned.plan) }
     ensures least { IfOk result (λ planned. IsLeast tree.now (nodes_of list.now) (lengths_of list.now) planned.plan) }
     ensures cost { IfOk result (λ planned. planned.cost ≡ cost tree.now (lengths_of list.now) planned.plan) }
-    ensures certificate { IfOk result (λ planned. IsCertificate tree.now (nodes_of list.now) (lengths_of list.now) planned.flow (cost tree.now (lengths_of list.now) planned.plan)) }
+    ensures certificate { IfOk result
+        (λ planned. IsCertificate tree.now (nodes_of list.now) (lengths_of list.now) planned.flow
+        (cost tree.now (lengths_of list.now) planned.plan)) }
 {
     plan_watched(alloc, tree, list, &mut Unwatched)
 }
@@ -50,10 +53,13 @@ pub fn plan_watched<W: Watch>(
     watch: &mut W,
 ) -> Result<Planned, NoMemory>
     requires fits { AreNodes tree.now (nodes_of list.now) }
-    ensures settled { IfOk result (λ planned. IsSettled tree.now (nodes_of list.now) (lengths_of list.now) planned.plan) }
+    ensures settled { IfOk result
+        (λ planned. IsSettled tree.now (nodes_of list.now) (lengths_of list.now) planned.plan) }
     ensures least { IfOk result (λ planned. IsLeast tree.now (nodes_of list.now) (lengths_of list.now) planned.plan) }
     ensures cost { IfOk result (λ planned. planned.cost ≡ cost tree.now (lengths_of list.now) planned.plan) }
-    ensures certificate { IfOk result (λ planned. IsCertificate tree.now (nodes_of list.now) (lengths_of list.now) planned.flow (cost tree.now (lengths_of list.now) planned.plan)) }
+    ensures certificate { IfOk result
+        (λ planned. IsCertificate tree.now (nodes_of list.now) (lengths_of list.now) planned.flow
+        (cost tree.now (lengths_of list.now) planned.plan)) }
 {
     // That the rows are a tree's is told with their number, and that the lengths are lengths with theirs.
     let _nodes = tree.len();
@@ -96,7 +102,8 @@ fn settle<W: Watch>(
     requires weights { weights.now ≡ weights_of tree.now rows.now }
     requires slots { AreSlots (lengths_of list.now) (length (nodes_of list.now)) slots.now }
     requires names { solved.now.names.items ≡ names_from rows.now 0 }
-    requires solved { IsSolved tree.now (lengths_of list.now) (length (nodes_of list.now)) rows.now solved.now.amounts.items solved.now.gaps.items }
+    requires solved { IsSolved tree.now (lengths_of list.now) (length (nodes_of list.now)) rows.now
+        solved.now.amounts.items solved.now.gaps.items }
     ensures { IfOk result (IsPlanned tree.now list.now) }
 {
     // The limits that hold of every tree and every list are told with their lengths.

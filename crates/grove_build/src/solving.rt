@@ -35,7 +35,9 @@ pub fn solve_rows<W: Watch>(
     requires weights { weights.now ≡ weights_of tree.now rows.now }
     requires slots { AreSlots (lengths_of list.now) (length (nodes_of list.now)) slots.now }
     ensures names { IfOk result (λ solved. solved.names.items ≡ names_from rows.now 0) }
-    ensures solved { IfOk result (λ solved. IsSolved tree.now (lengths_of list.now) (length (nodes_of list.now)) rows.now solved.amounts.items solved.gaps.items) }
+    ensures solved { IfOk result
+        (λ solved. IsSolved tree.now (lengths_of list.now) (length (nodes_of list.now)) rows.now solved.amounts.items
+        solved.gaps.items) }
 {
     // The limits that hold of every tree and every list are told with their lengths.
     let _nodes = tree.len();
@@ -69,7 +71,9 @@ fn solution_of<W: Watch>(
     requires slots { AreSlots (lengths_of list.now) (length (nodes_of list.now)) slots.now }
     requires arcs { named.now.network.arcs.items ≡ arcs_from (2 * length rows.now) 0 rows.now }
     requires needs { named.now.network.needs.items ≡ needs_of tree.now rows.now }
-    ensures { IfOk result (λ solution. IsSolution named.now.network.needs.items named.now.network.arcs.items solution.amounts.items solution.places.items) }
+    ensures { IfOk result
+        (λ solution. IsSolution named.now.network.needs.items named.now.network.arcs.items solution.amounts.items
+        solution.places.items) }
 {
     // The limits that hold of every tree and every list are told with their lengths.
     let _nodes = tree.len();

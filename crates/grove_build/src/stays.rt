@@ -23,7 +23,8 @@ pub fn needed_of(alloc: Global, rows: &[SpanRow], gaps: &[u32]) -> Result<Vec<bo
     requires parents { HaveOwnParents rows.now }
     requires gaps { length gaps.now ≡ 2 * length rows.now + 1 }
     ensures size { IfOk result (λ needed. length needed.items ≡ length rows.now) }
-    ensures needed { IfOk result (λ needed. (j : ℕ) → j < length rows.now → slice_index_or needed.items j false ≡ is_needed rows.now gaps.now (length rows.now) j) }
+    ensures needed { IfOk result (λ needed. (j : ℕ) → j < length rows.now → slice_index_or needed.items j false
+        ≡ is_needed rows.now gaps.now (length rows.now) j) }
 {
     let mut needed = vec![in alloc; false; rows.len()]?;
     for (k, row) in rows.iter().enumerate() {
@@ -77,7 +78,8 @@ pub fn cost_of(weights: &[u32], slots: &[u32], gaps: &[u32]) -> u64
     requires light { (k : ℕ) → slice_index weights.now k ≤ 1000 }
     requires gaps { length gaps.now ≡ 2 * length weights.now + 1 }
     requires within { (v : ℕ) → v < length gaps.now → slice_index gaps.now v < length slots.now }
-    requires own { (k : ℕ) → k < length weights.now → slice_index slots.now (slice_index gaps.now (2 * k)) ≤ slice_index slots.now (slice_index gaps.now (2 * k + 1)) }
+    requires own { (k : ℕ) → k < length weights.now → slice_index slots.now (slice_index gaps.now (2 * k))
+        ≤ slice_index slots.now (slice_index gaps.now (2 * k + 1)) }
     requires end { (gap : ℕ) → slice_index slots.now gap ≤ 64000 }
     ensures { result ≡ rows_cost weights.now slots.now gaps.now (length weights.now) }
 {

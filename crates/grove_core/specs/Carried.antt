@@ -16,10 +16,12 @@ records_of core = run_records core.jobs core.opening (past_of core)
 pub record IsOf (core : CoreState) (carry : Carried) : Type 0 where
   pub job : carry.txn < length core.jobs
   pub out : (node : ℕ) → is_some (known_at carry.known node) ≡ holds core.jobs (past_of core) carry.txn node
-  pub known : (node : ℕ) (value : ℤ) → known_at carry.known node ≡ Some value → slice_get (records_of core) node ≡ Some value
+  pub known : (node : ℕ) (value : ℤ) → known_at carry.known node ≡ Some value → slice_get (records_of core) node
+      ≡ Some value
   pub next : (i : ℕ) (e : Entry) → slice_get carry.entries i ≡ Some e
       → slice_get (plan_of core.jobs carry.txn) (steps_done (past_of core) carry.txn + i) ≡ Some (Access e.number)
-  pub own : (i : ℕ) (e : Entry) → slice_get carry.entries i ≡ Some e → slice_get (list_of core.jobs carry.txn) e.number ≡ Some e.access
+  pub own : (i : ℕ) (e : Entry) → slice_get carry.entries i ≡ Some e → slice_get (list_of core.jobs carry.txn) e.number
+      ≡ Some e.access
 
 -- the core after so many steps more of a job
 abbrev pub after_steps : CoreState → ℕ → ℕ → CoreState

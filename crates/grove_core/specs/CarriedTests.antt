@@ -24,11 +24,13 @@ KnowsAll core t known = (i : ℕ) (k : Known) → slice_get known i ≡ Some k �
 
 -- each node is out that the job holds
 abbrev pub HasAll : CoreState → Carried → Type 0
-HasAll core carry = (node : ℕ) → holds core.jobs (past_of core) carry.txn node ≡ true → is_some (known_at carry.known node) ≡ true
+HasAll core carry = (node : ℕ) → holds core.jobs (past_of core) carry.txn node ≡ true
+    → is_some (known_at carry.known node) ≡ true
 
 -- the step at a position is the entry's access, and this is one of the list
 abbrev pub IsNext : List Access → List Step → ℕ → Entry → Type 0
-IsNext list plan at e = (slice_get plan at ≡ Some (plan_step.Access e.number)) × (slice_get list e.number ≡ Some e.access)
+IsNext list plan at e = (slice_get plan at ≡ Some (plan_step.Access e.number))
+    × (slice_get list e.number ≡ Some e.access)
 
 abbrev pub Follows : List Access → List Step → ℕ → List Entry → Type 0
 Follows list plan start entries = (i : ℕ) (e : Entry) → slice_get entries i ≡ Some e → IsNext list plan (start + i) e

@@ -1,5 +1,6 @@
 -- For the proofs alone: what a core keeps of its history, job by job and node by node.
-use Rattle.std.specs.Prelude.{◌≡◌, ◌≢◌, ℕ, ◌^◌, ◌<◌, ◌≤◌, ◌==◌, ℤ, Bool, true, false, ⊤, List, [], ◌∷◌, length, slice_get, Option, Some, None, if◌then◌else◌}
+use Rattle.std.specs.Prelude.{◌≡◌, ◌≢◌, ℕ, ◌^◌, ◌<◌, ◌≤◌, ◌==◌, ℤ, Bool, true, false, ⊤, List, [], ◌∷◌, length}
+use Rattle.std.specs.Prelude.{slice_get, Option, Some, None, if◌then◌else◌}
 use Rattle.grove_base.specs.Numbers.{count_below}
 use Rattle.grove_tree.specs.Trees.{Rows, IsTree}
 use Rattle.grove_core.specs.declared.job.Job.{Job}
@@ -7,7 +8,8 @@ use Rattle.grove_core.specs.declared.event.Event.{Event}
 use Rattle.grove_core.specs.declared.locking.Locked.{Locked}
 use Rattle.grove_core.specs.declared.progress.Progress.{Progress}
 use Rattle.grove_plan.specs.Plans.{is_lock}
-use Rattle.grove_core.specs.Runs.{list_of, plan_of, steps_done, holds, is_marked, AllLegal, IsRun, run_records, run_replies, waits_of}
+use Rattle.grove_core.specs.Runs.{list_of, plan_of, steps_done, holds, is_marked, AllLegal, IsRun, run_records}
+use Rattle.grove_core.specs.Runs.{run_replies, waits_of}
 use Rattle.grove_core.specs.RunBounds.{lock_steps}
 use Rattle.grove_core.specs.Orders.{first_lock, lock_time, earlier}
 use Rattle.grove_core.specs.declared.owner.Owner.{Owner}

@@ -5,7 +5,8 @@ use Rattle.grove_core.specs.declared.job.Job.{Job}
 use Rattle.grove_core.specs.declared.event.Event.{Event}
 use Rattle.grove_core.specs.declared.event.Event.TheVariants.{Take}
 use Rattle.grove_core.specs.Serial.{serial_records, serial_replies}
-use Rattle.grove_core.specs.Runs.{list_of, plan_of, steps_done, AllLegal, MayHappen, IsRun, IsFinished, IsBlocked, run_records, run_replies}
+use Rattle.grove_core.specs.Runs.{list_of, plan_of, steps_done, AllLegal, MayHappen, IsRun, IsFinished, IsBlocked}
+use Rattle.grove_core.specs.Runs.{run_records, run_replies}
 use Rattle.grove_core.specs.Orders.{placement_order}
 
 -- the lists done whole, one after the other, give the records and replies of the run
@@ -20,9 +21,11 @@ pub record IsEachOnce (order : List ℕ) (n : ℕ) : Type 0 where
   pub once : (i j t : ℕ) → slice_get order i ≡ Some t → slice_get order j ≡ Some t → i ≡ j
 
 abbrev pub RunsAreSerial : Type 0
-RunsAreSerial = (rows : Rows) → IsTree rows → (jobs : List Job) → AllLegal rows jobs → (opening : List ℤ) (past : List Event)
+RunsAreSerial = (rows : Rows) → IsTree rows → (jobs : List Job) → AllLegal rows jobs
+    → (opening : List ℤ) (past : List Event)
     → IsRun jobs past → IsFinished jobs past
-    → IsEachOnce (placement_order rows jobs past) (length jobs) × IsSerialBy (placement_order rows jobs past) jobs opening past
+    → IsEachOnce (placement_order rows jobs past) (length jobs)
+    × IsSerialBy (placement_order rows jobs past) jobs opening past
 
 -- some job's next step may be done
 abbrev pub CanGoOn : List Job → List Event → Type 0

@@ -18,5 +18,6 @@ job_fault rows jobs t = plan_fault_of rows (nodes_of (list_of jobs t)) (plan_of 
 
 -- the lowest job with a fault, and its fault
 abbrev pub IsFirstFault : Rows → List Job → OpenFault → Type 0
-IsFirstFault rows jobs (BadPlan t fault) = (t < length jobs) × (job_fault rows jobs t ≡ Some fault) × ((u : ℕ) → u < t → job_fault rows jobs u ≡ None)
+IsFirstFault rows jobs (BadPlan t fault) = (t < length jobs) × (job_fault rows jobs t ≡ Some fault)
+    × ((u : ℕ) → u < t → job_fault rows jobs u ≡ None)
 IsFirstFault rows jobs Memory = ⊤

@@ -31,5 +31,6 @@ pub record IsFirstUnfinished (jobs : List Job) (past : List Event) (t : ℕ) : T
 abbrev pub IsReplayFault : Rows → List Job → List Event → ReplayFault → Type 0
 IsReplayFault rows jobs events (BadPlan t fault) = IsFirstFault rows jobs (opening.BadPlan t fault)
 IsReplayFault rows jobs events (BadEvent at fault) = AllLegal rows jobs × IsFirstRefused jobs events at fault
-IsReplayFault rows jobs events (Unfinished t) = AllLegal rows jobs × IsRun jobs (reverse events) × IsFirstUnfinished jobs (reverse events) t
+IsReplayFault rows jobs events (Unfinished t) = AllLegal rows jobs × IsRun jobs (reverse events)
+    × IsFirstUnfinished jobs (reverse events) t
 IsReplayFault rows jobs events Memory = ⊤

@@ -1,5 +1,6 @@
 -- Runs of jobs over their plans, as histories of events.
-use Rattle.std.specs.Prelude.{◌≡◌, ◌≢◌, ℕ, zero, suc, ◌+◌, ◌<◌, ◌≤◌, ◌==◌, ℤ, Bool, true, false, ⊤, List, [], ◌∷◌, ◌++◌, length, map, slice_get, Option, Some, None, if◌then◌else◌}
+use Rattle.std.specs.Prelude.{◌≡◌, ◌≢◌, ℕ, zero, suc, ◌+◌, ◌<◌, ◌≤◌, ◌==◌, ℤ, Bool, true, false, ⊤, List, [], ◌∷◌, ◌++◌}
+use Rattle.std.specs.Prelude.{length, map, slice_get, Option, Some, None, if◌then◌else◌}
 use Rattle.grove_base.specs.Numbers.{numbers_below}
 use Rattle.grove_tree.specs.Trees.{Rows}
 use Rattle.grove_access.specs.declared.access.Access.{Access}
@@ -78,7 +79,8 @@ job_of (Mark t) = t
 
 -- the job's next step is a lock of a node that this other job holds
 abbrev pub IsBlocked : List Job → List Event → ℕ → ℕ → Type 0
-IsBlocked jobs past t holder = (node : ℕ) × (next_step jobs past t ≡ Some (Lock node)) × IsHeldBy jobs past t node holder
+IsBlocked jobs past t holder = (node : ℕ) × (next_step jobs past t ≡ Some (Lock node))
+    × IsHeldBy jobs past t node holder
 
 abbrev pub IsRefused : List Job → List Event → Event → StepFault → Type 0
 IsRefused jobs past event NoTxn = length jobs ≤ job_of event

@@ -12,7 +12,8 @@ serial_records lists (job ∷ order) records = serial_records lists order (recor
 abbrev pub serial_replies : (ℕ → List Access) → List ℕ → List ℤ → ℕ → List Reply
 serial_replies lists [] records which = []
 serial_replies lists (job ∷ order) records which =
-    if job == which then replies_to (lists job) records else serial_replies lists order (records_after (lists job) records) which
+    if job == which then replies_to (lists job) records else serial_replies lists order
+    (records_after (lists job) records) which
 
 -- An access, and the job that does it.
 pub record Deed : Type 0 where

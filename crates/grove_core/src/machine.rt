@@ -1,5 +1,7 @@
-ghost use Rattle.std.specs.Prelude.{◌≡◌, ℕ, ◌≤◌, ◌<◌, ◌∷◌, [], ◌++◌, length, reverse, IfOk, OnOk, OnErr, IfErr, MatchOption, Some, true, false, IsTrue, IfSome, IfNone, ◌↔◌};
-ghost use Rattle.grove_core.specs.Runs.{plan_of, next_step, AllLegal, IsRun, IsFinished, MayHappen, IsRefused, IsFree, IsHeldBy, is_marked, run_records, run_replies, waits_of};
+ghost use Rattle.std.specs.Prelude.{◌≡◌, ℕ, ◌≤◌, ◌<◌, ◌∷◌, [], ◌++◌, length, reverse, IfOk, OnOk, OnErr, IfErr};
+ghost use Rattle.std.specs.Prelude.{MatchOption, Some, true, false, IsTrue, IfSome, IfNone, ◌↔◌};
+ghost use Rattle.grove_core.specs.Runs.{plan_of, next_step, AllLegal, IsRun, IsFinished, MayHappen, IsRefused, IsFree};
+ghost use Rattle.grove_core.specs.Runs.{IsHeldBy, is_marked, run_records, run_replies, waits_of};
 ghost use Rattle.grove_core.specs.RunBounds.{most_events};
 ghost use Rattle.grove_tree.specs.Trees.{IsTree};
 ghost use Rattle.grove_core.specs.Orders.{first_lock, lock_time, earlier};
@@ -47,14 +49,22 @@ impl<'a> Model for Core<'a> {
 
     ghost Value = { CoreState };
 
-    ghost view = { λ core. record { tree = core.tree.now; jobs = core.jobs.now; opening = core.opening; history = core.history.items } };
+    ghost view = { λ core. record {
+      tree = core.tree.now;
+      jobs = core.jobs.now;
+      opening = core.opening;
+      history = core.history.items;
+    } };
 
-    ghost invariant = { λ core. IsCore core.tree.now core.jobs.now core.opening (reverse core.history.items) core.records core.progress.items core.owners.items core.waits.items × (most_events core.jobs.now ≤ vec_capacity core.history) × TellsFirsts (length core.tree.now) core.jobs.now core.firsts.items };
+    ghost invariant = { λ core. IsCore core.tree.now core.jobs.now core.opening (reverse core.history.items)
+        core.records core.progress.items core.owners.items core.waits.items
+        × (most_events core.jobs.now ≤ vec_capacity core.history)
+        × TellsFirsts (length core.tree.now) core.jobs.now core.firsts.items };
 }
 
 impl<'a> Core<'a> {
-    /// The core of these jobs over the tree, before the first event. It keeps a copy of the records and borrows the rest.
-    /// After `BadPlan` and `Memory` nothing has changed; `Memory` may come before `BadPlan`.
+    /// The core of these jobs over the tree, before the first event. It keeps a copy of the records and borrows the
+    /// rest. After `BadPlan` and `Memory` nothing has changed; `Memory` may come before `BadPlan`.
     pub fn open(
         alloc: Global,
         tree: &'a Tree,
@@ -64,7 +74,8 @@ impl<'a> Core<'a> {
         requires lists { AllFit tree.now jobs.now }
         requires records { length records.now ≡ length tree.now }
         requires few { length jobs.now ≤ 256 }
-        ensures new { IfOk result (λ core. core ≡ record { tree = tree.now; jobs = jobs.now; opening = records.now; history = [] }) }
+        ensures new { IfOk result
+            (λ core. core ≡ record { tree = tree.now; jobs = jobs.now; opening = records.now; history = [] }) }
         ensures legal { OnOk result (AllLegal tree.now jobs.now) }
         ensures fault { IfErr result (λ fault. IsFirstFault tree.now jobs.now fault) }
     {
@@ -82,7 +93,8 @@ impl<'a> Core<'a> {
         requires legal { AllLegal tree.now jobs.now }
         requires records { length records.now ≡ length tree.now }
         requires few { length jobs.now ≤ 256 }
-        ensures { IfOk result (λ core. core ≡ record { tree = tree.now; jobs = jobs.now; opening = records.now; history = [] }) }
+        ensures { IfOk result
+            (λ core. core ≡ record { tree = tree.now; jobs = jobs.now; opening = records.now; history = [] }) }
     {
         let nodes = tree.len() as usize;
         let opening = records.copy(alloc)?;
@@ -260,7 +272,8 @@ impl<'a> Core<'a> {
 
     /// The lowest job that isn't at the end of its plan.
     pub(crate) fn first_unfinished(&self) -> Option<u32>
-        ensures finished { MatchOption result (IsFinished self.now.jobs (past_of self.now)) (IsFirstUnfinished self.now.jobs (past_of self.now)) }
+        ensures finished { MatchOption result (IsFinished self.now.jobs (past_of self.now))
+            (IsFirstUnfinished self.now.jobs (past_of self.now)) }
         ensures going { IfSome result (λ txn. CanGoOn self.now.jobs (past_of self.now)) }
     {
         for txn in 0..self.jobs.len() {
@@ -283,7 +296,9 @@ impl<'a> Core<'a> {
     /// Is it known that no job locked the node after this one?
     pub(crate) fn locked_last(&self, txn: u32, node: Node) -> bool
         requires { node < length self.now.tree }
-        ensures { result ≡ true → (u : ℕ) → earlier (lock_time self.now.jobs (past_of self.now) txn node) (lock_time self.now.jobs (past_of self.now) u node) ≡ false }
+        ensures { result ≡ true → (u : ℕ)
+            → earlier (lock_time self.now.jobs (past_of self.now) txn node)
+            (lock_time self.now.jobs (past_of self.now) u node) ≡ false }
     {
         is_owner(self.owners[node.number() as usize].last(), txn)
     }
@@ -317,7 +332,8 @@ impl<'a> Core<'a> {
     /// The job other than this one that holds the node which this one is to lock, if there is one.
     fn other_holder(&self, txn: u32, node: Node) -> Option<u32>
         requires { next_step self.now.jobs (past_of self.now) txn ≡ Some (Step.Lock node) }
-        ensures { MatchOption result (IsFree self.now.jobs (past_of self.now) txn node) (λ holder. IsHeldBy self.now.jobs (past_of self.now) txn node holder) }
+        ensures { MatchOption result (IsFree self.now.jobs (past_of self.now) txn node)
+            (λ holder. IsHeldBy self.now.jobs (past_of self.now) txn node holder) }
     {
         match self.owners[node.number() as usize].holder() {
             Some(holder) if holder != txn => Some(holder),

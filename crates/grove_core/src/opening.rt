@@ -81,7 +81,8 @@ fn is_lock(step: Step) -> bool
 /// The jobs' progress before the first event.
 pub fn start_all(alloc: Global, jobs: &[Job]) -> Result<Vec<Progress>, AllocError>
     ensures number { IfOk result (λ progress. length progress.items ≡ length jobs.now) }
-    ensures started { IfOk result (λ all. (t : ℕ) (progress : Progress) → slice_get all.items t ≡ Some progress → HasStarted (lock_steps (plan_of jobs.now t)) (length (list_of jobs.now t)) progress) }
+    ensures started { IfOk result (λ all. (t : ℕ) (progress : Progress) → slice_get all.items t ≡ Some progress
+        → HasStarted (lock_steps (plan_of jobs.now t)) (length (list_of jobs.now t)) progress) }
 {
     let mut progress = Vec::with_capacity(alloc, jobs.len())?;
     for txn in 0..jobs.len() {

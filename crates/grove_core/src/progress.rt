@@ -32,7 +32,8 @@ impl Progress {
         ensures steps_done { self.new.steps_done ≡ self.old.steps_done + 1 }
         ensures marked { self.new.marked ≡ false }
         ensures replies { self.new.replies ≡ self.old.replies }
-        ensures locked { MatchOption kept (self.new.locked ≡ self.old.locked) (λ lock. self.new.locked.items ≡ self.old.locked.items ++ lock ∷ []) }
+        ensures locked { MatchOption kept (self.new.locked ≡ self.old.locked)
+            (λ lock. self.new.locked.items ≡ self.old.locked.items ++ lock ∷ []) }
         ensures room { self.new.locked.capacity ≡ self.old.locked.capacity }
         ensures held_nodes { self.new.held_nodes ≡ self.old.held_nodes + 1 }
     {

@@ -67,7 +67,10 @@ Slots-send = Vec-send Slot.the_row Slot-send
 BoardInside-send : (B : RattleType) (picked : opening.Ghosts B.Denot) → IsSend B → IsSync B → IsSend (BoardInside.the_row B picked)
 BoardInside-send B picked send sync =
     let ledger = Ledger-send B picked send sync in
-    let each : AllSend (shape (BoardInside.the_type B picked)).fields = (search (sendable, crosses, ledger) depth 60 fits 4000, (Slots-send, (search (sendable, crosses), (search (sendable, crosses), (search (sendable, crosses), tt))))) in
+    let each : AllSend (shape (BoardInside.the_type B picked)).fields = (
+      search (sendable, crosses, ledger) depth 60 fits 4000,
+      (Slots-send, (search (sendable, crosses), (search (sendable, crosses), (search (sendable, crosses), tt)))),
+    ) in
     recorded_send _ _ _ (BoardInside.the_type B picked).to_one (struct_send (shape (BoardInside.the_type B picked)) each)
 
 Board-send : (B : RattleType) (picked : opening.Ghosts B.Denot) → IsSend B → IsSync B → IsSend (Board.the_row B picked)
@@ -80,7 +83,8 @@ DeskInside-sync : (B : RattleType) (picked : opening.Ghosts B.Denot) → IsSend 
 DeskInside-sync B picked send sync =
     let board = Board-send B picked send sync in
     let lock : IsSync (Mutex.the_row (Board.the_row B picked)) = search (sendable, crosses, board) depth 60 fits 4000 in
-    let each : AllSync (shape (DeskInside.the_type B picked)).fields = (search (sendable, crosses), (lock, (Bells-sync, (search (sendable, crosses), tt)))) in
+    let each : AllSync (shape (DeskInside.the_type B picked)).fields =
+    (search (sendable, crosses), (lock, (Bells-sync, (search (sendable, crosses), tt)))) in
     recorded_sync _ _ _ (DeskInside.the_type B picked).to_one (struct_sync (shape (DeskInside.the_type B picked)) each)
 
 -- each part of a desk may be read by several threads at once, or stands behind its lock

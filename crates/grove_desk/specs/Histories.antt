@@ -11,7 +11,8 @@ pub record RoundState : Type 0 where
 
 -- a lawful round over the receipts' lines, with their replies and their count of rounds
 pub record IsRound (before : StoreState) (receipts : List ReceiptState) (after : StoreState) : Type 0 where
-  pub round : IsLawfulRound before (map (λ receipt. receipt.line) receipts) (map (λ receipt. receipt.reply) receipts) after
+  pub round : IsLawfulRound before (map (λ receipt. receipt.line) receipts) (map (λ receipt. receipt.reply) receipts)
+      after
   pub counted : All (λ receipt. receipt.rounds ≡ after.rounds) receipts
 
 -- the store before the first of the rounds, which is the last one where there are none
@@ -41,11 +42,13 @@ StandsIn rounds receipt = slice_get (receipts_in rounds) receipt.number ≡ Some
 
 -- the numbers rise from receipt to receipt
 abbrev pub Ascend : List ReceiptState → Type 0
-Ascend receipts = (place : ℕ) (other : ReceiptState) → place + 1 < length receipts → (get_or receipts place other).number < (get_or receipts (place + 1) other).number
+Ascend receipts = (place : ℕ) (other : ReceiptState) → place + 1 < length receipts
+    → (get_or receipts place other).number < (get_or receipts (place + 1) other).number
 
--- what led from an opening store to the last one, and how receipts stand in it: each once, and where they are as many as
--- there are, they are all of it
-pub record IsHistory (opening : StoreState) (receipts : List ReceiptState) (rounds : List RoundState) (last : StoreState) : Type 0 where
+-- what led from an opening store to the last one, and how receipts stand in it: each once, and where they are as many
+-- as there are, they are all of it
+pub record IsHistory (opening : StoreState) (receipts : List ReceiptState) (rounds : List RoundState)
+    (last : StoreState) : Type 0 where
   pub leads : Leads rounds last
   pub begins : store_before rounds last ≡ opening
   pub numbered : AreNumberedFrom (Some 0) (receipts_in rounds)

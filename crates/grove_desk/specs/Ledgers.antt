@@ -1,5 +1,6 @@
 -- For the proofs alone: a store and its journal, which change together.
-use Rattle.std.specs.Prelude.{◌≡◌, ℕ, ◌+◌, ◌-◌, ◌^◌, ◌↔◌, min, Bool, true, List, [], ◌∷◌, ◌++◌, Option, Some, None, length, map, take, All, IsSome}
+use Rattle.std.specs.Prelude.{◌≡◌, ℕ, ◌+◌, ◌-◌, ◌^◌, ◌↔◌, min, Bool, true, List, [], ◌∷◌, ◌++◌, Option, Some, None}
+use Rattle.std.specs.Prelude.{length, map, take, All, IsSome}
 use Rattle.grove_store.specs.StoreStates.{StoreState}
 use Rattle.grove_desk.specs.Receipts.{ReceiptState, AreNumberedFrom}
 use Rattle.grove_desk.specs.Histories.{RoundState, Leads, Led, store_before, receipts_in}
@@ -37,10 +38,11 @@ IsJournalOf opening None last = Unit {0}
 IsJournalOf opening (Some journal) last = IsJournal opening journal last
 
 -- lawful rounds lead from the opening store to this one, whether or not they were noted, and a journal has them all
-pub record IsLedger (opening : StoreState) (kept : Bool) (store : StoreState) (journal : Option JournalState) : Type 0 where
-  pub led : Led opening store
-  pub account : IsJournalOf opening journal store
-  pub keeps : IsSome journal ↔ (kept ≡ true)
+pub record IsLedger (opening : StoreState) (kept : Bool) (store : StoreState) (journal : Option JournalState) : Type 0
+  where
+    pub led : Led opening store
+    pub account : IsJournalOf opening journal store
+    pub keeps : IsSome journal ↔ (kept ≡ true)
 
 -- the receipts of the first of the lines, with these replies and this count of rounds, numbered from the first on
 pub record AreReceiptsOf (first : Option ℕ) (lines replies : List (List ℕ)) (rounds : ℕ)

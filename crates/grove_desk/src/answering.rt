@@ -11,8 +11,8 @@ use std::alloc::Global;
 use std::sync::Wait;
 use std::thread::Threads;
 
-/// Answers the first of the lines in one round, and gives a receipt for each, numbered from the first number on. The receipts
-/// take these lines; the others stay. All memory is asked for before the store changes.
+/// Answers the first of the lines in one round, and gives a receipt for each, numbered from the first number on. The
+/// receipts take these lines; the others stay. All memory is asked for before the store changes.
 pub(crate) fn answer_taken<R: Threads + Wait + Sync, G: Gate + Sync>(
     rt: &R,
     alloc: Global,
@@ -22,10 +22,12 @@ pub(crate) fn answer_taken<R: Threads + Wait + Sync, G: Gate + Sync>(
     gate: &G,
 ) -> Result<Vec<Receipt>, NoMemory>
     requires { (0 < length taken.old.items) × (length taken.old.items ≤ 16) }
-    ensures lines { IfOk result (λ receipts. map (λ receipt. receipt.line) receipts.items ≡ take (length receipts.items) (map (λ asked. asked.line.bytes.items) taken.old.items)) }
+    ensures lines { IfOk result (λ receipts. map (λ receipt. receipt.line) receipts.items
+        ≡ take (length receipts.items) (map (λ asked. asked.line.bytes.items) taken.old.items)) }
     ensures round { IfOk result (λ receipts. IsRound store.old receipts.items store.new) }
     ensures numbered { IfOk result (λ receipts. AreNumberedFrom first receipts.items) }
-    ensures left { IfOk result (λ receipts. drop (length receipts.items) taken.new.items ≡ drop (length receipts.items) taken.old.items) }
+    ensures left { IfOk result (λ receipts. drop (length receipts.items) taken.new.items
+        ≡ drop (length receipts.items) taken.old.items) }
     ensures tickets { map (λ asked. asked.ticket) taken.new.items ≡ map (λ asked. asked.ticket) taken.old.items }
     ensures room { vec_capacity taken.new ≡ vec_capacity taken.old }
     ensures err { OnErr result (store.new ≡ store.old) }

@@ -20,8 +20,8 @@ use std::marker::Model;
 /// How many lines may wait, and the most that leave with the store at once.
 pub(crate) const MOST_LINES: usize = 16;
 
-/// What lies behind a desk's lock: the store with its journal, unless they are out, and the lines that were put and not yet
-/// taken, in the order in which they were put.
+/// What lies behind a desk's lock: the store with its journal, unless they are out, and the lines that were put and not
+/// yet taken, in the order in which they were put.
 #[derive(Drop)]
 pub(crate) struct Board<B: Opening> {
     ledger: Option<Ledger<B>>,
@@ -100,8 +100,8 @@ impl<B: Opening> Board<B> {
             .min(MOST_LINES.saturating_sub(self.waiting()) as u64)
     }
 
-    /// Whom to wake: the callers whose lines are answered and, where the store is here, all who want a copy of it; or else
-    /// the caller of the first line that waits, who is to lead.
+    /// Whom to wake: the callers whose lines are answered and, where the store is here, all who want a copy of it; or
+    /// else the caller of the first line that waits, who is to lead.
     pub(crate) fn rings(&self) -> Rings {
         let is_here = self.ledger.is_some();
         let mut rings = Rings::new(is_here && self.copies > 0);
@@ -169,8 +169,8 @@ impl<B: Opening> Board<B> {
         self.ledger.take()
     }
 
-    /// Puts the store back, and leaves to the callers of the lines what they were answered: those of the first lines, as many
-    /// as there are receipts, or all of them a refusal. The other lines wait again, where they were.
+    /// Puts the store back, and leaves to the callers of the lines what they were answered: those of the first lines,
+    /// as many as there are receipts, or all of them a refusal. The other lines wait again, where they were.
     pub(crate) fn put_back(
         &mut self,
         ledger: Ledger<B>,
@@ -206,8 +206,8 @@ fn place_of(slots: &[Slot], ticket: u64) -> Option<usize>
     slots.iter().position(|slot| slot.ticket == ticket)
 }
 
-/// Where a round has brought the last of its lines that isn't settled yet, at this place: it has its receipt, the last of those
-/// that are left, or waits again where there is none for it; without memory each line is refused.
+/// Where a round has brought the last of its lines that isn't settled yet, at this place: it has its receipt, the last
+/// of those that are left, or waits again where there is none for it; without memory each line is refused.
 fn state_after(answered: &mut Result<Vec<Receipt>, NoMemory>, place: usize, line: Line) -> State
     ensures state { (opening : StoreState) → (kept : Bool)
         → IfOk answered.old (λ receipts. All (IsDeskReceipt opening kept) receipts.items)

@@ -26,9 +26,9 @@ mod closing;
 /// A line with more bytes than this is put once no other such line is being answered.
 const LARGE_LINE: usize = 64 * 1024;
 
-/// A store that many callers share. Each puts a line and waits for its receipt; one of them, whoever finds the store there,
-/// takes it with the first lines that wait, answers them as one round, and puts it back. What it was opened with is known by
-/// its type: so no other store gets behind its lock.
+/// A store that many callers share. Each puts a line and waits for its receipt; one of them, whoever finds the store
+/// there, takes it with the first lines that wait, answers them as one round, and puts it back. What it was opened with
+/// is known by its type: so no other store gets behind its lock.
 #[derive(Drop)]
 pub struct Desk<B: Opening> {
     kept: bool,
@@ -65,10 +65,11 @@ impl<B: Opening> Desk<B> {
         }
     }
 
-    /// Answers a line of at most 1,048,576 bytes, alone or in a round with others that wait, and gives its receipt. It may wait
-    /// for others, and while 16 lines wait it puts none; one of more than 65,536 bytes waits until none such is answered, so
-    /// that no line waits for several of them. `seen` is a receipt that the new one has to come after. This caller's gate is
-    /// called only in a round that it runs itself. `Memory`: the line had no effect. `Foreign`: it may have had one.
+    /// Answers a line of at most 1,048,576 bytes, alone or in a round with others that wait, and gives its receipt. It
+    /// may wait for others, and while 16 lines wait it puts none; one of more than 65,536 bytes waits until none such
+    /// is answered, so that no line waits for several of them. `seen` is a receipt that the new one has to come after.
+    /// This caller's gate is called only in a round that it runs itself. `Memory`: the line had no effect. `Foreign`:
+    /// it may have had one.
     pub fn answer<R: Threads + Wait + Sync, G: Gate + Sync>(
         &self,
         rt: &R,
@@ -107,8 +108,8 @@ impl<B: Opening> Desk<B> {
         u32::try_from(self.board.lock(rt).waiting()).unwrap_or(u32::MAX)
     }
 
-    /// A copy of the store as it stands between two rounds. It may wait for a round that runs; the next one begins after the
-    /// copies that were asked for by then.
+    /// A copy of the store as it stands between two rounds. It may wait for a round that runs; the next one begins
+    /// after the copies that were asked for by then.
     pub fn snapshot<R: Wait>(&self, rt: &R, alloc: Global) -> Result<Store, NoMemory>
         ensures { IfOk result (Led self.now.opening) }
     {
@@ -144,8 +145,8 @@ impl<B: Opening> Desk<B> {
         put
     }
 
-    /// Waits for what the line of this ticket was answered; whenever it finds the store there, answers the first lines that wait
-    /// itself, outside the lock, and puts back the store and what they were answered.
+    /// Waits for what the line of this ticket was answered; whenever it finds the store there, answers the first lines
+    /// that wait itself, outside the lock, and puts back the store and what they were answered.
     fn attend<R: Threads + Wait + Sync, G: Gate + Sync>(
         &self,
         rt: &R,

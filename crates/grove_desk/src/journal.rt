@@ -1,4 +1,5 @@
-ghost use Rattle.std.specs.Prelude.{◌≡◌, [], Some, ◌<◌, ◌≤◌, ◌↔◌, length, map, take, drop, All, IsTrue, IfOk, IfErr, OnErr};
+ghost use Rattle.std.specs.Prelude.{◌≡◌, [], Some, ◌<◌, ◌≤◌, ◌↔◌, length, map, take, drop, All, IsTrue, IfOk, IfErr};
+ghost use Rattle.std.specs.Prelude.{OnErr};
 ghost use Rattle.std.specs.Vec.{vec_capacity};
 ghost use Rattle.grove_desk.specs.Receipts.{AreNumberedFrom};
 ghost use Rattle.grove_desk.specs.Histories.{StandsIn, Ascend, IsRound};
@@ -70,8 +71,8 @@ impl Journal {
         entries
     }
 
-    /// Answers the first of the lines in one round of the store, and notes it. Where memory is refused, both are as they were:
-    /// a copy of the store is made first, and comes back.
+    /// Answers the first of the lines in one round of the store, and notes it. Where memory is refused, both are as
+    /// they were: a copy of the store is made first, and comes back.
     pub(crate) fn answer<R: Threads + Wait + Sync, G: Gate + Sync>(
         &mut self,
         rt: &R,
@@ -81,13 +82,16 @@ impl Journal {
         gate: &G,
     ) -> Result<Vec<Receipt>, NoMemory>
         requires { (0 < length taken.old.items) × (length taken.old.items ≤ 16) }
-        ensures lines { IfOk result (λ receipts. map (λ receipt. receipt.line) receipts.items ≡ take (length receipts.items) (map (λ asked. asked.line.bytes.items) taken.old.items)) }
+        ensures lines { IfOk result (λ receipts. map (λ receipt. receipt.line) receipts.items
+            ≡ take (length receipts.items) (map (λ asked. asked.line.bytes.items) taken.old.items)) }
         ensures round { IfOk result (λ receipts. IsRound store.old receipts.items store.new) }
         ensures numbered { IfOk result (λ receipts. AreNumberedFrom (Some self.old.lines) receipts.items) }
-        ensures left { IfOk result (λ receipts. drop (length receipts.items) taken.new.items ≡ drop (length receipts.items) taken.old.items) }
+        ensures left { IfOk result (λ receipts. drop (length receipts.items) taken.new.items
+            ≡ drop (length receipts.items) taken.old.items) }
         ensures tickets { map (λ asked. asked.ticket) taken.new.items ≡ map (λ asked. asked.ticket) taken.old.items }
         ensures room { vec_capacity taken.new ≡ vec_capacity taken.old }
-        ensures journal { IfOk result (λ receipts. self.new ≡ noted_in (record { before = store.old; receipts = receipts.items }) self.old) }
+        ensures journal { IfOk result
+            (λ receipts. self.new ≡ noted_in (record { before = store.old; receipts = receipts.items }) self.old) }
         ensures err { OnErr result ((self.new ≡ self.old) × (store.new ≡ store.old)) }
     {
         let before = store.copy(alloc)?;
@@ -103,7 +107,8 @@ impl Journal {
 
     /// Notes a round with the store before it, which comes back where memory is refused.
     fn note(&mut self, alloc: Global, before: Store, receipts: &[Receipt]) -> Result<(), Store>
-        ensures journal { IfOk result (λ _. self.new ≡ noted_in (record { before = before; receipts = receipts.now }) self.old) }
+        ensures journal { IfOk result
+            (λ _. self.new ≡ noted_in (record { before = before; receipts = receipts.now }) self.old) }
         ensures back { IfErr result (λ back. back ≡ before) }
         ensures err { OnErr result (self.new ≡ self.old) }
     {

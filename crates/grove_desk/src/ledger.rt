@@ -67,8 +67,8 @@ impl<B: Opening> Ledger<B> {
         self.store.copy(alloc)
     }
 
-    /// Answers the first of the lines in one round, and notes it where a journal is kept. Each has a receipt, which takes the
-    /// line; the others stay. Where memory is refused, store and journal are as they were.
+    /// Answers the first of the lines in one round, and notes it where a journal is kept. Each has a receipt, which
+    /// takes the line; the others stay. Where memory is refused, store and journal are as they were.
     pub(crate) fn answer<R: Threads + Wait + Sync, G: Gate + Sync>(
         &mut self,
         rt: &R,
@@ -77,11 +77,15 @@ impl<B: Opening> Ledger<B> {
         gate: &G,
     ) -> Result<Vec<Receipt>, NoMemory>
         requires { (0 < length taken.old.items) × (length taken.old.items ≤ 16) }
-        ensures lines { IfOk result (λ receipts. map (λ receipt. receipt.line) receipts.items ≡ take (length receipts.items) (map (λ asked. asked.line.bytes.items) taken.old.items)) }
+        ensures lines { IfOk result (λ receipts. map (λ receipt. receipt.line) receipts.items
+            ≡ take (length receipts.items) (map (λ asked. asked.line.bytes.items) taken.old.items)) }
         ensures round { IfOk result (λ receipts. IsRound self.old.store receipts.items self.new.store) }
-        ensures journal { IfOk result (λ receipts. self.new.journal ≡ option_map (noted_in (record { before = self.old.store; receipts = receipts.items })) self.old.journal) }
+        ensures journal { IfOk result
+            (λ receipts. self.new.journal
+            ≡ option_map (noted_in (record { before = self.old.store; receipts = receipts.items })) self.old.journal) }
         ensures answered { IfOk result (λ receipts. All (IsDeskReceipt B.store B.kept) receipts.items) }
-        ensures left { IfOk result (λ receipts. drop (length receipts.items) taken.new.items ≡ drop (length receipts.items) taken.old.items) }
+        ensures left { IfOk result (λ receipts. drop (length receipts.items) taken.new.items
+            ≡ drop (length receipts.items) taken.old.items) }
         ensures tickets { map (λ asked. asked.ticket) taken.new.items ≡ map (λ asked. asked.ticket) taken.old.items }
         ensures room { vec_capacity taken.new ≡ vec_capacity taken.old }
         ensures err { OnErr result (self.new ≡ self.old) }

@@ -1,5 +1,5 @@
-//! A desk, at which many callers share one store: batches that wait together are answered as one round, and each line has a
-//! receipt.
+//! A desk, at which many callers share one store: batches that wait together are answered as one round, and each line
+//! has a receipt.
 #![tactic(auto)]
 
 pub use desk::{Closed, Desk};

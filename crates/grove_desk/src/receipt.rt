@@ -11,8 +11,8 @@ use std::marker::Model;
 /// What a desk tells of a line that it answered.
 #[derive(Debug, Drop)]
 pub struct Receipt {
-    /// The place of the line among all lines that were answered, counted from 0 and held at the greatest number; 0 where no
-    /// journal is kept.
+    /// The place of the line among all lines that were answered, counted from 0 and held at the greatest number; 0
+    /// where no journal is kept.
     pub number: u64,
     pub line: Vec<u8>,
     /// The reply, without a line feed.
@@ -29,7 +29,12 @@ impl Model for Receipt {
 
     ghost Value = { ReceiptState };
 
-    ghost view = { λ receipt. record { number = receipt.number; line = receipt.line.items; reply = receipt.reply.items; rounds = receipt.rounds } };
+    ghost view = { λ receipt. record {
+      number = receipt.number;
+      line = receipt.line.items;
+      reply = receipt.reply.items;
+      rounds = receipt.rounds;
+    } };
 
     ghost invariant = { λ receipt. TellsRefusal receipt.refusal receipt.reply.items };
 }

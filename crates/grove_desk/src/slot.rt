@@ -60,7 +60,8 @@ impl Slot {
 
 /// The lines that left with the store, in order.
 pub(crate) fn lines_of(alloc: Global, taken: &[Asked]) -> Result<Vec<&[u8]>, NoMemory>
-    ensures lines { IfOk result (λ lines. map (λ line. line.now) lines.items ≡ map (λ asked. asked.line.bytes.items) taken.now) }
+    ensures lines { IfOk result
+        (λ lines. map (λ line. line.now) lines.items ≡ map (λ asked. asked.line.bytes.items) taken.now) }
     ensures limit { IfOk result (λ lines. All (λ line. length line.now ≤ 1048576) lines.items) }
 {
     let mut lines = Vec::with_capacity(alloc, taken.len())?;

@@ -105,10 +105,10 @@ impl<'a, B: Opening, R: Threads + Wait + Sync + AllocGlobal> Answers<R> for Visi
     }
 }
 
-/// Answers the lines of the source at the desk, one after the other, each with its reply and a line feed, and gives their
-/// number. Between two of them others may have changed the store. Replies to lines that came together go out together, so after
-/// a write that fails more lines may have had their effects than have their replies. After `Foreign` the replies of the lines before went out
-/// whole, and the line may have had its effect.
+/// Answers the lines of the source at the desk, one after the other, each with its reply and a line feed, and gives
+/// their number. Between two of them others may have changed the store. Replies to lines that came together go out
+/// together, so after a write that fails more lines may have had their effects than have their replies. After `Foreign`
+/// the replies of the lines before went out whole, and the line may have had its effect.
 pub fn desk_session<B: Opening, R: Threads + Wait + Sync + AllocGlobal, I: Source, O: Sink>(
     rt: &R,
     desk: &Desk<B>,
@@ -118,9 +118,11 @@ pub fn desk_session<B: Opening, R: Threads + Wait + Sync + AllocGlobal, I: Sourc
     requires sound_source { I.has_failed source.old ≡ false }
     requires sound_sink { O.has_failed sink.old ≡ false }
     requires reads { I.read_count source.old < 2 ^ 63 }
-    ensures text { (input out : List ℕ) × (new : VisitState) × Consumes (I.remaining source.old) (I.remaining source.new) input
+    ensures text { (input out : List ℕ) × (new : VisitState)
+        × Consumes (I.remaining source.old) (I.remaining source.new) input
         × Appends (O.contents sink.old) (O.contents sink.new) out
-        × SessionEnds true IsShared (record { names = unweighed desk.now.opening.rows; rounds = 0; told = Told.Nothing })
+        × SessionEnds true IsShared
+        (record { names = unweighed desk.now.opening.rows; rounds = 0; told = Told.Nothing })
         result (I.remaining source.new) input out new }
     ensures source { I.has_failed source.new ≡ is_read result }
     ensures sink { O.has_failed sink.new ≡ is_write result }

@@ -32,7 +32,8 @@ pub fn picture_of(
     requires fits { AreNodes tree.now (nodes_of list.now) }
     ensures picture { IfOk result (IsPictureOf tree.now list.now plan.now) }
     ensures legal { OnOk result (IsLegal tree.now (nodes_of list.now) plan.now) }
-    ensures fault { IfErr result (λ fault. fault ≢ PlanFault.Memory → plan_fault_of tree.now (nodes_of list.now) plan.now ≡ Some fault) }
+    ensures fault { IfErr result (λ fault. fault ≢ PlanFault.Memory
+        → plan_fault_of tree.now (nodes_of list.now) plan.now ≡ Some fault) }
 {
     let cost = judge(alloc, tree, list, plan)?;
     match legal_picture(alloc, tree, list, plan, cost) {

@@ -106,8 +106,8 @@ fn push_weight(out: &mut String, bar: &Bar) -> Result<(), AllocError> {
     write!(out, " {weight:>6} ")
 }
 
-/// The bar over the accesses: a word where its own node is accessed, dashes where it is held else, and a stroke where it
-/// is let go in the slot of its lock.
+/// The bar over the accesses: a word where its own node is accessed, dashes where it is held else, and a stroke where
+/// it is let go in the slot of its lock.
 fn push_bar(
     out: &mut String,
     picture: &Picture,

@@ -17,7 +17,8 @@ abbrev pub IsLastArcAt : End → List Arc → ℕ → ℕ → Option ℕ → Typ
 IsLastArcAt end arcs bound v last =
     MatchOption last
     ((i : ℕ) → i < bound → end_of end (arc_at arcs i) ≢ v)
-    (λ k. (k < bound) × (end_of end (arc_at arcs k) ≡ v) × ((i : ℕ) → k < i → i < bound → end_of end (arc_at arcs i) ≢ v))
+    (λ k. (k < bound) × (end_of end (arc_at arcs k) ≡ v)
+    × ((i : ℕ) → k < i → i < bound → end_of end (arc_at arcs i) ≢ v))
 
 -- the chains of the arcs before the i-th
 pub record AreLinked (i : ℕ) (end : End) (arcs : List Arc) (n : ℕ) (last before : List (Option ℕ)) : Type 0 where
@@ -28,7 +29,8 @@ pub record AreLinked (i : ℕ) (end : End) (arcs : List Arc) (n : ℕ) (last bef
 
 pub record IsFan (end : End) (network : Network) (fan : Fan) : Type 0 where
   pub end_is : fan.end ≡ end
-  pub linked : AreLinked (length network.arcs.items) end network.arcs.items (length network.needs.items) fan.last.items fan.before.items
+  pub linked : AreLinked (length network.arcs.items) end network.arcs.items (length network.needs.items) fan.last.items
+      fan.before.items
 
 pub record AreFans (network : Network) (fans : Fans) : Type 0 where
   pub outs : IsFan From network fans.outs

@@ -1,5 +1,6 @@
 -- For the proofs alone: amounts along arcs, and what enters and leaves a variable.
-use Rattle.std.specs.Prelude.{◌≡◌, ℕ, ◌+◌, ◌-◌, ◌≤◌, ◌<◌, ◌==◌, Bool, cond, List, [], ◌∷◌, length, slice_index, ℤ, pos, ◌+ℤ◌}
+use Rattle.std.specs.Prelude.{◌≡◌, ℕ, ◌+◌, ◌-◌, ◌≤◌, ◌<◌, ◌==◌, Bool, cond, List, [], ◌∷◌, length, slice_index, ℤ, pos}
+use Rattle.std.specs.Prelude.{◌+ℤ◌}
 use borrow.Author.Differences.{up}
 use Rattle.grove_base.specs.Numbers.{sum_below}
 use Rattle.grove_flow.specs.declared.network.Arc.{Arc}
@@ -27,7 +28,8 @@ takes needs v = up (place needs v)
 pub record IsSolution (needs : List ℤ) (arcs : List Arc) (amounts : List ℕ) (places : List ℤ) : Type 0 where
   pub amounts_size : length amounts ≡ length arcs
   pub places_size : length places ≡ length needs
-  pub balanced : (v : ℕ) → v < length needs → pos (amount_in arcs amounts v) ≡ pos (amount_out arcs amounts v) +ℤ place needs v
+  pub balanced : (v : ℕ) → v < length needs → pos (amount_in arcs amounts v)
+      ≡ pos (amount_out arcs amounts v) +ℤ place needs v
   pub lawful : AreLawful arcs amounts places
   pub base : place places (length needs - 1) ≡ pos 0
   pub bounded : (i : ℕ) → slice_index amounts i ≤ sum_below (length needs) (takes needs)

@@ -1,5 +1,6 @@
 -- For the proofs alone: difference constraints as arcs, and places that meet them.
-use Rattle.std.specs.Prelude.{◌≡◌, ℕ, ◌+◌, ◌-◌, ◌*◌, ◌<◌, List, length, slice_index, slice_index_or, ℤ, pos, negsuc, ◌+ℤ◌, ◌≤ℤ◌}
+use Rattle.std.specs.Prelude.{◌≡◌, ℕ, ◌+◌, ◌-◌, ◌*◌, ◌<◌, List, length, slice_index, slice_index_or, ℤ, pos, negsuc}
+use Rattle.std.specs.Prelude.{◌+ℤ◌, ◌≤ℤ◌}
 use Rattle.grove_flow.specs.declared.network.Arc.{Arc}
 
 -- what stands at an index that is past the arcs
@@ -44,11 +45,13 @@ abbrev pub HasOwnArcs : ℕ → List Arc → Type 0
 HasOwnArcs rows arcs =
     (k : ℕ) → k < rows → (i : ℕ) × (i < length arcs) × ((arc_at arcs i).from ≡ 2 * k) × ((arc_at arcs i).to ≡ 2 * k + 1)
 
--- Rows with weights from 1 to 1000, and arcs between their variables. What a row's lock gives away, its release takes in.
+-- Rows with weights from 1 to 1000, and arcs between their variables. What a row's lock gives away, its release takes
+-- in.
 pub record IsNetwork (needs : List ℤ) (arcs : List Arc) : Type 0 where
   pub rows : ℕ
   pub size : length needs ≡ 2 * rows + 1
-  pub weights : (k : ℕ) → k < rows → (w : ℕ) × (w < 1000) × (place needs (2 * k) ≡ negsuc w) × (place needs (2 * k + 1) ≡ pos (w + 1))
+  pub weights : (k : ℕ) → k < rows → (w : ℕ) × (w < 1000) × (place needs (2 * k) ≡ negsuc w)
+      × (place needs (2 * k + 1) ≡ pos (w + 1))
   pub base : place needs (2 * rows) ≡ pos 0
   pub arcs_of : AreArcsOf arcs (length needs)
   pub own : HasOwnArcs rows arcs

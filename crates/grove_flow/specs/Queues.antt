@@ -27,4 +27,5 @@ AreQueued network state tree queue = (i key : ℕ) → IsLive network state tree
 -- each that leads on past a variable
 abbrev pub AreQueuedPast : ℕ → Network → State → Tree → Queue → Type 0
 AreQueuedPast v network state tree queue =
-    (i key : ℕ) → IsLive network state tree i key → (arc_at network.arcs.items i).from ≢ v → (arc_at network.arcs.items i).to ≢ v → HasEntry queue key i
+    (i key : ℕ) → IsLive network state tree i key → (arc_at network.arcs.items i).from ≢ v
+    → (arc_at network.arcs.items i).to ≢ v → HasEntry queue key i

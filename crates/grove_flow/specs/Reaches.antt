@@ -1,5 +1,6 @@
 -- For the proofs alone (of `solve`): what is reached in a search, and how.
-use Rattle.std.specs.Prelude.{◌≡◌, ◌≢◌, ℕ, zero, suc, ◌+◌, ◌-◌, ◌*◌, ◌<◌, ◌≤◌, min, ◌⊎◌, List, length, slice_index, slice_set, ℤ, pos, ◌+ℤ◌, ◌≤ℤ◌}
+use Rattle.std.specs.Prelude.{◌≡◌, ◌≢◌, ℕ, zero, suc, ◌+◌, ◌-◌, ◌*◌, ◌<◌, ◌≤◌, min, ◌⊎◌, List, length, slice_index}
+use Rattle.std.specs.Prelude.{slice_set, ℤ, pos, ◌+ℤ◌, ◌≤ℤ◌}
 use Rattle.std.specs.List.{sum_by}
 use Rattle.grove_flow.specs.declared.network.Arc.{Arc}
 use Rattle.grove_flow.specs.Networks.{arc_at, place}
@@ -29,15 +30,18 @@ abbrev pub AreNoSteps : ℕ → List Arc → List ℕ → List ℕ → Type 0
 AreNoSteps n arcs amounts ranks = (i : ℕ) → i < n → IsNoStep (arc_at arcs i) (slice_index amounts i) ranks
 
 -- the step that is chosen among the first n arcs, of which none has less slack
-pub record IsLeastStep (n : ℕ) (arcs : List Arc) (amounts : List ℕ) (places : List ℤ) (ranks : List ℕ) (chosen : ℕ) (by : ℤ) : Type 0 where
+pub record IsLeastStep (n : ℕ) (arcs : List Arc) (amounts : List ℕ) (places : List ℤ) (ranks : List ℕ) (chosen : ℕ)
+    (by : ℤ) : Type 0 where
   pub within : chosen < n
   pub step : IsStep (arc_at arcs chosen) (slice_index amounts chosen) places ranks by
-  pub least : (i : ℕ) (slack : ℤ) → i < n → IsStep (arc_at arcs i) (slice_index amounts i) places ranks slack → by ≤ℤ slack
+  pub least : (i : ℕ) (slack : ℤ) → i < n → IsStep (arc_at arcs i) (slice_index amounts i) places ranks slack
+      → by ≤ℤ slack
 
 -- one end of the arc is reached and the other isn't, and is to be
 abbrev pub IsNew : Arc → ℕ → List ℕ → Type 0
 IsNew arc amount ranks =
-    ((0 < slice_index ranks arc.from) × (slice_index ranks arc.to ≡ 0)) ⊎ ((0 < slice_index ranks arc.to) × (slice_index ranks arc.from ≡ 0) × (0 < amount))
+    ((0 < slice_index ranks arc.from) × (slice_index ranks arc.to ≡ 0))
+    ⊎ ((0 < slice_index ranks arc.to) × (slice_index ranks arc.from ≡ 0) × (0 < amount))
 
 -- A newly reached variable: the arc leads to it from a reached one, or back to it. The room is what can be sent so far.
 pub record IsAhead (arc : Arc) (ranks rooms : List ℕ) (v room : ℕ) : Type 0 where
@@ -77,7 +81,8 @@ pub record AreWays (arcs : List Arc) (amounts ranks vias rooms : List ℕ) (sour
   pub open_rooms : (v : ℕ) → 0 < slice_index ranks v → 0 < slice_index rooms v
   pub vias_within : (v : ℕ) → 0 < slice_index ranks v → v ≢ source → slice_index vias v < length arcs
   pub ends : (v : ℕ) → 0 < slice_index ranks v → v ≢ source
-      → IsLinkedOn (arc_at arcs (slice_index vias v)) ranks rooms v ⊎ IsLinkedBack (arc_at arcs (slice_index vias v)) (slice_index amounts (slice_index vias v)) ranks rooms v
+      → IsLinkedOn (arc_at arcs (slice_index vias v)) ranks rooms v
+      ⊎ IsLinkedBack (arc_at arcs (slice_index vias v)) (slice_index amounts (slice_index vias v)) ranks rooms v
 
 -- what was reached of n variables from a source, `count` of them, and by which arcs
 pub record IsReachedFrom (n : ℕ) (arcs : List Arc) (amounts excess ranks vias rooms : List ℕ)
@@ -101,13 +106,14 @@ pub record IsRaised (ranks : List ℕ) (by : ℤ) (old new : List ℤ) : Type 0 
 abbrev pub IsTight : Arc → List ℤ → Type 0
 IsTight arc places = place places arc.from +ℤ arc.least ≡ place places arc.to
 
--- What the search keeps: the places of what is reached are near that of the source, and the arcs by which it was reached are tight. All but
--- the last variable lacks nothing.
+-- What the search keeps: the places of what is reached are near that of the source, and the arcs by which it was
+-- reached are tight. All but the last variable lacks nothing.
 pub record IsGrown (needs : List ℤ) (arcs : List Arc) (amounts : List ℕ) (places : List ℤ)
     (excess unmet ranks vias rooms : List ℕ) (source count last : ℕ) : Type 0 where
   pub state : IsState needs arcs amounts places excess unmet
   pub reached : IsReachedFrom (length needs) arcs amounts excess ranks vias rooms source count
-  pub low : (v : ℕ) → 0 < slice_index ranks v → place places v ≤ℤ (place places source +ℤ pos (1048576 * slice_index ranks v))
+  pub low : (v : ℕ) → 0 < slice_index ranks v
+      → place places v ≤ℤ (place places source +ℤ pos (1048576 * slice_index ranks v))
   pub tight : (v : ℕ) → 0 < slice_index ranks v → v ≢ source → IsTight (arc_at arcs (slice_index vias v)) places
   pub within : last < length needs
   pub rank : 0 < slice_index ranks last
@@ -116,7 +122,8 @@ pub record IsGrown (needs : List ℤ) (arcs : List Arc) (amounts : List ℕ) (pl
 -- an amount changes only where a variable was reached
 abbrev pub AreAlong : List ℕ → List ℕ → List ℕ → List ℕ → ℕ → Type 0
 AreAlong ranks vias old new source =
-    (i : ℕ) → (slice_index new i ≡ slice_index old i) ⊎ ((v : ℕ) × (0 < slice_index ranks v) × (v ≢ source) × (slice_index vias v ≡ i))
+    (i : ℕ) → (slice_index new i ≡ slice_index old i)
+    ⊎ ((v : ℕ) × (0 < slice_index ranks v) × (v ≢ source) × (slice_index vias v ≡ i))
 
 -- more is sent along the arc that leads to v
 pub record IsSentOn (arc : Arc) (via v by before : ℕ) (old new : List ℕ) : Type 0 where

@@ -18,8 +18,10 @@ pub record IsReady (network : Network) (search : Search) : Type 0 where
 pub record IsGrowing (network : Network) (state : State) (tree : Tree) (source count last : ℕ) : Type 0 where
   pub tree_of : IsTreeOf (length network.needs.items) tree
   pub raised : List ℤ
-  pub raised_to : AreRaisedTo (slice_index tree.entries.items last) tree.ranks.items tree.entries.items state.places.items raised
-  pub grown : IsGrown network.needs.items network.arcs.items state.amounts.items raised state.excess.items state.unmet.items tree.ranks.items tree.vias.items tree.rooms.items source count last
+  pub raised_to : AreRaisedTo (slice_index tree.entries.items last) tree.ranks.items tree.entries.items
+      state.places.items raised
+  pub grown : IsGrown network.needs.items network.arcs.items state.amounts.items raised state.excess.items
+      state.unmet.items tree.ranks.items tree.vias.items tree.rooms.items source count last
   pub first : slice_index tree.entries.items source ≡ 0
 
 pub record IsSearched (network : Network) (state : State) (search : Search) (source count last : ℕ) : Type 0 where

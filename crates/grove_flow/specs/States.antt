@@ -1,5 +1,6 @@
 -- For the proofs alone (of `solve`): what holds of amounts and places while they are searched for.
-use Rattle.std.specs.Prelude.{◌≡◌, ℕ, zero, suc, ◌+◌, ◌-◌, ◌<◌, ◌≤◌, ◌==◌, cond, List, length, slice_index, ℤ, pos, negsuc, ◌+ℤ◌, ◌≤ℤ◌}
+use Rattle.std.specs.Prelude.{◌≡◌, ℕ, zero, suc, ◌+◌, ◌-◌, ◌<◌, ◌≤◌, ◌==◌, cond, List, length, slice_index, ℤ, pos}
+use Rattle.std.specs.Prelude.{negsuc, ◌+ℤ◌, ◌≤ℤ◌}
 use borrow.Author.Differences.{down}
 use Rattle.grove_base.specs.Numbers.{sum_below}
 use Rattle.grove_flow.specs.declared.network.Arc.{Arc}
@@ -39,10 +40,12 @@ pub record IsFrame (needs : List ℤ) (arcs : List Arc) : Type 0 where
 -- what enters and leaves a variable, where it still has to give `excess` and to take `unmet`
 abbrev pub IsBalancedAt : List Arc → List ℤ → List ℕ → List ℕ → List ℕ → ℕ → Type 0
 IsBalancedAt arcs needs amounts excess unmet v =
-    amount_in arcs amounts v + gives needs v + slice_index unmet v ≡ amount_out arcs amounts v + takes needs v + slice_index excess v
+    amount_in arcs amounts v + gives needs v + slice_index unmet v ≡ amount_out arcs amounts v + takes needs v
+    + slice_index excess v
 
 abbrev pub AreBalanced : List Arc → List ℤ → List ℕ → List ℕ → List ℕ → Type 0
-AreBalanced arcs needs amounts excess unmet = (v : ℕ) → v < length needs → IsBalancedAt arcs needs amounts excess unmet v
+AreBalanced arcs needs amounts excess unmet = (v : ℕ) → v < length needs
+    → IsBalancedAt arcs needs amounts excess unmet v
 
 -- a variable that still has to take was not moved far
 abbrev pub AreUnmoved : List ℤ → List ℕ → Type 0
@@ -53,7 +56,8 @@ abbrev pub AreNear : List ℤ → Type 0
 AreNear places = (v : ℕ) → (negsuc 1048575 ≤ℤ place places v) × (place places v ≤ℤ pos 18014398509481984)
 
 -- amounts, places, and what is still to be sent
-pub record IsState (needs : List ℤ) (arcs : List Arc) (amounts : List ℕ) (places : List ℤ) (excess unmet : List ℕ) : Type 0 where
+pub record IsState (needs : List ℤ) (arcs : List Arc) (amounts : List ℕ) (places : List ℤ)
+    (excess unmet : List ℕ) : Type 0 where
   pub frame : IsFrame needs arcs
   pub lawful : AreLawful arcs amounts places
   pub balanced : AreBalanced arcs needs amounts excess unmet
@@ -63,12 +67,14 @@ pub record IsState (needs : List ℤ) (arcs : List Arc) (amounts : List ℕ) (pl
   pub places_size : length places ≡ length needs
   pub excess_size : length excess ≡ length needs
   pub unmet_size : length unmet ≡ length needs
-  pub sound : (i : ℕ) → slice_index amounts i + sum_below (length needs) (slice_index unmet) ≤ sum_below (length needs) (takes needs)
+  pub sound : (i : ℕ) → slice_index amounts i + sum_below (length needs) (slice_index unmet)
+      ≤ sum_below (length needs) (takes needs)
 
 -- new amounts send `by` more from one variable to another
 abbrev pub IsMoved : List Arc → List ℕ → List ℕ → ℕ → ℕ → ℕ → Type 0
 IsMoved arcs old new from to by =
-    (v : ℕ) → amount_in arcs new v + amount_out arcs old v + at from by v ≡ amount_in arcs old v + amount_out arcs new v + at to by v
+    (v : ℕ) → amount_in arcs new v + amount_out arcs old v + at from by v ≡ amount_in arcs old v + amount_out arcs new v
+    + at to by v
 
 -- each arc's end is a number of 32 bits
 abbrev pub AreNamed : List Arc → Type 0

@@ -1,5 +1,5 @@
--- For the proofs alone: the tree of what a search has reached, and the arcs that lead on from it. The places stand still while the search
--- runs. It serves the proof of `solve` alone.
+-- For the proofs alone: the tree of what a search has reached, and the arcs that lead on from it. The places stand
+-- still while the search runs. It serves the proof of `solve` alone.
 use Rattle.std.specs.Prelude.{◌≡◌, ℕ, ◌<◌, ◌≤◌, ◌⊎◌, List, length, slice_index, ℤ, pos, ◌+ℤ◌}
 use Rattle.grove_flow.specs.declared.network.Arc.{Arc}
 use Rattle.grove_flow.specs.declared.network.Network.{Network}
@@ -9,7 +9,8 @@ use Rattle.grove_flow.specs.Networks.{arc_at, place}
 use Rattle.grove_flow.specs.States.{IsState}
 
 abbrev pub IsStateOf : Network → State → Type 0
-IsStateOf network state = IsState network.needs.items network.arcs.items state.amounts.items state.places.items state.excess.items state.unmet.items
+IsStateOf network state = IsState network.needs.items network.arcs.items state.amounts.items state.places.items
+    state.excess.items state.unmet.items
 
 -- tables for n variables
 pub record IsTreeOf (n : ℕ) (tree : Tree) : Type 0 where
@@ -36,17 +37,20 @@ pub record IsKeyBack (arc : Arc) (amount : ℕ) (ranks entries : List ℕ) (key 
   pub key_is : key ≡ slice_index entries arc.to
 
 abbrev pub IsKey : Arc → ℕ → List ℤ → List ℕ → List ℕ → ℕ → Type 0
-IsKey arc amount places ranks entries key = IsKeyOn arc places ranks entries key ⊎ IsKeyBack arc amount ranks entries key
+IsKey arc amount places ranks entries key = IsKeyOn arc places ranks entries key
+    ⊎ IsKeyBack arc amount ranks entries key
 
 -- the i-th arc leads on, at a key
 pub record IsLive (network : Network) (state : State) (tree : Tree) (i key : ℕ) : Type 0 where
   pub within : i < length network.arcs.items
-  pub is : IsKey (arc_at network.arcs.items i) (slice_index state.amounts.items i) state.places.items tree.ranks.items tree.entries.items key
+  pub is : IsKey (arc_at network.arcs.items i) (slice_index state.amounts.items i) state.places.items tree.ranks.items
+      tree.entries.items key
 
 -- The places that a search which raises at once would have, when it has gone so far: what was reached earlier is raised
 -- by more.
 pub record AreRaisedTo (distance : ℕ) (ranks entries : List ℕ) (places raised : List ℤ) : Type 0 where
   pub size : length raised ≡ length places
   pub entered : (v : ℕ) → 0 < slice_index ranks v → slice_index entries v ≤ distance
-  pub moved : (v : ℕ) → 0 < slice_index ranks v → place raised v +ℤ pos (slice_index entries v) ≡ place places v +ℤ pos distance
+  pub moved : (v : ℕ) → 0 < slice_index ranks v → place raised v +ℤ pos (slice_index entries v)
+      ≡ place places v +ℤ pos distance
   pub still : (v : ℕ) → slice_index ranks v ≡ 0 → place raised v ≡ place places v

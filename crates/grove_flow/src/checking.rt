@@ -19,7 +19,8 @@ pub fn is_solution(
     places: &[i64],
 ) -> Result<bool, NoMemory>
     requires arcs { AreArcsOf network.now.arcs.items (length network.now.needs.items) }
-    ensures exact { IfOk result (λ holds. IsTrue holds ↔ IsSolution network.now.needs.items network.now.arcs.items amounts.now places.now) }
+    ensures exact { IfOk result
+        (λ holds. IsTrue holds ↔ IsSolution network.now.needs.items network.now.arcs.items amounts.now places.now) }
 {
     let count = network.needs.len();
     if amounts.len() != network.arcs.len() || places.len() != count {

@@ -43,9 +43,14 @@ fn step_back(arcs: &[Arc], amounts: &mut [u64], tree: &Tree, v: usize, by: u64) 
     requires amounts { length amounts.old ≡ length arcs.now }
     requires v { v < length tree.now.vias.items }
     requires via { slice_index tree.now.vias.items v < length arcs.now }
-    requires on { (arc_at arcs.now (slice_index tree.now.vias.items v)).to ≡ v → slice_index amounts.old (slice_index tree.now.vias.items v) + by < 2 ^ 64 }
-    requires back { (arc_at arcs.now (slice_index tree.now.vias.items v)).to ≢ v → by ≤ slice_index amounts.old (slice_index tree.now.vias.items v) }
-    ensures { IsSentOn (arc_at arcs.now (slice_index tree.now.vias.items v)) (slice_index tree.now.vias.items v) v by result amounts.old amounts.new ⊎ IsSentBack (arc_at arcs.now (slice_index tree.now.vias.items v)) (slice_index tree.now.vias.items v) v by result amounts.old amounts.new }
+    requires on { (arc_at arcs.now (slice_index tree.now.vias.items v)).to ≡ v
+        → slice_index amounts.old (slice_index tree.now.vias.items v) + by < 2 ^ 64 }
+    requires back { (arc_at arcs.now (slice_index tree.now.vias.items v)).to ≢ v
+        → by ≤ slice_index amounts.old (slice_index tree.now.vias.items v) }
+    ensures { IsSentOn (arc_at arcs.now (slice_index tree.now.vias.items v)) (slice_index tree.now.vias.items v) v by
+        result amounts.old amounts.new
+        ⊎ IsSentBack (arc_at arcs.now (slice_index tree.now.vias.items v)) (slice_index tree.now.vias.items v) v by
+        result amounts.old amounts.new }
 {
     let via = tree.vias[v];
     let arc = arcs[via];

@@ -42,7 +42,8 @@ impl Queue {
     fn push(&mut self, key: u64, arc: usize) -> Result<(), NoMemory>
         ensures kept { OnOk result ((k a : ℕ) → HasEntry self.old k a → HasEntry self.new k a) }
         ensures added { OnOk result (HasEntry self.new key arc) }
-        ensures only { OnOk result ((k a : ℕ) → HasEntry self.new k a → ((k ≡ key) × (a ≡ arc)) ⊎ HasEntry self.old k a) }
+        ensures only { OnOk result ((k a : ℕ) → HasEntry self.new k a → ((k ≡ key) × (a ≡ arc))
+            ⊎ HasEntry self.old k a) }
     {
         Ok(self.heap.push(Reverse((key, arc)))?)
     }
@@ -51,7 +52,8 @@ impl Queue {
         ensures none { IfNone result ((k a : ℕ) → HasEntry self.old k a → ⊥) }
         ensures least { IfSome result (λ e. (k a : ℕ) → HasEntry self.old k a → e.0 ≤ k) }
         ensures taken { IfSome result (λ e. HasEntry self.old e.0 e.1) }
-        ensures rest { IfSome result (λ e. (k a : ℕ) → HasEntry self.old k a → ((k ≡ e.0) × (a ≡ e.1)) ⊎ HasEntry self.new k a) }
+        ensures rest { IfSome result (λ e. (k a : ℕ) → HasEntry self.old k a → ((k ≡ e.0) × (a ≡ e.1))
+            ⊎ HasEntry self.new k a) }
         ensures back { (k a : ℕ) → HasEntry self.new k a → HasEntry self.old k a }
         ensures shorter { IfSome result (λ e. entries_of self.new < entries_of self.old) }
     {
@@ -70,7 +72,8 @@ impl Queue {
         ensures none { IfNone result ((i key : ℕ) → IsLive network.now state.now tree.now i key → ⊥) }
         ensures live { IfSome result (λ e. IsLive network.now state.now tree.now e.1 e.0) }
         ensures least { IfSome result (λ e. (i key : ℕ) → IsLive network.now state.now tree.now i key → e.0 ≤ key) }
-        ensures rest { IfSome result (λ e. (i key : ℕ) → IsLive network.now state.now tree.now i key → i ≢ e.1 → HasEntry self.new key i) }
+        ensures rest { IfSome result (λ e. (i key : ℕ) → IsLive network.now state.now tree.now i key → i ≢ e.1
+            → HasEntry self.new key i) }
         ensures within { NamesArcsAlone network.now self.new }
     {
         while let Some((key, i)) = self.pop() {
@@ -120,7 +123,8 @@ impl Queue {
         requires v { v < length network.now.needs.items }
         requires within { NamesArcsAlone network.now self.old }
         ensures kept { OnOk result ((i key : ℕ) → HasEntry self.old key i → HasEntry self.new key i) }
-        ensures added { OnOk result ((i key : ℕ) → IsLive network.now state.now tree.now i key → end_of fan.now.end (arc_at network.now.arcs.items i) ≡ v → HasEntry self.new key i) }
+        ensures added { OnOk result ((i key : ℕ) → IsLive network.now state.now tree.now i key
+            → end_of fan.now.end (arc_at network.now.arcs.items i) ≡ v → HasEntry self.new key i) }
         ensures within { OnOk result (NamesArcsAlone network.now self.new) }
     {
         let mut next = fan.last[v];

@@ -45,7 +45,8 @@ impl Search {
         requires ready { IsReady network.now self.old }
         requires source { source < length network.now.needs.items }
         requires some { 0 < slice_index state.now.excess.items source }
-        ensures searched { IfOk result (λ target. (count : ℕ) × IsSearched network.now state.now self.new source count target) }
+        ensures searched { IfOk result
+            (λ target. (count : ℕ) × IsSearched network.now state.now self.new source count target) }
         ensures unmet { IfOk result (λ target. 0 < slice_index state.now.unmet.items target) }
     {
         self.begin(network, state, source)?;

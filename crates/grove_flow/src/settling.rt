@@ -1,6 +1,9 @@
-ghost use Rattle.std.specs.Prelude.{◌≡◌, ◌<◌, ℕ, ◌-◌, ◌+ℤ◌, ◌-ℤ◌, ◌≤ℤ◌, pos, negsuc, length, slice_set, true, false, IfOk};
-ghost use Rattle.grove_flow.specs.Networks.{AreArcsOf, AreLawful, IsArcOf, IsCandidate, IsLatest, IsLawful, IsModest, place};
-ghost use Rattle.grove_flow.specs.Floors.{AreCapped, AreHeld, AreHighest, AreKept, HasFloor, HaveFloor, IsKept, IsLoweredAt, heights};
+ghost use Rattle.std.specs.Prelude.{◌≡◌, ◌<◌, ℕ, ◌-◌, ◌+ℤ◌, ◌-ℤ◌, ◌≤ℤ◌, pos, negsuc, length, slice_set, true, false};
+ghost use Rattle.std.specs.Prelude.{IfOk};
+ghost use Rattle.grove_flow.specs.Networks.{AreArcsOf, AreLawful, IsArcOf, IsCandidate, IsLatest, IsLawful, IsModest};
+ghost use Rattle.grove_flow.specs.Networks.{place};
+ghost use Rattle.grove_flow.specs.Floors.{AreCapped, AreHeld, AreHighest, AreKept, HasFloor, HaveFloor, IsKept};
+ghost use Rattle.grove_flow.specs.Floors.{IsLoweredAt, heights};
 ghost use Rattle.grove_flow.specs.Ways.{arc_on};
 
 use crate::{Arc, Network, Solution};
@@ -19,9 +22,12 @@ pub fn latest(
 ) -> Result<Vec<i64>, NoMemory>
     requires arcs { AreArcsOf network.now.arcs.items (length network.now.needs.items) }
     requires amounts { length solution.now.amounts.items ≡ length network.now.arcs.items }
-    requires solved { IsCandidate (length network.now.needs.items) network.now.arcs.items solution.now.amounts.items top solution.now.places.items }
+    requires solved { IsCandidate (length network.now.needs.items) network.now.arcs.items solution.now.amounts.items top
+        solution.now.places.items }
     requires modest { IsModest top }
-    ensures latest { IfOk result (λ places. IsLatest (length network.now.needs.items) network.now.arcs.items solution.now.amounts.items top places.items) }
+    ensures latest { IfOk result
+        (λ places. IsLatest (length network.now.needs.items) network.now.arcs.items solution.now.amounts.items top
+        places.items) }
 {
     let mut places = highest(alloc, &solution.places, top)?;
     settle(&network.arcs, &solution.amounts, &mut places);
@@ -142,7 +148,8 @@ fn lower_from(arc: Arc, places: &mut [i64]) -> bool
     requires arc { IsArcOf (length places.old) arc }
     requires held { negsuc 9223372036854775807 ≤ℤ (place places.old arc.to -ℤ arc.least) }
     requires capped { place places.old arc.to ≤ℤ pos 1048576 }
-    ensures lowered { result ≡ true → IsLoweredAt arc.from (place places.old arc.to -ℤ arc.least) places.old places.new }
+    ensures lowered { result ≡ true
+        → IsLoweredAt arc.from (place places.old arc.to -ℤ arc.least) places.old places.new }
     ensures still { result ≡ false → places.new ≡ places.old }
     ensures met { result ≡ false → place places.old arc.from ≤ℤ (place places.old arc.to -ℤ arc.least) }
 {
@@ -159,7 +166,8 @@ fn lower_to(arc: Arc, places: &mut [i64]) -> bool
     requires arc { IsArcOf (length places.old) arc }
     requires held { negsuc 9223372036854775807 ≤ℤ (place places.old arc.from +ℤ arc.least) }
     requires capped { place places.old arc.from ≤ℤ pos 1048576 }
-    ensures lowered { result ≡ true → IsLoweredAt arc.to (place places.old arc.from +ℤ arc.least) places.old places.new }
+    ensures lowered { result ≡ true
+        → IsLoweredAt arc.to (place places.old arc.from +ℤ arc.least) places.old places.new }
     ensures still { result ≡ false → places.new ≡ places.old }
     ensures met { result ≡ false → place places.old arc.to ≤ℤ (place places.old arc.from +ℤ arc.least) }
 {

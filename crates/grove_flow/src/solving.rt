@@ -19,7 +19,9 @@ use std::alloc::Global;
 pub fn solve(alloc: Global, network: &Network, start: &[i64]) -> Result<Solution, NoMemory>
     requires network { IsNetwork network.now.needs.items network.now.arcs.items }
     requires start { IsStart network.now.needs.items network.now.arcs.items start.now }
-    ensures solution { IfOk result (λ solution. IsSolution network.now.needs.items network.now.arcs.items solution.amounts.items solution.places.items) }
+    ensures solution { IfOk result
+        (λ solution. IsSolution network.now.needs.items network.now.arcs.items solution.amounts.items
+        solution.places.items) }
 {
     let mut state = State::new(alloc, network, start)?;
     let mut search = Search::new(alloc, network)?;

@@ -52,7 +52,8 @@ impl State {
         requires state { IsStateOf network.now self.old }
         requires ready { IsReady network.now search.old }
         ensures state { IfOk result (λ done. IsStateOf network.now self.new) }
-        ensures given { IfOk result (λ done. (v : ℕ) → v < length network.now.needs.items → slice_index self.new.excess.items v ≡ 0) }
+        ensures given { IfOk result (λ done. (v : ℕ) → v < length network.now.needs.items
+            → slice_index self.new.excess.items v ≡ 0) }
     {
         for source in 0..self.excess.len() {
             self.drain(network, search, source)?;
@@ -73,7 +74,8 @@ impl State {
         ensures state { IfOk result (λ done. IsStateOf network.now self.new) }
         ensures ready { IfOk result (λ done. IsReady network.now search.new) }
         ensures given { IfOk result (λ done. slice_index self.new.excess.items source ≡ 0) }
-        ensures others { IfOk result (λ done. (v : ℕ) → v ≢ source → slice_index self.new.excess.items v ≡ slice_index self.old.excess.items v) }
+        ensures others { IfOk result (λ done. (v : ℕ) → v ≢ source → slice_index self.new.excess.items v
+            ≡ slice_index self.old.excess.items v) }
     {
         while self.excess[source] > 0 {
             self.augment(network, search, source)?;
@@ -95,8 +97,10 @@ impl State {
         requires some { 0 < slice_index self.old.excess.items source }
         ensures state { IfOk result (λ done. IsStateOf network.now self.new) }
         ensures ready { IfOk result (λ done. IsReady network.now search.new) }
-        ensures less { IfOk result (λ done. slice_index self.new.excess.items source < slice_index self.old.excess.items source) }
-        ensures others { IfOk result (λ done. (v : ℕ) → v ≢ source → slice_index self.new.excess.items v ≡ slice_index self.old.excess.items v) }
+        ensures less { IfOk result
+            (λ done. slice_index self.new.excess.items source < slice_index self.old.excess.items source) }
+        ensures others { IfOk result (λ done. (v : ℕ) → v ≢ source → slice_index self.new.excess.items v
+            ≡ slice_index self.old.excess.items v) }
     {
         let target = search.find(network, self, source)?;
         let tree = &search.tree;

@@ -1,4 +1,5 @@
-ghost use Rattle.std.specs.Prelude.{◌≡◌, ℕ, ◌+◌, ◌<◌, ◌≤◌, ◌⊎◌, ◌+ℤ◌, pos, length, replicate, slice_index, slice_set, IfOk, MatchOption};
+ghost use Rattle.std.specs.Prelude.{◌≡◌, ℕ, ◌+◌, ◌<◌, ◌≤◌, ◌⊎◌, ◌+ℤ◌, pos, length, replicate, slice_index, slice_set};
+ghost use Rattle.std.specs.Prelude.{IfOk, MatchOption};
 ghost use Rattle.grove_flow.specs.Networks.{IsArcOf, IsMet, arc_at, place};
 ghost use Rattle.grove_flow.specs.States.{AreNear};
 ghost use Rattle.grove_flow.specs.Trees.{AreEarly, AreRaisedTo, IsKey, IsLive, IsStateOf, IsTreeOf};
@@ -74,7 +75,9 @@ impl Tree {
         requires tree { IsTreeOf (length network.now.needs.items) self.now }
         requires early { AreEarly self.now }
         requires within { i < length network.now.arcs.items }
-        ensures { MatchOption result (IsNoStep (arc_at network.now.arcs.items i) (slice_index state.now.amounts.items i) self.now.ranks.items) (λ key. IsLive network.now state.now self.now i key) }
+        ensures { MatchOption result
+            (IsNoStep (arc_at network.now.arcs.items i) (slice_index state.now.amounts.items i) self.now.ranks.items)
+            (λ key. IsLive network.now state.now self.now i key) }
     {
         self.key_of(network.arcs[i], state.amounts[i], &state.places)
     }
@@ -86,7 +89,8 @@ impl Tree {
         requires arc { IsArcOf (length places.now) arc }
         requires near { AreNear places.now }
         requires met { IsMet arc places.now }
-        ensures { MatchOption result (IsNoStep arc amount self.now.ranks.items) (λ key. IsKey arc amount places.now self.now.ranks.items self.now.entries.items key) }
+        ensures { MatchOption result (IsNoStep arc amount self.now.ranks.items)
+            (λ key. IsKey arc amount places.now self.now.ranks.items self.now.entries.items key) }
     {
         let (from, to) = (arc.from as usize, arc.to as usize);
         let leaves = self.ranks[from] > 0;
@@ -106,7 +110,8 @@ impl Tree {
         requires tree { IsTreeOf (length self.now.ranks.items) self.now }
         requires new { IsNew arc amount self.now.ranks.items }
         ensures within { result.0 < length self.now.ranks.items }
-        ensures entry { IsAhead arc self.now.ranks.items self.now.rooms.items result.0 result.1 ⊎ IsBehind arc amount self.now.ranks.items self.now.rooms.items result.0 result.1 }
+        ensures entry { IsAhead arc self.now.ranks.items self.now.rooms.items result.0 result.1
+            ⊎ IsBehind arc amount self.now.ranks.items self.now.rooms.items result.0 result.1 }
     {
         let (from, to) = (arc.from as usize, arc.to as usize);
         if self.ranks[to] == 0 {
@@ -120,7 +125,8 @@ impl Tree {
     pub fn settle(&self, places: &mut [i64], distance: u64)
         requires tree { IsTreeOf (length places.old) self.now }
         requires near { AreNear places.old }
-        requires entered { (v : ℕ) → 0 < slice_index self.now.ranks.items v → slice_index self.now.entries.items v ≤ distance }
+        requires entered { (v : ℕ) → 0 < slice_index self.now.ranks.items v → slice_index self.now.entries.items v
+            ≤ distance }
         requires distance { distance ≤ 36028797018963968 }
         ensures { AreRaisedTo distance self.now.ranks.items self.now.entries.items places.old places.new }
     {

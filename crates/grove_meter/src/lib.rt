@@ -1,4 +1,5 @@
-//! Weights that learn from waits: a node that transactions waited for gets heavier, and one that nobody waited for lighter.
+//! Weights that learn from waits: a node that transactions waited for gets heavier, and one that nobody waited for
+//! lighter.
 #![tactic(auto)]
 
 pub use rule::WaitRule;

@@ -7,8 +7,8 @@ use crate::WaitRule;
 use grove_tree::{Gate, HEAVIEST, Tree};
 use std::thread::Threads;
 
-/// The weight of a node once it was waited for so many times: 1, half of what the old weight is above 1, rounded down, and
-/// the waits, added up, but at most 1,000.
+/// The weight of a node once it was waited for so many times: 1, half of what the old weight is above 1, rounded down,
+/// and the waits, added up, but at most 1,000.
 pub fn new_weight(weight: u32, waits: u32) -> u32
     requires { (1 ≤ weight) × (weight ≤ 1000) }
     ensures { result ≡ new_weight_of weight waits }
@@ -17,8 +17,8 @@ pub fn new_weight(weight: u32, waits: u32) -> u32
     sum.min(u64::from(HEAVIEST)) as u32
 }
 
-/// Gives each node of the tree its new weight by the waits at its number. The result is the number of weights changed. Before
-/// a node's weight is made the gate is called with the node's number, and 0.
+/// Gives each node of the tree its new weight by the waits at its number. The result is the number of weights changed.
+/// Before a node's weight is made the gate is called with the node's number, and 0.
 pub fn reweigh<R: Threads + Sync, G: Gate + Sync>(
     rt: &R,
     tree: &mut Tree,
@@ -29,7 +29,8 @@ pub fn reweigh<R: Threads + Sync, G: Gate + Sync>(
     requires workers { (1 ≤ workers) × (workers ≤ 16) }
     requires waits { length waits.now ≡ length tree.old }
     ensures rows { tree.new ≡ reweighed waits.now tree.old }
-    ensures count { result ≡ count_below (length tree.old) (λ node. not (weight_of tree.new node == weight_of tree.old node)) }
+    ensures count { result
+        ≡ count_below (length tree.old) (λ node. not (weight_of tree.new node == weight_of tree.old node)) }
 {
     let nodes = tree.len();
     prove!(waits.len() == nodes as usize);

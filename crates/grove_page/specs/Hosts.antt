@@ -1,5 +1,6 @@
 -- Which hosts a request may name: addresses, and names that nobody else can have resolved to this server.
-use Rattle.std.specs.Prelude.{◌≡◌, ◌==◌, ◌⊎◌, ℕ, List, [], ◌∷◌, Bool, not, codes, take, option_map, option_to_list, IsTrue}
+use Rattle.std.specs.Prelude.{◌≡◌, ◌==◌, ◌⊎◌, ℕ, List, [], ◌∷◌, Bool, not, codes, take, option_map, option_to_list}
+use Rattle.std.specs.Prelude.{IsTrue}
 use Rattle.std.specs.List.{list_any, prefix_len}
 use Rattle.std.specs.Net.Grammar.{IsIpv4Text}
 use Rattle.std.specs.declared.net.ipv4_addr.Ipv4Addr.{Ipv4Addr}
@@ -23,7 +24,8 @@ IsAddress name = (address : Ipv4Addr) × IsIpv4Text name address
 
 -- an address or a known name, with or without a port; HTTP has nothing but addresses of IPv6 in brackets
 abbrev pub IsKnownHost : List (List ℕ) → List ℕ → Type 0
-IsKnownHost names host = IsTrue (is_bracketed host) ⊎ (IsTrue (is_known_name names (name_in host)) ⊎ IsAddress (name_in host))
+IsKnownHost names host = IsTrue (is_bracketed host)
+    ⊎ (IsTrue (is_known_name names (name_in host)) ⊎ IsAddress (name_in host))
 
 -- no host is named, or a single one that is known
 abbrev pub AreKnownHosts : List (List ℕ) → List (List ℕ) → Type 0

@@ -72,8 +72,8 @@ abbrev pub ends_refused : Result ℕ SessionFault → Told → Bool
 ends_refused (Ok count) told = (count == 1) && not (is_accepted told)
 ends_refused (Err fault) told = false
 
--- the replies to all lines; those before the line for which there was no memory, or whose answer wasn't its; or none, where
--- they have more bytes than go into a response
+-- the replies to all lines; those before the line for which there was no memory, or whose answer wasn't its; or none,
+-- where they have more bytes than go into a response
 abbrev pub TellsSession : Result ℕ SessionFault → List ℕ → Response → Type 0
 TellsSession (Ok count) out r = IsResponse (if is_refused (Ok count) out then 400 else 200) json out r
 TellsSession (Err Memory) out r = IsResponse 503 json (out ++ error_line (codes "memory")) r
@@ -83,7 +83,8 @@ TellsSession (Err Read) out r = IsResponse 500 json (out ++ error_line (codes "d
 TellsSession (Err Turns) out r = IsResponse 500 json (out ++ error_line (codes "device")) r
 
 -- a session over the body, as far as it was read
-pub record Visits {S : Type 0} (shared : Bool) (lawful : Lawful S) (old : S) (body : List ℕ) (result : Result ℕ SessionFault)
+pub record Visits {S : Type 0} (shared : Bool) (lawful : Lawful S) (old : S) (body : List ℕ)
+    (result : Result ℕ SessionFault)
     (out : List ℕ) (new : S) : Type 0 where
   pub input : List ℕ
   pub left : List ℕ
@@ -138,7 +139,8 @@ nodes_line store = compact_text (nodes_data store.rows store.records store.waits
 -- the reply tells of a store to which lawful rounds lead from the opening one, or that there is no memory for it
 abbrev pub TellsStore : (StoreState → List ℕ) → StoreState → Response → Type 0
 TellsStore line_of opening r =
-    ((store : StoreState) × Led opening store × IsResponse 200 json (line_of store) r) ⊎ IsResponse 503 json (error_line (codes "memory")) r
+    ((store : StoreState) × Led opening store × IsResponse 200 json (line_of store) r)
+    ⊎ IsResponse 503 json (error_line (codes "memory")) r
 
 -- ---- requests
 

@@ -1,7 +1,8 @@
 ghost use Rattle.std.specs.Prelude.{◌≡◌, ◌==◌, ◌++◌, count_by, OnOk, OnErr, IfOk, codes, string_bytes};
 ghost use Rattle.http_server.specs.Response.{IsBlank, IsResponse};
 ghost use Rattle.grove_page.specs.Pages.{json, error_line, document_line, nodes_line, has_many_lines, is_long_body};
-ghost use Rattle.grove_page.specs.Pages.{IsHereReply, AnswersBody, TakesLines, TakesBody, TellsStore, TellsSession, is_refused};
+ghost use Rattle.grove_page.specs.Pages.{IsHereReply, AnswersBody, TakesLines, TakesBody, TellsStore, TellsSession};
+ghost use Rattle.grove_page.specs.Pages.{is_refused};
 
 use crate::hosts::is_for_here;
 use crate::lines::{document_line, nodes_line};

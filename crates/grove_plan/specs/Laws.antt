@@ -7,4 +7,5 @@ use Rattle.grove_plan.specs.Faults.{plan_fault_of}
 
 -- a plan has no fault exactly where it is legal
 abbrev pub FaultlessIsLegal : Type 0
-FaultlessIsLegal = (rows : Rows) (nodes : List ℕ) (plan : List Step) → (plan_fault_of rows nodes plan ≡ None) ↔ IsLegal rows nodes plan
+FaultlessIsLegal = (rows : Rows) (nodes : List ℕ) (plan : List Step) → (plan_fault_of rows nodes plan ≡ None)
+    ↔ IsLegal rows nodes plan

@@ -1,5 +1,6 @@
 -- Lock plans, judged as whole lists of steps by their positions.
-use Rattle.std.specs.Prelude.{◌≡◌, ℕ, ◌*◌, ◌<◌, ◌≤◌, ◌==◌, nat_lt, Bool, true, false, not, ◌&&◌, IsTrue, List, [], ◌∷◌, length, slice_get, slice_index, Option, Some, if◌then◌else◌}
+use Rattle.std.specs.Prelude.{◌≡◌, ℕ, ◌*◌, ◌<◌, ◌≤◌, ◌==◌, nat_lt, Bool, true, false, not, ◌&&◌, IsTrue, List, [], ◌∷◌}
+use Rattle.std.specs.Prelude.{length, slice_get, slice_index, Option, Some, if◌then◌else◌}
 use Rattle.grove_base.specs.Numbers.{any_below, sum_below, numbers_below}
 use Rattle.grove_tree.specs.Trees.{Rows, parent_of, weight_of}
 use Rattle.grove_plan.specs.declared.step.Step.{Step}
@@ -22,10 +23,12 @@ abbrev pub is_access : Option Step → Bool
 is_access (Some (Access i)) = true
 is_access _ = false
 
--- A node is held at a position where some lock of it stands before the position and no unlock of it stands between the two.
+-- A node is held at a position where some lock of it stands before the position and no unlock of it stands between the
+-- two.
 abbrev pub held : List Step → ℕ → ℕ → Bool
 held plan node position =
-    any_below position (λ i. locks node (slice_get plan i) && not (any_below position (λ j. nat_lt i j && unlocks node (slice_get plan j))))
+    any_below position (λ i. locks node (slice_get plan i)
+    && not (any_below position (λ j. nat_lt i j && unlocks node (slice_get plan j))))
 
 -- the accesses that a plan does, in order
 abbrev pub accesses_of : List Step → List ℕ
@@ -49,7 +52,8 @@ pub record ObeysTreeProtocol (rows : Rows) (plan : List Step) : Type 0 where
 -- The accesses are done in the list's order, each while its node is held. A list is seen as its nodes.
 pub record Performs (nodes : List ℕ) (plan : List Step) : Type 0 where
   pub in_order : accesses_of plan ≡ numbers_below (length nodes)
-  pub while_held : (i access node : ℕ) → slice_get plan i ≡ Some (Access access) → slice_get nodes access ≡ Some node → IsTrue (held plan node i)
+  pub while_held : (i access node : ℕ) → slice_get plan i ≡ Some (Access access) → slice_get nodes access ≡ Some node
+      → IsTrue (held plan node i)
 
 pub record IsLegal (rows : Rows) (nodes : List ℕ) (plan : List Step) : Type 0 where
   pub obeys : ObeysTreeProtocol rows plan
@@ -62,7 +66,8 @@ slots_of lengths _ = 0
 
 -- for how many slots a plan holds a node: the lengths of the accesses that it does meanwhile, added up
 abbrev pub holding : List ℕ → List Step → ℕ → ℕ
-holding lengths plan node = sum_below (length plan) (λ position. if held plan node position then slots_of lengths (slice_get plan position) else 0)
+holding lengths plan node = sum_below (length plan)
+    (λ position. if held plan node position then slots_of lengths (slice_get plan position) else 0)
 
 -- what a plan costs: each node's weight for each slot in which it is held
 abbrev pub cost : Rows → List ℕ → List Step → ℕ

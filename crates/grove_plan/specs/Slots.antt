@@ -32,7 +32,9 @@ first_release_slot plan node = accesses_before plan (release_position plan node)
 
 -- the same of any plan whatever, also of one that doesn't lock or unlock the node
 abbrev pub slot_of_lock : List Step → ℕ → Option ℕ
-slot_of_lock plan node = if any_below (length plan) (λ i. locks node (slice_get plan i)) then Some (first_lock_slot plan node) else None
+slot_of_lock plan node = if any_below (length plan) (λ i. locks node (slice_get plan i)) then Some
+    (first_lock_slot plan node) else None
 
 abbrev pub slot_of_release : List Step → ℕ → Option ℕ
-slot_of_release plan node = if any_below (length plan) (λ i. unlocks node (slice_get plan i)) then Some (first_release_slot plan node) else None
+slot_of_release plan node = if any_below (length plan) (λ i. unlocks node (slice_get plan i)) then Some
+    (first_release_slot plan node) else None

@@ -1,5 +1,6 @@
 -- For the proofs alone: what is known of a plan before the step at a position, as it is followed step by step.
-use Rattle.std.specs.Prelude.{◌≡◌, ℕ, ◌*◌, ◌<◌, ◌≤◌, Bool, true, false, List, Option, Some, None, length, slice_get, slice_index_or, if◌then◌else◌}
+use Rattle.std.specs.Prelude.{◌≡◌, ℕ, ◌*◌, ◌<◌, ◌≤◌, Bool, true, false, List, Option, Some, None, length, slice_get}
+use Rattle.std.specs.Prelude.{slice_index_or, if◌then◌else◌}
 use Rattle.grove_base.specs.Numbers.{any_below, sum_below, least_below}
 use Rattle.grove_tree.specs.Trees.{Rows, weight_of}
 use Rattle.grove_plan.specs.declared.step.Step.{Step}
@@ -33,21 +34,26 @@ holds_node holds (Some node) = is_holding (slice_index_or holds node Free)
 
 abbrev pub first_holding : List Hold → Option ℕ
 first_holding holds =
-    if any_below (length holds) (λ node. holds_node holds (Some node)) then Some (least_below (length holds) (λ node. holds_node holds (Some node)))
+    if any_below (length holds) (λ node. holds_node holds (Some node)) then Some
+    (least_below (length holds) (λ node. holds_node holds (Some node)))
     else None
 
 -- the weights of the nodes held at a position, added up
 abbrev pub held_weight : Rows → List Step → ℕ → ℕ
-held_weight rows plan position = sum_below (length rows) (λ node. if held plan node position then weight_of rows node else 0)
+held_weight rows plan position = sum_below (length rows)
+    (λ node. if held plan node position then weight_of rows node else 0)
 
 -- what the accesses before a position cost
 abbrev pub cost_before : Rows → List ℕ → List Step → ℕ → ℕ
 cost_before rows lengths plan position =
-    sum_below (length rows) (λ node. weight_of rows node * sum_below position (λ i. if held plan node i then slots_of lengths (slice_get plan i) else 0))
+    sum_below (length rows)
+    (λ node. weight_of rows node * sum_below position
+    (λ i. if held plan node i then slots_of lengths (slice_get plan i) else 0))
 
 -- the weights that are kept are those of their nodes
 abbrev pub AreWeights : Rows → List KeptWeight → Type 0
-AreWeights rows kept = (place : ℕ) (entry : KeptWeight) → slice_get kept place ≡ Some entry → entry.weight ≡ weight_of rows entry.node
+AreWeights rows kept = (place : ℕ) (entry : KeptWeight) → slice_get kept place ≡ Some entry
+    → entry.weight ≡ weight_of rows entry.node
 
 -- the tally of the steps before a position
 pub record IsTally (rows : Rows) (lengths : List ℕ) (plan : List Step) (position : ℕ) (tally : Tally) : Type 0 where

@@ -12,14 +12,17 @@ use grove_access::AccessList;
 use grove_tree::Tree;
 use std::alloc::Global;
 
-/// The cost of a legal plan, in weight times slots; else the first step that breaks a rule and the first rule that it breaks.
+/// The cost of a legal plan, in weight times slots; else the first step that breaks a rule and the first rule that it
+/// breaks.
 pub fn judge(alloc: Global, tree: &Tree, list: &AccessList, plan: &Plan) -> Result<u64, PlanFault>
     requires fits { AreNodes tree.now (nodes_of list.now) }
     ensures cost { IfOk result (λ sum. sum ≡ cost tree.now (lengths_of list.now) plan.now) }
     ensures legal { OnOk result (IsLegal tree.now (nodes_of list.now) plan.now) }
     ensures faultless { OnOk result (plan_fault_of tree.now (nodes_of list.now) plan.now ≡ None) }
-    ensures fault { IfErr result (λ fault. fault ≢ PlanFault.Memory → plan_fault_of tree.now (nodes_of list.now) plan.now ≡ Some fault) }
-    ensures illegal { IfErr result (λ fault. fault ≢ PlanFault.Memory → ¬ IsLegal tree.now (nodes_of list.now) plan.now) }
+    ensures fault { IfErr result (λ fault. fault ≢ PlanFault.Memory
+        → plan_fault_of tree.now (nodes_of list.now) plan.now ≡ Some fault) }
+    ensures illegal { IfErr result (λ fault. fault ≢ PlanFault.Memory
+        → ¬ IsLegal tree.now (nodes_of list.now) plan.now) }
 {
     // The limits that hold of every list and every tree are told with their lengths.
     let _accesses = list.len();
@@ -67,7 +70,8 @@ fn follow(tally: &mut Tally, tree: &Tree, list: &AccessList, plan: &[Step]) -> R
     requires tallied { IsTally tree.now (lengths_of list.now) plan.now 0 tally.old }
     ensures tallied { OnOk result (IsTally tree.now (lengths_of list.now) plan.now (length plan.now) tally.new) }
     ensures faultless { OnOk result (steps_fault tree.now (nodes_of list.now) plan.now (length plan.now) ≡ None) }
-    ensures fault { IfErr result (λ fault. steps_fault tree.now (nodes_of list.now) plan.now (length plan.now) ≡ Some fault) }
+    ensures fault { IfErr result (λ fault. steps_fault tree.now (nodes_of list.now) plan.now (length plan.now)
+        ≡ Some fault) }
 {
     for position in 0..plan.len() {
         if let Some(fault) = tally.fault_at(tree, list, plan, position) {

@@ -14,8 +14,8 @@ pub struct KeptWeight {
     pub weight: u32,
 }
 
-/// Weights of nodes that were locked, each until another node with the same place comes: so an unlock mostly needs no walk
-/// down the tree.
+/// Weights of nodes that were locked, each until another node with the same place comes: so an unlock mostly needs no
+/// walk down the tree.
 #[derive(Clone, Copy, Debug)]
 pub struct KeptWeights {
     pub kept: [KeptWeight; KEPT],

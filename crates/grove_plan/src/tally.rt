@@ -145,7 +145,8 @@ impl Tally {
         requires lengths { AreLengths (lengths_of list.now) }
         requires within { position < length plan.now }
         requires few { length plan.now < 2 ^ 32 }
-        requires faultless { step_fault tree.now (nodes_of list.now) plan.now position (slice_get plan.now position) ≡ None }
+        requires faultless { step_fault tree.now (nodes_of list.now) plan.now position (slice_get plan.now position)
+            ≡ None }
         requires tallied { IsTally tree.now (lengths_of list.now) plan.now position self.old }
         ensures { IsTally tree.now (lengths_of list.now) plan.now (position + 1) self.new }
     {

@@ -8,7 +8,8 @@ use Rattle.grove_proof.specs.declared.flow.FlowRow.{FlowRow}
 use Rattle.grove_proof.specs.declared.fault.ProofFault.{ProofFault}
 use Rattle.grove_proof.specs.declared.fault.ProofFault.TheVariants as fault
 use Rattle.grove_proof.specs.Forced.{IsForcedList}
-use Rattle.grove_proof.specs.Flows.{node_of, is_sign_ok, is_small, is_lock_balanced, is_release_balanced, AllRows, gains, losses}
+use Rattle.grove_proof.specs.Flows.{node_of, is_sign_ok, is_small, is_lock_balanced, is_release_balanced, AllRows}
+use Rattle.grove_proof.specs.Flows.{gains, losses}
 
 -- two lists differ first at a place, which may be the end of one of them
 pub record IsFirstDifference (xs ys : List ℕ) (i : ℕ) : Type 0 where
@@ -17,7 +18,8 @@ pub record IsFirstDifference (xs ys : List ℕ) (i : ℕ) : Type 0 where
 
 -- the first place where the rows' nodes differ from the forced nodes
 abbrev pub IsFirstStranger : Rows → List ℕ → List FlowRow → ℕ → Type 0
-IsFirstStranger rows nodes flow i = (list : List ℕ) × IsForcedList rows nodes list × IsFirstDifference (map node_of flow) list i
+IsFirstStranger rows nodes flow i = (list : List ℕ) × IsForcedList rows nodes list
+    × IsFirstDifference (map node_of flow) list i
 
 -- the row at a place is the first that fails a test
 pub record IsFirstBad (test : FlowRow → Bool) (flow : List FlowRow) (i : ℕ) : Type 0 where
@@ -51,10 +53,14 @@ PassesReleases rows nodes plan flow = PassesLocks rows nodes plan flow × AllRow
 abbrev pub IsFault : Rows → List ℕ → List ℕ → List Step → List FlowRow → ProofFault → Type 0
 IsFault rows nodes lengths plan flow (fault.Plan f) = plan_fault_of rows nodes plan ≡ Some f
 IsFault rows nodes lengths plan flow (fault.Rows i) = IsLegal rows nodes plan × IsFirstStranger rows nodes flow i
-IsFault rows nodes lengths plan flow (fault.Sign i) = PassesRows rows nodes plan flow × IsFirstBad (is_sign_ok rows nodes flow) flow i
+IsFault rows nodes lengths plan flow (fault.Sign i) = PassesRows rows nodes plan flow
+    × IsFirstBad (is_sign_ok rows nodes flow) flow i
 IsFault rows nodes lengths plan flow (fault.TooBig i) = PassesSigns rows nodes plan flow × IsFirstBad is_small flow i
-IsFault rows nodes lengths plan flow (fault.LockBalance i) = PassesSizes rows nodes plan flow × IsFirstBad (is_lock_balanced rows flow) flow i
-IsFault rows nodes lengths plan flow (fault.ReleaseBalance i) = PassesLocks rows nodes plan flow × IsFirstBad (is_release_balanced rows flow) flow i
+IsFault rows nodes lengths plan flow (fault.LockBalance i) = PassesSizes rows nodes plan flow
+    × IsFirstBad (is_lock_balanced rows flow) flow i
+IsFault rows nodes lengths plan flow (fault.ReleaseBalance i) = PassesLocks rows nodes plan flow
+    × IsFirstBad (is_release_balanced rows flow) flow i
 IsFault rows nodes lengths plan flow (fault.Value c b) =
-    PassesReleases rows nodes plan flow × (c ≡ cost rows lengths plan) × (b ≡ bound nodes lengths flow) × (bound nodes lengths flow ≢ pos (cost rows lengths plan))
+    PassesReleases rows nodes plan flow × (c ≡ cost rows lengths plan) × (b ≡ bound nodes lengths flow)
+    × (bound nodes lengths flow ≢ pos (cost rows lengths plan))
 IsFault rows nodes lengths plan flow fault.Memory = Unit {0}

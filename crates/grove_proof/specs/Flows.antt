@@ -1,5 +1,6 @@
 -- The certificate: amounts on the constraints of the forced nodes, judged by arithmetic alone.
-use Rattle.std.specs.Prelude.{◌≡◌, ℕ, ◌+◌, ◌*◌, ◌^◌, ◌==◌, nat_le, Bool, true, false, ◌&&◌, ◌||◌, List, length, slice_get, map, sum_by, Option, Some, None, if◌then◌else◌}
+use Rattle.std.specs.Prelude.{◌≡◌, ℕ, ◌+◌, ◌*◌, ◌^◌, ◌==◌, nat_le, Bool, true, false, ◌&&◌, ◌||◌, List, length}
+use Rattle.std.specs.Prelude.{slice_get, map, sum_by, Option, Some, None, if◌then◌else◌}
 use Rattle.grove_base.specs.Numbers.{any_below}
 use Rattle.grove_tree.specs.Trees.{Rows, parent_of, weight_of, is_at}
 use Rattle.grove_access.specs.Slots.{slots_before}
@@ -28,7 +29,8 @@ has_parent rows flow row = any_below (length flow) (λ i. is_parent_at rows row 
 
 -- the tests of one row
 
--- amounts stand only on constraints that there are: the top node has no parent among the rows, and some nodes aren't accessed themselves
+-- amounts stand only on constraints that there are: the top node has no parent among the rows, and some nodes aren't
+-- accessed themselves
 abbrev pub is_sign_ok : Rows → List ℕ → List FlowRow → FlowRow → Bool
 is_sign_ok rows nodes flow row =
     (has_parent rows flow row || (row.above == 0 && row.held == 0))
@@ -38,15 +40,19 @@ abbrev pub is_small_amount : ℕ → Bool
 is_small_amount amount = nat_le amount (2 ^ 40)
 
 abbrev pub is_small : FlowRow → Bool
-is_small row = is_small_amount row.above && (is_small_amount row.held && (is_small_amount row.first && (is_small_amount row.last && is_small_amount row.own)))
+is_small row = is_small_amount row.above
+    && (is_small_amount row.held
+    && (is_small_amount row.first && (is_small_amount row.last && is_small_amount row.own)))
 
 -- what the lock's constraints put on it makes up the weight
 abbrev pub is_lock_balanced : Rows → List FlowRow → FlowRow → Bool
-is_lock_balanced rows flow row = (row.above + weight_of rows row.node) == (child_sum rows (λ child. child.above) flow row + row.held + row.first + row.own)
+is_lock_balanced rows flow row = (row.above + weight_of rows row.node) ==
+    (child_sum rows (λ child. child.above) flow row + row.held + row.first + row.own)
 
 -- and so does what the release's constraints put on it
 abbrev pub is_release_balanced : Rows → List FlowRow → FlowRow → Bool
-is_release_balanced rows flow row = (child_sum rows (λ child. child.held) flow row + row.last + row.own) == weight_of rows row.node
+is_release_balanced rows flow row = (child_sum rows (λ child. child.held) flow row + row.last + row.own) == weight_of
+    rows row.node
 
 abbrev pub AllRows : (FlowRow → Bool) → List FlowRow → Type 0
 AllRows test flow = (i : ℕ) (row : FlowRow) → slice_get flow i ≡ Some row → test row ≡ true

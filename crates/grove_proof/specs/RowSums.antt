@@ -4,4 +4,5 @@ use Rattle.grove_proof.specs.declared.row_sums.RowSums.{RowSums}
 use Rattle.grove_proof.specs.Tables.{AreSums}
 
 abbrev pub AreRight : RowSums → Type 0
-AreRight row_sums = AreSums row_sums.tree.now (nodes_of row_sums.list.now) row_sums.rows.now row_sums.visits.items row_sums.above.items row_sums.held.items
+AreRight row_sums = AreSums row_sums.tree.now (nodes_of row_sums.list.now) row_sums.rows.now row_sums.visits.items
+    row_sums.above.items row_sums.held.items

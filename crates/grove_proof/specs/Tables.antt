@@ -1,5 +1,6 @@
 -- For the proofs alone: what the checker makes of a tree, a list and rows on its way.
-use Rattle.std.specs.Prelude.{◌≡◌, ◌≢◌, ◌⊎◌, ℕ, ◌<◌, ◌≤◌, ◌^◌, pos, Bool, true, List, length, slice_get, sum_by, Some, Result, Ok, Err, map, if◌then◌else◌}
+use Rattle.std.specs.Prelude.{◌≡◌, ◌≢◌, ◌⊎◌, ℕ, ◌<◌, ◌≤◌, ◌^◌, pos, Bool, true, List, length, slice_get, sum_by, Some}
+use Rattle.std.specs.Prelude.{Result, Ok, Err, map, if◌then◌else◌}
 use Rattle.grove_base.specs.Numbers.{any_below, least_below, last_below}
 use Rattle.grove_tree.specs.Trees.{Rows, parent_of, IsAbove, IsTree, is_at}
 use Rattle.grove_access.specs.Forced.{is_forced, forced_nodes, names_at}
@@ -14,7 +15,8 @@ use Rattle.grove_proof.specs.declared.tables.Amount.{Amount}
 use Rattle.grove_proof.specs.declared.tables.Amount.TheVariants.{Above, Held}
 use Rattle.grove_proof.specs.declared.row_sums.Test.{Test}
 use Rattle.grove_proof.specs.declared.row_sums.Test.TheVariants.{Sign, Size, Lock, Release}
-use Rattle.grove_proof.specs.Flows.{node_of, is_sign_ok, is_small, is_lock_balanced, is_release_balanced, AllRows, IsCertificate}
+use Rattle.grove_proof.specs.Flows.{node_of, is_sign_ok, is_small, is_lock_balanced, is_release_balanced, AllRows}
+use Rattle.grove_proof.specs.Flows.{IsCertificate}
 use Rattle.grove_proof.specs.Faults.{IsFirstBad, IsFault, bound}
 
 -- the lowest node above two nodes
@@ -53,7 +55,8 @@ pub record AreVisits (nodes : List ℕ) (n v : ℕ) (visits : Visits) : Type 0 w
   pub few : visits.first ≤ n
 
 abbrev pub VisitsByNode : Rows → List ℕ → ℕ → List Visits → Type 0
-VisitsByNode rows nodes n table = (v : ℕ) → v < length rows → (visits : Visits) × (slice_get table v ≡ Some visits) × AreVisits nodes n v visits
+VisitsByNode rows nodes n table = (v : ℕ) → v < length rows → (visits : Visits) × (slice_get table v ≡ Some visits)
+    × AreVisits nodes n v visits
 
 -- the amount of a row that a name tells
 abbrev pub amount_of : Amount → FlowRow → ℕ
@@ -62,7 +65,8 @@ amount_of Held row = row.held
 
 -- an amount, added up over the rows of a node's children
 abbrev pub sum_at : Rows → Amount → ℕ → List FlowRow → ℕ
-sum_at rows amount v flow = sum_by (λ child. if is_at v (parent_of rows child.node) then amount_of amount child else 0) flow
+sum_at rows amount v flow = sum_by (λ child. if is_at v (parent_of rows child.node) then amount_of amount child else 0)
+    flow
 
 abbrev pub SumsByNode : Rows → Amount → List FlowRow → List ℕ → Type 0
 SumsByNode rows amount flow table = (v : ℕ) → v < length rows → slice_get table v ≡ Some (sum_at rows amount v flow)
@@ -83,7 +87,8 @@ abbrev pub AreInTree : Rows → List FlowRow → Type 0
 AreInTree rows flow = (i : ℕ) (row : FlowRow) → slice_get flow i ≡ Some row → row.node < length rows
 
 -- rows whose nodes are the forced ones, with what their tests read
-pub record AreSums (rows : Rows) (nodes : List ℕ) (flow : List FlowRow) (visits : List Visits) (above held : List ℕ) : Type 0 where
+pub record AreSums (rows : Rows) (nodes : List ℕ) (flow : List FlowRow) (visits : List Visits)
+    (above held : List ℕ) : Type 0 where
   pub tree : IsTree rows
   pub fits : AreNodes rows nodes
   pub short : length nodes ≤ 64
@@ -107,14 +112,20 @@ abbrev pub IsRowsFault : Rows → List ℕ → List ℕ → List FlowRow → ℕ
 IsRowsFault rows nodes lengths flow sum (fault.Plan f) = ⊥
 IsRowsFault rows nodes lengths flow sum (fault.Rows i) = ⊥
 IsRowsFault rows nodes lengths flow sum (fault.Sign i) = IsFirstBad (is_sign_ok rows nodes flow) flow i
-IsRowsFault rows nodes lengths flow sum (fault.TooBig i) = AllRows (is_sign_ok rows nodes flow) flow × IsFirstBad is_small flow i
-IsRowsFault rows nodes lengths flow sum (fault.LockBalance i) = AllRows (is_sign_ok rows nodes flow) flow × AllRows is_small flow × IsFirstBad (is_lock_balanced rows flow) flow i
+IsRowsFault rows nodes lengths flow sum (fault.TooBig i) = AllRows (is_sign_ok rows nodes flow) flow
+    × IsFirstBad is_small flow i
+IsRowsFault rows nodes lengths flow sum (fault.LockBalance i) = AllRows (is_sign_ok rows nodes flow) flow
+    × AllRows is_small flow × IsFirstBad (is_lock_balanced rows flow) flow i
 IsRowsFault rows nodes lengths flow sum (fault.ReleaseBalance i) =
-    AllRows (is_sign_ok rows nodes flow) flow × AllRows is_small flow × AllRows (is_lock_balanced rows flow) flow × IsFirstBad (is_release_balanced rows flow) flow i
-IsRowsFault rows nodes lengths flow sum (fault.Value c b) = PassAll rows nodes flow × (c ≡ sum) × (b ≡ bound nodes lengths flow) × (bound nodes lengths flow ≢ pos sum)
+    AllRows (is_sign_ok rows nodes flow) flow × AllRows is_small flow × AllRows (is_lock_balanced rows flow) flow
+    × IsFirstBad (is_release_balanced rows flow) flow i
+IsRowsFault rows nodes lengths flow sum (fault.Value c b) = PassAll rows nodes flow × (c ≡ sum)
+    × (b ≡ bound nodes lengths flow) × (bound nodes lengths flow ≢ pos sum)
 IsRowsFault rows nodes lengths flow sum fault.Memory = ⊥
 
 -- what the checker answers
 abbrev pub IsVerdict : Rows → List ℕ → List ℕ → List Step → List FlowRow → Result ℕ ProofFault → Type 0
-IsVerdict rows nodes lengths plan flow (Ok sum) = (sum ≡ cost rows lengths plan) × IsLegal rows nodes plan × IsCertificate rows nodes lengths flow (cost rows lengths plan)
-IsVerdict rows nodes lengths plan flow (Err e) = e ≢ fault.Memory → IsFault rows nodes lengths plan flow e × (IsLegal rows nodes plan → ¬ IsCertificate rows nodes lengths flow (cost rows lengths plan))
+IsVerdict rows nodes lengths plan flow (Ok sum) = (sum ≡ cost rows lengths plan) × IsLegal rows nodes plan
+    × IsCertificate rows nodes lengths flow (cost rows lengths plan)
+IsVerdict rows nodes lengths plan flow (Err e) = e ≢ fault.Memory → IsFault rows nodes lengths plan flow e
+    × (IsLegal rows nodes plan → ¬ IsCertificate rows nodes lengths flow (cost rows lengths plan))

@@ -27,10 +27,15 @@ pub fn check(
     requires fits { AreNodes tree.now (nodes_of list.now) }
     ensures cost { IfOk result (λ sum. sum ≡ cost tree.now (lengths_of list.now) plan.now) }
     ensures legal { OnOk result (IsLegal tree.now (nodes_of list.now) plan.now) }
-    ensures certificate { OnOk result (IsCertificate tree.now (nodes_of list.now) (lengths_of list.now) flow.now (cost tree.now (lengths_of list.now) plan.now)) }
+    ensures certificate { OnOk result
+        (IsCertificate tree.now (nodes_of list.now) (lengths_of list.now) flow.now
+        (cost tree.now (lengths_of list.now) plan.now)) }
     ensures least { OnOk result (IsLeast tree.now (nodes_of list.now) (lengths_of list.now) plan.now) }
-    ensures fault { IfErr result (λ fault. fault ≢ ProofFault.Memory → IsFault tree.now (nodes_of list.now) (lengths_of list.now) plan.now flow.now fault) }
-    ensures refused { IfErr result (λ fault. fault ≢ ProofFault.Memory → IsLegal tree.now (nodes_of list.now) plan.now → ¬ IsCertificate tree.now (nodes_of list.now) (lengths_of list.now) flow.now (cost tree.now (lengths_of list.now) plan.now)) }
+    ensures fault { IfErr result (λ fault. fault ≢ ProofFault.Memory
+        → IsFault tree.now (nodes_of list.now) (lengths_of list.now) plan.now flow.now fault) }
+    ensures refused { IfErr result (λ fault. fault ≢ ProofFault.Memory → IsLegal tree.now (nodes_of list.now) plan.now
+        → ¬ IsCertificate tree.now (nodes_of list.now) (lengths_of list.now) flow.now
+        (cost tree.now (lengths_of list.now) plan.now)) }
 {
     examine(alloc, tree, list, plan, flow)
 }

@@ -1,9 +1,11 @@
-ghost use Rattle.std.specs.Prelude.{◌≡◌, ◌==◌, ◌&&◌, ◌||◌, not, ℕ, ◌<◌, ◌≤◌, ◌*◌, ◌^◌, pos, length, slice_get, map, Some, IfOk, MatchOption, MatchResult};
+ghost use Rattle.std.specs.Prelude.{◌≡◌, ◌==◌, ◌&&◌, ◌||◌, not, ℕ, ◌<◌, ◌≤◌, ◌*◌, ◌^◌, pos, length, slice_get, map};
+ghost use Rattle.std.specs.Prelude.{Some, IfOk, MatchOption, MatchResult};
 ghost use Rattle.grove_tree.specs.Trees.{IsTree};
 ghost use Rattle.grove_access.specs.Lists.{AreNodes, nodes_of, lengths_of};
 ghost use Rattle.grove_access.specs.Forced.{forced_nodes};
 ghost use Rattle.grove_proof.specs.declared.flow.FlowRow.{FlowRow};
-ghost use Rattle.grove_proof.specs.Flows.{node_of, is_sign_ok, is_small, is_lock_balanced, is_release_balanced, AllRows, gains, losses};
+ghost use Rattle.grove_proof.specs.Flows.{node_of, is_sign_ok, is_small, is_lock_balanced, is_release_balanced};
+ghost use Rattle.grove_proof.specs.Flows.{AllRows, gains, losses};
 ghost use Rattle.grove_proof.specs.Faults.{IsFirstBad, bound};
 ghost use Rattle.grove_proof.specs.Tables.{test_of, PassAll, IsRowsFault};
 ghost use Rattle.grove_proof.specs.RowSums.{AreRight};
@@ -70,7 +72,8 @@ impl<'a> RowSums<'a> {
     fn is_sign_ok(&self, place: usize) -> bool
         requires right { AreRight self.now }
         requires place { place < length self.now.rows.now }
-        ensures { (row : FlowRow) → slice_get self.now.rows.now place ≡ Some row → result ≡ is_sign_ok self.now.tree.now (nodes_of self.now.list.now) self.now.rows.now row }
+        ensures { (row : FlowRow) → slice_get self.now.rows.now place ≡ Some row
+            → result ≡ is_sign_ok self.now.tree.now (nodes_of self.now.list.now) self.now.rows.now row }
     {
         let row = &self.rows[place];
         let visits = self.visits[row.node.number() as usize];
@@ -80,7 +83,8 @@ impl<'a> RowSums<'a> {
     fn is_lock_balanced(&self, place: usize) -> bool
         requires right { AreRight self.now }
         requires place { place < length self.now.rows.now }
-        ensures { (row : FlowRow) → slice_get self.now.rows.now place ≡ Some row → result ≡ is_lock_balanced self.now.tree.now self.now.rows.now row }
+        ensures { (row : FlowRow) → slice_get self.now.rows.now place ≡ Some row
+            → result ≡ is_lock_balanced self.now.tree.now self.now.rows.now row }
     {
         let row = &self.rows[place];
         let children = self.above[row.node.number() as usize];
@@ -91,7 +95,8 @@ impl<'a> RowSums<'a> {
     fn is_release_balanced(&self, place: usize) -> bool
         requires right { AreRight self.now }
         requires place { place < length self.now.rows.now }
-        ensures { (row : FlowRow) → slice_get self.now.rows.now place ≡ Some row → result ≡ is_release_balanced self.now.tree.now self.now.rows.now row }
+        ensures { (row : FlowRow) → slice_get self.now.rows.now place ≡ Some row
+            → result ≡ is_release_balanced self.now.tree.now self.now.rows.now row }
     {
         let row = &self.rows[place];
         let children = self.held[row.node.number() as usize];
@@ -101,7 +106,8 @@ impl<'a> RowSums<'a> {
     fn passes(&self, test: Test, place: usize) -> bool
         requires right { AreRight self.now }
         requires place { place < length self.now.rows.now }
-        ensures { (row : FlowRow) → slice_get self.now.rows.now place ≡ Some row → result ≡ test_of self.now.tree.now (nodes_of self.now.list.now) self.now.rows.now test row }
+        ensures { (row : FlowRow) → slice_get self.now.rows.now place ≡ Some row
+            → result ≡ test_of self.now.tree.now (nodes_of self.now.list.now) self.now.rows.now test row }
     {
         match test {
             Test::Sign => self.is_sign_ok(place),
@@ -129,7 +135,8 @@ impl<'a> RowSums<'a> {
     fn first_fault(&self) -> Option<ProofFault>
         requires { AreRight self.now }
         ensures { MatchOption result (PassAll self.now.tree.now (nodes_of self.now.list.now) self.now.rows.now)
-            (λ fault. (sum : ℕ) → IsRowsFault self.now.tree.now (nodes_of self.now.list.now) (lengths_of self.now.list.now) self.now.rows.now sum fault) }
+            (λ fault. (sum : ℕ) → IsRowsFault self.now.tree.now (nodes_of self.now.list.now)
+            (lengths_of self.now.list.now) self.now.rows.now sum fault) }
     {
         if let Some(row) = self.first_bad(Test::Sign) {
             return Some(ProofFault::Sign(row));
@@ -163,7 +170,8 @@ impl<'a> RowSums<'a> {
     /// What the locks' amounts take from the bound.
     fn losses(&self) -> u128
         requires right { AreRight self.now }
-        requires signs { AllRows (is_sign_ok self.now.tree.now (nodes_of self.now.list.now) self.now.rows.now) self.now.rows.now }
+        requires signs { AllRows (is_sign_ok self.now.tree.now (nodes_of self.now.list.now) self.now.rows.now)
+            self.now.rows.now }
         ensures sum { result ≡ losses (nodes_of self.now.list.now) (lengths_of self.now.list.now) self.now.rows.now }
         ensures bounded { result ≤ 2 ^ 112 }
     {
@@ -179,8 +187,10 @@ impl<'a> RowSums<'a> {
     pub fn weigh(&self, cost: u64) -> Result<u64, ProofFault>
         requires { AreRight self.now }
         ensures { MatchResult result
-            (λ sum. (sum ≡ cost) × PassAll self.now.tree.now (nodes_of self.now.list.now) self.now.rows.now × (bound (nodes_of self.now.list.now) (lengths_of self.now.list.now) self.now.rows.now ≡ pos cost))
-            (λ fault. IsRowsFault self.now.tree.now (nodes_of self.now.list.now) (lengths_of self.now.list.now) self.now.rows.now cost fault) }
+            (λ sum. (sum ≡ cost) × PassAll self.now.tree.now (nodes_of self.now.list.now) self.now.rows.now
+            × (bound (nodes_of self.now.list.now) (lengths_of self.now.list.now) self.now.rows.now ≡ pos cost))
+            (λ fault. IsRowsFault self.now.tree.now (nodes_of self.now.list.now) (lengths_of self.now.list.now)
+            self.now.rows.now cost fault) }
     {
         if let Some(fault) = self.first_fault() {
             return Err(fault);

@@ -117,7 +117,8 @@ pub fn forced_nodes(alloc: Global, tree: &Tree, list: &AccessList) -> Result<Vec
 /// The first place where the rows' nodes differ from the span.
 pub fn first_stranger(span: &[Node], rows: &[FlowRow]) -> Option<u32>
     requires few { length rows.now < 2 ^ 32 }
-    ensures { MatchOption result (map node_of rows.now ≡ span.now) (λ place. IsFirstDifference (map node_of rows.now) span.now place) }
+    ensures { MatchOption result (map node_of rows.now ≡ span.now)
+        (λ place. IsFirstDifference (map node_of rows.now) span.now place) }
 {
     let shorter = span.len().min(rows.len());
     for place in 0..shorter {

@@ -1,4 +1,5 @@
-ghost use Rattle.grove_proof.specs.Laws.{ForcedIsByTree, ForcedListIsByTree, LegalMeetsFive, WeakDuality, CertifiedIsLeast, OneChangeIsRefused};
+ghost use Rattle.grove_proof.specs.Laws.{ForcedIsByTree, ForcedListIsByTree, LegalMeetsFive, WeakDuality};
+ghost use Rattle.grove_proof.specs.Laws.{CertifiedIsLeast, OneChangeIsRefused};
 ghost use Rattle.grove_proof.specs.FaultLaws.{FaultIsOne, CertifiedIsFaultless};
 
 /// The laws that `check` rests on, proved of every tree, list, plan and flow. The function does nothing.

@@ -34,7 +34,8 @@ marked core t = if is_marked (past_of core) t then core else after_event core (M
 
 -- the step after the entries of a carry
 abbrev pub step_after : CoreState → Carried → Option Step
-step_after core carry = slice_get (plan_of core.jobs carry.txn) (steps_done (past_of core) carry.txn + length carry.entries)
+step_after core carry = slice_get (plan_of core.jobs carry.txn)
+    (steps_done (past_of core) carry.txn + length carry.entries)
 
 -- the step can't be done with the carry: it is an access, or a lock for which there is no room
 abbrev pub HasNoStep : Carried → Option Step → Type 0
@@ -52,7 +53,8 @@ core_taken core carry = after_steps core carry.txn (length carry.entries)
 
 -- a lock takes the record of its node in, an unlock gives it back
 abbrev pub Moved : CoreState → Carried → Step → Carried → Type 0
-Moved core carry (Lock v) new = new ≡ record carry { known = carry.known ++ record { node = v; value = record_at (records_of core) v } ∷ [] }
+Moved core carry (Lock v) new = new
+    ≡ record carry { known = carry.known ++ record { node = v; value = record_at (records_of core) v } ∷ [] }
 Moved core carry (Unlock v) new = new ≡ record carry { known = without carry.known v }
 Moved core carry (Access i) new = ⊥
 

@@ -4,8 +4,8 @@ ghost use Rattle.grove_run.specs.Books.{IsSameBatch};
 use grove_core::{Core, Event, Job};
 use grove_tree::Gate;
 
-/// Does the jobs one after the other, each from its first step to its last. Nobody else has the core, so no lock is ever
-/// held by another job, and no record needs to be taken out of it.
+/// Does the jobs one after the other, each from its first step to its last. Nobody else has the core, so no lock is
+/// ever held by another job, and no record needs to be taken out of it.
 pub fn do_alone<G: Gate>(core: &mut Core, jobs: &[Job], gate: &G)
     requires { length jobs.now ≤ 256 }
     ensures { IsSameBatch core.old core.new }

@@ -20,10 +20,10 @@ use std::marker::Brand;
 use std::sync::{Mutex, Wait};
 use std::thread::Threads;
 
-/// Brings the jobs to a finished run over copies of the records, by at most so many threads, the caller's among them, by
-/// no more than there are jobs, and by no more than 16; 0 is as 1. Jobs of fewer than 2,048 steps in all, at a gate where
-/// nobody waits, are done by the caller alone. Before the first try of each step a worker calls `gate.at(job, step)` outside
-/// every lock.
+/// Brings the jobs to a finished run over copies of the records, by at most so many threads, the caller's among them,
+/// by no more than there are jobs, and by no more than 16; 0 is as 1. Jobs of fewer than 2,048 steps in all, at a gate
+/// where nobody waits, are done by the caller alone. Before the first try of each step a worker calls `gate.at(job,
+/// step)` outside every lock.
 pub fn run_batch<'a, R: Threads + Wait + Sync, G: Gate + Sync>(
     rt: &R,
     alloc: Global,

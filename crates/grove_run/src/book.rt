@@ -4,7 +4,8 @@ ghost use Rattle.grove_plan.specs.declared.step.Step.{Step as PlanStep};
 ghost use Rattle.grove_core.specs.Runs.{next_step, AllLegal, MayHappen};
 ghost use Rattle.grove_core.specs.Kept.{past_of};
 ghost use Rattle.grove_core.specs.Carried.{IsOf};
-ghost use Rattle.grove_run.specs.Books.{after_event, marked, core_taken, step_after, HasNoStep, IsForeign, IsBlockedAt, IsSameBatch, Moved, IsDone};
+ghost use Rattle.grove_run.specs.Books.{after_event, marked, core_taken, step_after, HasNoStep, IsForeign, IsBlockedAt};
+ghost use Rattle.grove_run.specs.Books.{IsSameBatch, Moved, IsDone};
 
 use crate::{BookStep, CarryStep};
 use grove_access::Carry;
@@ -76,9 +77,13 @@ impl<'a> Book<'a> {
     pub fn step(&mut self, txn: u32) -> BookStep
         requires { txn < length self.old.core.jobs }
         ensures claims { self.new.claimed ≡ self.old.claimed }
-        ensures stepped { result ≡ BookStep.Stepped → MayHappen self.old.core.jobs (past_of self.old.core) (Event.Take txn) × (self.new.core ≡ after_event self.old.core (Event.Take txn)) }
-        ensures blocked { result ≡ BookStep.Blocked → IsBlockedAt self.old.core txn × (self.new.core ≡ marked self.old.core txn) }
-        ensures ended { result ≡ BookStep.Ended → (next_step self.old.core.jobs (past_of self.old.core) txn ≡ None) × (self.new ≡ self.old) }
+        ensures stepped { result ≡ BookStep.Stepped
+            → MayHappen self.old.core.jobs (past_of self.old.core) (Event.Take txn)
+            × (self.new.core ≡ after_event self.old.core (Event.Take txn)) }
+        ensures blocked { result ≡ BookStep.Blocked → IsBlockedAt self.old.core txn
+            × (self.new.core ≡ marked self.old.core txn) }
+        ensures ended { result ≡ BookStep.Ended → (next_step self.old.core.jobs (past_of self.old.core) txn ≡ None)
+            × (self.new ≡ self.old) }
     {
         match self.core.step(Event::Take(txn)) {
             Ok(()) => BookStep::Stepped,
@@ -90,16 +95,23 @@ impl<'a> Book<'a> {
         }
     }
 
-    /// Takes in the accesses that the carry's job did on the records that it has out, and then does its next step, a lock
-    /// or an unlock.
+    /// Takes in the accesses that the carry's job did on the records that it has out, and then does its next step, a
+    /// lock or an unlock.
     pub fn carry_step(&mut self, carry: &mut Carry) -> CarryStep
         ensures claims { self.new.claimed ≡ self.old.claimed }
         ensures foreign { result ≡ CarryStep.Foreign → IsForeign self.old.core carry.old }
         ensures kept { result ≡ CarryStep.Foreign → (self.new ≡ self.old) × (carry.new ≡ carry.old) }
-        ensures fits { (result ≡ CarryStep.Foreign → ⊥) → IsOf self.old.core carry.old × (HasNoStep carry.old (step_after self.old.core carry.old) → ⊥) }
-        ensures ended { result ≡ CarryStep.Ended → (step_after self.old.core carry.old ≡ None) × (self.new.core ≡ core_taken self.old.core carry.old) × (carry.new ≡ carry_settled carry.old) }
-        ensures stepped { result ≡ CarryStep.Stepped → (step : PlanStep) × (step_after self.old.core carry.old ≡ Some step) × (self.new.core ≡ after_event (core_taken self.old.core carry.old) (Event.Take carry.old.txn)) × Moved (core_taken self.old.core carry.old) (carry_settled carry.old) step carry.new }
-        ensures blocked { result ≡ CarryStep.Blocked → IsBlockedAt (core_taken self.old.core carry.old) carry.old.txn × (self.new.core ≡ marked (core_taken self.old.core carry.old) carry.old.txn) × (carry.new ≡ carry_settled carry.old) }
+        ensures fits { (result ≡ CarryStep.Foreign → ⊥) → IsOf self.old.core carry.old
+            × (HasNoStep carry.old (step_after self.old.core carry.old) → ⊥) }
+        ensures ended { result ≡ CarryStep.Ended → (step_after self.old.core carry.old ≡ None)
+            × (self.new.core ≡ core_taken self.old.core carry.old) × (carry.new ≡ carry_settled carry.old) }
+        ensures stepped { result ≡ CarryStep.Stepped → (step : PlanStep)
+            × (step_after self.old.core carry.old ≡ Some step)
+            × (self.new.core ≡ after_event (core_taken self.old.core carry.old) (Event.Take carry.old.txn))
+            × Moved (core_taken self.old.core carry.old) (carry_settled carry.old) step carry.new }
+        ensures blocked { result ≡ CarryStep.Blocked → IsBlockedAt (core_taken self.old.core carry.old) carry.old.txn
+            × (self.new.core ≡ marked (core_taken self.old.core carry.old) carry.old.txn)
+            × (carry.new ≡ carry_settled carry.old) }
         ensures stays { (result ≡ CarryStep.Foreign → ⊥) → IsOf self.new.core carry.new }
     {
         if is_foreign(&self.core, carry) {
@@ -141,8 +153,8 @@ fn has_no_step(carry: &Carry, step: Step) -> bool
     }
 }
 
-// Does the step that a job stands before. Foreign where the carry doesn't fit it, which of the core it does; the step of a
-// lock or an unlock may be done then.
+// Does the step that a job stands before. Foreign where the carry doesn't fit it, which of the core it does; the step
+// of a lock or an unlock may be done then.
 fn do_step(core: &mut Core, carry: &mut Carry, step: Step) -> CarryStep
     requires settled { carry.old.entries ≡ [] }
     requires next { next_step core.old.jobs (past_of core.old) carry.old.txn ≡ Some step }
@@ -163,8 +175,10 @@ fn do_step(core: &mut Core, carry: &mut Carry, step: Step) -> CarryStep
 fn lock(core: &mut Core, carry: &mut Carry, node: Node) -> CarryStep
     requires legal { AllLegal core.old.tree core.old.jobs }
     requires next { next_step core.old.jobs (past_of core.old) carry.old.txn ≡ Some (Step.Lock node) }
-    ensures done { (result ≡ CarryStep.Foreign → ⊥) → IsDone core.old carry.old (Step.Lock node) result core.new carry.new }
-    ensures fits { IsOf core.old carry.old → (length carry.old.known ≡ carry.old.most_nodes → ⊥) → result ≡ CarryStep.Foreign → ⊥ }
+    ensures done { (result ≡ CarryStep.Foreign → ⊥)
+        → IsDone core.old carry.old (Step.Lock node) result core.new carry.new }
+    ensures fits { IsOf core.old carry.old → (length carry.old.known ≡ carry.old.most_nodes → ⊥)
+        → result ≡ CarryStep.Foreign → ⊥ }
     ensures same { IsSameBatch core.old core.new }
 {
     let txn = carry.txn();
@@ -183,7 +197,8 @@ fn unlock(core: &mut Core, carry: &mut Carry, node: Node) -> CarryStep
     requires legal { AllLegal core.old.tree core.old.jobs }
     requires settled { carry.old.entries ≡ [] }
     requires next { next_step core.old.jobs (past_of core.old) carry.old.txn ≡ Some (Step.Unlock node) }
-    ensures done { (result ≡ CarryStep.Foreign → ⊥) → IsDone core.old carry.old (Step.Unlock node) result core.new carry.new }
+    ensures done { (result ≡ CarryStep.Foreign → ⊥)
+        → IsDone core.old carry.old (Step.Unlock node) result core.new carry.new }
     ensures fits { IsOf core.old carry.old → result ≡ CarryStep.Foreign → ⊥ }
     ensures same { IsSameBatch core.old core.new }
 {

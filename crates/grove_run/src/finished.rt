@@ -31,7 +31,12 @@ impl<'a> Model for Finished<'a> {
 
     ghost view = { λ finished. record { core = finished.core; order = finished.order.items } };
 
-    ghost invariant = { λ finished. IsRun finished.core.jobs (past_of finished.core) × IsFinished finished.core.jobs (past_of finished.core) × (finished.order.items ≡ placement_order finished.core.tree finished.core.jobs (past_of finished.core)) × IsEachOnce finished.order.items (length finished.core.jobs) × IsSerialBy finished.order.items finished.core.jobs finished.core.opening (past_of finished.core) × (length finished.order.items ≤ 256) };
+    ghost invariant = { λ finished. IsRun finished.core.jobs (past_of finished.core)
+        × IsFinished finished.core.jobs (past_of finished.core)
+        × (finished.order.items ≡ placement_order finished.core.tree finished.core.jobs (past_of finished.core))
+        × IsEachOnce finished.order.items (length finished.core.jobs)
+        × IsSerialBy finished.order.items finished.core.jobs finished.core.opening (past_of finished.core)
+        × (length finished.order.items ≤ 256) };
 }
 
 impl<'a> Finished<'a> {
@@ -61,7 +66,8 @@ impl<'a> Finished<'a> {
     /// The jobs in their serial order, each once.
     pub fn order(&self) -> &[u32]
         ensures order { result.now ≡ self.now.order }
-        ensures placement { self.now.order ≡ placement_order self.now.core.tree self.now.core.jobs (past_of self.now.core) }
+        ensures placement { self.now.order ≡ placement_order self.now.core.tree self.now.core.jobs
+            (past_of self.now.core) }
         ensures once { IsEachOnce self.now.order (length self.now.core.jobs) }
         ensures few { length self.now.order ≤ 256 }
     {

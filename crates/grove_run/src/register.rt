@@ -89,15 +89,16 @@ impl<'a, B: Batch> Register<'a, B> {
         self.book.carry_on(carry)
     }
 
-    /// The worker of a seat falls asleep, whose carry's job is blocked at the lock of a node, at this place of its plan. It
-    /// sleeps for the last node in its way: it can let nothing go before it has that one, and isn't woken at those before.
+    /// The worker of a seat falls asleep, whose carry's job is blocked at the lock of a node, at this place of its
+    /// plan. It sleeps for the last node in its way: it can let nothing go before it has that one, and isn't woken at
+    /// those before.
     pub fn fall_asleep(&mut self, seat: usize, carry: &Carry, node: Node, place: usize) {
         let last = self.book.last_in_way(carry.txn(), place);
         self.sleep_for(seat, carry, last.unwrap_or(node), place);
     }
 
-    /// Lets a worker that was woken sleep on, where its job holds nothing and another has come into its way. So no job keeps
-    /// others from a node before it can begin.
+    /// Lets a worker that was woken sleep on, where its job holds nothing and another has come into its way. So no job
+    /// keeps others from a node before it can begin.
     pub fn sleep_on(&mut self, seat: usize, carry: &Carry, place: usize) -> bool {
         if self.foreign || !carry.known().is_empty() {
             return false;
@@ -124,9 +125,9 @@ impl<'a, B: Batch> Register<'a, B> {
         self.sleepers.may_wait_for(node)
     }
 
-    /// Takes out whom to wake when the node is let go: who slept for it and has nobody in the way any more, but only one of
-    /// those whose jobs hold nothing. That one locks the node too, and the others sleep for it. Who has another job in the
-    /// way sleeps for that one's node.
+    /// Takes out whom to wake when the node is let go: who slept for it and has nobody in the way any more, but only
+    /// one of those whose jobs hold nothing. That one locks the node too, and the others sleep for it. Who has another
+    /// job in the way sleeps for that one's node.
     pub fn whom_to_wake(&mut self, node: Node) -> Woken {
         let mut woken = Woken::new();
         let mut begins = false;

@@ -9,7 +9,8 @@ pub enum BookStep {
     Ended,
 }
 
-/// What became of the lock or unlock that a job stands before, once its accesses on the records that it has out are done.
+/// What became of the lock or unlock that a job stands before, once its accesses on the records that it has out are
+/// done.
 #[derive(Clone, Copy, Debug, PartialEq, Eq)]
 pub enum CarryStep {
     /// It is done, and the carry has taken the record of the node in, or given it back.
@@ -18,6 +19,7 @@ pub enum CarryStep {
     Blocked,
     /// There is none: the job's plan is at its end.
     Ended,
-    /// The carry isn't of the job as it is now, the step is an access, or there is no room for the node. Nothing is done.
+    /// The carry isn't of the job as it is now, the step is an access, or there is no room for the node. Nothing is
+    /// done.
     Foreign,
 }

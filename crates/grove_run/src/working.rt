@@ -12,8 +12,8 @@ use std::sync::{Mutex, Wait};
 use std::thread::{Threads, join};
 
 /// Does the jobs by so many threads, this one among them. Each thread starts the next one before it works, as long as
-/// enough is left to claim: so no thread is started that has nothing to do, and none waits for another to be started. Where
-/// a thread can't be started the others do the jobs.
+/// enough is left to claim: so no thread is started that has nothing to do, and none waits for another to be started.
+/// Where a thread can't be started the others do the jobs.
 #[cycle(chain)]
 pub fn work_all<'a, B: Batch + Send + Sync, R: Threads + Wait + Sync, G: Gate + Sync>(
     rt: &R,
@@ -79,7 +79,8 @@ fn work<'a, B: Batch, R: Wait, G: Gate>(
     }
 }
 
-// Does a job: accesses on the records that it has out, and locks and unlocks in the register. False where it can't go on.
+// Does a job: accesses on the records that it has out, and locks and unlocks in the register. False where it can't go
+// on.
 fn do_job<'a, B: Batch, R: Wait, G: Gate>(
     rt: &R,
     job: &Job,

@@ -16,8 +16,8 @@ const NO_DESCRIPTOR_HERE: i32 = 24;
 
 const NO_DESCRIPTOR_AT_ALL: i32 = 23;
 
-/// Serves connections, as many at once as there are seats, until none can be accepted any more and the others have ended.
-/// A connection that there is no descriptor for waits for one; one that no thread can be started for is closed.
+/// Serves connections, as many at once as there are seats, until none can be accepted any more and the others have
+/// ended. A connection that there is no descriptor for waits for one; one that no thread can be started for is closed.
 pub fn serve<R: Host>(rt: &R, service: Service) {
     serve_as::<Brand, R>(rt, service);
 }

@@ -30,8 +30,8 @@ pub enum Awaited<'a> {
 }
 
 /// A connection that may idle for so long and no longer: a read of it fails once a line, or a request, has been waited
-/// for all that time. A part of one wins none, and the time in which one is answered doesn't count. What it reads is what
-/// the stream gives.
+/// for all that time. A part of one wins none, and the time in which one is answered doesn't count. What it reads is
+/// what the stream gives.
 #[derive(Drop)]
 pub struct TimedStream<'a, R, S> {
     clock: &'a R,

@@ -97,8 +97,8 @@ pub fn session_at<B: Opening, R: Host, I: Source, O: Sink>(
     }
 }
 
-/// A desk to which the requests of a caller go who has a seat, and who is told of if it is a guest. Of all callers' long
-/// bodies one at a time is answered: so only that one's lines are copied.
+/// A desk to which the requests of a caller go who has a seat, and who is told of if it is a guest. Of all callers'
+/// long bodies one at a time is answered: so only that one's lines are copied.
 #[derive(Drop)]
 pub struct SeatedDesk<'a, B: Opening> {
     desk: &'a Desk<B>,

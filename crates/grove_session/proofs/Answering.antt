@@ -1,5 +1,6 @@
 -- Texts that answer lines, and what is added to them.
-use Rattle.std.proofs.Common.{◌≡◌, ℕ, ◌<◌, ◌≤◌, Bool, List, [], ◌∷◌, ◌++◌, Some, length, take, Result, Ok, Err, refl, sym, ap, subst, ◌∙◌, append_assoc, arith, length-append}
+use Rattle.std.proofs.Common.{◌≡◌, ℕ, ◌<◌, ◌≤◌, Bool, List, [], ◌∷◌, ◌++◌, Some, length, take, Result, Ok, Err, refl}
+use Rattle.std.proofs.Common.{sym, ap, subst, ◌∙◌, append_assoc, arith, length-append}
 use Rattle.std.specs.Prelude.{slice_get}
 use Rattle.std.proofs.lemmas.List.{take-append-le}
 use Rattle.std.proofs.Math.Seq.{take-append_seam, take-append-add}
@@ -54,7 +55,8 @@ module _ {S : Type 0} (lawful : Lawful S) where
       (length lines, let e = length-append lines others in omega arith, take_before lines others old new text answered)
 
   -- a reply that was cut, to the line behind lines that are answered
-  pub stops_within : (shared : Bool) (lines others : List (List ℕ)) (line : List ℕ) (old between new : S) (text more reply : List ℕ) → IsAnswered lawful old lines text between
+  pub stops_within : (shared : Bool) (lines others : List (List ℕ)) (line : List ℕ) (old between new : S)
+      (text more reply : List ℕ) → IsAnswered lawful old lines text between
       → IsReplied lawful between line reply new → length more < length (reply ++ 10 ∷ []) → more ≡ take (length more) (reply ++ 10 ∷ [])
       → StopsWithin shared lawful old (lines ++ line ∷ others) (text ++ more) new
   stops_within shared lines others line old between new text more reply answered replied unfinished cut = record {
@@ -74,7 +76,8 @@ module _ {S : Type 0} (lawful : Lawful S) where
   }
 
   -- what was cut among lines was cut among them and more lines
-  pub within_among : (shared : Bool) (lines others : List (List ℕ)) (old new : S) (text : List ℕ) → StopsWithin shared lawful old lines text new
+  pub within_among : (shared : Bool) (lines others : List (List ℕ)) (old new : S) (text : List ℕ)
+      → StopsWithin shared lawful old lines text new
       → StopsWithin shared lawful old (lines ++ others) text new
   within_among shared lines others old new text h =
       let here = slice_get_within lines h.done h.line h.next in
@@ -93,7 +96,8 @@ module _ {S : Type 0} (lawful : Lawful S) where
       }
 
   -- a fault among lines is one among them and more lines
-  pub ends_among : (shared : Bool) (lines others : List (List ℕ)) (old new : S) (fault : SessionFault) (text : List ℕ) → EndsAmong shared lawful old lines fault text new
+  pub ends_among : (shared : Bool) (lines others : List (List ℕ)) (old new : S) (fault : SessionFault) (text : List ℕ)
+      → EndsAmong shared lawful old lines fault text new
       → EndsAmong shared lawful old (lines ++ others) fault text new
   ends_among shared lines others old new Memory text (done, le, answered) =
       (done, let e = length-append lines others in omega arith, take_among lines others done old new text le answered)

@@ -1,5 +1,7 @@
 -- How a session goes on with the bytes that it reads.
-use Rattle.std.proofs.Common.{◌≡◌, ℕ, ◌+◌, Bool, true, false, cond, List, [], ◌∷◌, ◌++◌, Option, None, Some, Result, Ok, Err, length, take, refl, sym, ap, subst, ◌∙◌, append_assoc, append-nil, inl, inr, arith, length-append}
+use Rattle.std.proofs.Common.{◌≡◌, ℕ, ◌+◌, Bool, true, false, cond, List, [], ◌∷◌, ◌++◌, Option, None, Some, Result}
+use Rattle.std.proofs.Common.{Ok, Err, length, take, refl, sym, ap, subst, ◌∙◌, append_assoc, append-nil, inl, inr}
+use Rattle.std.proofs.Common.{arith, length-append}
 use Rattle.std.specs.Prelude.{slice_get, nat_lt}
 use Rattle.std.specs.Io.KnownBytes.{IsAtEnd}
 use Rattle.std.proofs.lemmas.List.{length_push}
@@ -11,7 +13,8 @@ use Rattle.grove_session.specs.declared.session_fault.SessionFault.{SessionFault
 use Rattle.grove_session.specs.declared.session_fault.SessionFault.TheVariants.{Read, Write, Memory, Turns, Foreign}
 use Rattle.grove_session.specs.Sessions.{Lawful, UnlessLong, whole_lines, rest_of, last_line, lines_of, lines_from, IsReplied, IsAnswered, StopsBefore, StopsWithin, SessionEnds}
 use Rattle.grove_session.specs.Cuts.{IsFeedless}
-use Rattle.grove_session.specs.Intakes.{clip, with_bytes, held_line, IsHeldReplied, RepliesWhole, FailsNext, IsApart, Tells, IsUnderWay, EndsAmong, Continues, Breaks, Finishes}
+use Rattle.grove_session.specs.Intakes.{clip, with_bytes, held_line, IsHeldReplied, RepliesWhole, FailsNext, IsApart}
+use Rattle.grove_session.specs.Intakes.{Tells, IsUnderWay, EndsAmong, Continues, Breaks, Finishes}
 use Rattle.grove_session.proofs.Lines.{whole_lines-feed, rest_of-feed, whole_lines-feedless, rest_of-feedless, lines_from-append}
 use Rattle.grove_session.proofs.Answering.{one_more_answer, get_here, take_before, stops_before, stops_within, ends_among}
 
@@ -37,7 +40,8 @@ pub clip-nothing : (line : List ℕ) → clip line ≡ Some [] → line ≡ []
 clip-nothing line h = held_nothing (nat_lt 1048576 (length line)) line h
 
 -- a sink that is blamed with what went out is blamed with the length of the text
-pub apart_tells : (fault : SessionFault) (after : Intake) (text : List ℕ) → IsApart {T = ℕ} (Err fault) after → after.written ≡ length text → Tells fault text
+pub apart_tells : (fault : SessionFault) (after : Intake) (text : List ℕ) → IsApart {T = ℕ} (Err fault) after
+    → after.written ≡ length text → Tells fault text
 apart_tells (Write n) after text apart written = apart ∙ written
 apart_tells Read after text apart written = absurd apart
 apart_tells Memory after text apart written = _
@@ -84,20 +88,26 @@ module _ {S : Type 0} (shared : Bool) (lawful : Lawful S) where
   }
 
   pub breaks_then : (old mid new : S) (before between : Intake) (xs ys more others : List ℕ) (fault : SessionFault) → Continues lawful old before xs more mid between
-      → Breaks shared lawful mid between ys others fault new → Breaks shared lawful old before (xs ++ ys) (more ++ others) fault new
+      → Breaks shared lawful mid between ys others fault new
+      → Breaks shared lawful old before (xs ++ ys) (more ++ others) fault new
   breaks_then old mid new before between xs ys more others fault one two = record {
-    off = λ first input text h. subst (λ (i : List ℕ). EndsAmong shared lawful first (whole_lines i) fault (text ++ (more ++ others)) new) (append_assoc input xs ys)
-        (subst (λ (t : List ℕ). EndsAmong shared lawful first (whole_lines (input ++ xs ++ ys)) fault t new) (append_assoc text more others)
+    off = λ first input text h. subst (λ (i : List ℕ). EndsAmong shared lawful first (whole_lines i) fault
+        (text ++ (more ++ others)) new) (append_assoc input xs ys)
+        (subst (λ (t : List ℕ). EndsAmong shared lawful first (whole_lines (input ++ xs ++ ys)) fault t new)
+        (append_assoc text more others)
         (two.off first (input ++ xs) (text ++ more) (one.on first input text h)));
   }
 
   -- a fault among the first of some bytes is one among them all
-  pub breaks_early : (old new : S) (before : Intake) (xs ys more : List ℕ) (fault : SessionFault) → Breaks shared lawful old before xs more fault new
+  pub breaks_early : (old new : S) (before : Intake) (xs ys more : List ℕ) (fault : SessionFault)
+      → Breaks shared lawful old before xs more fault new
       → Breaks shared lawful old before (xs ++ ys) more fault new
   breaks_early old new before xs ys more fault h = record {
-    off = λ first input text under. subst (λ (ls : List (List ℕ)). EndsAmong shared lawful first ls fault (text ++ more) new)
+    off = λ first input text under. subst (λ (ls : List (List ℕ)).
+        EndsAmong shared lawful first ls fault (text ++ more) new)
         (sym (lines_from-append [] (input ++ xs) ys) ∙ ap whole_lines (append_assoc input xs ys))
-        (ends_among lawful shared (whole_lines (input ++ xs)) (lines_from (rest_of (input ++ xs)) ys) first new fault (text ++ more) (h.off first input text under));
+        (ends_among lawful shared (whole_lines (input ++ xs)) (lines_from (rest_of (input ++ xs)) ys) first new fault
+        (text ++ more) (h.off first input text under));
   }
 
   -- ---- bytes of one line, and a line feed
@@ -146,7 +156,8 @@ module _ {S : Type 0} (shared : Bool) (lawful : Lawful S) where
       → EndsAmong shared lawful first (whole_lines input ++ rest_of input ∷ others) fault (text ++ more) new
   among first old new input text more others before (Write n) h part =
       stops_within lawful shared (whole_lines input) others (rest_of input) first old new text more part.reply h.answers
-      (held_replied old (rest_of input) part.reply (held_line before.line) new h.held part.replied) part.sends.unfinished part.sends.cut
+      (held_replied old (rest_of input) part.reply (held_line before.line) new h.held part.replied)
+      part.sends.unfinished part.sends.cut
   among first old new input text more others before Memory h (none, same) =
       stops_before lawful (whole_lines input) (rest_of input ∷ others) first new (text ++ more) (still first old new input text more before h none same)
   among first old new input text more others before Foreign h (none, same) = (
@@ -162,12 +173,14 @@ module _ {S : Type 0} (shared : Bool) (lawful : Lawful S) where
   pub feed_breaks : (old new : S) (before : Intake) (more : List ℕ) (fault : SessionFault)
       → FailsNext lawful old before fault more new → Breaks shared lawful old before (10 ∷ []) more fault new
   feed_breaks old new before more fault h = record {
-    off = λ first input text under. subst (λ (ls : List (List ℕ)). EndsAmong shared lawful first ls fault (text ++ more) new) (sym (whole_lines-feed input []))
+    off = λ first input text under. subst (λ (ls : List (List ℕ)).
+        EndsAmong shared lawful first ls fault (text ++ more) new) (sym (whole_lines-feed input []))
         (among first old new input text more [] before fault under h);
   }
 
   -- bytes for which there is no room
-  pub no_room_breaks : (old : S) (before : Intake) (bytes : List ℕ) → Breaks shared lawful old before bytes [] Memory old
+  pub no_room_breaks : (old : S) (before : Intake) (bytes : List ℕ)
+      → Breaks shared lawful old before bytes [] Memory old
   no_room_breaks old before bytes = record {
     off = λ first input text under. subst (λ (ls : List (List ℕ)). StopsBefore lawful first ls (text ++ []) old) (sym (lines_from-append [] input bytes))
         (stops_before lawful (whole_lines input) (lines_from (rest_of input) bytes) first old (text ++ []) (still first old old input text [] before under refl refl));
@@ -176,21 +189,30 @@ module _ {S : Type 0} (shared : Bool) (lawful : Lawful S) where
   -- ---- ends
 
   -- a fault among the whole lines ends the session
-  pub ends_so : (first new : S) (left : Option (List ℕ)) (input text : List ℕ) (fault : SessionFault) → EndsAmong shared lawful first (whole_lines input) fault text new
+  pub ends_so : (first new : S) (left : Option (List ℕ)) (input text : List ℕ) (fault : SessionFault)
+      → EndsAmong shared lawful first (whole_lines input) fault text new
       → Tells fault text → SessionEnds shared lawful first (Err fault) left input text new
   ends_so first new left input text (Write n) within counted = (counted, (whole_lines input, inl refl, within))
   ends_so first new left input text Memory stops counted = stops
-  ends_so first new left input text Foreign (line, done, next, answered) counted = (whole_lines input, line, done, inl refl, next, answered)
+  ends_so first new left input text Foreign (line, done, next, answered) counted =
+      (whole_lines input, line, done, inl refl, next, answered)
   ends_so first new left input text Read h counted = absurd h
   ends_so first new left input text Turns h counted = absurd h
 
   -- a fault among the lines with the last one, which isn't answered, ends the session
   ends_last : (first old new : S) (left : Option (List ℕ)) (input text more : List ℕ) (before : Intake) (fault : SessionFault) → IsAtEnd left
       → lines_of input ≡ whole_lines input ++ rest_of input ∷ [] → IsUnderWay lawful first input text old before
-      → FailsNext lawful old before fault more new → Tells fault (text ++ more) → SessionEnds shared lawful first (Err fault) left input (text ++ more) new
+      → FailsNext lawful old before fault more new → Tells fault (text ++ more)
+      → SessionEnds shared lawful first (Err fault) left input (text ++ more) new
   ends_last first old new left input text more before (Write n) at_end all under h counted =
-      let within = among first old new input text more [] before (Write n) under h in
-      (counted, (lines_of input, inr (at_end, refl), subst (λ (ls : List (List ℕ)). StopsWithin shared lawful first ls (text ++ more) new) (sym all) within))
+      let within = among first old new input text more [] before (Write n) under h in (
+        counted,
+        (
+          lines_of input,
+          inr (at_end, refl),
+          subst (λ (ls : List (List ℕ)). StopsWithin shared lawful first ls (text ++ more) new) (sym all) within,
+        ),
+      )
   ends_last first old new left input text more before Memory at_end all under (none, same) counted =
       let answered = still first old new input text more before under none same in
       (length (whole_lines input), omega arith, subst (λ (ls : List (List ℕ)). IsAnswered lawful first ls (text ++ more) new) (sym (take-length (whole_lines input))) answered)
@@ -207,7 +229,8 @@ module _ {S : Type 0} (shared : Bool) (lawful : Lawful S) where
   ends_last first old new left input text more before Turns at_end all under h counted = absurd h
 
   -- where no line is held, all lines are answered
-  pub finishes_at_once : (old : S) (before : Intake) → held_line before.line ≡ Some [] → Finishes shared lawful old before (Ok before.answered) [] old before
+  pub finishes_at_once : (old : S) (before : Intake) → held_line before.line ≡ Some []
+      → Finishes shared lawful old before (Ok before.answered) [] old before
   finishes_at_once old before nothing = record {
     ends = λ first input text left under at_end written apart.
         let all = ap (λ (line : List ℕ). whole_lines input ++ last_line line) (clip-nothing (rest_of input) (sym under.held ∙ nothing)) ∙ append-nil (whole_lines input) in (
@@ -236,16 +259,19 @@ module _ {S : Type 0} (shared : Bool) (lawful : Lawful S) where
   }
 
   -- the last line isn't answered whole
-  pub finishes_in_part : (old new : S) (before after : Intake) (more : List ℕ) (fault : SessionFault) → (held_line before.line ≡ Some [] → ⊥)
+  pub finishes_in_part : (old new : S) (before after : Intake) (more : List ℕ) (fault : SessionFault)
+      → (held_line before.line ≡ Some [] → ⊥)
       → FailsNext lawful old before fault more new → Finishes shared lawful old before (Err fault) more new after
   finishes_in_part old new before after more fault some h = record {
     ends = λ first input text left under at_end written apart.
-        ends_last first old new left input text more before fault at_end (lines_with_last first old input text before under some) under h
+        ends_last first old new left input text more before fault at_end
+        (lines_with_last first old input text before under some) under h
         (apart_tells fault after (text ++ more) apart written);
   }
 
   -- the same of what has the same line and count
-  pub finishes_for : (old new : S) (before other after : Intake) (result : Result ℕ SessionFault) (more : List ℕ) → other.line ≡ before.line → other.answered ≡ before.answered
+  pub finishes_for : (old new : S) (before other after : Intake) (result : Result ℕ SessionFault) (more : List ℕ)
+      → other.line ≡ before.line → other.answered ≡ before.answered
       → Finishes shared lawful old other result more new after → Finishes shared lawful old before result more new after
   finishes_for old new before other after result more line answered h = record {
     ends = λ first input text left under. h.ends first input text left (record {

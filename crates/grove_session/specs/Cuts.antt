@@ -5,7 +5,8 @@ use Rattle.grove_session.specs.Sessions.{whole_lines, rest_of, lines_of}
 
 -- whole lines, each with its line feed, and what stands after them are the input
 abbrev pub LinesAreCut : Type 0
-LinesAreCut = (input : List ℕ) → flat_map (λ (line : List ℕ). line ++ 10 ∷ []) (whole_lines input) ++ rest_of input ≡ input
+LinesAreCut = (input : List ℕ) → flat_map (λ (line : List ℕ). line ++ 10 ∷ []) (whole_lines input) ++ rest_of input
+    ≡ input
 
 -- no byte of the line is a line feed
 abbrev pub IsFeedless : List ℕ → Type 0

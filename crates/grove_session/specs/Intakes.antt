@@ -1,11 +1,13 @@
 -- For the proofs alone: what a session has between two reads, and how bytes that are read take it on.
-use Rattle.std.specs.Prelude.{◌≡◌, ℕ, ◌+◌, ◌<◌, Bool, List, [], ◌∷◌, ◌++◌, Option, None, Some, Result, Ok, Err, length, take, slice_get, nat_lt, if◌then◌else◌}
+use Rattle.std.specs.Prelude.{◌≡◌, ℕ, ◌+◌, ◌<◌, Bool, List, [], ◌∷◌, ◌++◌, Option, None, Some, Result, Ok, Err}
+use Rattle.std.specs.Prelude.{length, take, slice_get, nat_lt, if◌then◌else◌}
 use Rattle.std.specs.Io.KnownBytes.{Appends, IsAtEnd}
 use Rattle.grove_session.specs.declared.open_line.OpenLine.{OpenLine}
 use Rattle.grove_session.specs.declared.intake.Intake.{Intake}
 use Rattle.grove_session.specs.declared.session_fault.SessionFault.{SessionFault}
 use Rattle.grove_session.specs.declared.session_fault.SessionFault.TheVariants.{Read, Write, Memory, Turns, Foreign}
-use Rattle.grove_session.specs.Sessions.{Lawful, whole_lines, rest_of, long_line_text, IsAnswered, StopsBefore, StopsWithin, SessionEnds}
+use Rattle.grove_session.specs.Sessions.{Lawful, whole_lines, rest_of, long_line_text, IsAnswered, StopsBefore}
+use Rattle.grove_session.specs.Sessions.{StopsWithin, SessionEnds}
 
 -- a line, unless it is too long
 abbrev pub clip : List ℕ → Option (List ℕ)
@@ -43,7 +45,8 @@ Tells Turns text = Unit {0}
 Tells Foreign text = Unit {0}
 
 -- what went out, and what is still held, is what was held and more; what went out is counted
-pub record GoesOut (old new : Option (List ℕ)) (held : List ℕ) (written : ℕ) (more still : List ℕ) (count : ℕ) : Type 0 where
+pub record GoesOut (old new : Option (List ℕ)) (held : List ℕ) (written : ℕ) (more still : List ℕ) (count : ℕ) : Type
+    0 where
   pub sent : List ℕ
   pub went : Appends old new sent
   pub rest : sent ++ still ≡ held ++ more
@@ -74,12 +77,14 @@ Sends before text (Err Turns) more after = ⊥
 Sends before text (Err Foreign) more after = ⊥
 
 -- the line that is held has this reply, and it goes out with a line feed
-pub record RepliesWhole {S : Type 0} (lawful : Lawful S) (old : S) (before : Intake) (more : List ℕ) (new : S) (after : Intake) : Type 0 where
+pub record RepliesWhole {S : Type 0} (lawful : Lawful S) (old : S) (before : Intake) (more : List ℕ) (new : S)
+    (after : Intake) : Type 0 where
   pub reply : List ℕ
   pub replied : IsHeldReplied lawful old (held_line before.line) reply new
   pub sends : SendsWhole before (reply ++ 10 ∷ []) more after
 
-pub record RepliesInPart {S : Type 0} (lawful : Lawful S) (old : S) (before : Intake) (more : List ℕ) (new : S) : Type 0 where
+pub record RepliesInPart {S : Type 0} (lawful : Lawful S) (old : S) (before : Intake) (more : List ℕ) (new : S) : Type
+    0 where
   pub reply : List ℕ
   pub replied : IsHeldReplied lawful old (held_line before.line) reply new
   pub sends : SendsInPart (reply ++ 10 ∷ []) more
@@ -99,7 +104,8 @@ AnswersNext lawful old before (Err fault) more new after = FailsNext lawful old 
 -- ---- bytes are taken
 
 -- since `first`, `input` was read and `text` answered
-pub record IsUnderWay {S : Type 0} (lawful : Lawful S) (first : S) (input text : List ℕ) (now : S) (intake : Intake) : Type 0 where
+pub record IsUnderWay {S : Type 0} (lawful : Lawful S) (first : S) (input text : List ℕ) (now : S)
+    (intake : Intake) : Type 0 where
   pub answers : IsAnswered lawful first (whole_lines input) text now
   pub held : held_line intake.line ≡ clip (rest_of input)
   pub answered : intake.answered ≡ length (whole_lines input)
@@ -108,24 +114,34 @@ pub record IsUnderWay {S : Type 0} (lawful : Lawful S) (first : S) (input text :
 abbrev pub EndsAmong : {S : Type 0} → Bool → Lawful S → S → List (List ℕ) → SessionFault → List ℕ → S → Type 0
 EndsAmong shared lawful first lines Memory text new = StopsBefore lawful first lines text new
 EndsAmong shared lawful first lines (Write n) text new = StopsWithin shared lawful first lines text new
-EndsAmong shared lawful first lines Foreign text new = (line : List ℕ) × (done : ℕ) × (slice_get lines done ≡ Some line) × IsAnswered lawful first (take done lines) text new
+EndsAmong shared lawful first lines Foreign text new = (line : List ℕ) × (done : ℕ)
+    × (slice_get lines done ≡ Some line) × IsAnswered lawful first (take done lines) text new
 EndsAmong shared lawful first lines Read text new = ⊥
 EndsAmong shared lawful first lines Turns text new = ⊥
 
 -- whatever was read before, with these bytes the session is so much further
-pub record Continues {S : Type 0} (lawful : Lawful S) (old : S) (before : Intake) (bytes more : List ℕ) (new : S) (after : Intake) : Type 0 where
-  pub on : (first : S) (input text : List ℕ) → IsUnderWay lawful first input text old before → IsUnderWay lawful first (input ++ bytes) (text ++ more) new after
+pub record Continues {S : Type 0} (lawful : Lawful S) (old : S) (before : Intake) (bytes more : List ℕ) (new : S)
+    (after : Intake) : Type 0 where
+  pub on : (first : S) (input text : List ℕ) → IsUnderWay lawful first input text old before
+      → IsUnderWay lawful first (input ++ bytes) (text ++ more) new after
 
 -- whatever was read before, a fault comes among these bytes
-pub record Breaks {S : Type 0} (shared : Bool) (lawful : Lawful S) (old : S) (before : Intake) (bytes more : List ℕ) (fault : SessionFault) (new : S) : Type 0 where
-  pub off : (first : S) (input text : List ℕ) → IsUnderWay lawful first input text old before → EndsAmong shared lawful first (whole_lines (input ++ bytes)) fault (text ++ more) new
+pub record Breaks {S : Type 0} (shared : Bool) (lawful : Lawful S) (old : S) (before : Intake) (bytes more : List ℕ)
+    (fault : SessionFault) (new : S) : Type 0 where
+  pub off : (first : S) (input text : List ℕ) → IsUnderWay lawful first input text old before
+      → EndsAmong shared lawful first (whole_lines (input ++ bytes)) fault (text ++ more) new
 
-abbrev pub TakesBytes : {S T : Type 0} → Bool → Lawful S → S → Intake → List ℕ → Result T SessionFault → List ℕ → S → Intake → Type 0
+abbrev pub TakesBytes : {S T : Type 0} → Bool → Lawful S → S → Intake → List ℕ → Result T SessionFault → List ℕ → S
+    → Intake → Type 0
 TakesBytes shared lawful old before bytes (Ok _) more new after = Continues lawful old before bytes more new after
-TakesBytes shared lawful old before bytes (Err fault) more new after = Breaks shared lawful old before bytes more fault new
+TakesBytes shared lawful old before bytes (Err fault) more new after =
+    Breaks shared lawful old before bytes more fault new
 
 -- whatever was read before, the session ends so where there is no more to read
-pub record Finishes {S : Type 0} (shared : Bool) (lawful : Lawful S) (old : S) (before : Intake) (result : Result ℕ SessionFault) (more : List ℕ) (new : S)
+pub record Finishes {S : Type 0} (shared : Bool) (lawful : Lawful S) (old : S) (before : Intake)
+    (result : Result ℕ SessionFault) (more : List ℕ) (new : S)
     (after : Intake) : Type 0 where
-  pub ends : (first : S) (input text : List ℕ) (left : Option (List ℕ)) → IsUnderWay lawful first input text old before → IsAtEnd left
-      → after.written ≡ length (text ++ more) → IsApart result after → SessionEnds shared lawful first result left input (text ++ more) new
+  pub ends : (first : S) (input text : List ℕ) (left : Option (List ℕ)) → IsUnderWay lawful first input text old before
+      → IsAtEnd left
+      → after.written ≡ length (text ++ more) → IsApart result after
+      → SessionEnds shared lawful first result left input (text ++ more) new

@@ -1,5 +1,6 @@
 -- What a session writes of what it reads: lines, their replies, and how a session ends.
-use Rattle.std.specs.Prelude.{◌≡◌, ℕ, ◌<◌, ◌≤◌, Bool, true, false, List, [], ◌∷◌, ◌++◌, Option, Some, Result, Ok, Err, length, take, slice_get, codes, nat_lt, if◌then◌else◌, ◌==◌, ◌⊎◌}
+use Rattle.std.specs.Prelude.{◌≡◌, ℕ, ◌<◌, ◌≤◌, Bool, true, false, List, [], ◌∷◌, ◌++◌, Option, Some, Result, Ok, Err}
+use Rattle.std.specs.Prelude.{length, take, slice_get, codes, nat_lt, if◌then◌else◌, ◌==◌, ◌⊎◌}
 use Rattle.std.specs.Io.KnownBytes.{IsAtEnd}
 use Rattle.grove_session.specs.declared.answers.AnswerFault.{AnswerFault}
 use Rattle.grove_session.specs.declared.answers.AnswerFault.TheVariants as answer
@@ -58,16 +59,20 @@ IsReplied lawful old line reply new = UnlessLong lawful (nat_lt 1048576 (length 
 abbrev pub IsAnswered : {S : Type 0} → Lawful S → S → List (List ℕ) → List ℕ → S → Type 0
 IsAnswered lawful old [] text new = (text ≡ []) × (new ≡ old)
 IsAnswered {S} lawful old (line ∷ lines) text new = (reply : List ℕ) × (others : List ℕ) × (between : S)
-    × IsReplied lawful old line reply between × IsAnswered lawful between lines others new × (text ≡ reply ++ 10 ∷ others)
+    × IsReplied lawful old line reply between × IsAnswered lawful between lines others new
+    × (text ≡ reply ++ 10 ∷ others)
 
 -- ---- ends
 
 -- some lines were answered and went out whole; nothing came of the next
 abbrev pub StopsBefore : {S : Type 0} → Lawful S → S → List (List ℕ) → List ℕ → S → Type 0
-StopsBefore lawful old lines out new = (done : ℕ) × (done ≤ length lines) × IsAnswered lawful old (take done lines) out new
+StopsBefore lawful old lines out new = (done : ℕ) × (done ≤ length lines)
+    × IsAnswered lawful old (take done lines) out new
 
--- a line was answered, and the replies up to its own didn't go out whole; unless answers are shared, those before it did
-pub record StopsWithin {S : Type 0} (shared : Bool) (lawful : Lawful S) (old : S) (lines : List (List ℕ)) (out : List ℕ) (new : S) : Type 0 where
+-- a line was answered, and the replies up to its own didn't go out whole; unless answers are shared, those before it
+-- did
+pub record StopsWithin {S : Type 0} (shared : Bool) (lawful : Lawful S) (old : S) (lines : List (List ℕ))
+    (out : List ℕ) (new : S) : Type 0 where
   pub done : ℕ
   pub line : List ℕ
   pub next : slice_get lines done ≡ Some line
@@ -84,9 +89,12 @@ pub record StopsWithin {S : Type 0} (shared : Bool) (lawful : Lawful S) (old : S
 abbrev pub MayAnswer : Option (List ℕ) → List ℕ → List (List ℕ) → Type 0
 MayAnswer left input lines = (lines ≡ whole_lines input) ⊎ (IsAtEnd left × (lines ≡ lines_of input))
 
--- how a session ends that read `input`, left `left` to read and wrote `out`; of shared answers several may go out at once
-abbrev pub SessionEnds : {S : Type 0} → Bool → Lawful S → S → Result ℕ SessionFault → Option (List ℕ) → List ℕ → List ℕ → S → Type 0
-SessionEnds shared lawful old (Ok n) left input out new = IsAtEnd left × (n ≡ length (lines_of input)) × IsAnswered lawful old (lines_of input) out new
+-- how a session ends that read `input`, left `left` to read and wrote `out`; of shared answers several may go out at
+-- once
+abbrev pub SessionEnds : {S : Type 0} → Bool → Lawful S → S → Result ℕ SessionFault → Option (List ℕ) → List ℕ
+    → List ℕ → S → Type 0
+SessionEnds shared lawful old (Ok n) left input out new = IsAtEnd left × (n ≡ length (lines_of input))
+    × IsAnswered lawful old (lines_of input) out new
 SessionEnds shared lawful old (Err Read) left input out new = IsAnswered lawful old (whole_lines input) out new
 SessionEnds shared lawful old (Err Turns) left input out new = IsAnswered lawful old (whole_lines input) out new
 SessionEnds shared lawful old (Err (Write n)) left input out new = (n ≡ length out)

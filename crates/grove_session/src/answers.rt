@@ -36,8 +36,8 @@ pub trait Answers<R> {
         ensures err { OnErr result (self.new ≡ self.old) }
         ensures foreign { result ≡ Err fault.Foreign → is_shared ≡ true };
 
-    /// May replies be held back, to go out together once no whole line is left of what was read? So it is where nothing is owed
-    /// to a cut write: of shared answers alone.
+    /// May replies be held back, to go out together once no whole line is left of what was read? So it is where nothing
+    /// is owed to a cut write: of shared answers alone.
     fn may_hold(&self) -> bool
         ensures { IsTrue result → is_shared ≡ true }
     {

@@ -1,4 +1,5 @@
-ghost use Rattle.std.specs.Prelude.{◌≡◌, ℕ, ◌+◌, ◌*◌, ◌^◌, ◌<◌, ◌≤◌, ◌||◌, true, false, [], List, Some, Err, length, OnOk};
+ghost use Rattle.std.specs.Prelude.{◌≡◌, ℕ, ◌+◌, ◌*◌, ◌^◌, ◌<◌, ◌≤◌, ◌||◌, true, false, [], List, Some, Err, length};
+ghost use Rattle.std.specs.Prelude.{OnOk};
 ghost use Rattle.std.specs.Io.KnownBytes.{Appends};
 ghost use Rattle.grove_session.specs.declared.session_fault.SessionFault.TheVariants.{Foreign};
 ghost use Rattle.grove_session.specs.Sessions.{is_write};
@@ -13,7 +14,8 @@ mod sending;
 /// The reply to a line that is too long, with its line feed.
 const LONG_LINE: &[u8] = b"{\"error\":\"long-line\"}\n";
 
-/// What a session has between two reads: the line that is being read, how many lines are answered, and how many bytes of answers went out.
+/// What a session has between two reads: the line that is being read, how many lines are answered, and how many bytes
+/// of answers went out.
 #[derive(Debug, Drop)]
 pub(crate) struct Intake {
     line: OpenLine,
@@ -47,8 +49,8 @@ impl Intake {
         }
     }
 
-    /// Answers all that is in the bytes: each line that ends in them, and the rest is kept. What was held back of the replies
-    /// goes out at the end, also where there is a fault that isn't the sink's.
+    /// Answers all that is in the bytes: each line that ends in them, and the rest is kept. What was held back of the
+    /// replies goes out at the end, also where there is a fault that isn't the sink's.
     pub(crate) fn take<R, A: Answers<R>, O: Sink>(
         &mut self,
         rt: &R,
@@ -60,7 +62,8 @@ impl Intake {
         requires room { self.old.answered + length bytes.now < 2 ^ 63 }
         requires none_held { self.old.held.items ≡ [] }
         requires alone { A.is_shared ≡ false → self.old.most_held ≡ 0 }
-        ensures taken { (more : List ℕ) × Appends (O.contents sink.old) (O.contents sink.new) more × (self.new.written ≡ self.old.written + length more)
+        ensures taken { (more : List ℕ) × Appends (O.contents sink.old) (O.contents sink.new) more
+            × (self.new.written ≡ self.old.written + length more)
             × TakesBytes A.is_shared A.lawful answers.old self.old bytes.now result more answers.new self.new }
         ensures few { OnOk result (self.new.answered ≤ self.old.answered + length bytes.now) }
         ensures failed { O.has_failed sink.new ≡ (O.has_failed sink.old || is_write result) }
@@ -114,7 +117,8 @@ impl Intake {
         requires asks { A.asks }
         requires room { self.old.answered + 1 < 2 ^ 63 }
         requires none_held { self.old.held.items ≡ [] }
-        ensures ends { (more : List ℕ) × Appends (O.contents sink.old) (O.contents sink.new) more × (self.new.written ≡ self.old.written + length more)
+        ensures ends { (more : List ℕ) × Appends (O.contents sink.old) (O.contents sink.new) more
+            × (self.new.written ≡ self.old.written + length more)
             × Finishes A.is_shared A.lawful answers.old self.old result more answers.new self.new }
         ensures failed { O.has_failed sink.new ≡ (O.has_failed sink.old || is_write result) }
         ensures foreign { result ≡ Err Foreign → A.is_shared ≡ true }
@@ -138,7 +142,8 @@ impl Intake {
     ) -> Result<(), SessionFault>
         requires asks { A.asks }
         requires room { self.old.answered + 1 < 2 ^ 63 }
-        ensures answered { (more : List ℕ) × Passes (O.contents sink.old) (O.contents sink.new) self.old more self.new × AnswersNext A.lawful answers.old self.old result more answers.new self.new }
+        ensures answered { (more : List ℕ) × Passes (O.contents sink.old) (O.contents sink.new) self.old more self.new
+            × AnswersNext A.lawful answers.old self.old result more answers.new self.new }
         ensures failed { O.has_failed sink.new ≡ (O.has_failed sink.old || is_write result) }
         ensures foreign { result ≡ Err Foreign → A.is_shared ≡ true }
         ensures apart { IsApart result self.new }

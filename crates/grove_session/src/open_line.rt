@@ -4,7 +4,8 @@ ghost use Rattle.grove_session.specs.declared.answers.TheConstants.{LINE_LIMIT};
 use crate::LINE_LIMIT;
 use std::alloc::{AllocError, Global};
 
-/// So much room at most does a line leave to the next: those that are longer are few, and may come over many connections.
+/// So much room at most does a line leave to the next: those that are longer are few, and may come over many
+/// connections.
 const MOST_ROOM: usize = 64 * 1024;
 
 /// A line that is being read, as far as it goes. Of one that is too long no byte is kept.

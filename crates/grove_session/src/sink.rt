@@ -18,7 +18,8 @@ pub trait Sink {
         ensures bytes { WriteAppends (contents self.old) (contents self.new) result bytes.now }
         ensures failed { has_failed self.new ≡ (has_failed self.old || is_err result) };
 
-    /// Does a write cost much, however few bytes it has? So it is with the system's; memory takes each reply as it comes.
+    /// Does a write cost much, however few bytes it has? So it is with the system's; memory takes each reply as it
+    /// comes.
     fn has_costly_writes(&self) -> bool {
         true
     }

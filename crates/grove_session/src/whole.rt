@@ -17,7 +17,8 @@ pub fn read_whole<S: Source>(
     ensures end { IfOk result (λ bytes. length bytes.items ≤ most → IsAtEnd (S.remaining source.new)) }
     ensures sound { OnOk result (S.has_failed source.new ≡ S.has_failed source.old) }
     ensures device { IfErr result (λ fault. fault ≡ ReadFault.Device → S.has_failed source.new ≡ true) }
-    ensures memory { IfErr result (λ fault. fault ≡ ReadFault.Memory → S.has_failed source.new ≡ S.has_failed source.old) }
+    ensures memory { IfErr result (λ fault. fault ≡ ReadFault.Memory
+        → S.has_failed source.new ≡ S.has_failed source.old) }
 {
     let mut bytes = Vec::new(alloc);
     let mut buffer = [0u8; 8192];
@@ -35,7 +36,8 @@ pub fn read_whole<S: Source>(
 /// Writes all of the bytes, and nothing more once the sink has failed.
 pub fn write_whole<S: Sink>(sink: &mut S, bytes: &[u8]) -> Result<(), DeviceFault>
     ensures bytes { OnOk result (Appends (S.contents sink.old) (S.contents sink.new) bytes.now) }
-    ensures cut { OnErr result ((count : ℕ) × (count < length bytes.now) × Appends (S.contents sink.old) (S.contents sink.new) (take count bytes.now)) }
+    ensures cut { OnErr result ((count : ℕ) × (count < length bytes.now)
+        × Appends (S.contents sink.old) (S.contents sink.new) (take count bytes.now)) }
     ensures failed { S.has_failed sink.new ≡ (S.has_failed sink.old || is_err result) }
 {
     match write_until_cut(sink, bytes) {
@@ -54,7 +56,8 @@ pub(crate) struct Cut {
 pub(crate) fn write_until_cut<S: Sink>(sink: &mut S, bytes: &[u8]) -> Result<(), Cut>
     ensures bytes { OnOk result (Appends (S.contents sink.old) (S.contents sink.new) bytes.now) }
     ensures unfinished { IfErr result (λ cut. cut.written < length bytes.now) }
-    ensures cut { IfErr result (λ cut. Appends (S.contents sink.old) (S.contents sink.new) (take cut.written bytes.now)) }
+    ensures cut { IfErr result
+        (λ cut. Appends (S.contents sink.old) (S.contents sink.new) (take cut.written bytes.now)) }
     ensures failed { S.has_failed sink.new ≡ (S.has_failed sink.old || is_err result) }
 {
     let mut written = 0;

@@ -1,5 +1,6 @@
 -- For the proofs alone: what the rows of a list's nodes tell of each node.
-use Rattle.std.specs.Prelude.{◌≡◌, ℕ, suc, ◌-◌, ◌==◌, List, [], ◌∷◌, slice_get, Option, Some, None, option_map, option_and_then, if◌then◌else◌}
+use Rattle.std.specs.Prelude.{◌≡◌, ℕ, suc, ◌-◌, ◌==◌, List, [], ◌∷◌, slice_get, Option, Some, None, option_map}
+use Rattle.std.specs.Prelude.{option_and_then, if◌then◌else◌}
 use Rattle.grove_tree.specs.Trees.{Rows, parent_of, weight_of}
 use Rattle.grove_access.specs.Slots.{slots_before}
 use Rattle.grove_access.specs.Forced.{forced_nodes, is_accessed, first_access, last_end}
@@ -26,14 +27,16 @@ last_access_of nodes node = if is_accessed nodes node then Some (last_end nodes 
 
 -- the slots before its first access, and before the end of its last one
 abbrev pub from_of : List ℕ → List ℕ → ℕ → Option ℕ
-from_of nodes lengths node = if is_accessed nodes node then Some (slots_before lengths (first_access nodes node)) else None
+from_of nodes lengths node = if is_accessed nodes node then Some (slots_before lengths (first_access nodes node)) else
+    None
 
 abbrev pub until_of : List ℕ → List ℕ → ℕ → Option ℕ
 until_of nodes lengths node = if is_accessed nodes node then Some (slots_before lengths (last_end nodes node)) else None
 
 -- each row has the place of its node's parent among the forced nodes
 abbrev pub HaveParents : Rows → List ℕ → List SpanRow → Type 0
-HaveParents tree nodes rows = (i : ℕ) (row : SpanRow) → slice_get rows i ≡ Some row → row.parent ≡ parent_place tree (forced_nodes tree nodes) row.node
+HaveParents tree nodes rows = (i : ℕ) (row : SpanRow) → slice_get rows i ≡ Some row
+    → row.parent ≡ parent_place tree (forced_nodes tree nodes) row.node
 
 -- each row has the weight of its node
 abbrev pub HaveWeights : Rows → List SpanRow → Type 0

@@ -16,11 +16,13 @@ pub record IsLowestCommon (rows : Rows) (nodes : List ℕ) (top : ℕ) : Type 0 
 pub record AreAscending (nodes targets : List ℕ) : Type 0 where
   pub named : (i target : ℕ) → slice_get targets i ≡ Some target → (access : ℕ) × (slice_get nodes access ≡ Some target)
   pub all : (access target : ℕ) → slice_get nodes access ≡ Some target → (i : ℕ) × (slice_get targets i ≡ Some target)
-  pub rising : (i j first second : ℕ) → i ≤ j → slice_get targets i ≡ Some first → slice_get targets j ≡ Some second → first ≤ second
+  pub rising : (i j first second : ℕ) → i ≤ j → slice_get targets i ≡ Some first → slice_get targets j ≡ Some second
+      → first ≤ second
 
 -- from a number up to a target, just the nodes above the target are forced
 abbrev pub AreForcedTo : Rows → List ℕ → ℕ → ℕ → Type 0
-AreForcedTo rows nodes next target = (node : ℕ) → next ≤ node → node ≤ target → IsForcedByTree rows nodes node ↔ IsAbove rows node target
+AreForcedTo rows nodes next target = (node : ℕ) → next ≤ node → node ≤ target → IsForcedByTree rows nodes node
+    ↔ IsAbove rows node target
 
 -- no accessed node stands between a number and a target
 abbrev pub IsFirstFrom : List ℕ → ℕ → ℕ → Type 0
@@ -31,22 +33,26 @@ abbrev pub IsUnnamed : List ℕ → ℕ → Type 0
 IsUnnamed nodes node = (access : ℕ) → slice_get nodes access ≢ Some node
 
 abbrev pub IsRising : List ℕ → Type 0
-IsRising numbers = (i j low high : ℕ) → i < j → slice_get numbers i ≡ Some low → slice_get numbers j ≡ Some high → low < high
+IsRising numbers = (i j low high : ℕ) → i < j → slice_get numbers i ≡ Some low → slice_get numbers j ≡ Some high
+    → low < high
 
 -- the rows of the forced nodes below n, and their numbers
-pub record IsListedTo (rows : Rows) (nodes lengths : List ℕ) (n : ℕ) (numbers : List ℕ) (items : List SpanRow) : Type 0 where
-  pub counted : numbers ≡ passing_below n (is_forced rows nodes)
-  pub listed : map node_of_row items ≡ numbers
-  pub parents : HaveParents rows nodes items
-  pub weights : HaveWeights rows items
-  pub accesses : HaveAccesses nodes lengths items
+pub record IsListedTo (rows : Rows) (nodes lengths : List ℕ) (n : ℕ) (numbers : List ℕ) (items : List SpanRow) : Type 0
+  where
+    pub counted : numbers ≡ passing_below n (is_forced rows nodes)
+    pub listed : map node_of_row items ≡ numbers
+    pub parents : HaveParents rows nodes items
+    pub weights : HaveWeights rows items
+    pub accesses : HaveAccesses nodes lengths items
 
 -- the accesses of a node among the first n of a list
 abbrev pub first_below : List ℕ → ℕ → ℕ → Option ℕ
-first_below nodes n node = if any_below n (names_at nodes node) then Some (least_below n (names_at nodes node)) else None
+first_below nodes n node = if any_below n (names_at nodes node) then Some (least_below n (names_at nodes node)) else
+    None
 
 abbrev pub last_below_of : List ℕ → ℕ → ℕ → Option ℕ
-last_below_of nodes n node = if any_below n (names_at nodes node) then Some (last_below n (names_at nodes node) - 1) else None
+last_below_of nodes n node = if any_below n (names_at nodes node) then Some (last_below n (names_at nodes node) - 1)
+    else None
 
 pub record TellsOf (nodes : List ℕ) (n node : ℕ) (visits : Visits) : Type 0 where
   pub first : visits.first ≡ first_below nodes n node

@@ -14,7 +14,8 @@ fn climb(tree: &Tree, from: Node, target: Node) -> Node
     ensures target { IsAbove tree.now result target }
     ensures from { IsAbove tree.now result from }
     ensures within { result < length tree.now }
-    ensures lowest { (node : ℕ) → IsAbove tree.now node from → IsAbove tree.now node target → IsAbove tree.now node result }
+    ensures lowest { (node : ℕ) → IsAbove tree.now node from → IsAbove tree.now node target
+        → IsAbove tree.now node result }
 {
     if tree.is_above(from, target) {
         return from;

@@ -1,8 +1,10 @@
 ghost use Rattle.std.specs.Prelude.{◌≡◌, suc, ◌<◌, ◌≤◌, ◌++◌, ◌∷◌, [], length, IfOk, OnOk, map, option_and_then};
 ghost use Rattle.grove_access.specs.Lists.{nodes_of, lengths_of, AreNodes};
 ghost use Rattle.grove_access.specs.Forced.{forced_nodes};
-ghost use Rattle.grove_span.specs.SpanRows.{node_of_row, find_place, HaveParents, HaveWeights, HaveAccesses, IsAccessedSo};
-ghost use Rattle.grove_span.specs.Ways.{IsLowestCommon, AreAscending, AreForcedTo, IsFirstFrom, IsListedTo, IsRising, TellsOf};
+ghost use Rattle.grove_span.specs.SpanRows.{node_of_row, find_place, HaveParents, HaveWeights, HaveAccesses};
+ghost use Rattle.grove_span.specs.SpanRows.{IsAccessedSo};
+ghost use Rattle.grove_span.specs.Ways.{IsLowestCommon, AreAscending, AreForcedTo, IsFirstFrom, IsListedTo, IsRising};
+ghost use Rattle.grove_span.specs.Ways.{TellsOf};
 
 use crate::SpanRow;
 use crate::visit::{Visits, visits_at};
@@ -32,9 +34,12 @@ impl Listed {
         requires ahead { self.old.next ≤ target }
         requires first { IsFirstFrom (nodes_of list.now) self.old.next target }
         requires forced { AreForcedTo tree.now (nodes_of list.now) self.old.next target }
-        requires listed { IsListedTo tree.now (nodes_of list.now) (lengths_of list.now) self.old.next self.old.numbers.items self.old.rows.items }
+        requires listed { IsListedTo tree.now (nodes_of list.now) (lengths_of list.now) self.old.next
+            self.old.numbers.items self.old.rows.items }
         ensures next { OnOk result (self.new.next ≡ suc target) }
-        ensures listed { OnOk result (IsListedTo tree.now (nodes_of list.now) (lengths_of list.now) self.new.next self.new.numbers.items self.new.rows.items) }
+        ensures listed { OnOk result
+            (IsListedTo tree.now (nodes_of list.now) (lengths_of list.now) self.new.next self.new.numbers.items
+            self.new.rows.items) }
     {
         // The limits that hold of every tree are told with its length.
         let _nodes = tree.len();

@@ -19,7 +19,8 @@ use Rattle.grove_store.specs.StoreStates.{StoreState, changes, reweighed_store}
 
 -- the settled plan of the list, its cost, and any flow that certifies it
 abbrev pub TellsPlan : Rows → List Access → Data → Type 0
-TellsPlan rows list reply = (planned : Planned) × IsPlanned rows list planned × (reply ≡ planned_data rows planned.cost planned.plan planned.flow)
+TellsPlan rows list reply = (planned : Planned) × IsPlanned rows list planned
+    × (reply ≡ planned_data rows planned.cost planned.plan planned.flow)
 
 abbrev pub checked_data : Result ℕ ProofFault → Data
 checked_data (Ok sum) = cost_data sum
@@ -27,13 +28,15 @@ checked_data (Err fault) = error_data (proof_name fault)
 
 -- that cost, or the name of that fault
 abbrev pub TellsCheck : Rows → List Access → List Step → List FlowRow → Data → Type 0
-TellsCheck rows list plan flow reply = (checked : Result ℕ ProofFault) × ChecksAs rows list plan flow checked × (reply ≡ checked_data checked)
+TellsCheck rows list plan flow reply = (checked : Result ℕ ProofFault) × ChecksAs rows list plan flow checked
+    × (reply ≡ checked_data checked)
 
 -- what a line is answered by what it asks, and the store that it leaves; a batch isn't answered alone
 abbrev pub RepliesAlone : StoreState → Result Asked WireFault → Data → StoreState → Type 0
 RepliesAlone before (Err fault) reply after = (reply ≡ error_data (wire_name fault)) × (after ≡ before)
 RepliesAlone before (Ok (Plan list)) reply after = TellsPlan before.rows list reply × (after ≡ before)
-RepliesAlone before (Ok (Check list plan flow)) reply after = TellsCheck before.rows list plan flow reply × (after ≡ before)
+RepliesAlone before (Ok (Check list plan flow)) reply after = TellsCheck before.rows list plan flow reply
+    × (after ≡ before)
 RepliesAlone before (Ok (Batch lists)) reply after = ⊥
 RepliesAlone before (Ok Weights) reply after =
     (reply ≡ weights_data before.waits (weights_in_rows before.rows)) × (after ≡ before)
@@ -42,4 +45,5 @@ RepliesAlone before (Ok Reweigh) reply after =
 
 -- the text of such an answer
 abbrev pub AnswersAlone : StoreState → List ℕ → List ℕ → StoreState → Type 0
-AnswersAlone before line text after = (reply : Data) × RepliesAlone before (request_of before.rows line) reply after × (text ≡ compact_text reply)
+AnswersAlone before line text after = (reply : Data) × RepliesAlone before (request_of before.rows line) reply after
+    × (text ≡ compact_text reply)

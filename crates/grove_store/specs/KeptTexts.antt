@@ -22,4 +22,5 @@ bytes_of texts = sum_by (λ (kept : KeptText). length kept.text) texts
 
 -- it tells the plan of each of these lists
 abbrev pub RepliesFor : Rows → KeptText → Type 0
-RepliesFor rows kept = (list : List Access) → AreTargetsOf list kept.targets → IsTextOfReply (TellsPlan rows list) kept.text
+RepliesFor rows kept = (list : List Access) → AreTargetsOf list kept.targets
+    → IsTextOfReply (TellsPlan rows list) kept.text

@@ -1,5 +1,6 @@
 -- For the proofs alone, as no public contract reaches it: the parts that an answer is made of.
-use Rattle.std.specs.Prelude.{◌≡◌, ◌⊎◌, ℕ, ◌+◌, ◌-◌, ◌≤◌, min, ℤ, List, [], ◌∷◌, ◌++◌, length, map, take, get_or, All, Option, Some}
+use Rattle.std.specs.Prelude.{◌≡◌, ◌⊎◌, ℕ, ◌+◌, ◌-◌, ◌≤◌, min, ℤ, List, [], ◌∷◌, ◌++◌, length, map, take, get_or, All}
+use Rattle.std.specs.Prelude.{Option, Some}
 use Rattle.serde_json.specs.Data.{Data}
 use Rattle.serde_json.specs.Written.{compact_text}
 use Rattle.grove_tree.specs.Trees.{Rows}
@@ -14,7 +15,8 @@ use Rattle.grove_run.specs.Runs.{places_of}
 use Rattle.grove_wire.specs.Replies.{changed_data}
 use Rattle.grove_meter.specs.Waits.{reweighed}
 use Rattle.grove_store.specs.StoreStates.{StoreState, changes, reweighed_store}
-use Rattle.grove_store.specs.Rounds.{batches_in, joined, first_fits, fitting, waits_after, RunsRound, FailsRound, round_texts}
+use Rattle.grove_store.specs.Rounds.{batches_in, joined, first_fits, fitting, waits_after, RunsRound, FailsRound}
+use Rattle.grove_store.specs.Rounds.{round_texts}
 
 -- the text of a reply of which something holds
 abbrev pub IsTextOfReply : (Data → Type 0) → List ℕ → Type 0
@@ -29,7 +31,8 @@ abbrev pub NoneFits : Option (List (List Access)) → ℕ → Type 0
 NoneFits asked room = (others : ℕ → ℕ) → first_fits asked room others ≡ 0
 
 -- the lists of a first batch and of the batches on so many of the next lines, and how many are each line's
-pub record HasBatches (rows : Rows) (first : List (List Access)) (lines : List (List ℕ)) (read : ℕ) (counts : List ℕ) (lists : List (List Access)) : Type 0 where
+pub record HasBatches (rows : Rows) (first : List (List Access)) (lines : List (List ℕ)) (read : ℕ) (counts : List ℕ)
+    (lists : List (List Access)) : Type 0 where
   pub batches : List (List (List Access))
   pub number : length batches ≡ read
   pub are_read : batches_in rows (take read lines) ≡ Some batches
@@ -39,15 +42,18 @@ pub record HasBatches (rows : Rows) (first : List (List Access)) (lines : List (
   pub fit : All (λ list. AreNodes rows (nodes_of list)) lists
 
 -- the same, where no more of the lines can be added
-pub record IsRoundOf (rows : Rows) (first : List (List Access)) (lines : List (List ℕ)) (counts : List ℕ) (lists : List (List Access)) : Type 0 where
+pub record IsRoundOf (rows : Rows) (first : List (List Access)) (lines : List (List ℕ)) (counts : List ℕ)
+    (lists : List (List Access)) : Type 0 where
   pub has : HasBatches rows first lines (fitting rows (256 - length first) lines) counts lists
 
 -- what the jobs of a round leave
-pub record LeavesRound (before : StoreState) (jobs : List Job) (counts : List ℕ) (replies : List (List ℕ)) (records : List ℤ) (waits : List ℕ) : Type 0 where
+pub record LeavesRound (before : StoreState) (jobs : List Job) (counts : List ℕ) (replies : List (List ℕ))
+    (records : List ℤ) (waits : List ℕ) : Type 0 where
   pub past : List Event
   pub run : IsRun jobs past
   pub finished : IsFinished jobs past
-  pub told : replies ≡ round_texts (before.rounds + 1) counts (places_of (placement_order before.rows jobs past) (length jobs)) (replies_of jobs before.records past)
+  pub told : replies ≡ round_texts (before.rounds + 1) counts
+      (places_of (placement_order before.rows jobs past) (length jobs)) (replies_of jobs before.records past)
   pub recorded : records ≡ run_records jobs before.records past
   pub waited : waits ≡ waits_after jobs past before.waits
 
@@ -57,11 +63,13 @@ waits_at jobs past waits node = min 1000 (get_or waits node 0 + waits_of jobs pa
 
 -- each node has what it had, or what is new of it
 abbrev pub AreOldOrNew : (ℕ → ℕ) → List ℕ → List ℕ → Type 0
-AreOldOrNew new before after = (node : ℕ) → (get_or after node 0 ≡ get_or before node 0) ⊎ (get_or after node 0 ≡ new node)
+AreOldOrNew new before after = (node : ℕ) → (get_or after node 0 ≡ get_or before node 0)
+    ⊎ (get_or after node 0 ≡ new node)
 
 -- a round over lists, of which each line has so many
 abbrev pub AnswersRound : StoreState → List (List Access) → List ℕ → List (List ℕ) → StoreState → Type 0
-AnswersRound before lists counts replies after = (batches : List (List (List Access))) → joined batches ≡ lists → map length batches ≡ counts
+AnswersRound before lists counts replies after = (batches : List (List (List Access))) → joined batches ≡ lists
+    → map length batches ≡ counts
     → RunsRound before batches replies after ⊎ FailsRound before batches replies after
 
 -- the same, over the jobs of the lists
@@ -72,4 +80,5 @@ AnswersJobs before jobs counts replies after = (lists : List (List Access)) → 
 -- the one reply to a reweighing
 abbrev pub AnswersReweigh : StoreState → List (List ℕ) → StoreState → Type 0
 AnswersReweigh before replies after =
-    (replies ≡ compact_text (changed_data (changes before.rows (reweighed before.waits before.rows))) ∷ []) × (after ≡ reweighed_store before)
+    (replies ≡ compact_text (changed_data (changes before.rows (reweighed before.waits before.rows))) ∷ [])
+    × (after ≡ reweighed_store before)

@@ -1,5 +1,7 @@
 -- Rounds: batches that wait together are answered as one.
-use Rattle.std.specs.Prelude.{◌≡◌, ℕ, ◌+◌, ◌-◌, ◌^◌, ◌<◌, ◌≤◌, ◌⊎◌, min, max, nat_le, codes, List, [], ◌∷◌, length, map, take, drop, flat_map, get_or, replicate, Option, Some, None, option_map, option_and_then, Result, Ok, if◌then◌else◌}
+use Rattle.std.specs.Prelude.{◌≡◌, ℕ, ◌+◌, ◌-◌, ◌^◌, ◌<◌, ◌≤◌, ◌⊎◌, min, max, nat_le, codes, List, [], ◌∷◌, length, map}
+use Rattle.std.specs.Prelude.{take, drop, flat_map, get_or, replicate, Option, Some, None, option_map, option_and_then}
+use Rattle.std.specs.Prelude.{Result, Ok, if◌then◌else◌}
 use Rattle.serde_json.specs.Written.{compact_text}
 use Rattle.grove_base.specs.Numbers.{numbers_below}
 use Rattle.grove_tree.specs.Trees.{Rows}
@@ -58,11 +60,13 @@ round_length rows lines = max 1 (fitting rows 256 lines)
 abbrev pub round_texts : ℕ → List ℕ → List ℕ → List (List Reply) → List (List ℕ)
 round_texts round [] places replies = []
 round_texts round (lists ∷ others) places replies =
-    compact_text (round_data round (take lists places) (take lists replies)) ∷ round_texts round others (drop lists places) (drop lists replies)
+    compact_text (round_data round (take lists places) (take lists replies))
+    ∷ round_texts round others (drop lists places) (drop lists replies)
 
 -- the waits with those of the run, at most 1,000 at each node
 abbrev pub waits_after : List Job → List Event → List ℕ → List ℕ
-waits_after jobs past waits = map (λ node. min 1000 (get_or waits node 0 + waits_of jobs past node)) (numbers_below (length waits))
+waits_after jobs past waits = map (λ node. min 1000 (get_or waits node 0 + waits_of jobs past node))
+    (numbers_below (length waits))
 
 -- the store after a round
 abbrev pub store_after : StoreState → List Job → List Event → StoreState
@@ -75,31 +79,37 @@ store_after before jobs past = record {
 }
 
 -- the batches were run as one, from the store's records
-pub record RunsRound (before : StoreState) (batches : List (List (List Access))) (replies : List (List ℕ)) (after : StoreState) : Type 0 where
+pub record RunsRound (before : StoreState) (batches : List (List (List Access))) (replies : List (List ℕ))
+    (after : StoreState) : Type 0 where
   pub jobs : List Job
   pub past : List Event
   pub settled : AreSettledJobs before.rows (joined batches) jobs
   pub run : IsRun jobs past
   pub finished : IsFinished jobs past
   pub room : before.rounds < 2 ^ 64 - 1
-  pub told : replies ≡ round_texts after.rounds (map length batches) (places_of (placement_order before.rows jobs past) (length jobs)) (replies_of jobs before.records past)
+  pub told : replies ≡ round_texts after.rounds (map length batches)
+      (places_of (placement_order before.rows jobs past) (length jobs)) (replies_of jobs before.records past)
   pub left : after ≡ store_after before jobs past
 
 -- each line has the same refusal, and the store is as it was
 abbrev pub RefusesRound : List ℕ → StoreState → List (List (List Access)) → List (List ℕ) → StoreState → Type 0
-RefusesRound name before batches replies after = (replies ≡ replicate (length batches) (error_text name)) × (after ≡ before)
+RefusesRound name before batches replies after = (replies ≡ replicate (length batches) (error_text name))
+    × (after ≡ before)
 
 -- a run that failed, or a count of rounds that can't grow
 abbrev pub FailsRound : StoreState → List (List (List Access)) → List (List ℕ) → StoreState → Type 0
 FailsRound before batches replies after =
     ((before.rounds < 2 ^ 64 - 1)
-    × (RefusesRound (codes "foreign") before batches replies after ⊎ RefusesRound (codes "unfinished") before batches replies after))
+    × (RefusesRound (codes "foreign") before batches replies after
+    ⊎ RefusesRound (codes "unfinished") before batches replies after))
     ⊎ ((before.rounds ≡ 2 ^ 64 - 1) × RefusesRound (codes "rounds") before batches replies after)
 
 -- lines that are all batches are a round; any other line is answered alone
-abbrev pub AnswersLines : StoreState → List (List ℕ) → Option (List (List (List Access))) → List (List ℕ) → StoreState → Type 0
+abbrev pub AnswersLines : StoreState → List (List ℕ) → Option (List (List (List Access))) → List (List ℕ) → StoreState
+    → Type 0
 AnswersLines before lines None replies after =
-    (line : List ℕ) × (reply : List ℕ) × (lines ≡ line ∷ []) × (replies ≡ reply ∷ []) × AnswersAlone before line reply after
+    (line : List ℕ) × (reply : List ℕ) × (lines ≡ line ∷ []) × (replies ≡ reply ∷ [])
+    × AnswersAlone before line reply after
 AnswersLines before lines (Some batches) replies after =
     (0 < length lines) × (length (joined batches) ≤ 256)
     × (RunsRound before batches replies after ⊎ FailsRound before batches replies after)

@@ -26,7 +26,13 @@ pub record IsStore (store : StoreState) : Type 0 where
 
 -- a store that has answered nothing yet
 abbrev pub opened : Rows → List ℤ → ℕ → StoreState
-opened rows records workers = record { rows = rows; records = records; waits = replicate (length rows) 0; workers = workers; rounds = 0 }
+opened rows records workers = record {
+  rows = rows;
+  records = records;
+  waits = replicate (length rows) 0;
+  workers = workers;
+  rounds = 0;
+}
 
 -- how many nodes have another weight in the new rows than in the old ones
 abbrev pub changes : Rows → Rows → ℕ

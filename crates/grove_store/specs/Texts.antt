@@ -5,5 +5,6 @@ use Rattle.grove_store.specs.Rounds.{IsLawfulRound}
 
 -- no byte of any reply is a line feed
 abbrev pub RepliesAreFeedless : Type 0
-RepliesAreFeedless = (before after : StoreState) (lines replies : List (List ℕ)) → IsLawfulRound before lines replies after
+RepliesAreFeedless = (before after : StoreState) (lines replies : List (List ℕ))
+    → IsLawfulRound before lines replies after
     → All (λ reply. All (λ byte. byte ≢ 10) reply) replies

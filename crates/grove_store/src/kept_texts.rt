@@ -64,8 +64,8 @@ impl KeptTexts {
         self.texts.get(targets)
     }
 
-    /// Keeps a text for the lists with these targets. Where there is no room for it, all others are forgotten first; a text
-    /// that is too long by itself isn't kept.
+    /// Keeps a text for the lists with these targets. Where there is no room for it, all others are forgotten first; a
+    /// text that is too long by itself isn't kept.
     pub fn keep(&mut self, targets: Vec<Target>, text: Vec<u8>) -> Result<(), NoMemory>
         ensures { (rows : Rows) → All (RepliesFor rows) self.old
             → RepliesFor rows (kept_text targets.items text.items) → All (RepliesFor rows) self.new }

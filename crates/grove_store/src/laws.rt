@@ -1,8 +1,8 @@
 ghost use Rattle.grove_store.specs.Longest.{RoundsFit, RoundsAreLongest, OthersAreAlone, RoundsAreWithin};
 ghost use Rattle.grove_store.specs.Texts.{RepliesAreFeedless};
 
-/// What holds of the lines that one round answers: batches without fault with at most 256 lists together, as many of the
-/// first lines as fit; or any other line alone. No reply has a line feed in it.
+/// What holds of the lines that one round answers: batches without fault with at most 256 lists together, as many of
+/// the first lines as fit; or any other line alone. No reply has a line feed in it.
 pub fn round_laws()
     ensures fit { RoundsFit }
     ensures longest { RoundsAreLongest }

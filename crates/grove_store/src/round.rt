@@ -25,7 +25,9 @@ pub fn round_of(
     requires few { length first.items ≤ 256 }
     requires fit { All (λ list. AreNodes tree.now (nodes_of list)) first.items }
     requires limit { All (λ line. length line.now ≤ 1048576) others.now }
-    ensures { IfOk result (λ round. IsRoundOf tree.now first.items (map (λ line. line.now) others.now) round.counts.items round.lists.items) }
+    ensures { IfOk result
+        (λ round. IsRoundOf tree.now first.items (map (λ line. line.now) others.now) round.counts.items
+        round.lists.items) }
 {
     let mut counts = Vec::new(alloc);
     counts.push(first.len())?;
@@ -48,8 +50,11 @@ fn batch_within(
     room: usize,
 ) -> Result<Option<Vec<AccessList>>, NoMemory>
     requires { length line.now ≤ 1048576 }
-    ensures lists { IfOk result (λ found. MatchOption found (NoneFits (lists_in tree.now line.now) room) (λ lists. FitsRoom (lists_in tree.now line.now) room lists.items)) }
-    ensures fit { IfOk result (λ found. IfSome found (λ lists. All (λ list. AreNodes tree.now (nodes_of list)) lists.items)) }
+    ensures lists { IfOk result
+        (λ found. MatchOption found (NoneFits (lists_in tree.now line.now) room)
+        (λ lists. FitsRoom (lists_in tree.now line.now) room lists.items)) }
+    ensures fit { IfOk result
+        (λ found. IfSome found (λ lists. All (λ list. AreNodes tree.now (nodes_of list)) lists.items)) }
 {
     match read_request(alloc, tree, line) {
         Ok(Request::Batch(lists)) => {

@@ -36,9 +36,14 @@ pub fn outcome_of(
     requires waits { length waits.now ≡ length finished.core.tree }
     requires few { All (λ waits. waits ≤ 1000) waits.now }
     ensures replies { IfOk result (λ outcome. outcome.replies.items ≡ round_texts round counts.now
-        (places_of finished.entry.order (length finished.entry.core.jobs)) (replies_of finished.entry.core.jobs finished.entry.core.opening (past_of finished.entry.core))) }
-    ensures records { IfOk result (λ outcome. outcome.records ≡ run_records finished.entry.core.jobs finished.entry.core.opening (past_of finished.entry.core)) }
-    ensures waits { IfOk result (λ outcome. outcome.waits.items ≡ waits_after finished.entry.core.jobs (past_of finished.entry.core) waits.now) }
+        (places_of finished.entry.order (length finished.entry.core.jobs))
+        (replies_of finished.entry.core.jobs finished.entry.core.opening (past_of finished.entry.core))) }
+    ensures records { IfOk result
+        (λ outcome. outcome.records ≡ run_records finished.entry.core.jobs finished.entry.core.opening
+        (past_of finished.entry.core)) }
+    ensures waits { IfOk result
+        (λ outcome. outcome.waits.items ≡ waits_after finished.entry.core.jobs (past_of finished.entry.core)
+        waits.now) }
 {
     let replies = {
         let places = finished.places(alloc)?;

@@ -37,14 +37,27 @@ impl Model for Store {
 
     ghost Value = { StoreState };
 
-    ghost view = { λ store. record { rows = store.tree; records = store.records; waits = store.waits.items; workers = store.workers; rounds = store.rounds } };
+    ghost view = { λ store. record {
+      rows = store.tree;
+      records = store.records;
+      waits = store.waits.items;
+      workers = store.workers;
+      rounds = store.rounds;
+    } };
 
-    ghost invariant = { λ store. IsStore (record { rows = store.tree; records = store.records; waits = store.waits.items; workers = store.workers; rounds = store.rounds }) × AreSettledFor store.tree store.plans × All (RepliesFor store.tree) store.texts };
+    ghost invariant = { λ store. IsStore
+        (record {
+          rows = store.tree;
+          records = store.records;
+          waits = store.waits.items;
+          workers = store.workers;
+          rounds = store.rounds;
+        }) × AreSettledFor store.tree store.plans × All (RepliesFor store.tree) store.texts };
 }
 
 impl Store {
-    /// A store of this tree and these records, which plans and runs by so many workers. Nobody has waited yet, and no round
-    /// was run. The only refusal is for want of memory; it hands back the tree and the records.
+    /// A store of this tree and these records, which plans and runs by so many workers. Nobody has waited yet, and no
+    /// round was run. The only refusal is for want of memory; it hands back the tree and the records.
     pub fn open(alloc: Global, tree: Tree, records: Records, workers: u32) -> Result<Store, NoStore>
         requires records { length records ≡ length tree }
         requires workers { (1 ≤ workers) × (workers ≤ 16) }

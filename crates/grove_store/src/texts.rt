@@ -45,8 +45,8 @@ pub fn refusals(alloc: Global, refusal: Refusal, lines: usize) -> Result<Vec<Lin
     Ok(replies)
 }
 
-/// The settled plan of the list, with its cost and its flow: a copy of the text that is kept for it. Where none is kept, it
-/// is written, and a copy is kept.
+/// The settled plan of the list, with its cost and its flow: a copy of the text that is kept for it. Where none is
+/// kept, it is written, and a copy is kept.
 pub fn plan_text(
     alloc: Global,
     tree: &Tree,

@@ -32,7 +32,8 @@ fn add_waits(core: &Core, txn: usize, waits: &[u32], all: &mut [u32])
     requires long { length waits.now ≡ length core.now.tree }
     requires same { length all.old ≡ length waits.now }
     ensures kept { AreOldOrNew (waits_at core.now.jobs (past_of core.now) waits.now) all.old all.new }
-    ensures added { (place node : ℕ) → slice_get (plan_of core.now.jobs txn) place ≡ Some (Step.Lock node) → get_or all.new node 0 ≡ waits_at core.now.jobs (past_of core.now) waits.now node }
+    ensures added { (place node : ℕ) → slice_get (plan_of core.now.jobs txn) place ≡ Some (Step.Lock node)
+        → get_or all.new node 0 ≡ waits_at core.now.jobs (past_of core.now) waits.now node }
 {
     let steps = core.jobs()[txn].plan.steps();
     for step in steps {

@@ -1,6 +1,8 @@
 -- A table of a tree: lines of a path, a weight and a value; and the trees with records that are of a table.
-use Rattle.std.specs.Prelude.{◌≡◌, ◌≢◌, ◌≤◌, ◌<◌, ◌⊎◌, ℕ, ℤ, pos, true, List, [], ◌∷◌, length, slice_get, Option, None, Some, unwrap_or, string_bytes, codes}
-use Rattle.std.specs.Str.Parse.{IsNumeral, digits_value, signed_digits_value, without_leading_plus, without_leading_sign}
+use Rattle.std.specs.Prelude.{◌≡◌, ◌≢◌, ◌≤◌, ◌<◌, ◌⊎◌, ℕ, ℤ, pos, true, List, [], ◌∷◌, length, slice_get, Option}
+use Rattle.std.specs.Prelude.{None, Some, unwrap_or, string_bytes, codes}
+use Rattle.std.specs.Str.Parse.{IsNumeral, digits_value, signed_digits_value, without_leading_plus}
+use Rattle.std.specs.Str.Parse.{without_leading_sign}
 use Rattle.csv.specs.Reading.{default_config, strip_bom, AreRecords}
 use Rattle.csv.specs.Records.{field_at}
 use Rattle.csv.specs.declared.parser.Config.{Config}
@@ -87,4 +89,5 @@ pub record IsAdded (absent : Absent) (tree : Rows) (records : List ℤ) (lines :
 pub record IsTreeOf (absent : Absent) (lines : List Line) (tree : Rows) (records : List ℤ) : Type 0 where
   pub fits : length records ≡ length tree
   pub nodes : (place : ℕ) → place < length lines → HasNode tree records lines place
-  pub whole : (node : ℕ) → node < length tree → IsOfLine tree records lines node ⊎ IsAdded absent tree records lines node
+  pub whole : (node : ℕ) → node < length tree → IsOfLine tree records lines node
+      ⊎ IsAdded absent tree records lines node

@@ -10,7 +10,8 @@ use std::alloc::Global;
 
 /// The rows of a text of CSV, in which lines that begin with `#` are comments.
 pub fn rows_in(alloc: Global, text: &[u8]) -> Result<Vec<ByteRecord>, TableFault>
-    ensures { IfOk result (λ rows. AreRecords table_config st.StartRecord (strip_bom text.now) (map fields_of rows.items)) }
+    ensures { IfOk result (λ rows. AreRecords table_config st.StartRecord (strip_bom text.now)
+        (map fields_of rows.items)) }
 {
     match records_in(alloc, text) {
         Ok(rows) => Ok(rows),
@@ -20,7 +21,8 @@ pub fn rows_in(alloc: Global, text: &[u8]) -> Result<Vec<ByteRecord>, TableFault
 
 /// The same. Of records of any length, read from memory, none is refused but for want of memory.
 fn records_in(alloc: Global, text: &[u8]) -> Result<Vec<ByteRecord>, Error>
-    ensures { IfOk result (λ rows. AreRecords table_config st.StartRecord (strip_bom text.now) (map fields_of rows.items)) }
+    ensures { IfOk result (λ rows. AreRecords table_config st.StartRecord (strip_bom text.now)
+        (map fields_of rows.items)) }
 {
     let rdr = ReaderBuilder::new()
         .has_headers(false)

@@ -26,8 +26,8 @@ pub enum Origin {
     Above(usize),
 }
 
-/// The tree of the lines, with its records. Children stand in the order in which the lines mention them, or what is below
-/// them.
+/// The tree of the lines, with its records. Children stand in the order in which the lines mention them, or what is
+/// below them.
 pub fn tree_of(alloc: Global, lines: &[Line], absent: Absent) -> Result<(Tree, Records), TableFault>
     ensures { IfOk result (λ made. IsTreeOf absent lines.now made.0 made.1) }
 {

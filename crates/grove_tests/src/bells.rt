@@ -52,8 +52,9 @@ fn reads_down(rt: &impl Abort, alloc: Global, tree: &Tree, high: u32, low: u32) 
     job_of(rt, alloc, tree, &script)
 }
 
-/// The first job holds the low node, for which the second waits with the middle one in hand. For that the third waits with
-/// the high node in hand, and for this the fourth, who came to the bell first. Then the first job lets the low node go.
+/// The first job holds the low node, for which the second waits with the middle one in hand. For that the third waits
+/// with the high node in hand, and for this the fourth, who came to the bell first. Then the first job lets the low
+/// node go.
 fn cues(rt: &impl Abort, alloc: Global) -> Cues {
     let cues = vec![in alloc;
         Cue::new((1, 0), (0, 1), 0),

@@ -4,8 +4,8 @@ use std::thread::yield_now;
 
 const LOOKS: u32 = 10_000;
 
-/// A gate at which each job waits before its first step until more have come than may be at work at once, or until it has
-/// looked often enough.
+/// A gate at which each job waits before its first step until more have come than may be at work at once, or until it
+/// has looked often enough.
 #[derive(Drop)]
 pub struct Crowd {
     most: u64,

@@ -14,7 +14,8 @@ pub struct Pieces<'a> {
 }
 
 impl<'a> Pieces<'a> {
-    /// Gives at most `most` bytes a read, and fails at the read numbered `fails_at`, counted from 0, and at each later one.
+    /// Gives at most `most` bytes a read, and fails at the read numbered `fails_at`, counted from 0, and at each later
+    /// one.
     pub fn new(bytes: &'a [u8], most: usize, fails_at: Option<u64>) -> Pieces<'a>
         requires { 0 < most }
         ensures remaining { ⟦<Pieces<'a> as Source>⟧.remaining result ≡ Some bytes.entry.now }

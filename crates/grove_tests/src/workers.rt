@@ -137,8 +137,8 @@ fn no_more_threads_work_at_once_than_there_are_workers(rt: HostRuntime) {
     }
 }
 
-/// Runs two jobs on one node. The first comes to its lock and waits there until the second has done its access; so no gate
-/// is called behind its step. Then the second keeps the node for a while. Has the first one waited for it?
+/// Runs two jobs on one node. The first comes to its lock and waits there until the second has done its access; so no
+/// gate is called behind its step. Then the second keeps the node for a while. Has the first one waited for it?
 fn waits_once<R: Abort + Threads + Wait + Sync>(
     rt: &R,
     alloc: Global,

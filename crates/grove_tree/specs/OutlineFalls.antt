@@ -11,7 +11,12 @@ length-put_under parent (row ∷ rows) = refl
 pub length-rows_under : (parent : ℕ) (children : List Under) → length (rows_under parent children) ≡ total children
 length-rows_under parent [] = refl
 length-rows_under parent (child ∷ children) =
-    omega (arith, length-append (put_under (Some parent) child.1) (rows_under parent children), length-put_under (Some parent) child.1, length-rows_under parent children)
+    omega (
+      arith,
+      length-append (put_under (Some parent) child.1) (rows_under parent children),
+      length-put_under (Some parent) child.1,
+      length-rows_under parent children,
+    )
 
 -- no child has more rows than all of them together
 pub most_le-total : (children : List Under) → most (λ child. length child.1 + 1) children ≤ total children + 1

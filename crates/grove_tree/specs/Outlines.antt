@@ -24,7 +24,8 @@ total (child ∷ children) = length child.1 + total children
 -- the children are numbered in preorder from here on
 abbrev pub AreNumbered : ℕ → List Under → Type 0
 AreNumbered from [] = ⊤
-AreNumbered from (child ∷ children) = (child.0 ≡ from) × (0 < length child.1) × AreNumbered (from + length child.1) children
+AreNumbered from (child ∷ children) = (child.0 ≡ from) × (0 < length child.1)
+    × AreNumbered (from + length child.1) children
 
 -- every row but the first has its parent in the outline, where it has one
 abbrev pub KeepsInside : Under → Type 0

@@ -1,15 +1,18 @@
 -- What is asked of the rows that a tree is built from, and the first rule that they break.
-use Rattle.std.specs.Prelude.{◌≡◌, ℕ, zero, suc, ◌≤◌, ◌<◌, ◌==◌, nat_lt, nat_le, Bool, false, not, ◌&&◌, ◌||◌, List, [], length, Option, Some, None, is_none, bytes_eq, IsTrue, if◌then◌else◌}
+use Rattle.std.specs.Prelude.{◌≡◌, ℕ, zero, suc, ◌≤◌, ◌<◌, ◌==◌, nat_lt, nat_le, Bool, false, not, ◌&&◌, ◌||◌, List, []}
+use Rattle.std.specs.Prelude.{length, Option, Some, None, is_none, bytes_eq, IsTrue, if◌then◌else◌}
 use Rattle.std.specs.List.{list_all}
 use Rattle.std.specs.Option.{option_or}
 use Rattle.grove_base.specs.Numbers.{any_below}
 use Rattle.grove_tree.specs.Trees.{Rows, IsTree, parent_of, name_of, weight_of, depth_of, is_at, is_above}
 use Rattle.grove_tree.specs.declared.fault.TreeFault.{TreeFault}
-use Rattle.grove_tree.specs.declared.fault.TreeFault.TheVariants.{Empty, TooMany, BadParent, TooDeep, BadName, TwiceNamed, BadWeight}
+use Rattle.grove_tree.specs.declared.fault.TreeFault.TheVariants.{Empty, TooMany, BadParent, TooDeep, BadName}
+use Rattle.grove_tree.specs.declared.fault.TreeFault.TheVariants.{TwiceNamed, BadWeight}
 
 -- a letter from a to z, a digit, an underscore or a dash
 abbrev pub is_name_byte : ℕ → Bool
-is_name_byte byte = (nat_le 97 byte && nat_le byte 122) || ((nat_le 48 byte && nat_le byte 57) || ((byte == 95) || (byte == 45)))
+is_name_byte byte = (nat_le 97 byte && nat_le byte 122)
+    || ((nat_le 48 byte && nat_le byte 57) || ((byte == 95) || (byte == 45)))
 
 -- a name has 1 to 32 such bytes
 abbrev pub is_name : List ℕ → Bool
@@ -49,7 +52,8 @@ share_parent (Some parent) other = is_at parent other
 
 -- another row has the same parent and the same name
 abbrev pub is_twin : Rows → ℕ → ℕ → Bool
-is_twin rows row other = share_parent (parent_of rows row) (parent_of rows other) && bytes_eq (name_of rows other) (name_of rows row)
+is_twin rows row other = share_parent (parent_of rows row) (parent_of rows other)
+    && bytes_eq (name_of rows other) (name_of rows row)
 
 abbrev pub is_weight : ℕ → Bool
 is_weight weight = nat_le 1 weight && nat_le weight heaviest
@@ -82,7 +86,8 @@ pub record IsWithinLimits (rows : Rows) : Type 0 where
   pub shallow : (node : ℕ) → depth_of rows node ≤ deepest
   pub unnamed_root : name_of rows 0 ≡ []
   pub names : (node : ℕ) → suc node < length rows → IsTrue (is_name (name_of rows (suc node)))
-  pub differ : (first second parent : ℕ) → parent_of rows first ≡ Some parent → parent_of rows second ≡ Some parent → name_of rows first ≡ name_of rows second → first ≡ second
+  pub differ : (first second parent : ℕ) → parent_of rows first ≡ Some parent → parent_of rows second ≡ Some parent
+      → name_of rows first ≡ name_of rows second → first ≡ second
   pub weighty : (node : ℕ) → node < length rows → 1 ≤ weight_of rows node
   pub light : (node : ℕ) → weight_of rows node ≤ heaviest
 

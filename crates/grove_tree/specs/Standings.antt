@@ -10,4 +10,5 @@ standing_of rows node = record { parent = parent_of rows node; depth = depth_of 
 -- those of the first nodes, so many of them, by their numbers
 abbrev pub AreStandings : Rows → ℕ → List Standing → Type 0
 AreStandings rows count standings =
-    (length standings ≡ count) × ((node : ℕ) (other : Standing) → node < count → get_or standings node other ≡ standing_of rows node)
+    (length standings ≡ count)
+    × ((node : ℕ) (other : Standing) → node < count → get_or standings node other ≡ standing_of rows node)

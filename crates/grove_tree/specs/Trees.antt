@@ -1,5 +1,6 @@
 -- A tree: a list of rows of a parent, a name and a weight, in preorder.
-use Rattle.std.specs.Prelude.{◌≡◌, ℕ, zero, suc, ◌<◌, ◌==◌, Bool, false, List, length, slice_get, Option, Some, None, option_map, option_and_then, unwrap_or, []}
+use Rattle.std.specs.Prelude.{◌≡◌, ℕ, zero, suc, ◌<◌, ◌==◌, Bool, false, List, length, slice_get, Option, Some, None}
+use Rattle.std.specs.Prelude.{option_map, option_and_then, unwrap_or, []}
 use Rattle.grove_base.specs.Numbers.{any_below}
 
 pub record NodeRow : Type 0 where
@@ -32,7 +33,8 @@ IsAbove rows high low = (n : ℕ) × (up rows n low ≡ Some high)
 pub record IsTree (rows : Rows) : Type 0 where
   pub some : 0 < length rows
   pub root : parent_of rows 0 ≡ None
-  pub preorder : (node : ℕ) → suc node < length rows → (parent : ℕ) × (parent_of rows (suc node) ≡ Some parent) × IsAbove rows parent node
+  pub preorder : (node : ℕ) → suc node < length rows → (parent : ℕ) × (parent_of rows (suc node) ≡ Some parent)
+      × IsAbove rows parent node
 
 -- one more than the depth of a parent, and 0 where there is none
 abbrev pub one_more : (ℕ → ℕ) → Option ℕ → ℕ

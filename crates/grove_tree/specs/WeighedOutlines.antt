@@ -7,7 +7,8 @@ use Rattle.grove_tree.specs.Weights.{weighed_from, unweighed}
 -- how many of the weights the rule changes
 abbrev pub changes_from : (ℕ → ℕ → ℕ) → ℕ → Rows → ℕ
 changes_from weight node [] = 0
-changes_from weight node (row ∷ rows) = (if weight node row.weight == row.weight then 0 else 1) + changes_from weight (suc node) rows
+changes_from weight node (row ∷ rows) = (if weight node row.weight == row.weight then 0 else 1) + changes_from weight
+    (suc node) rows
 
 -- a node has the same parent and the same name in both
 abbrev pub AgreeAt : Rows → Rows → ℕ → Type 0

@@ -4,8 +4,8 @@ use std::alloc::{AllocError, Global};
 /// How many children are gone over as fast as one of them is looked up.
 const FEW: usize = 8;
 
-/// Where a child is to be looked for first: a place, by the mark of the name of the child there. It is a guess that whoever
-/// takes it tests, so nothing is promised of it.
+/// Where a child is to be looked for first: a place, by the mark of the name of the child there. It is a guess that
+/// whoever takes it tests, so nothing is promised of it.
 #[derive(Clone, Copy, Debug)]
 pub struct ChildMark {
     mark: u32,

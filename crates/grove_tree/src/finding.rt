@@ -9,7 +9,8 @@ fn is_rest(path: &[u8]) -> bool
 
 /// What the path goes on with after a slash and the name, if it begins with these and no longer name.
 pub fn after_name<'a>(path: &'a [u8], name: &[u8]) -> Option<&'a [u8]>
-    ensures { MatchOption result ((rest : List ℕ) → ¬ GoesOn path.now name.now rest) (λ rest. GoesOn path.now name.now rest.now) }
+    ensures { MatchOption result ((rest : List ℕ) → ¬ GoesOn path.now name.now rest)
+        (λ rest. GoesOn path.now name.now rest.now) }
 {
     let (slash, below) = path.split_first()?;
     if *slash != b'/' {

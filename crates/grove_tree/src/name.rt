@@ -62,7 +62,8 @@ impl Name {
     /// What the path goes on with after a slash and the name, where the next name in the path has the mark.
     pub(crate) fn rest_in<'a>(&self, path: &'a [u8], mark: u32) -> Option<&'a [u8]>
         requires { (name rest : List ℕ) → GoesOn path.now name rest → mark ≡ mark_of name }
-        ensures { MatchOption result ((rest : List ℕ) → ¬ GoesOn path.now self.now rest) (λ rest. GoesOn path.now self.now rest.now) }
+        ensures { MatchOption result ((rest : List ℕ) → ¬ GoesOn path.now self.now rest)
+            (λ rest. GoesOn path.now self.now rest.now) }
     {
         if self.mark != mark {
             return None;

@@ -30,13 +30,21 @@ impl Model for Outline {
 
     ghost Value = { Under };
 
-    ghost view = { λ a. (a.number, record { parent = None; name = a.name; weight = a.weight } ∷ rows_under a.number a.children.items) };
+    ghost view = { λ a. (
+      a.number,
+      record { parent = None; name = a.name; weight = a.weight }
+          ∷ rows_under a.number a.children.items,
+    ) };
 
     ghost invariant = { λ a. IsOutline a.number a.size a.children.items };
 
     ghost size = { λ value. length value.1 };
 
-    ghost size_decreases = { λ a h. omega (arith, most_le-total a.children.items, length-rows_under a.number a.children.items) };
+    ghost size_decreases = { λ a h. omega (
+      arith,
+      most_le-total a.children.items,
+      length-rows_under a.number a.children.items,
+    ) };
 }
 
 impl Outline {
@@ -89,7 +97,8 @@ impl Outline {
         mark: u32,
     ) -> Option<(&'a Outline, &'b [u8])>
         requires { (name rest : List ℕ) → GoesOn path.now name rest → mark ≡ mark_of name }
-        ensures { IfSome result (λ found. IsChild self.now found.0.now × GoesOn path.now (name_of found.0.now.1 0) found.1.now) }
+        ensures { IfSome result (λ found. IsChild self.now found.0.now
+            × GoesOn path.now (name_of found.0.now.1 0) found.1.now) }
     {
         for entry in with_mark(&self.marks, mark) {
             let child = self.child_at(entry.place)?;
@@ -100,11 +109,12 @@ impl Outline {
         None
     }
 
-    /// The child whose name comes next in the path below the node, with what the path goes on with. The marks of the children
-    /// are only where to look first: none has the name once all were gone over.
+    /// The child whose name comes next in the path below the node, with what the path goes on with. The marks of the
+    /// children are only where to look first: none has the name once all were gone over.
     pub(crate) fn child_on<'a, 'b>(&'a self, path: &'b [u8]) -> Option<(&'a Outline, &'b [u8])>
         ensures { MatchOption result
-            ((row : ℕ) (rest : List ℕ) → parent_of self.now.1 row ≡ Some self.now.0 → ¬ GoesOn path.now (name_of self.now.1 row) rest)
+            ((row : ℕ) (rest : List ℕ) → parent_of self.now.1 row ≡ Some self.now.0
+            → ¬ GoesOn path.now (name_of self.now.1 row) rest)
             (λ found. IsChild self.now found.0.now × GoesOn path.now (name_of found.0.now.1 0) found.1.now) }
     {
         let mark = next_mark(path);

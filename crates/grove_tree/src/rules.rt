@@ -2,7 +2,8 @@ ghost use Rattle.std.specs.Prelude.{◌≡◌, ℕ, ◌<◌, ◌≤◌, ◌↔�
 ghost use Rattle.std.specs.List.{list_all};
 ghost use Rattle.grove_base.specs.Numbers.{any_below};
 ghost use Rattle.grove_tree.specs.Trees.{IsAbove, parent_of, weight_of, depth_of};
-ghost use Rattle.grove_tree.specs.Rules.{is_name_byte, is_name, is_well_placed, is_well_named, share_parent, is_twin, is_weight, row_fault, rows_fault, tree_fault_of};
+ghost use Rattle.grove_tree.specs.Rules.{is_name_byte, is_name, is_well_placed, is_well_named, share_parent, is_twin};
+ghost use Rattle.grove_tree.specs.Rules.{is_weight, row_fault, rows_fault, tree_fault_of};
 ghost use Rattle.grove_tree.specs.BuiltRows.{rows_of};
 
 use crate::{Row, TreeFault};
@@ -103,7 +104,8 @@ fn is_row_well_named(rows: &[Row], row: u32) -> bool
 
 /// Have both rows one parent and one name?
 fn are_twins(row: &Row, other: &Row) -> bool
-    ensures { result ≡ (share_parent row.now.parent other.now.parent && bytes_eq (string_bytes other.now.name) (string_bytes row.now.name)) }
+    ensures { result ≡ (share_parent row.now.parent other.now.parent
+        && bytes_eq (string_bytes other.now.name) (string_bytes row.now.name)) }
 {
     row.parent.is_some() && row.parent == other.parent && other.name == row.name
 }

@@ -1,4 +1,5 @@
-ghost use Rattle.std.specs.Prelude.{◌≡◌, ◌≢◌, ℕ, ◌<◌, ◌↔◌, length, IsTrue, IfOk, OnOk, IfErr, IsErrOf, IfSome, Some, None, string_bytes};
+ghost use Rattle.std.specs.Prelude.{◌≡◌, ◌≢◌, ℕ, ◌<◌, ◌↔◌, length, IsTrue, IfOk, OnOk, IfErr, IsErrOf, IfSome, Some};
+ghost use Rattle.std.specs.Prelude.{None, string_bytes};
 ghost use Rattle.grove_tree.specs.Trees.{IsTree, IsAbove, parent_of, weight_of, depth_of};
 ghost use Rattle.grove_tree.specs.Paths.{path_of, node_at, names_within};
 ghost use Rattle.grove_tree.specs.Rules.{tree_fault_of, IsWithinLimits, AreTreeRows};
@@ -33,17 +34,20 @@ impl Model for Tree {
 
     ghost view = { λ tree. tree.root.1 };
 
-    ghost invariant = { λ tree. (tree.root.0 ≡ 0) × IsTree tree.root.1 × IsWithinLimits tree.root.1 × AreStandings tree.root.1 (length tree.root.1) tree.standings.items };
+    ghost invariant = { λ tree. (tree.root.0 ≡ 0) × IsTree tree.root.1 × IsWithinLimits tree.root.1
+        × AreStandings tree.root.1 (length tree.root.1) tree.standings.items };
 }
 
 impl Tree {
     /// Builds the tree of the rows, which stand in preorder: each after its parent's, children in the order given.
-    /// Where several rules are broken, the fault is that of the first row at fault, and of that row the first in the order of
+    /// Where several rules are broken, the fault is that of the first row at fault, and of that row the first in the
+    /// order of
     /// `TreeFault`; want of memory comes last.
     pub fn build(alloc: Global, rows: &[Row]) -> Result<Tree, TreeFault>
         ensures rows { IfOk result (λ tree. tree ≡ rows_of rows.now) }
         ensures faultless { IfOk result (λ tree. tree_fault_of (rows_of rows.now) ≡ None) }
-        ensures fault { IfErr result (λ fault. fault ≢ TreeFault.Memory → tree_fault_of (rows_of rows.now) ≡ Some fault) }
+        ensures fault { IfErr result (λ fault. fault ≢ TreeFault.Memory → tree_fault_of (rows_of rows.now)
+            ≡ Some fault) }
         ensures refused { IfErr result (λ fault. fault ≢ TreeFault.Memory → ¬ AreTreeRows (rows_of rows.now)) }
         ensures memory { IsErrOf result TreeFault.Memory → tree_fault_of (rows_of rows.now) ≡ None }
     {
@@ -75,8 +79,10 @@ impl Tree {
     fn find_names(&self, names: &[u8]) -> Option<Node>
         ensures tree { IsTree self.now }
         ensures limits { IsWithinLimits self.now }
-        ensures found { IfSome result (λ node. (node < length self.now) × (names_within self.now (length self.now) node ≡ names.now)) }
-        ensures only { (node : ℕ) → node < length self.now → names_within self.now (length self.now) node ≡ names.now → result ≡ Some node }
+        ensures found { IfSome result (λ node. (node < length self.now)
+            × (names_within self.now (length self.now) node ≡ names.now)) }
+        ensures only { (node : ℕ) → node < length self.now → names_within self.now (length self.now) node ≡ names.now
+            → result ≡ Some node }
     {
         let mut at = &self.root;
         let mut rest = names;

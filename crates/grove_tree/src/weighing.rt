@@ -18,7 +18,8 @@ pub trait Rule {
         ensures { result ≡ gives self.now node old };
 }
 
-/// Gives the outline's own node its new weight, and then all that is below it. The result is the number of weights changed.
+/// Gives the outline's own node its new weight, and then all that is below it. The result is the number of weights
+/// changed.
 #[cycle(weighing)]
 pub fn weigh<R: Threads + Sync, U: Rule + Sync, G: Gate + Sync>(
     rt: &R,
@@ -39,8 +40,8 @@ pub fn weigh<R: Threads + Sync, U: Rule + Sync, G: Gate + Sync>(
     if new == old { below } else { below + 1 }
 }
 
-/// Does so for a slice of outlines, cut in two as long as there is more than one. With two workers or more both halves are
-/// done at once, the first by half of the workers; where no thread can be started, the first half is done first.
+/// Does so for a slice of outlines, cut in two as long as there is more than one. With two workers or more both halves
+/// are done at once, the first by half of the workers; where no thread can be started, the first half is done first.
 #[cycle(weighing)]
 fn weigh_all<R: Threads + Sync, U: Rule + Sync, G: Gate + Sync>(
     rt: &R,
@@ -69,12 +70,14 @@ fn weigh_all<R: Threads + Sync, U: Rule + Sync, G: Gate + Sync>(
     let (late, early) = join_mut(
         rt,
         &mut || -> u32
-            requires { IsSync R.row × IsSync U.row × IsSync G.row × (total second.now < 2 ^ 32) × AllTaken (U.takes rule.now) second.now }
+            requires { IsSync R.row × IsSync U.row × IsSync G.row × (total second.now < 2 ^ 32)
+                × AllTaken (U.takes rule.now) second.now }
             ensures rows { second.exit.now ≡ weighed_all (U.gives rule.entry.now) second.entry.now }
             ensures count { result ≡ changes_all (U.gives rule.entry.now) second.entry.now }
         { weigh_all(rt, rule, gate, workers - workers / 2, second) },
         &mut || -> u32
-            requires { IsSync R.row × IsSync U.row × IsSync G.row × (total first.now < 2 ^ 32) × AllTaken (U.takes rule.now) first.now }
+            requires { IsSync R.row × IsSync U.row × IsSync G.row × (total first.now < 2 ^ 32)
+                × AllTaken (U.takes rule.now) first.now }
             ensures rows { first.exit.now ≡ weighed_all (U.gives rule.entry.now) first.entry.now }
             ensures count { result ≡ changes_all (U.gives rule.entry.now) first.entry.now }
         { weigh_all(rt, rule, gate, workers / 2, first) },

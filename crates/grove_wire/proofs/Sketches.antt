@@ -33,7 +33,8 @@ use Rattle.grove_wire.specs.Forms as forms
 use Rattle.grove_wire.specs.Reading as reading
 use Rattle.grove_wire.specs.Requests as requests
 use Rattle.grove_wire.specs.Sketches.{item_form, most_items, member_form, line_member, leaf, number_data, cut, put_kept}
-use Rattle.grove_wire.specs.Sketches.{count, row_member, check_member, row_kept, kept_form_of, row_with_node, kept_step_at, kept_row_at}
+use Rattle.grove_wire.specs.Sketches.{count, row_member, check_member, row_kept, kept_form_of, row_with_node}
+use Rattle.grove_wire.specs.Sketches.{kept_step_at, kept_row_at}
 use Rattle.grove_wire.specs.Sketches.{kept_plan_in, kept_flow_in, kept_check_of, kept_named_of}
 use Rattle.grove_wire.specs.Sketches.{drawn, drawn_item, drawn_members, Draft}
 use Rattle.grove_wire.specs.RowParts.{flow_with}
@@ -51,19 +52,25 @@ pub record Found (f : Form) (x y : Option Data) : Type 0 where
   pub kept : y ≡ option_map (λ r. drawn f r.text) row
 
 module _ (f g : Form) (k : List ℕ) (looked_at : (n : ℕ) → member_form f k n ≡ Some g)
-    (others : (name : List ℕ) → (k ≡ name → ⊥) → (kept : Form → Data) (found : Members) → get_member k (put_kept name (member_form f name (count found)) kept found) ≡ get_member k found) where
+    (others : (name : List ℕ) → (k ≡ name → ⊥) → (kept : Form → Data) (found : Members)
+    → get_member k (put_kept name (member_form f name (count found)) kept found) ≡ get_member k found) where
   put_found : (name : List ℕ) (j : json.Json) (d : Data) (ms ns : Members) → of_json j ≡ Some d → Found g (get_member k ms) (get_member k ns)
-      → Found g (get_member k (put name d ms)) (get_member k (put_kept name (member_form f name (count ns)) (λ h. drawn h j) ns))
+      → Found g (get_member k (put name d ms))
+      (get_member k (put_kept name (member_form f name (count ns)) (λ h. drawn h j) ns))
   put_found name j d ms ns reads before = by_test (bytes_eq k name) refl
     where
-      by_test : (test : Bool) → bytes_eq k name ≡ test → Found g (get_member k (put name d ms)) (get_member k (put_kept name (member_form f name (count ns)) (λ h. drawn h j) ns))
+      by_test : (test : Bool) → bytes_eq k name ≡ test
+          → Found g (get_member k (put name d ms))
+          (get_member k (put_kept name (member_form f name (count ns)) (λ h. drawn h j) ns))
       by_test true is =
           let same : k ≡ name = (bytes_eq-Decides k name).0 is in
           let row : Row = record { text = j; whole = d; reads = reads } in
-          subst (λ n. Found g (get_member k (put n d ms)) (get_member k (put_kept n (member_form f n (count ns)) (λ h. drawn h j) ns))) same (record {
+          subst (λ n. Found g (get_member k (put n d ms))
+          (get_member k (put_kept n (member_form f n (count ns)) (λ h. drawn h j) ns))) same (record {
             row = Some row;
             whole = get_member-put k d ms;
-            kept = ap (λ o. get_member k (put_kept k o (λ h. drawn h j) ns)) (looked_at (count ns)) ∙ get_member-put k (drawn g j) ns;
+            kept = ap (λ o. get_member k (put_kept k o (λ h. drawn h j) ns)) (looked_at (count ns))
+                ∙ get_member-put k (drawn g j) ns;
           })
       by_test false is =
           let apart = λ (same : k ≡ name). differs same is in
@@ -79,7 +86,9 @@ module _ (f g : Form) (k : List ℕ) (looked_at : (n : ℕ) → member_form f k 
   members_found : (js : json.Members) (ms ns out : Members) → of_members js ms ≡ Some out → Found g (get_member k ms) (get_member k ns) → Found g (get_member k out) (get_member k (drawn_members f js ns))
   members_found json.no_members ms ns out is before = subst (λ x. Found g (get_member k x) (get_member k ns)) (same_Some ms out is) before
   members_found (json.member name j js) ms ns out is before = with_value (of_json j) refl is
-      (λ d reads told. members_found js (put name d ms) (put_kept name (member_form f name (count ns)) (λ h. drawn h j) ns) out told (put_found name j d ms ns reads before))
+      (λ d reads told. members_found js (put name d ms)
+      (put_kept name (member_form f name (count ns)) (λ h. drawn h j) ns) out told
+      (put_found name j d ms ns reads before))
     where
       with_value : (o : Option Data) → of_json j ≡ o → option_and_then (λ d. of_members js (put name d ms)) o ≡ Some out
           → ((d : Data) → of_json j ≡ Some d → of_members js (put name d ms) ≡ Some out → Found g (get_member k out) (get_member k (drawn_members f (json.member name j js) ns)))
@@ -132,14 +141,16 @@ other_kept : (k name : List ℕ) (kept : Form → Data) (found : Members) → (k
 other_kept k name kept found apart true g o rest = get_member-put_other k name (kept g) found apart
 other_kept k name kept found apart false g o rest = rest
 
-check_others : (k name : List ℕ) → (k ≡ name → ⊥) → (kept : Form → Data) (found : Members) → get_member k (put_kept name (member_form form.Check name (count found)) kept found) ≡ get_member k found
+check_others : (k name : List ℕ) → (k ≡ name → ⊥) → (kept : Form → Data) (found : Members)
+    → get_member k (put_kept name (member_form form.Check name (count found)) kept found) ≡ get_member k found
 check_others k name apart kept found =
     other_kept k name kept found apart (bytes_eq name (codes "version")) form.Scalar _
     (other_kept k name kept found apart (bytes_eq name (codes "list")) form.List _
     (other_kept k name kept found apart (bytes_eq name (codes "plan")) form.Plan _
     (other_kept k name kept found apart (bytes_eq name (codes "flow")) form.Flow None refl)))
 
-row_others : (k name : List ℕ) → (k ≡ name → ⊥) → (kept : Form → Data) (found : Members) → get_member k (put_kept name (member_form form.Row name (count found)) kept found) ≡ get_member k found
+row_others : (k name : List ℕ) → (k ≡ name → ⊥) → (kept : Form → Data) (found : Members)
+    → get_member k (put_kept name (member_form form.Row name (count found)) kept found) ≡ get_member k found
 row_others k name apart kept found =
     other_kept k name kept found apart (bytes_eq name (codes "node")) form.Scalar _
     (other_kept k name kept found apart (bytes_eq name (codes "above")) form.Scalar _
@@ -150,7 +161,8 @@ row_others k name apart kept found =
 
 -- ---- flows
 
-amount_same : (k : List ℕ) → row_member k ≡ Some form.Scalar → (row : Row) → forms.amount_of k (drawn form.Row row.text) ≡ forms.amount_of k row.whole
+amount_same : (k : List ℕ) → row_member k ≡ Some form.Scalar → (row : Row)
+    → forms.amount_of k (drawn form.Row row.text) ≡ forms.amount_of k row.whole
 unfolding forms.amount_of
 amount_same k looked_at row = member_same form.Row form.Scalar k (λ n. looked_at) (row_others k)
     (λ o. option_and_then as_u64 (option_and_then as_number o))
@@ -287,8 +299,10 @@ module _ (tree : Rows) (row : Row) where
   batch_same : requests.batch_of tree (drawn form.Batch row.text) ≡ requests.batch_of tree row.whole
   unfolding requests.batch_of
   batch_same = list_same form.Batch
-      (λ o. or_fault (Shape (whole_of part.Lists)) o >>= λ ds. (reading.lists_of tree Second ds >>= λ lists. Ok (requests.Batch lists)))
-      (λ o. or_fault (Shape (whole_of part.Lists)) o >>= λ ds. (reading.lists_of tree Second ds >>= λ lists. Ok (requests.Batch lists)))
+      (λ o. or_fault (Shape (whole_of part.Lists)) o >>= λ ds.
+      (reading.lists_of tree Second ds >>= λ lists. Ok (requests.Batch lists)))
+      (λ o. or_fault (Shape (whole_of part.Lists)) o >>= λ ds.
+      (reading.lists_of tree Second ds >>= λ lists. Ok (requests.Batch lists)))
       refl (λ rows. ap (λ read. read >>= λ lists. Ok (requests.Batch lists))
       (limited_same form.List (nth_list tree Second) (nth_list tree Second) (λ at r. list_on_same tree Second _ r) 256
       (Limit (whole_of part.Lists)) rows)) row
@@ -320,7 +334,8 @@ named_same tree name row = by_tests (bytes_eq name (codes "plan")) (bytes_eq nam
     named p c b d = cond p (requests.plan_of tree d) (cond c (requests.check_of tree d) (cond b (requests.batch_of tree d) others))
 
     kept_named : (p c b : Bool) → Data → Result requests.Asked WireFault
-    kept_named p c b d = cond p (requests.plan_of tree d) (cond c (kept_check_of tree d) (cond b (requests.batch_of tree d) others))
+    kept_named p c b d = cond p (requests.plan_of tree d)
+        (cond c (kept_check_of tree d) (cond b (requests.batch_of tree d) others))
 
     by_tests : (p c b : Bool)
         → kept_named p c b (drawn (cond p form.List (cond c form.Check (cond b form.Batch form.Nothing))) row.text)

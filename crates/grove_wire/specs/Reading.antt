@@ -1,5 +1,6 @@
 -- What a text, and each part of its document, reads as: a value or the first fault.
-use Rattle.std.specs.Prelude.{ℕ, codes, ℤ, List, [], ◌∷◌, length, map, nat_lt, Option, Some, None, is_some, Result, Ok, Err, if◌then◌else◌}
+use Rattle.std.specs.Prelude.{ℕ, codes, ℤ, List, [], ◌∷◌, length, map, nat_lt, Option, Some, None, is_some, Result, Ok}
+use Rattle.std.specs.Prelude.{Err, if◌then◌else◌}
 use Rattle.std.specs.Str.{is_utf8}
 use Rattle.serde_json.specs.Data.{Data}
 use Rattle.serde_json.specs.Find.{get, as_object, as_str}

@@ -183,7 +183,8 @@ abbrev mutual
 
   pub drawn_members : Form → json.Members → Members → Members
   drawn_members f json.no_members found = found
-  drawn_members f (json.member name j ms) found = drawn_members f ms (put_kept name (member_form f name (count found)) (λ g. drawn g j) found)
+  drawn_members f (json.member name j ms) found = drawn_members f ms
+      (put_kept name (member_form f name (count found)) (λ g. drawn g j) found)
 
 -- what is kept of an item
 abbrev pub drawn_item : Form → json.Json → Data

@@ -16,7 +16,8 @@ use Rattle.grove_core.specs.declared.fault.StepFault.TheVariants as event
 use Rattle.grove_core.specs.declared.run_fault.RunFault.{RunFault}
 use Rattle.grove_core.specs.declared.run_fault.RunFault.TheVariants as run
 use Rattle.grove_wire.specs.declared.fault.WireFault.{WireFault}
-use Rattle.grove_wire.specs.declared.fault.WireFault.TheVariants.{BadJson, Shape, NoPath, BadLength, Limit, Tree, Memory}
+use Rattle.grove_wire.specs.declared.fault.WireFault.TheVariants.{BadJson, Shape, NoPath, BadLength, Limit, Tree}
+use Rattle.grove_wire.specs.declared.fault.WireFault.TheVariants.{Memory}
 use Rattle.grove_wire.specs.declared.place.Place.{Place}
 use Rattle.grove_wire.specs.Places.{part_word}
 

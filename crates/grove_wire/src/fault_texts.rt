@@ -44,7 +44,8 @@ fn tree_text(alloc: Global, fault: TreeFault) -> Result<String, NoMemory>
     }
 }
 
-/// The text of a plan's fault, as `step 2 relock`, `access 1 missing` or, with the node by its path, `node /a still-held`.
+/// The text of a plan's fault, as `step 2 relock`, `access 1 missing` or, with the node by its path, `node /a
+/// still-held`.
 pub fn plan_fault_text(alloc: Global, tree: &Tree, fault: &PlanFault) -> Result<String, NoMemory>
     requires { FaultFits tree.now fault.now }
     ensures { IfOk result (λ text. string_bytes text ≡ plan_text tree.now fault.now) }

@@ -17,9 +17,10 @@ use std::alloc::Global;
 /// No document has more jobs.
 pub const MOST_JOBS: usize = 256;
 
-/// The document's `jobs`, over the tree: more than 256 are `Limit`. Then they are read in order, each as an object, then its
-/// `list` as a list and last its `plan` as a plan, which may be any. Accesses tell lengths in version 2 alone; any other
-/// version than 1 or 2 is `Shape` of the whole, before all this.
+/// The document's `jobs`, over the tree: more than 256 are `Limit`. Then they are read in order, each as an object,
+/// then its
+/// `list` as a list and last its `plan` as a plan, which may be any. Accesses tell lengths in version 2 alone; any
+/// other version than 1 or 2 is `Shape` of the whole, before all this.
 #[tactic(auto, unfolding(crate::specs::Histories::jobs_in))]
 pub fn read_jobs(alloc: Global, tree: &Tree, document: &Value) -> Result<Vec<Job>, WireFault>
     ensures read { Gives (λ jobs. jobs.items) result (jobs_in tree.now (view document.now)) }

@@ -20,8 +20,8 @@ use std::alloc::Global;
 pub const MOST_LISTS: usize = 256;
 
 /// The accesses of the document's `list`, over the tree. More than 64 are `Limit`; then the accesses are read in order,
-/// each first for its `Shape`, then for its `NoPath` and last for its `BadLength`. Accesses tell lengths in version 2 alone.
-/// Any other version than 1 or 2 is `Shape` of the whole, before all this.
+/// each first for its `Shape`, then for its `NoPath` and last for its `BadLength`. Accesses tell lengths in version 2
+/// alone. Any other version than 1 or 2 is `Shape` of the whole, before all this.
 #[tactic(auto, unfolding(crate::specs::Reading::list_in))]
 pub fn read_list(alloc: Global, tree: &Tree, document: &Value) -> Result<AccessList, WireFault>
     ensures read { Gives (λ list. list) result (list_in tree.now (view document.now)) }
@@ -32,7 +32,8 @@ pub fn read_list(alloc: Global, tree: &Tree, document: &Value) -> Result<AccessL
     list_of(alloc, tree, version, Place::whole(Part::List), items)
 }
 
-/// The document's `lists`, over the tree: more than 256 are `Limit`, and then they are read in order, each as a `list` is.
+/// The document's `lists`, over the tree: more than 256 are `Limit`, and then they are read in order, each as a `list`
+/// is.
 #[tactic(auto, unfolding(crate::specs::Reading::lists_in))]
 pub fn read_lists(
     alloc: Global,

@@ -52,11 +52,11 @@ impl Part {
 #[derive(Clone, Copy, Debug, PartialEq, Eq)]
 pub struct Place {
     pub part: Part,
-    /// The row, access, step, list, job, event or record within the part, counted from 0; absent where the part as a whole
-    /// is at fault.
+    /// The row, access, step, list, job, event or record within the part, counted from 0; absent where the part as a
+    /// whole is at fault.
     pub at: Option<u32>,
-    /// The access within a list of `lists` or of a job, the step within the plan of a job, or the reply to a job; absent
-    /// elsewhere.
+    /// The access within a list of `lists` or of a job, the step within the plan of a job, or the reply to a job;
+    /// absent elsewhere.
     pub item: Option<u32>,
 }
 

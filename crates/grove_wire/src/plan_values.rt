@@ -44,7 +44,8 @@ fn step_value(alloc: Global, tree: &Tree, step: Step) -> Result<Value, NoMemory>
 fn lock_value(alloc: Global, tree: &Tree, node: Node) -> Result<Value, NoMemory>
     requires { node < length tree.now }
     ensures value { IfOk result (λ value. view value ≡ step_data tree.now (Step.Lock node)) }
-    ensures reads_back { IfOk result (λ value. (place : Place) → step_at tree.now place (view value) ≡ Ok (Step.Lock node)) }
+    ensures reads_back { IfOk result (λ value. (place : Place) → step_at tree.now place (view value)
+        ≡ Ok (Step.Lock node)) }
 {
     let path = tree.path_of(alloc, node)?;
     pair_value(alloc, "lock", Value::String(path))
@@ -54,7 +55,8 @@ fn lock_value(alloc: Global, tree: &Tree, node: Node) -> Result<Value, NoMemory>
 fn unlock_value(alloc: Global, tree: &Tree, node: Node) -> Result<Value, NoMemory>
     requires { node < length tree.now }
     ensures value { IfOk result (λ value. view value ≡ step_data tree.now (Step.Unlock node)) }
-    ensures reads_back { IfOk result (λ value. (place : Place) → step_at tree.now place (view value) ≡ Ok (Step.Unlock node)) }
+    ensures reads_back { IfOk result (λ value. (place : Place) → step_at tree.now place (view value)
+        ≡ Ok (Step.Unlock node)) }
 {
     let path = tree.path_of(alloc, node)?;
     pair_value(alloc, "unlock", Value::String(path))
@@ -63,7 +65,8 @@ fn unlock_value(alloc: Global, tree: &Tree, node: Node) -> Result<Value, NoMemor
 #[tactic(auto, using(crate::proofs::Shorts::short_is_read), unfolding(crate::specs::Reading::step_at, crate::specs::Reading::step_of, crate::specs::Forms::as_short))]
 fn access_value(alloc: Global, access: u32) -> Result<Value, NoMemory>
     ensures value { IfOk result (λ value. view value ≡ pair_data (codes "access") (count_data access)) }
-    ensures reads_back { IfOk result (λ value. (tree : Rows) (place : Place) → step_at tree place (view value) ≡ Ok (Step.Access access)) }
+    ensures reads_back { IfOk result (λ value. (tree : Rows) (place : Place) → step_at tree place (view value)
+        ≡ Ok (Step.Access access)) }
 {
     pair_value(alloc, "access", Value::from(access))
 }

@@ -46,8 +46,8 @@ pub fn cost_value(alloc: Global, cost: u64) -> Result<Value, NoMemory>
     Ok(json!(in alloc; {"cost": cost})?)
 }
 
-/// What the round of this number did for the lists of a batch: for each list its place in the round's serial order, and its
-/// replies.
+/// What the round of this number did for the lists of a batch: for each list its place in the round's serial order, and
+/// its replies.
 pub fn round_value(
     alloc: Global,
     round: u64,

@@ -21,7 +21,8 @@ use std::alloc::{AllocError, AllocFailed, Global};
 /// How deep arrays and objects may nest.
 const MOST_NESTED: usize = 127;
 
-/// The limits of a batch, a list, an access and a step, and one more: of an array beyond its limit it only matters that it is.
+/// The limits of a batch, a list, an access and a step, and one more: of an array beyond its limit it only matters that
+/// it is.
 const LISTS: usize = 257;
 
 const ACCESSES: usize = 65;
@@ -89,8 +90,8 @@ impl Form {
         }
     }
 
-    /// What a member is looked at as that comes after so many, if it is looked at. Of a line it counts that there is one,
-    /// and with two it is no request.
+    /// What a member is looked at as that comes after so many, if it is looked at. Of a line it counts that there is
+    /// one, and with two it is no request.
     fn member(self, name: &str, members: usize) -> Option<Form>
         ensures { result ≡ member_form self name.now members }
     {
@@ -246,7 +247,8 @@ fn sketch_items(
 ) -> Result<Vec<Value>, Unread>
     ensures ok { IfOk result (λ kept. ItemsSketched form depth reader.old (map view kept.items) reader.new) }
     ensures shorter { OnOk result (length reader.new < length reader.old) }
-    ensures err { result ≡ Err Unread.BadJson → converted of_items (items (value depth) (length reader.old) reader.old) ≡ None }
+    ensures err { result ≡ Err Unread.BadJson → converted of_items (items (value depth) (length reader.old) reader.old)
+        ≡ None }
 {
     let mut kept = Vec::new(alloc);
     'items: while !reader.take_end_array() {

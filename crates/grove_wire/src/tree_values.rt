@@ -39,7 +39,8 @@ pub fn document_text(alloc: Global, tree: &Tree, records: &Records) -> Result<St
     requires fits { length records.now ≡ length tree.now }
     ensures text { IfOk result (λ text. string_bytes text ≡ document_text tree.now records.now) }
     ensures opens { IfOk result (λ text. document_of (string_bytes text) ≡ Ok (document_data tree.now records.now)) }
-    ensures reads_back { IfOk result (λ text. tree_in (document_data tree.now records.now) ≡ Ok (tree.now, records.now)) }
+    ensures reads_back { IfOk result (λ text. tree_in (document_data tree.now records.now)
+        ≡ Ok (tree.now, records.now)) }
 {
     let document = document_value(alloc, tree, records)?;
     Ok(document.to_string(alloc)?)

@@ -15,7 +15,9 @@ use Rattle.grove_words.specs.declared.order.Order.{Order}
 use Rattle.grove_words.specs.declared.order.Order.TheVariants as order
 use Rattle.grove_words.specs.declared.order.Place.{Place}
 use Rattle.std.specs.declared.net.socket_addr.SocketAddr.{SocketAddr}
-use Rattle.grove_words.specs.CommandLines.{calls, grove_command, serves, text_given, texts_given, texts_in, Verb, Judge, Check, Plan, Draw, Run, Audit, Tree, Serve, Page, Ask, Save, AskFor, AskToShow, AreWrong, Chooses, GoTogether, IsFor, IsPlace, IsServer}
+use Rattle.grove_words.specs.CommandLines.{calls, grove_command, serves, text_given, texts_given, texts_in, Verb}
+use Rattle.grove_words.specs.CommandLines.{Judge, Check, Plan, Draw, Run, Audit, Tree, Serve, Page, Ask, Save, AskFor}
+use Rattle.grove_words.specs.CommandLines.{AskToShow, AreWrong, Chooses, GoTogether, IsFor, IsPlace, IsServer}
 use Rattle.grove_words.specs.Invocations.{name_in, verb_of, AskForOrder, IsAskedBy, SaysOrder}
 use Rattle.grove_words.specs.Orders.{verb_for, SaysCommand}
 use Rattle.grove_words.specs.Steps.{verb_named, HasName, IsFound, IsFoundIn, IsPlaceless, IsRefusedFor, IsToldWords}
@@ -241,7 +243,8 @@ told_placeless words (Some (word, rows)) error taken at (inr (inr (inl memory)))
 told_placeless words (Some (word, rows)) error taken at (inr (inr (inr (invalid, apart)))) = inr (
   invalid,
   taken,
-  wants_fit words word rows (sym at) (λ fits. apart (subst (GoTogether (verb_named word)) (texts_are words word rows (sym at)) fits)),
+  wants_fit words word rows (sym at)
+      (λ fits. apart (subst (GoTogether (verb_named word)) (texts_are words word rows (sym at)) fits)),
 )
 
 pub certain : (words : List Text) (verb : Verb) (name : Option Text) (error : Error) → AskFor words verb name

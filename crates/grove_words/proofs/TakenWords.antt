@@ -9,7 +9,9 @@ use Rattle.clap.specs.Kinds.{or_else, Kinds}
 use Rattle.clap.proofs.OnLiterals.{clap_on_literals}
 use Rattle.clap.proofs.WalkLemmas.{walk_stopped}
 use Rattle.clap.proofs.FaultLemmas.{fault_ends, stopped_fault}
-use Rattle.grove_words.specs.CommandLines.{calls, command_with, grove_command, reading, text_given, serves, shape_for, Verb, Judge, Check, Plan, Draw, Run, Audit, Tree, Serve, Page, Ask, Save, AskFor, GoTogether, IsFor}
+use Rattle.grove_words.specs.CommandLines.{calls, command_with, grove_command, reading, text_given, serves, shape_for}
+use Rattle.grove_words.specs.CommandLines.{Verb, Judge, Check, Plan, Draw, Run, Audit, Tree, Serve, Page, Ask, Save}
+use Rattle.grove_words.specs.CommandLines.{AskFor, GoTogether, IsFor}
 use Rattle.grove_words.specs.PlainWords.{AreDocument, CommandsAreOrders, IsPlain, NoCommandJudges}
 use Rattle.grove_words.proofs.Words.{hyphens, top_rules, leaf_rules, HasNoFlag, no_flag, differs, met_plain}
 use Rattle.grove_words.proofs.Documents.{leaf, leaf_fault, leaf_reads, walked_plain, hyphens_after}
@@ -154,7 +156,8 @@ no_server Serve alone calling = cc
 no_server Page alone calling = cc
 
 -- and no options that could be apart
-together_alone : (verb : Verb) (words : List Text) → (shape_for verb).rules ≡ reading → GoTogether verb (text_given words)
+together_alone : (verb : Verb) (words : List Text) → (shape_for verb).rules ≡ reading
+    → GoTogether verb (text_given words)
 together_alone Tree words alone = absurd (cc)
 together_alone Serve words alone = absurd (cc)
 together_alone Page words alone = absurd (cc)

@@ -1,5 +1,6 @@
 -- The first of the texts under a name, and the form that a word is of a log.
-use Rattle.std.proofs.Common.{◌≡◌, ◌≢◌, ◌∙◌, ap, refl, List, [], ◌∷◌, Option, Some, None, IfSome, Bor, codes, map, slice_get, slice_index, ℕ, arith}
+use Rattle.std.proofs.Common.{◌≡◌, ◌≢◌, ◌∙◌, ap, refl, List, [], ◌∷◌, Option, Some, None, IfSome, Bor, codes, map}
+use Rattle.std.proofs.Common.{slice_get, slice_index, ℕ, arith}
 use Rattle.std.specs.Prelude.{unwrap_or}
 use Rattle.grove_words.specs.CommandLines.{log_word}
 use Rattle.grove_words.specs.Steps.{NamesLog}
@@ -15,10 +16,12 @@ first_named (name ∷ names) file other found is at = ap (λ text. text.now) (is
 
 -- two words whose first bytes differ
 json_is_not_text : codes "json" ≡ codes "text" → ⊥
-json_is_not_text same = let first : 106 ≡ 116 = ap (λ (word : List ℕ). slice_index word 0) same in absurd (omega (arith, first))
+json_is_not_text same = let first : 106 ≡ 116 = ap (λ (word : List ℕ). slice_index word 0) same
+    in absurd (omega (arith, first))
 
 -- a word that is read as no form, or as another, isn't `json`
-pub not_json : (E : Type 0) (form : Option LogForm) → ReadsOne {E = E} NamesLog (codes "json") form → form ≢ Some log.Json → ⊥
+pub not_json : (E : Type 0) (form : Option LogForm) → ReadsOne {E = E} NamesLog (codes "json") form
+    → form ≢ Some log.Json → ⊥
 not_json E (Some log.Json) reads other = other refl
 not_json E (Some log.Text) reads other = json_is_not_text reads
 not_json E None reads other = reads.1 log.Json refl

@@ -1,11 +1,13 @@
 -- The words of a command line: which order they are, and how clap is to read them.
-use Rattle.std.specs.Prelude.{◌≡◌, ◌≢◌, ◌≤◌, ℕ, pos, codes, Bool, true, false, ◌||◌, List, [], ◌∷◌, ◌++◌, map, Option, None, Some, option_and_then, unwrap_or, is_some, IfSome, IsSomeAnd, ◌⊎◌}
+use Rattle.std.specs.Prelude.{◌≡◌, ◌≢◌, ◌≤◌, ℕ, pos, codes, Bool, true, false, ◌||◌, List, [], ◌∷◌, ◌++◌, map, Option}
+use Rattle.std.specs.Prelude.{None, Some, option_and_then, unwrap_or, is_some, IfSome, IsSomeAnd, ◌⊎◌}
 use Rattle.std.specs.Str.Parse.{IsNumeral, digits_value, without_leading_plus}
 use Rattle.std.specs.Net.Grammar.{IsIpText}
 use Rattle.std.specs.Net.Socket.{socket_ip, socket_port}
 use Rattle.std.specs.declared.net.ip_addr.IpAddr.{IpAddr}
 use Rattle.std.specs.declared.net.socket_addr.SocketAddr.{SocketAddr}
-use Rattle.clap.specs.Words.{App, IsAmong, Row, Rule, Shape, all_of, fault_of, first_of, new_app, new_rule, one_of, subcommand_of}
+use Rattle.clap.specs.Words.{App, IsAmong, Row, Rule, Shape, all_of, fault_of, first_of, new_app, new_rule, one_of}
+use Rattle.clap.specs.Words.{subcommand_of}
 use Rattle.clap.specs.declared.builder.action.ArgAction.TheVariants.{Append, SetTrue}
 use Rattle.clap.specs.declared.builder.value_parser.ValueParser.TheVariants.{Signed}
 use Rattle.clap.specs.declared.error.kind.ErrorKind.TheVariants.{DisplayHelp, DisplayVersion}
@@ -223,7 +225,8 @@ abbrev pub AreWorkers : Option (List ℕ) → ℕ → Type 0
 AreWorkers None workers = workers ≡ 4
 AreWorkers (Some text) workers = (number : ℕ) → Writes text number → 1 ≤ number → number ≤ 16 → workers ≡ number
 
--- so many connections at once are asked for by a text: the number from 1 to 1024 that it writes, and 64 if there is none
+-- so many connections at once are asked for by a text: the number from 1 to 1024 that it writes, and 64 if there is
+-- none
 abbrev pub AreSeats : Option (List ℕ) → ℕ → Type 0
 AreSeats None seats = seats ≡ 64
 AreSeats (Some text) seats = (number : ℕ) → Writes text number → 1 ≤ number → number ≤ 1024 → seats ≡ number

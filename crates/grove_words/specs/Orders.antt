@@ -6,7 +6,8 @@ use Rattle.grove_words.specs.declared.order.Form.TheVariants.{Svg, Text}
 use Rattle.grove_words.specs.declared.order.LogForm.{LogForm}
 use Rattle.grove_words.specs.declared.order.LogForm.TheVariants as log
 use Rattle.grove_words.specs.declared.order.Serving.{Serving}
-use Rattle.grove_words.specs.CommandLines.{Verb, Judge, Check, Plan, Draw, Run, Audit, Tree, Serve, Page, AreSeats, AreWorkers, Chooses, IsIdle, IsPlace, IsSet}
+use Rattle.grove_words.specs.CommandLines.{Verb, Judge, Check, Plan, Draw, Run, Audit, Tree, Serve, Page, AreSeats}
+use Rattle.grove_words.specs.CommandLines.{AreWorkers, Chooses, IsIdle, IsPlace, IsSet}
 
 -- the verb of a command
 abbrev pub verb_for : Command → Verb

@@ -1,5 +1,6 @@
 -- For the proofs alone: the words of a command and its document, with no option, are an order.
-use Rattle.std.specs.Prelude.{◌≡◌, ◌≢◌, ℕ, codes, Bool, false, ◌||◌, List, [], ◌∷◌, Option, None, Some, is_some, option_and_then, slice_get, ◌⊎◌}
+use Rattle.std.specs.Prelude.{◌≡◌, ◌≢◌, ℕ, codes, Bool, false, ◌||◌, List, [], ◌∷◌, Option, None, Some, is_some}
+use Rattle.std.specs.Prelude.{option_and_then, slice_get, ◌⊎◌}
 use Rattle.std.specs.Str.{chars}
 use Rattle.clap.specs.Lexer.{long_of, short_of}
 use Rattle.grove_words.specs.CommandLines.{reading, shape_for, Verb, Judge, AskFor}

@@ -1,5 +1,6 @@
 -- For the proofs alone: what the steps of building and of reading a command line give.
-use Rattle.std.specs.Prelude.{◌≡◌, ◌≢◌, ◌⊎◌, Result, Ok, Err, ℕ, List, [], Option, None, Some, codes, true, false, if◌then◌else◌}
+use Rattle.std.specs.Prelude.{◌≡◌, ◌≢◌, ◌⊎◌, Result, Ok, Err, ℕ, List, [], Option, None, Some, codes, true, false}
+use Rattle.std.specs.Prelude.{if◌then◌else◌}
 use Rattle.std.specs.Str.{bytes_eq}
 use Rattle.clap.specs.Words.{App, HasKind, Row, Rule, Shape, fault_of, first_of, new_app, one_of, rule_of, shape_of}
 use Rattle.clap.specs.Values.{kind_of}
@@ -13,7 +14,9 @@ use Rattle.grove_words.specs.declared.order.Invocation.{Invocation}
 use Rattle.grove_words.specs.declared.order.LogForm.{LogForm}
 use Rattle.grove_words.specs.declared.order.Order.{Order}
 use Rattle.grove_words.specs.declared.order.Order.TheVariants as order
-use Rattle.grove_words.specs.CommandLines.{calls, grove_command, log_word, serves, texts_in, Verb, Judge, Check, Plan, Draw, Run, Audit, Tree, Serve, Page, Ask, Save, AskFor, Chooses, GoTogether, IsPlace, IsServer}
+use Rattle.grove_words.specs.CommandLines.{calls, grove_command, log_word, serves, texts_in, Verb, Judge, Check, Plan}
+use Rattle.grove_words.specs.CommandLines.{Draw, Run, Audit, Tree, Serve, Page, Ask, Save, AskFor, Chooses}
+use Rattle.grove_words.specs.CommandLines.{GoTogether, IsPlace, IsServer}
 use Rattle.grove_words.specs.Invocations.{name_in, verb_of, SaysOrder}
 
 -- an argument has this rule, and is its command's alone

@@ -1,10 +1,12 @@
 ghost use Rattle.std.specs.Prelude.{◌≡◌, ℕ, List, Option, codes, map, IfOk, IfErr, IsErrAnd, OnOk, string_bytes};
 ghost use Rattle.clap.specs.Words.{rows_of, first_value, found_of, one_text, subcommand_rows_of};
-ghost use Rattle.grove_words.specs.CommandLines.{texts_in, Verb, Tree, AreWrong, AskFor, AskToShow, GoTogether, IsPlace};
+ghost use Rattle.grove_words.specs.CommandLines.{texts_in, Verb, Tree, AreWrong, AskFor, AskToShow, GoTogether};
+ghost use Rattle.grove_words.specs.CommandLines.{IsPlace};
 ghost use Rattle.grove_words.specs.Invocations.{name_in, verb_of, IsAskedBy, SaysOrder};
 ghost use Rattle.grove_words.specs.NoOrders.{HasText, TellsShown, TellsWrong};
 ghost use Rattle.grove_words.specs.Orders.{verb_for, SaysCommand, SaysServing};
-ghost use Rattle.grove_words.specs.Steps.{verb_named, HasName, IsFound, IsPlaceless, IsRefusedFor, IsToldWords, IsUnplaced};
+ghost use Rattle.grove_words.specs.Steps.{verb_named, HasName, IsFound, IsPlaceless, IsRefusedFor, IsToldWords};
+ghost use Rattle.grove_words.specs.Steps.{IsUnplaced};
 
 use crate::definitions::command_line;
 use crate::no_order::{NoOrder, no_order};

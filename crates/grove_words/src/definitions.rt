@@ -2,7 +2,9 @@ ghost use Rattle.std.specs.Prelude.{◌≡◌, codes, true, Some, IfOk};
 ghost use Rattle.clap.specs.Words.{App, Shape, app_of, with_subcommand};
 ghost use Rattle.clap.specs.declared.builder.action.ArgAction.TheVariants.{Append};
 ghost use Rattle.grove_words.specs.CommandLines.{Plan, Draw, Run, Tree, Serve, Ask, Save};
-ghost use Rattle.grove_words.specs.CommandLines.{address_option, calling, command_with, flag, grove_command, numbered, port_option, reading, serving, shape_for, valued, workers_option};
+ghost use Rattle.grove_words.specs.CommandLines.{address_option, calling, command_with, flag, grove_command};
+ghost use Rattle.grove_words.specs.CommandLines.{numbered, port_option, reading, serving, shape_for, valued};
+ghost use Rattle.grove_words.specs.CommandLines.{workers_option};
 ghost use Rattle.grove_words.specs.Steps.{no_command, HasRule, HasShape};
 
 use clap::{Arg, ArgAction, value_parser};
@@ -37,7 +39,8 @@ fn add<'a>(
     program: Result<clap::Command<'a>, AllocError>,
     command: Result<clap::Command<'a>, AllocError>,
 ) -> Result<clap::Command<'a>, AllocError>
-    ensures { (app : App) (shape : Shape) → IfOk program.entry (λ program. app_of program ≡ app) → IfOk command.entry (HasShape shape)
+    ensures { (app : App) (shape : Shape) → IfOk program.entry (λ program. app_of program ≡ app)
+        → IfOk command.entry (HasShape shape)
         → IfOk result (λ added. app_of added ≡ with_subcommand app shape) }
 {
     program?.subcommand(command?)

@@ -39,8 +39,10 @@ pub fn wrong(alloc: Global, message: &str) -> Result<Error, AllocError>
 /// What clap says to words that are no order: the help that they ask for, or what is wrong with them, and then the tip.
 pub fn no_order(alloc: Global, error: &Error, tip: &str) -> NoOrder
     ensures memory { kind_of error.now ≡ ErrorKind.OutOfMemory → result ≡ NoOrder.Memory }
-    ensures wrong { kind_of error.now ≢ ErrorKind.DisplayHelp → kind_of error.now ≢ ErrorKind.DisplayVersion → TellsWrong result }
-    ensures shown { (kind_of error.now ≡ ErrorKind.DisplayHelp) ⊎ (kind_of error.now ≡ ErrorKind.DisplayVersion) → TellsShown result }
+    ensures wrong { kind_of error.now ≢ ErrorKind.DisplayHelp → kind_of error.now ≢ ErrorKind.DisplayVersion
+        → TellsWrong result }
+    ensures shown { (kind_of error.now ≡ ErrorKind.DisplayHelp) ⊎ (kind_of error.now ≡ ErrorKind.DisplayVersion)
+        → TellsShown result }
     ensures text { HasText result }
 {
     if error.kind() == ErrorKind::OutOfMemory {

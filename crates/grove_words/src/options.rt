@@ -26,7 +26,8 @@ pub fn texts_of<'a>(
     given: &ArgMatches<'a>,
     name: &str,
 ) -> Result<Vec<&'a str>, AllocError>
-    ensures { IfOk result (λ texts. map (λ text. text.now) texts.items ≡ texts_in (rows_of (found_of given.now)) name.now) }
+    ensures { IfOk result (λ texts. map (λ text. text.now) texts.items
+        ≡ texts_in (rows_of (found_of given.now)) name.now) }
 {
     match given.get_strs(name) {
         Some(texts) => copied(alloc, texts),
@@ -44,7 +45,8 @@ fn copied<'a>(alloc: Global, texts: &[&'a str]) -> Result<Vec<&'a str>, AllocErr
 
 /// The name of a command's file. Clap lets no words through that lack it.
 pub fn file_in<'a>(given: &ArgMatches<'a>) -> &'a str
-    ensures { IfSome (slice_get (texts_in (rows_of (found_of given.now)) (codes "FILE")) 0) (λ name. result.now ≡ name) }
+    ensures { IfSome (slice_get (texts_in (rows_of (found_of given.now)) (codes "FILE")) 0)
+        (λ name. result.now ≡ name) }
 {
     match given.get_strs("FILE") {
         Some(names) => names.first().copied().unwrap_or(""),

@@ -46,7 +46,8 @@ fn address_in(alloc: Global, given: &ArgMatches<'_>) -> Result<IpAddr, Error>
     }
 }
 
-/// The port to listen on. No clause of clap's speaks of options that stand in each other's place, so this is found here.
+/// The port to listen on. No clause of clap's speaks of options that stand in each other's place, so this is found
+/// here.
 fn port_in(alloc: Global, given: &ArgMatches<'_>) -> Result<Port, Error>
     ensures given { IfOk result (IsPort (one_text (found_of given.now))) }
     ensures refused { IfErr result (IsRefusedFor (IsPort (one_text (found_of given.now)))) }

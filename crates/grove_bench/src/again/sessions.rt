@@ -12,8 +12,8 @@ use std::marker::Brand;
 use std::sync::Wait;
 use std::thread::Threads;
 
-/// Ten lines in a session, whose replies go to standard output; where it ends for want of memory, once more with a fresh
-/// store.
+/// Ten lines in a session, whose replies go to standard output; where it ends for want of memory, once more with a
+/// fresh store.
 pub fn talk_to_store<R: AllocGlobal + Print + Threads + Wait + Sync>(rt: &R) -> Result<()> {
     let lines = match talk_to_fresh(rt)? {
         Err(SessionFault::Memory) => {

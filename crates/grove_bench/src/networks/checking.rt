@@ -1,5 +1,6 @@
 ghost use Rattle.std.specs.Prelude.{◌≡◌, ℕ, ◌+◌, ◌*◌, ◌<◌, length, pos, negsuc, true};
-ghost use Rattle.grove_flow.specs.Networks.{AreArcsOf, HasOwnArcs, IsArcOf, IsMet, IsModest, IsNetwork, IsStart, arc_at, place};
+ghost use Rattle.grove_flow.specs.Networks.{AreArcsOf, HasOwnArcs, IsArcOf, IsMet, IsModest, IsNetwork, IsStart};
+ghost use Rattle.grove_flow.specs.Networks.{arc_at, place};
 
 use grove_flow::Arc;
 
@@ -21,7 +22,8 @@ pub fn is_network(needs: &[i64], arcs: &[Arc]) -> bool
 // Each row's lock gives away its weight, and its release takes it in.
 fn have_weights(needs: &[i64], rows: usize) -> bool
     requires { length needs.now ≡ 2 * rows + 1 }
-    ensures { result ≡ true → (k : ℕ) → k < rows → (w : ℕ) × (w < 1000) × (place needs.now (2 * k) ≡ negsuc w) × (place needs.now (2 * k + 1) ≡ pos (w + 1)) }
+    ensures { result ≡ true → (k : ℕ) → k < rows → (w : ℕ) × (w < 1000) × (place needs.now (2 * k) ≡ negsuc w)
+        × (place needs.now (2 * k + 1) ≡ pos (w + 1)) }
 {
     for k in 0..rows {
         if !are_of_weight(needs[2 * k], needs[2 * k + 1]) {
@@ -73,7 +75,8 @@ fn have_own_arcs(arcs: &[Arc], rows: usize) -> bool
 }
 
 fn has_arc(arcs: &[Arc], from: usize, to: usize) -> bool
-    ensures { result ≡ true → (i : ℕ) × (i < length arcs.now) × ((arc_at arcs.now i).from ≡ from) × ((arc_at arcs.now i).to ≡ to) }
+    ensures { result ≡ true → (i : ℕ) × (i < length arcs.now) × ((arc_at arcs.now i).from ≡ from)
+        × ((arc_at arcs.now i).to ≡ to) }
 {
     for arc in arcs {
         if arc.from as usize == from && arc.to as usize == to {

@@ -20,9 +20,10 @@ use std::alloc::Global;
 use std::thread::Threads;
 
 impl KeptPlans {
-    /// The settled plan of each list, in the lists' order. Up to `workers` threads plan those for which nothing is kept, and
-    /// lists with the same targets are planned once. The gate is called with k, and 0, just before the k-th of these is
-    /// planned, counted from 0 in the order in which they first occur. The only refusal is for want of memory.
+    /// The settled plan of each list, in the lists' order. Up to `workers` threads plan those for which nothing is
+    /// kept, and lists with the same targets are planned once. The gate is called with k, and 0, just before the k-th
+    /// of these is planned, counted from 0 in the order in which they first occur. The only refusal is for want of
+    /// memory.
     pub fn plan_all<R: Threads + Sync, G: Gate + Sync>(
         &mut self,
         rt: &R,
@@ -35,7 +36,9 @@ impl KeptPlans {
         requires few { length lists.now ≤ 256 }
         requires fit { All (λ list. AreNodes tree.now (nodes_of list)) lists.now }
         requires settled { AreSettledFor tree.now self.old }
-        ensures plans { IfOk result (λ plans. AllZip (λ list plan. IsSettled tree.now (nodes_of list) (lengths_of list) plan) lists.now plans.items) }
+        ensures plans { IfOk result
+            (λ plans. AllZip (λ list plan. IsSettled tree.now (nodes_of list) (lengths_of list) plan) lists.now
+            plans.items) }
         ensures settled { AreSettledFor tree.now self.new }
     {
         let missing = self.missing_with_room(alloc, lists)?;
@@ -101,7 +104,8 @@ impl KeptPlans {
         mut planned: Vec<Planned>,
     ) -> Result<(), NoMemory>
         requires { length planned.items ≤ length parts.now }
-        ensures { (rows : Rows) → AllZip (λ part planned. IsPlanned rows part.now planned) parts.now planned.items → AreSettledFor rows self.old → AreSettledFor rows self.new }
+        ensures { (rows : Rows) → AllZip (λ part planned. IsPlanned rows part.now planned) parts.now planned.items
+            → AreSettledFor rows self.old → AreSettledFor rows self.new }
     {
         while let Some(last) = planned.pop() {
             let targets = targets_of(alloc, parts[planned.len()])?;
@@ -119,7 +123,9 @@ impl KeptPlans {
     ) -> Result<Vec<Plan>, NoMemory>
         requires fit { All (λ list. AreNodes tree.now (nodes_of list)) lists.now }
         requires settled { AreSettledFor tree.now self.old }
-        ensures plans { IfOk result (λ plans. AllZip (λ list plan. IsSettled tree.now (nodes_of list) (lengths_of list) plan) lists.now plans.items) }
+        ensures plans { IfOk result
+            (λ plans. AllZip (λ list plan. IsSettled tree.now (nodes_of list) (lengths_of list) plan) lists.now
+            plans.items) }
         ensures settled { AreSettledFor tree.now self.new }
     {
         let mut plans = Vec::with_capacity(alloc, lists.len())?;

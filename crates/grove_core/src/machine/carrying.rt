@@ -16,14 +16,17 @@ use grove_plan::Step;
 use grove_tree::Node;
 
 impl<'a> Core<'a> {
-    /// Does the accesses that the carry's job did on the records that it has out, with the replies that it had, where the
-    /// carry is of this core as it is now.
+    /// Does the accesses that the carry's job did on the records that it has out, with the replies that it had, where
+    /// the carry is of this core as it is now.
     pub fn take_carried(&mut self, carry: &Carry) -> bool
         ensures taken { result ≡ true → IsOf self.old carry.now }
         ensures refused { result ≡ false → IsOf self.old carry.now → ⊥ }
         ensures added { result ≡ true → self.new ≡ after_steps self.old carry.now.txn (length carry.now.entries) }
-        ensures records { result ≡ true → (node : ℕ) (value : ℤ) → present_at carry.now node ≡ Some value → slice_get (records_of self.new) node ≡ Some value }
-        ensures replies { result ≡ true → run_replies self.old.jobs self.old.opening (past_of self.new) carry.now.txn ≡ run_replies self.old.jobs self.old.opening (past_of self.old) carry.now.txn ++ replies_in carry.now.entries }
+        ensures records { result ≡ true → (node : ℕ) (value : ℤ) → present_at carry.now node ≡ Some value
+            → slice_get (records_of self.new) node ≡ Some value }
+        ensures replies { result ≡ true → run_replies self.old.jobs self.old.opening (past_of self.new) carry.now.txn
+            ≡ run_replies self.old.jobs self.old.opening (past_of self.old) carry.now.txn
+            ++ replies_in carry.now.entries }
         ensures unchanged { result ≡ false → self.new ≡ self.old }
     {
         if !self.is_of(carry) {
@@ -55,9 +58,14 @@ impl<'a> Core<'a> {
     pub fn add_entries(&mut self, carry: &Carry)
         requires { IsOf self.old carry.now }
         ensures added { self.new ≡ after_steps self.old carry.now.txn (length carry.now.entries) }
-        ensures records { (node : ℕ) (value : ℤ) → present_at carry.now node ≡ Some value → slice_get (records_of self.new) node ≡ Some value }
-        ensures replies { run_replies self.old.jobs self.old.opening (past_of self.new) carry.now.txn ≡ run_replies self.old.jobs self.old.opening (past_of self.old) carry.now.txn ++ replies_in carry.now.entries }
-        ensures next { next_step self.old.jobs (past_of self.new) carry.now.txn ≡ slice_get (plan_of self.old.jobs carry.now.txn) (steps_done (past_of self.old) carry.now.txn + length carry.now.entries) }
+        ensures records { (node : ℕ) (value : ℤ) → present_at carry.now node ≡ Some value
+            → slice_get (records_of self.new) node ≡ Some value }
+        ensures replies { run_replies self.old.jobs self.old.opening (past_of self.new) carry.now.txn
+            ≡ run_replies self.old.jobs self.old.opening (past_of self.old) carry.now.txn
+            ++ replies_in carry.now.entries }
+        ensures next { next_step self.old.jobs (past_of self.new) carry.now.txn
+            ≡ slice_get (plan_of self.old.jobs carry.now.txn)
+            (steps_done (past_of self.old) carry.now.txn + length carry.now.entries) }
         ensures settled { IsOf self.new (carry_settled carry.now) }
     {
         let txn = carry.txn();
@@ -143,8 +151,10 @@ impl<'a> Core<'a> {
     // How many nodes the job holds.
     fn held_nodes(&self, txn: u32) -> usize
         requires { txn < length self.now.jobs }
-        ensures number { result ≡ count_below (length self.now.tree) (λ node. holds self.now.jobs (past_of self.now) txn node) }
-        ensures within { (node : ℕ) → holds self.now.jobs (past_of self.now) txn node ≡ true → node < length self.now.tree }
+        ensures number { result
+            ≡ count_below (length self.now.tree) (λ node. holds self.now.jobs (past_of self.now) txn node) }
+        ensures within { (node : ℕ) → holds self.now.jobs (past_of self.now) txn node ≡ true
+            → node < length self.now.tree }
     {
         self.progress[txn as usize].held_nodes
     }
@@ -152,8 +162,12 @@ impl<'a> Core<'a> {
     fn continues(&self, txn: u32, entries: &[Entry]) -> bool
         requires job { txn < length self.now.jobs }
         requires few { length entries.now ≤ 64 }
-        ensures yes { result ≡ true → Follows (list_of self.now.jobs txn) (plan_of self.now.jobs txn) (steps_done (past_of self.now) txn) entries.now }
-        ensures no { result ≡ false → Follows (list_of self.now.jobs txn) (plan_of self.now.jobs txn) (steps_done (past_of self.now) txn) entries.now → ⊥ }
+        ensures yes { result ≡ true
+            → Follows (list_of self.now.jobs txn) (plan_of self.now.jobs txn) (steps_done (past_of self.now) txn)
+            entries.now }
+        ensures no { result ≡ false
+            → Follows (list_of self.now.jobs txn) (plan_of self.now.jobs txn) (steps_done (past_of self.now) txn)
+            entries.now → ⊥ }
     {
         let job = &self.jobs()[txn as usize];
         follows(job, self.steps_done(txn), entries)

@@ -30,7 +30,8 @@ impl<'a> Core<'a> {
         requires records { length records.now ≡ length tree.now }
         requires few { length jobs.now ≤ 256 }
         requires short { length events.now < 2 ^ 32 }
-        ensures replayed { IfOk result (λ core. core ≡ record { tree = tree.now; jobs = jobs.now; opening = records.now; history = events.now }) }
+        ensures replayed { IfOk result
+            (λ core. core ≡ record { tree = tree.now; jobs = jobs.now; opening = records.now; history = events.now }) }
         ensures finished { OnOk result (IsFinished jobs.now (reverse events.now)) }
         ensures fault { IfErr result (IsReplayFault tree.now jobs.now events.now) }
     {

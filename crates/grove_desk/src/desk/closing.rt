@@ -16,11 +16,12 @@ pub struct Closed {
 }
 
 impl<B: Opening> Desk<B> {
-    /// Closes the desk. Where a journal was kept, it is refused, with the store, unless the receipts stand in the journal: their
-    /// numbers rise, and each is the journal's of its number. `None` is answered where the store isn't there, which never
-    /// comes: a call that takes it out puts it back. It takes no memory.
+    /// Closes the desk. Where a journal was kept, it is refused, with the store, unless the receipts stand in the
+    /// journal: their numbers rise, and each is the journal's of its number. `None` is answered where the store isn't
+    /// there, which never comes: a call that takes it out puts it back. It takes no memory.
     pub fn close(self, alloc: Global, receipts: &[Receipt]) -> Result<Closed, Option<Store>>
-        ensures kept { IfOk result (λ closed. self.kept ≡ true → IsHistory self.opening receipts.now closed.journal.items closed.store) }
+        ensures kept { IfOk result (λ closed. self.kept ≡ true
+            → IsHistory self.opening receipts.now closed.journal.items closed.store) }
         ensures plain { IfOk result (λ closed. self.kept ≡ false → closed.journal.items ≡ []) }
         ensures led { IfOk result (λ closed. Led self.opening closed.store) }
         ensures back { IfErr result (λ back. IfSome back (Led self.opening)) }
@@ -43,7 +44,8 @@ impl<B: Opening> Desk<B> {
 
 /// The store and its journal, where the receipts stand in it, each once.
 fn settled(store: Store, journal: Journal, receipts: &[Receipt]) -> Result<Closed, Option<Store>>
-    ensures history { (opening : StoreState) → IsJournal opening journal store → IfOk result (λ closed. IsHistory opening receipts.now closed.journal.items closed.store) }
+    ensures history { (opening : StoreState) → IsJournal opening journal store
+        → IfOk result (λ closed. IsHistory opening receipts.now closed.journal.items closed.store) }
     ensures store { IfOk result (λ closed. closed.store ≡ store) }
     ensures back { IfErr result (λ back. back ≡ Some store) }
     ensures refused { (opening : StoreState) → OnErr result (IsHistory opening receipts.now journal.rounds store → ⊥) }

@@ -13,14 +13,21 @@ use grove_core::{Core, Event};
 use grove_plan::Step;
 
 impl<'a> Book<'a> {
-    /// Does what `carry_step` does, for the only holder of a carry since before its job's first step: the replies of the
-    /// carry's entries are compared with the core's, and what it has out isn't. After `Foreign` some of it may be done.
+    /// Does what `carry_step` does, for the only holder of a carry since before its job's first step: the replies of
+    /// the carry's entries are compared with the core's, and what it has out isn't. After `Foreign` some of it may be
+    /// done.
     pub(crate) fn carry_on(&mut self, carry: &mut Carry) -> CarryStep
         ensures claims { self.new.claimed ≡ self.old.claimed }
         ensures same { IsSameBatch self.old.core self.new.core }
-        ensures ended { result ≡ CarryStep.Ended → (step_after self.old.core carry.old ≡ None) × (self.new.core ≡ core_taken self.old.core carry.old) × (carry.new ≡ carry_settled carry.old) }
-        ensures stepped { result ≡ CarryStep.Stepped → (step : PlanStep) × (step_after self.old.core carry.old ≡ Some step) × (self.new.core ≡ after_event (core_taken self.old.core carry.old) (Take carry.old.txn)) × Moved (core_taken self.old.core carry.old) (carry_settled carry.old) step carry.new }
-        ensures blocked { result ≡ CarryStep.Blocked → IsBlockedAt (core_taken self.old.core carry.old) carry.old.txn × (self.new.core ≡ marked (core_taken self.old.core carry.old) carry.old.txn) × (carry.new ≡ carry_settled carry.old) }
+        ensures ended { result ≡ CarryStep.Ended → (step_after self.old.core carry.old ≡ None)
+            × (self.new.core ≡ core_taken self.old.core carry.old) × (carry.new ≡ carry_settled carry.old) }
+        ensures stepped { result ≡ CarryStep.Stepped → (step : PlanStep)
+            × (step_after self.old.core carry.old ≡ Some step)
+            × (self.new.core ≡ after_event (core_taken self.old.core carry.old) (Take carry.old.txn))
+            × Moved (core_taken self.old.core carry.old) (carry_settled carry.old) step carry.new }
+        ensures blocked { result ≡ CarryStep.Blocked → IsBlockedAt (core_taken self.old.core carry.old) carry.old.txn
+            × (self.new.core ≡ marked (core_taken self.old.core carry.old) carry.old.txn)
+            × (carry.new ≡ carry_settled carry.old) }
     {
         if !take_entries(&mut self.core, carry) {
             return CarryStep::Foreign;
@@ -37,7 +44,8 @@ impl<'a> Book<'a> {
 fn take_entries(core: &mut Core, carry: &Carry) -> bool
     ensures job { result ≡ true → carry.now.txn < length core.old.jobs }
     ensures taken { result ≡ true → core.new ≡ core_taken core.old carry.now }
-    ensures next { result ≡ true → next_step core.old.jobs (past_of core.new) carry.now.txn ≡ step_after core.old carry.now }
+    ensures next { result ≡ true → next_step core.old.jobs (past_of core.new) carry.now.txn
+        ≡ step_after core.old carry.now }
     ensures same { IsSameBatch core.old core.new }
 {
     let txn = carry.txn();

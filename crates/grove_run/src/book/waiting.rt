@@ -3,8 +3,8 @@ use grove_plan::Step;
 use grove_tree::Node;
 
 impl<'a> Book<'a> {
-    /// Of the locks that a job does from this place of its plan on before any other step, the last one whose node another
-    /// job holds. It gives none of its nodes back before it has that one.
+    /// Of the locks that a job does from this place of its plan on before any other step, the last one whose node
+    /// another job holds. It gives none of its nodes back before it has that one.
     pub(crate) fn last_in_way(&self, txn: u32, place: usize) -> Option<Node> {
         let job = self.core.jobs().get(txn as usize)?;
         let mut last = None;

@@ -1,5 +1,6 @@
 //! Replies on their way to a sink: held back, to go out together, or sent at once.
-ghost use Rattle.std.specs.Prelude.{◌≡◌, ℕ, ◌+◌, ◌^◌, ◌<◌, ◌≤◌, ◌||◌, ◌++◌, true, [], List, length, take, IsTrue, IsFalse, OnOk, OnErr, IfErr, is_err};
+ghost use Rattle.std.specs.Prelude.{◌≡◌, ℕ, ◌+◌, ◌^◌, ◌<◌, ◌≤◌, ◌||◌, ◌++◌, true, [], List, length, take, IsTrue};
+ghost use Rattle.std.specs.Prelude.{IsFalse, OnOk, OnErr, IfErr, is_err};
 ghost use Rattle.std.specs.Io.KnownBytes.{Appends};
 ghost use Rattle.grove_session.specs.Sessions.{is_write};
 
@@ -10,7 +11,9 @@ use crate::{SessionFault, Sink};
 impl Intake {
     ghost use Rattle.grove_session.specs.Intakes.{IsApart, Passes, Sends};
 
-    /// Holds a reply with its line feed, or sends it behind those that are held, and begins the next line. The line feed stands in `end` where there was no room for it behind the reply: its line has had its effect by then, so this is no fault.
+    /// Holds a reply with its line feed, or sends it behind those that are held, and begins the next line. The line
+    /// feed stands in `end` where there was no room for it behind the reply: its line has had its effect by then, so
+    /// this is no fault.
     pub(super) fn send<O: Sink>(
         &mut self,
         sink: &mut O,
@@ -19,7 +22,8 @@ impl Intake {
     ) -> Result<(), SessionFault>
         requires room { self.old.answered + 1 < 2 ^ 63 }
         requires some { 0 < length (front.now ++ end.now) }
-        ensures sent { (more : List ℕ) × Passes (O.contents sink.old) (O.contents sink.new) self.old more self.new × Sends self.old (front.now ++ end.now) result more self.new }
+        ensures sent { (more : List ℕ) × Passes (O.contents sink.old) (O.contents sink.new) self.old more self.new
+            × Sends self.old (front.now ++ end.now) result more self.new }
         ensures failed { O.has_failed sink.new ≡ (O.has_failed sink.old || is_write result) }
         ensures apart { IsApart result self.new }
         ensures most_held { self.new.most_held ≡ self.old.most_held }
@@ -49,7 +53,8 @@ impl Intake {
         ensures err { OnErr result ((is_write result ≡ true) × (0 < length self.new.held.items)) }
         ensures failed { O.has_failed sink.new ≡ (O.has_failed sink.old || is_err result) }
         ensures apart { IsApart result self.new }
-        ensures kept { (self.new.line ≡ self.old.line) × (self.new.answered ≡ self.old.answered) × (self.new.most_held ≡ self.old.most_held) }
+        ensures kept { (self.new.line ≡ self.old.line) × (self.new.answered ≡ self.old.answered)
+            × (self.new.most_held ≡ self.old.most_held) }
     {
         match write_until_cut(sink, &self.held) {
             Ok(()) => {
@@ -83,11 +88,13 @@ fn hold(held: &mut Vec<u8>, most: usize, front: &[u8], end: &[u8]) -> bool
     }
 }
 
-/// Writes bytes and then their end, and where the sink fails tells how many of all these it took. An empty end costs no write.
+/// Writes bytes and then their end, and where the sink fails tells how many of all these it took. An empty end costs no
+/// write.
 fn send_both<O: Sink>(sink: &mut O, front: &[u8], end: &[u8]) -> Result<(), Cut>
     ensures bytes { OnOk result (Appends (O.contents sink.old) (O.contents sink.new) (front.now ++ end.now)) }
     ensures unfinished { IfErr result (λ cut. cut.written < length (front.now ++ end.now)) }
-    ensures cut { IfErr result (λ cut. Appends (O.contents sink.old) (O.contents sink.new) (take cut.written (front.now ++ end.now))) }
+    ensures cut { IfErr result (λ cut. Appends (O.contents sink.old) (O.contents sink.new)
+        (take cut.written (front.now ++ end.now))) }
     ensures failed { O.has_failed sink.new ≡ (O.has_failed sink.old || is_err result) }
 {
     write_until_cut(sink, front)?;

@@ -29,9 +29,9 @@ impl Store {
         }
     }
 
-    /// Answers the first of the lines: where it is a batch without fault, then together with the batches that follow it, as
-    /// long as they have at most 256 lists together, and otherwise alone. Where such a round is worth a thread, the gate is
-    /// called in its run.
+    /// Answers the first of the lines: where it is a batch without fault, then together with the batches that follow
+    /// it, as long as they have at most 256 lists together, and otherwise alone. Where such a round is worth a thread,
+    /// the gate is called in its run.
     pub fn answer_round<R: Threads + Wait + Sync, G: Gate + Sync>(
         &mut self,
         rt: &R,
@@ -41,8 +41,11 @@ impl Store {
     ) -> Result<Vec<Vec<u8>>, NoMemory>
         requires count { (0 < length lines.now) × (length lines.now ≤ 16) }
         requires limit { All (λ line. length line.now ≤ 1048576) lines.now }
-        ensures length { IfOk result (λ replies. length replies.items ≡ round_length self.old.rows (map (λ line. line.now) lines.now)) }
-        ensures round { IfOk result (λ replies. IsLawfulRound self.old (take (length replies.items) (map (λ line. line.now) lines.now)) (map (λ reply. reply.items) replies.items) self.new) }
+        ensures length { IfOk result
+            (λ replies. length replies.items ≡ round_length self.old.rows (map (λ line. line.now) lines.now)) }
+        ensures round { IfOk result
+            (λ replies. IsLawfulRound self.old (take (length replies.items) (map (λ line. line.now) lines.now))
+            (map (λ reply. reply.items) replies.items) self.new) }
         ensures err { OnErr result (self.new ≡ self.old) }
     {
         let mut texts = Vec::with_capacity(alloc, lines.len())?;

@@ -9,8 +9,8 @@ use std::alloc::Global;
 use std::thread::Threads;
 
 impl Store {
-    /// Gives each node its new weight by its waits, forgets the plans of the old weights and their texts, and begins to count waits anew,
-    /// once the reply is made.
+    /// Gives each node its new weight by its waits, forgets the plans of the old weights and their texts, and begins to
+    /// count waits anew, once the reply is made.
     pub(crate) fn reweigh<R: Threads + Sync>(
         &mut self,
         rt: &R,

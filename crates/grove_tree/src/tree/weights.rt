@@ -9,8 +9,8 @@ use std::thread::Threads;
 
 impl Tree {
     /// Gives each node the weight that the rule answers for it and the weight that it had. The result is the number of
-    /// weights changed. Up to `workers` threads work at once. The gate is called with each node's number, and 0, just before
-    /// that node is written, by the worker that writes it.
+    /// weights changed. Up to `workers` threads work at once. The gate is called with each node's number, and 0, just
+    /// before that node is written, by the worker that writes it.
     pub fn map_weights<R: Threads + Sync, U: Rule + Sync, G: Gate + Sync>(
         &mut self,
         rt: &R,
@@ -20,9 +20,11 @@ impl Tree {
     ) -> u32
         requires workers { (1 ≤ workers) × (workers ≤ 16) }
         requires taken { (node : ℕ) → node < length self.old → U.takes rule.now node (weight_of self.old node) }
-        requires weights { (node : ℕ) → node < length self.old → (1 ≤ U.gives rule.now node (weight_of self.old node)) × (U.gives rule.now node (weight_of self.old node) ≤ 1000) }
+        requires weights { (node : ℕ) → node < length self.old → (1 ≤ U.gives rule.now node (weight_of self.old node))
+            × (U.gives rule.now node (weight_of self.old node) ≤ 1000) }
         ensures rows { self.new ≡ with_weights (U.gives rule.now) self.old }
-        ensures count { result ≡ count_below (length self.old) (λ node. not (weight_of self.new node == weight_of self.old node)) }
+        ensures count { result
+            ≡ count_below (length self.old) (λ node. not (weight_of self.new node == weight_of self.old node)) }
     {
         weigh(rt, rule, gate, workers, &mut self.root)
     }

@@ -12,5 +12,6 @@ use Rattle.grove_c.proofs.opening.open.Goals as goal
 pub returns-in-Err : goal.returns-in-Err
 returns-in-Err c bytes is =
     let held = c.args.handle.now.value in
-    stays bytes c.args.text.now c.tell-in-Err.new.buffer c.tell-in-Err.result held held c.in-Err.refusal refl c.tell-in-Err.ensures
+    stays bytes c.args.text.now c.tell-in-Err.new.buffer c.tell-in-Err.result held held c.in-Err.refusal refl
+    c.tell-in-Err.ensures
     (subst (λ (opening : Result (Box Kept Global) Refusal). IsOpening bytes opening) c.in-Err.is is)

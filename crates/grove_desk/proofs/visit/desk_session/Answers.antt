@@ -11,5 +11,6 @@ returns-clause-text g c =
       c.session.new.answers,
       consumed,
       appended,
-      subst (λ (visited : VisitState). SessionEnds true IsShared visited c.session.result (g.I.Source.remaining c.session.new.source) input out c.session.new.answers) c.new-visit.ensures ends,
+      subst (λ (visited : VisitState). SessionEnds true IsShared visited c.session.result
+          (g.I.Source.remaining c.session.new.source) input out c.session.new.answers) c.new-visit.ensures ends,
     )

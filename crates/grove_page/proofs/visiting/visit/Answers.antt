@@ -6,7 +6,8 @@ use Rattle.grove_session.specs.Sessions.{SessionEnds, Lawful, is_write}
 use Rattle.grove_page.proofs.visiting.visit.Goals as goal
 
 -- a session that couldn't write tells how much it wrote
-written_is : {S : Type 0} (shared : Bool) (lawful : Lawful S) (old : S) (result : Result ℕ SessionFault) (left : Option (List ℕ))
+written_is : {S : Type 0} (shared : Bool) (lawful : Lawful S) (old : S) (result : Result ℕ SessionFault)
+    (left : Option (List ℕ))
     (input out : List ℕ) (new : S) (written : ℕ) → SessionEnds shared lawful old result left input out new
     → result ≡ Err (Write written) → written ≡ length out
 written_is {S} shared lawful old result left input out new written ends is =

@@ -6,7 +6,8 @@ use Rattle.grove_table.proofs.confirming.node_of.Goals as goal
 pub returns-then-is_as_said-clause-line : goal.returns-then-is_as_said-clause-line
 returns-then-is_as_said-clause-line c =
     let lines = c.args.lines.now in
-    let within : c.args.place < length lines = ltb-true c.args.place (length lines) (sym c.in_ok-line.ensures.lookup.0) in
+    let within : c.args.place < length lines = ltb-true c.args.place (length lines)
+    (sym c.in_ok-line.ensures.lookup.0) in
     let at : slice_get lines c.args.place ≡ Some c.in_ok-line.line.now =
     read_at lines c.args.place c.in_ok-line.line.now within c.in_ok-line.ensures.lookup.1 in
     node_found c.args.tree.now c.args.records.now lines c.args.place c.in_ok-line.line.now c.in_ok-node.node
@@ -15,7 +16,8 @@ returns-then-is_as_said-clause-line c =
 pub returns-then-is_as_said-clause-has : goal.returns-then-is_as_said-clause-has
 returns-then-is_as_said-clause-has c =
     let lines = c.args.lines.now in
-    let within : c.args.place < length lines = ltb-true c.args.place (length lines) (sym c.in_ok-line.ensures.lookup.0) in
+    let within : c.args.place < length lines = ltb-true c.args.place (length lines)
+    (sym c.in_ok-line.ensures.lookup.0) in
     let at : slice_get lines c.args.place ≡ Some c.in_ok-line.line.now =
     read_at lines c.args.place c.in_ok-line.line.now within c.in_ok-line.ensures.lookup.1 in
     node_had c.args.tree.now c.args.records.now lines c.args.place c.in_ok-line.line.now c.in_ok-node.node

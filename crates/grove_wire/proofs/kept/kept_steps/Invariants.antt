@@ -9,6 +9,7 @@ use Rattle.grove_wire.proofs.kept.kept_steps.Given as goal
 -- what is read so far, and then what is left, is what the whole reads as
 abbrev pub invariant-loop-at : goal.invariant-loop-at
 invariant-loop-at l = record {
-  read : with_front l.steps.items (rest_read (kept_step_in l.tree) l.items l.at) ≡ each_from (kept_step_in l.tree) 0 (map view l.items);
+  read : with_front l.steps.items (rest_read (kept_step_in l.tree) l.items l.at)
+      ≡ each_from (kept_step_in l.tree) 0 (map view l.items);
   few : vec_len l.steps ≡ l.at;
 }

@@ -153,7 +153,8 @@ sketch_members-members-preserved-in-Some-member t c =
     let read = c.in_ok-member.ensures.ok in
     let copied : string_bytes c.in_ok-key.key ≡ k = search rules in
     let inserted = ap members_view c.in_ok-insert.ensures.entries ∙ members_view-insert_entry c.members.kept.entries c.in_ok-key.key c.in_ok-member.member ∙ ap (λ name. put name (view c.in_ok-member.member) old) copied in
-    let kept = inserted ∙ ap (λ d. put k d old) read.kept ∙ ap (λ o. put_kept k o (λ f. drawn f read.text) old) (c.in-Some-member.ensures ∙ counted) in
+    let kept = inserted ∙ ap (λ d. put k d old) read.kept
+    ∙ ap (λ o. put_kept k o (λ f. drawn f read.text) old) (c.in-Some-member.ensures ∙ counted) in
     sketching.members_turn c.args.form (value c.args.depth) c.args.reader.now c.members.reader old c.members.invariant k read.text read.whole s c.sketch.new.reader (members_view c.insert.new.self.entries)
     named read.is read.reads (read_key-shorter c.members.reader (Some k) s named) c.in_ok-member.ensures.shorter kept
 
@@ -166,7 +167,8 @@ sketch_members-members-preserved t c =
     let named : read_key c.members.reader ≡ Some (Some k, s) = grind arith in
     let read = c.in_ok-sketch.ensures.ok in
     sketching.members_turn c.args.form (value c.args.depth) c.args.reader.now c.members.reader old c.members.invariant k read.text read.whole s c.sketch-in_default-member.new.reader old
-    named read.is read.reads (read_key-shorter c.members.reader (Some k) s named) c.in_ok-sketch.ensures.shorter (ap (λ o. put_kept k o (λ f. drawn f read.text) old) (c.in_default-member.ensures ∙ counted))
+    named read.is read.reads (read_key-shorter c.members.reader (Some k) s named) c.in_ok-sketch.ensures.shorter
+    (ap (λ o. put_kept k o (λ f. drawn f read.text) old) (c.in_default-member.ensures ∙ counted))
 
 pub sketch_members-returns-clause-ok : goal.sketch_members-returns-clause-ok
 sketch_members-returns-clause-ok t c =

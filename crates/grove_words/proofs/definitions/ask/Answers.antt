@@ -8,5 +8,6 @@ use Rattle.grove_words.proofs.definitions.ask.Goals as goal
 
 pub returns : goal.returns
 returns c =
-    let lines : HasRule (record (new_rule (codes "LINE")) { action = Some Append }) c.help-lines.result = search rules in
+    let lines : HasRule (record (new_rule (codes "LINE")) { action = Some Append }) c.help-lines.result = search rules
+    in
     IfOk-weaker c.arg.result _ _ (λ command adds. one_more adds c.in_ok-calling.ensures lines) c.arg.ensures

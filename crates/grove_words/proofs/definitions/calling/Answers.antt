@@ -7,7 +7,8 @@ use Rattle.grove_words.proofs.definitions.calling.Goals as goal
 
 pub returns : goal.returns
 returns c =
-    let bare : HasShape (command_with c.args.name.now []) c.about.result = none_yet _ _ c.new.ensures.app c.new.ensures.local c.about.ensures in
+    let bare : HasShape (command_with c.args.name.now []) c.about.result =
+    none_yet _ _ c.new.ensures.app c.new.ensures.local c.about.ensures in
     let port : HasRule (record port_option { required = true }) c.required.result = search rules in
     let with_port = one_more c.in_ok-arg.ensures bare port in
     let with_address = one_more c.in_ok-arg-2.ensures with_port c.address.ensures in

@@ -7,8 +7,10 @@ use Rattle.grove_words.proofs.options.texts_of.Goals as goal
 pub returns-in-Some : goal.returns-in-Some
 returns-in-Some c =
     IfOk-weaker c.copied.result _ _
-    (λ copy is. ap (map (λ line. line.now)) is ∙ ap (λ lines. unwrap_or lines []) (c.in-Some.ensures ∙ raw_values-rows (found_of c.args.given.now) c.args.name.now))
+    (λ copy is. ap (map (λ line. line.now)) is ∙ ap (λ lines. unwrap_or lines [])
+    (c.in-Some.ensures ∙ raw_values-rows (found_of c.args.given.now) c.args.name.now))
     c.copied.ensures
 
 pub returns-in-None : goal.returns-in-None
-returns-in-None c = ap (map (λ line. line.now)) c.new.ensures.items ∙ ap (λ lines. unwrap_or lines []) (c.in-None.ensures ∙ raw_values-rows (found_of c.args.given.now) c.args.name.now)
+returns-in-None c = ap (map (λ line. line.now)) c.new.ensures.items
+    ∙ ap (λ lines. unwrap_or lines []) (c.in-None.ensures ∙ raw_values-rows (found_of c.args.given.now) c.args.name.now)

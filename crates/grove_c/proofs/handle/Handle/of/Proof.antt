@@ -35,15 +35,27 @@ stayed = (stay_dropped (plain (λ _. Loose K Z heap_laws.the_row_laws ghosts)) y
 
 pub of_spec : {M : Type 1} → statement M
 of_spec 𝓤 𝓛 𝓜 𝓡 wired =
-    let 𝓣 = tables 𝓤 𝓛.H 𝓜 𝓡 𝓡.env in let c = clauses 𝓛 𝓜.mem 𝓡.returns in let fn = code.function in let LZ = heap_laws.the_row_laws in
-    proved_at 𝓛 ended stayed c 𝓜 𝓡 (Goes-blank 𝓛 0 (plain (λ _. Loose K Z LZ ghosts)) yes (λ κs x f. tt), tt) #self fn (code.unfolded 𝓤 𝓛.H 𝓜 𝓡 wired) (λ z are.
-    let v = z.0.3.0 in let a = v.alloc in let x : Kept = v.value in let Post : Val → SProp 𝓤 = (walk_of 𝓛 ended stayed c).post z in let Run : List Val → SProp 𝓤 = λ ws. WpFn 𝓤 𝓛.H 𝓣.C 𝓣.Λ fn ws Post in
-    qed 𝓛 ((‵ ftrue ⊛ ‵ (owns (types_at ended.signature.params z.0.0) z.0.3 z.0.4)) ∷ raw ((c z.0.0 z.0.3).requires z.1) ∷ []) ∵ split ! $ move ! (1 ∷ []) $ fsplit ! $ loose_out K Z LZ ghosts ! v z.0.4.0 (λ b o h e ws fits.
-    let p = block_ptr b o in let given = loose_good K Z LZ ghosts b o h fits in let w : Val = both (vptr b o) h in let made = handle_good p h fits in
-    suffices ! (Run (w ∷ [])) (subst (λ (us : List Val). ent 𝓤 (Run (w ∷ [])) (Run us)) (sym (λ i. ws i ++ [])) (id⊢ 𝓤 (Run (w ∷ [])))) $
+    let 𝓣 = tables 𝓤 𝓛.H 𝓜 𝓡 𝓡.env in let c = clauses 𝓛 𝓜.mem 𝓡.returns in let fn = code.function
+    in let LZ = heap_laws.the_row_laws in
+    proved_at 𝓛 ended stayed c 𝓜 𝓡 (Goes-blank 𝓛 0 (plain (λ _. Loose K Z LZ ghosts)) yes (λ κs x f. tt), tt) #self fn
+    (code.unfolded 𝓤 𝓛.H 𝓜 𝓡 wired) (λ z are.
+    let v = z.0.3.0 in let a = v.alloc in let x : Kept = v.value in let Post : Val
+    → SProp 𝓤 = (walk_of 𝓛 ended stayed c).post z in let Run : List Val
+    → SProp 𝓤 = λ ws. WpFn 𝓤 𝓛.H 𝓣.C 𝓣.Λ fn ws Post in
+    qed 𝓛 ((‵ ftrue ⊛ ‵ (owns (types_at ended.signature.params z.0.0) z.0.3 z.0.4))
+    ∷ raw ((c z.0.0 z.0.3).requires z.1) ∷ []) ∵ split ! $ move ! (1 ∷ []) $ fsplit ! $ loose_out K Z LZ ghosts !
+    v z.0.4.0 (λ b o h e ws fits.
+    let p = block_ptr b o in let given = loose_good K Z LZ ghosts b o h fits in let w : Val = both (vptr b o) h
+    in let made = handle_good p h fits in
+    suffices ! (Run (w ∷ [])) (subst (λ (us : List Val). ent 𝓤 (Run (w ∷ [])) (Run us)) (sym (λ i. ws i ++ []))
+    (id⊢ 𝓤 (Run (w ∷ [])))) $
     enter ! 𝓣.C 𝓣.Λ fn (w ∷ []) Post $ alloc_all ! (λ l. pass_all ! refl (given, tt) $
-    sets ! (of_opd ! (get_in ! (fld ! refl (stop !)) (sub ! 0 refl (whole !)))) refl (tt, tt) $ sets ! (of_opd ! (get_in ! (fld ! refl (stop !)) (sub ! 1 refl (whole !)))) refl fits $
-    sets ! (of_opd ! (get ! refl)) refl (tt, tt) $ sets ! (agg ! (and_then ! (get ! refl) (and_then ! (get ! refl) (no_more !)))) refl made $
-    use1 𝓛 (‵ (handle_owns a p (Some x))) (id⊢ 𝓤 _) $ handle_in ! p h a (Some x) $ use0 𝓛 (raw (fact 𝓤 (Some x ≡ Some v.value))) (fact_i 𝓤 (Some x ≡ Some v.value) (emp 𝓤) refl) $ nothing ! $ nothing ! $ fjoin ! $
+    sets ! (of_opd ! (get_in ! (fld ! refl (stop !)) (sub ! 0 refl (whole !)))) refl (tt, tt) $ sets !
+    (of_opd ! (get_in ! (fld ! refl (stop !)) (sub ! 1 refl (whole !)))) refl fits $
+    sets ! (of_opd ! (get ! refl)) refl (tt, tt) $ sets !
+    (agg ! (and_then ! (get ! refl) (and_then ! (get ! refl) (no_more !)))) refl made $
+    use1 𝓛 (‵ (handle_owns a p (Some x))) (id⊢ 𝓤 _) $ handle_in ! p h a (Some x) $ use0 𝓛
+    (raw (fact 𝓤 (Some x ≡ Some v.value))) (fact_i 𝓤 (Some x ≡ Some v.value) (emp 𝓤) refl) $ nothing ! $ nothing !
+    $ fjoin ! $
     returns ! (look_at ! 0 refl) $ free_all ! refl $ keep ! (4 ∷ 0 ∷ 2 ∷ 1 ∷ []) $
     by ! (leaves 𝓛 ended stayed c z w (record { at = p; alloc = a; value = Some x }) (tt, tt) (tt, tt)))))

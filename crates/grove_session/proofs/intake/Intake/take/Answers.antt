@@ -15,8 +15,10 @@ returns-in_err-send_held-clause-taken g c =
       both.sent,
       both.went,
       both.counted,
-      takes_cut g.A.Answers.is_shared g.A.Answers.lawful _ _ c.args.self.now c.take_lines-taken.new.self _ t.0 both.sent _ c.take_lines-taken.result _ t.2 is sent.err
-          (λ alone. nothing_held _ _ c.send_held.new.self.few_held (sent.kept.2 ∙ c.take_lines-taken.ensures.most_held ∙ c.requires.alone alone)),
+      takes_cut g.A.Answers.is_shared g.A.Answers.lawful _ _ c.args.self.now c.take_lines-taken.new.self _ t.0
+          both.sent _ c.take_lines-taken.result _ t.2 is sent.err
+          (λ alone. nothing_held _ _ c.send_held.new.self.few_held
+          (sent.kept.2 ∙ c.take_lines-taken.ensures.most_held ∙ c.requires.alone alone)),
     )
 
 pub returns-in_ok-send_held-clause-taken : goal.returns-in_ok-send_held-clause-taken
@@ -28,7 +30,8 @@ returns-in_ok-send_held-clause-taken g c =
       both.sent,
       both.went,
       both.counted,
-      takes_out g.A.Answers.is_shared g.A.Answers.lawful _ _ c.args.self.now c.take_lines-taken.new.self c.send_held.new.self _ t.0 both.sent c.take_lines-taken.result t.2 is
+      takes_out g.A.Answers.is_shared g.A.Answers.lawful _ _ c.args.self.now c.take_lines-taken.new.self
+          c.send_held.new.self _ t.0 both.sent c.take_lines-taken.result t.2 is
           (λ other. sent.ok) (λ alone. sent.ok) sent.kept.0 sent.kept.1,
     )
 
@@ -39,7 +42,9 @@ returns-else-not-is_cut-clause-taken g c =
       t.1.sent,
       t.1.went,
       t.1.counted,
-      takes_out g.A.Answers.is_shared g.A.Answers.lawful _ _ c.args.self.now c.take_lines-taken.new.self c.take_lines-taken.new.self _ t.0 t.1.sent c.take_lines-taken.result t.2 is
+      takes_out g.A.Answers.is_shared g.A.Answers.lawful _ _ c.args.self.now c.take_lines-taken.new.self
+          c.take_lines-taken.new.self _ t.0 t.1.sent c.take_lines-taken.result t.2 is
           (λ other. absurd (false≢true (sym other ∙ sym c.is_cut.ensures ∙ c.if-not-is_cut.false)))
-          (λ alone. nothing_held _ _ c.take_lines-taken.new.self.few_held (c.take_lines-taken.ensures.most_held ∙ c.requires.alone alone)) refl refl,
+          (λ alone. nothing_held _ _ c.take_lines-taken.new.self.few_held
+          (c.take_lines-taken.ensures.most_held ∙ c.requires.alone alone)) refl refl,
     )
