@@ -47,6 +47,22 @@ pub fn kept_jobs<R: Threads + Sync>(
     jobs_of(alloc, lists, settled)
 }
 
+/// The same by the caller alone, who starts no thread.
+pub fn kept_jobs_alone(
+    alloc: Global,
+    tree: &Tree,
+    plans: &mut KeptPlans,
+    lists: Vec<AccessList>,
+) -> Result<Vec<Job>, NoMemory>
+    requires fit { All (λ list. AreNodes tree.now (nodes_of list)) lists.items }
+    requires kept { AreSettledFor tree.now plans.old }
+    ensures jobs { IfOk result (λ jobs. AreSettledJobs tree.now lists.items jobs.items) }
+    ensures kept { AreSettledFor tree.now plans.new }
+{
+    let settled = plans.plan_each(alloc, tree, &lists)?;
+    jobs_of(alloc, lists, settled)
+}
+
 fn jobs_of(alloc: Global, lists: Vec<AccessList>, plans: Vec<Plan>) -> Result<Vec<Job>, NoMemory>
     ensures { IfOk result
         (λ jobs. jobs.items ≡ map (λ pair. record { list = pair.0; plan = pair.1 }) (zip lists.items plans.items)) }

@@ -2,7 +2,7 @@
 #![tactic(auto)]
 
 pub use batch::plan_batch;
-pub use jobs::{kept_jobs, settled_jobs};
+pub use jobs::{kept_jobs, kept_jobs_alone, settled_jobs};
 pub use kept_plans::KeptPlans;
 pub use laws::{cut_laws, settled_laws};
 pub use planning::{Planned, plan, plan_watched};

@@ -3,7 +3,7 @@
 #![tactic(auto)]
 
 pub use rule::WaitRule;
-pub use weights::{new_weight, reweigh};
+pub use weights::{new_weight, reweigh, reweigh_alone};
 
 mod rule;
 mod weights;

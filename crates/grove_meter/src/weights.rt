@@ -36,3 +36,15 @@ pub fn reweigh<R: Threads + Sync, G: Gate + Sync>(
     prove!(waits.len() == nodes as usize);
     tree.map_weights(rt, &WaitRule::new(waits), workers, gate)
 }
+
+/// The same by the caller alone, who starts no thread.
+pub fn reweigh_alone(tree: &mut Tree, waits: &[u32]) -> u32
+    requires waits { length waits.now ≡ length tree.old }
+    ensures rows { tree.new ≡ reweighed waits.now tree.old }
+    ensures count { result
+        ≡ count_below (length tree.old) (λ node. not (weight_of tree.new node == weight_of tree.old node)) }
+{
+    let nodes = tree.len();
+    prove!(waits.len() == nodes as usize);
+    tree.map_weights_alone(&WaitRule::new(waits))
+}

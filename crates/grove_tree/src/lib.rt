@@ -28,3 +28,4 @@ mod standing;
 mod tree;
 mod way;
 mod weighing;
+mod weighing_alone;

@@ -3,6 +3,7 @@ ghost use Rattle.std.specs.Thread.{IsSync};
 ghost use Rattle.grove_tree.specs.Outlines.{total};
 ghost use Rattle.grove_tree.specs.WeighedOutlines.{changes_from, weighed, weighed_all, changes_all, AreTaken, AllTaken};
 
+use crate::weighing_alone::weigh_all_alone;
 use crate::{Gate, Outline};
 use std::thread::{Threads, join_mut};
 
@@ -41,7 +42,7 @@ pub fn weigh<R: Threads + Sync, U: Rule + Sync, G: Gate + Sync>(
 }
 
 /// Does so for a slice of outlines, cut in two as long as there is more than one. With two workers or more both halves
-/// are done at once, the first by half of the workers; where no thread can be started, the first half is done first.
+/// are done at once, the first by half of the workers; if no thread can be started, the first half is done first.
 #[cycle(weighing)]
 fn weigh_all<R: Threads + Sync, U: Rule + Sync, G: Gate + Sync>(
     rt: &R,
@@ -55,6 +56,9 @@ fn weigh_all<R: Threads + Sync, U: Rule + Sync, G: Gate + Sync>(
     ensures rows { parts.new ≡ weighed_all (U.gives rule.now) parts.old }
     ensures count { result ≡ changes_all (U.gives rule.now) parts.old }
 {
+    if workers < 2 {
+        return weigh_all_alone(rule, gate, parts);
+    }
     let count = parts.len();
     if count == 0 {
         return 0;
@@ -63,10 +67,6 @@ fn weigh_all<R: Threads + Sync, U: Rule + Sync, G: Gate + Sync>(
         return weigh(rt, rule, gate, workers, &mut parts[0]);
     }
     let (first, second) = parts.split_at_mut(count / 2);
-    if workers < 2 {
-        let early = weigh_all(rt, rule, gate, workers, first);
-        return early + weigh_all(rt, rule, gate, workers, second);
-    }
     let (late, early) = join_mut(
         rt,
         &mut || -> u32

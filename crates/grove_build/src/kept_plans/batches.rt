@@ -114,8 +114,9 @@ impl KeptPlans {
         Ok(())
     }
 
-    /// The plan of each list.
-    fn plan_each(
+    /// The settled plan of each list, in the lists' order, by the caller alone, who starts no thread. Lists for which
+    /// nothing is kept are planned. The only refusal is for lack of memory.
+    pub fn plan_each(
         &mut self,
         alloc: Global,
         tree: &Tree,

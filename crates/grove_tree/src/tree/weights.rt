@@ -4,7 +4,8 @@ ghost use Rattle.grove_tree.specs.Trees.{weight_of};
 ghost use Rattle.grove_tree.specs.Weights.{with_weights};
 
 use crate::weighing::weigh;
-use crate::{Gate, Rule, Tree};
+use crate::weighing_alone::weigh_alone;
+use crate::{Gate, OpenGate, Rule, Tree};
 use std::thread::Threads;
 
 impl Tree {
@@ -27,5 +28,17 @@ impl Tree {
             ≡ count_below (length self.old) (λ node. not (weight_of self.new node == weight_of self.old node)) }
     {
         weigh(rt, rule, gate, workers, &mut self.root)
+    }
+
+    /// The same by the caller alone, who starts no thread.
+    pub fn map_weights_alone<U: Rule>(&mut self, rule: &U) -> u32
+        requires taken { (node : ℕ) → node < length self.old → U.takes rule.now node (weight_of self.old node) }
+        requires weights { (node : ℕ) → node < length self.old → (1 ≤ U.gives rule.now node (weight_of self.old node))
+            × (U.gives rule.now node (weight_of self.old node) ≤ 1000) }
+        ensures rows { self.new ≡ with_weights (U.gives rule.now) self.old }
+        ensures count { result
+            ≡ count_below (length self.old) (λ node. not (weight_of self.new node == weight_of self.old node)) }
+    {
+        weigh_alone(rule, &OpenGate, &mut self.root)
     }
 }

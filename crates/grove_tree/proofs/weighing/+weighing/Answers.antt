@@ -3,7 +3,7 @@ use Rattle.std.proofs.lemmas.List.{with_items_is}
 use Rattle.grove_tree.specs.Outlines.{total}
 use Rattle.grove_tree.specs.WeighedOutlines.{weighed_all, changes_all, AllTaken}
 use Rattle.grove_tree.proofs.Children.{outline_size}
-use Rattle.grove_tree.proofs.WeightsByRule.{halves, weighed_halves, changes_halves, changes_all-le, weighed_all-append, taken_some, taken_node, weighed_node, changes_node, counts_none, counts_one, outline-weighed_all}
+use Rattle.grove_tree.proofs.WeightsByRule.{halves, changes_halves, changes_all-le, weighed_all-append, taken_some, taken_node, weighed_node, changes_node, counts_none, counts_one, outline-weighed_all}
 use Rattle.grove_tree.proofs.weighing.+weighing.Goals as goal
 use Rattle.grove_tree.proofs.weighing.+weighing.Goals.{weigh-then-new-old, weigh-else-new-old}
 
@@ -48,32 +48,6 @@ weigh-returns-clause-count g t c =
           let is = w.result-is in omega arith
     ]
 
-pub weigh_all-weigh_all-early-requires : goal.weigh_all-weigh_all-early-requires
-weigh_all-weigh_all-early-requires g t c κs within =
-    let (whole, first, second) = halves (g.U.Rule.takes c.args.rule.now) c.args.parts.now c.split_at_mut-first.result.0.now c.split_at_mut-first.result.1.now c.split_at_mut-first.ensures.value c.requires.taken in
-    let some_second = taken_some (g.U.Rule.takes c.args.rule.now) c.split_at_mut-first.result.1.now second (omega arith) in
-    search rules
-
-pub weigh_all-weigh_all-requires : goal.weigh_all-weigh_all-requires
-weigh_all-weigh_all-requires g t c κs within =
-    let (whole, first, second) = halves (g.U.Rule.takes c.args.rule.now) c.args.parts.now c.split_at_mut-first.result.0.now c.split_at_mut-first.result.1.now c.split_at_mut-first.ensures.value c.requires.taken in
-    let some_first = taken_some (g.U.Rule.takes c.args.rule.now) c.split_at_mut-first.result.0.now first (omega arith) in
-    search rules
-
-pub weigh_all-overflow_add-result : goal.weigh_all-overflow_add-result
-weigh_all-overflow_add-result g t c =
-    let few = changes_all-le (g.U.Rule.gives c.args.rule.now) c.args.parts.now in
-    let sum = changes_halves (g.U.Rule.gives c.args.rule.now) _ _ _ _ _ c.split_at_mut-first.ensures.value c.weigh_all-early.ensures.count c.weigh_all.ensures.count in
-    record { fits = omega arith }
-
-pub weigh_all-returns-then-workers-lt2-clause-rows : goal.weigh_all-returns-then-workers-lt2-clause-rows
-weigh_all-returns-then-workers-lt2-clause-rows g t c =
-    weighed_halves (g.U.Rule.gives c.args.rule.now) _ _ _ _ _ c.split_at_mut-first.ensures.value c.weigh_all-early.ensures.rows c.weigh_all.ensures.rows
-
-pub weigh_all-returns-then-workers-lt2-clause-count : goal.weigh_all-returns-then-workers-lt2-clause-count
-weigh_all-returns-then-workers-lt2-clause-count g t c =
-    changes_halves (g.U.Rule.gives c.args.rule.now) _ _ _ _ _ c.split_at_mut-first.ensures.value c.weigh_all-early.ensures.count c.weigh_all.ensures.count
-
 pub weigh_all-join_mut-late-requires-after_bounds : goal.weigh_all-join_mut-late-requires-after_bounds
 weigh_all-join_mut-late-requires-after_bounds g t c κs within =
     let (whole, first, second) = halves (g.U.Rule.takes c.args.rule.now) c.args.parts.now c.split_at_mut-first.result.0.now c.split_at_mut-first.result.1.now c.split_at_mut-first.ensures.value c.requires.taken in
@@ -81,8 +55,8 @@ weigh_all-join_mut-late-requires-after_bounds g t c κs within =
     let some_second = taken_some (g.U.Rule.takes c.args.rule.now) c.split_at_mut-first.result.1.now second (omega arith) in
     search rules
 
-pub weigh_all-overflow_add-result-2 : goal.weigh_all-overflow_add-result-2
-weigh_all-overflow_add-result-2 g t c =
+pub weigh_all-overflow_add-result : goal.weigh_all-overflow_add-result
+weigh_all-overflow_add-result g t c =
     let few = changes_all-le (g.U.Rule.gives c.args.rule.now) c.args.parts.now in
     let early : c.join_mut-late.result.1 ≡ changes_all (g.U.Rule.gives c.args.rule.now) c.split_at_mut-first.result.0.now = search rules in
     let late : c.join_mut-late.result.0 ≡ changes_all (g.U.Rule.gives c.args.rule.now) c.split_at_mut-first.result.1.now = search rules in
