@@ -3,12 +3,13 @@
 
     usage: bench/batches.py [RUNS]        (default: 3)
 
-`grove_bench batches` plans 256 lists of 64 accesses over 4,096 nodes, all different and all equal, and 256 different ones that
-force some 2,000 nodes each, changes the weights of 4,096 nodes 100 times, and runs 256 jobs: of 64 accesses over 2,049
-nodes each, and of one access at nodes of their own: once to be warm, then the short ones 200 times and the long ones 5 times.
-`bench/locks.rs`, compiled here by `rustc`, takes the same locks for the same jobs by the same plans, with a Mutex a node;
-`bench/halves.rs` only counts, cut in two as a batch of lists is. The three are run in turn, RUNS times; the median and the
-least time are printed, in milliseconds, and for the jobs how many are done in a second and the ratios of the medians.
+`grove_bench batches` plans 256 lists of 64 accesses over 4,096 nodes, all different and all equal, and 256 different
+ones that force some 2,000 nodes each, changes the weights of 4,096 nodes 100 times, and runs 256 jobs: of 64 accesses
+over 2,049 nodes each, and of one access at nodes of their own: once to be warm, then the short ones 200 times and the
+long ones 5 times. `bench/locks.rs`, compiled here by `rustc`, takes the same locks for the same jobs by the same
+plans, with a Mutex a node; `bench/halves.rs` only counts, cut in two as a batch of lists is. The three are run in
+turn, RUNS times; the median and the least time are printed, in milliseconds, and for the jobs how many are done in a
+second and the ratios of the medians.
 """
 import statistics
 import subprocess

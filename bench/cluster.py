@@ -90,7 +90,7 @@ def compare_and_retry(members, keys, lists, slot):
 
 
 def record_locks(members, keys, lists, slot):
-    """Locks each record's own key, in sorted order, and lets go of all with the records' new values."""
+    """Locks each record's own key, in sorted order, and unlocks all with the records' new values."""
     told, name = Counter(), str(time.time_ns())
     for accesses in lists:
         owners = sorted(keys.owner(access[1]) for access in accesses)
@@ -236,7 +236,7 @@ def one_add(cluster, given, name, workers, paths):
 
 
 def locking_all_first(accesses):
-    """A legal plan: all nodes on the ways, the accesses, and then all is let go."""
+    """A legal plan: all nodes on the ways are locked, then come the accesses, and then all is unlocked."""
     nodes = ways_down([access[1] for access in accesses])
     locks, unlocks = ([[kind, path] for path in nodes] for kind in ("lock", "unlock"))
     return locks + [["access", number] for number in range(len(accesses))] + unlocks

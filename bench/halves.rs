@@ -1,5 +1,5 @@
-//! Loops that only count, cut in two and the halves done at once, as `plan_batch` cuts a batch: how much several workers can
-//! bring here. Each line has how long the work is, by how many workers, and the nanoseconds.
+//! Loops that only count, cut in two and the halves done at once, as `plan_batch` cuts a batch: how much several
+//! workers can bring here. Each line has how long the work is, by how many workers, and the nanoseconds.
 use std::hint::black_box;
 use std::thread;
 use std::time::Instant;

@@ -7,13 +7,13 @@
 A shape is a tree and 64 lists of 8 accesses, each of which takes a millisecond. Its lists are done in these ways:
 
 - settled: by the plans of `grove plan`;
-- all first: by the tree protocol too, but with all nodes that are needed locked before the first access, and let go
+- all first: by the tree protocol too, but with all nodes that are needed locked before the first access, and unlocked
   after the last one;
-- strict: with the accessed records alone locked, in the tree's order before the first access, and let go after the last
-  one;
-- early: with the same locks, each let go after the last access of its record;
+- strict: with the accessed records alone locked, in the tree's order before the first access, and unlocked after the
+  last one;
+- early: with the same locks, each unlocked after the last access of its record;
 - late: with the same locks in the same order, each as late as that allows, which is before the first access of its
-  record or of one behind it; once the last is taken, each is let go after the last access of its record;
+  record or of one behind it; once the last is taken, each is unlocked after the last access of its record;
 - early up, late up: the same in the opposite order, from the last node of the tree up to the root.
 
 bench/hot.rs, compiled here by `rustc`, does the jobs, in all ways by the same workers, queues and sleeps. COMMAND, as
@@ -53,7 +53,7 @@ JOBS = 64
 ACCESSES = 8
 # How many accesses of a job are work at a user, beside those that count it.
 WORK = 5
-# A run takes half a second where the jobs are done one after the other.
+# A run takes half a second if the jobs are done one after the other.
 SECONDS_ALLOWED = 30
 
 Row = dict[str, Union[int, str, None]]
@@ -240,8 +240,8 @@ def unlocks(paths: list[str]) -> list[Step]:
 
 
 class RecordLocks(Locks):
-    """Locks in the tree's order, and none once one is let go. By the first no jobs wait for each other in a circle, and
-    by the second they have the effect of the same jobs one after the other."""
+    """Locks in the tree's order, and none once one is unlocked. By the first no jobs wait for each other in a circle,
+    and by the second they have the effect of the same jobs one after the other."""
 
     def lock(self, node: int) -> Optional[str]:
         if any(not self.is_before(other, node) for other in self.locked):

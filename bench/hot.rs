@@ -1,5 +1,5 @@
 //! Runs jobs by the plans that it reads, by as many workers as its argument says, with a lock for each node and nothing
-//! else: no core, no history. Whoever finds a node held sleeps in the queue of that node.
+//! else: no core, no history. A worker that finds a node held sleeps in its queue.
 //!
 //! The first line has the number of nodes, and each further line the steps of a job: `lock:0 access:0 unlock:0`. It
 //! prints the nanoseconds from the first worker's start to the last one's end, and below them the records of all nodes,

@@ -10,8 +10,8 @@ Each plan is made in these ways, in turn, N times each; of the process there are
 - Python, Rust by kept tree: a plan as a value of the list's accesses, over a tree that the library keeps.
 
 The lists: that of examples/settings.json, and the largest, 64 accesses that force 2,049 of 4,096 nodes. The median is
-told, and in brackets the least. bench/library.rs, compiled here by `cargo`, is the part in Rust; tools/library has to
-have made the library. Each way has to give the same plan.
+printed, and in brackets the least. bench/library.rs, compiled here by `cargo`, is the part in Rust; tools/library has
+to have made the library. Each way has to give the same plan.
 """
 from __future__ import annotations
 

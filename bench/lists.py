@@ -50,7 +50,7 @@ def balanced(depth):
 
 
 def random_tree(rng, count):
-    """Each node below one of those before it, wherever that isn't too deep; then put into preorder."""
+    """Each node below one of those before it, if that isn't too deep; then put into preorder."""
     children, depths = [[]], [0]
     while len(children) < count:
         parent = rng.randrange(len(children))

@@ -1,7 +1,7 @@
 // Solves a network by LEMON's network simplex, many times, and prints the least time and the cost.
 //   usage: peer RUNS < NETWORK      (the network as bench/lists.py writes it)
-// A flow of ours sends a need to a variable and is the dearer the less its arcs ask for; LEMON's is the cheapest, so its
-// costs are the negated ones. The time is that of its set-up over a graph that is there, and of its run.
+// A flow of ours sends a need to a variable and is the dearer the less its arcs ask for; LEMON's is the cheapest, so
+// its costs are the negated ones. The time is that of its set-up over a graph that is there, and of its run.
 #include <chrono>
 #include <cstdlib>
 #include <iostream>

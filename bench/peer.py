@@ -3,10 +3,10 @@
 
     usage: bench/peer.py [ROUNDS]        (default: 5; it needs g++ and LEMON, on Debian the package liblemon-dev)
 
-For each list of bench/lists.py in turn, ROUNDS times, each program takes the least of many runs: LEMON its set-up over a
-graph that is there and its run (bench/peer.cpp), `grove_bench plan` each layer of the planner, `grove_bench solve` the
-search alone, which the planner needs only where its proposal is refused. Of all rounds the least counts. The planner's
-cost has to be LEMON's.
+For each list of bench/lists.py in turn, ROUNDS times, each program takes the least of many runs: LEMON its set-up
+over a graph that is there and its run (bench/peer.cpp), `grove_bench plan` each layer of the planner, `grove_bench
+solve` the search alone, which the planner needs only if its proposal is refused. Of all rounds the least counts. The
+planner's cost has to be LEMON's.
 """
 
 import statistics

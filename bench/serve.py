@@ -1,17 +1,18 @@
 #!/usr/bin/env python3
-"""Times `grove serve` over loopback, and beside it Redis, where `redis-server` is on the path.
+"""Times `grove serve` over loopback, and beside it Redis, if `redis-server` is on the path.
 
     usage: bench/serve.py [--quick] [--seconds S] [--nodes N,..] [--workers N]
 
-For trees of 3 to 4,096 nodes, with four children below each node or with all nodes below the root, it asks for a batch of
-one list with one `add`, for one of a list with 64, and for the plans of these lists, each line's nodes drawn at random;
-below a root with 256 records also for a batch of 256 lists of a `get` and an `add`. Redis gets the same accesses, a MULTI ..
-EXEC for each list. By 1 and 16 clients, each of which sends a line once the one before is answered, or up to 16 ahead. The
-clients are bench/serve_client.c; it is compiled here, so `cc` is needed.
+For trees of 3 to 4,096 nodes, with four children below each node or with all nodes below the root, it asks for a
+batch of one list with one `add`, for one of a list with 64, and for the plans of these lists, each line's nodes drawn
+at random; below a root with 256 records also for a batch of 256 lists of a `get` and an `add`. Redis gets the same
+accesses, a MULTI .. EXEC for each list. By 1 and 16 clients, each of which sends a line once the one before is
+answered, or up to 16 ahead. The clients are bench/serve_client.c; it is compiled here, so `cc` is needed.
 
-Each row has lines a second, the latency in the middle and at the 99th of 100, the server's processor time for a line, and
-for batches how many lines a round had; then the same of Redis, and how many times its lines a second there are. --quick
-takes the smallest and the largest tree alone, for a fifth of a second each; --seconds is how long each figure is measured.
+Each row has lines a second, the latency in the middle and at the 99th of 100, the server's processor time for a line,
+and for batches how many lines a round had; then the same of Redis, and how many times its lines a second there are.
+--quick takes the smallest and the largest tree alone, for a fifth of a second each; --seconds is how long each figure
+is measured.
 """
 import argparse
 import contextlib
@@ -83,7 +84,7 @@ def balanced(nodes):
 
 
 def trees(sizes):
-    """Of each size the two trees, but where they are the same."""
+    """Of each size the two trees, or one if they are the same."""
     return [shape(nodes) for nodes in sizes for shape in (balanced, flat) if shape is flat or nodes > FAN_OUT + 1]
 
 
@@ -123,8 +124,8 @@ def transaction(accesses):
 
 
 def feeds_of(accesses):
-    """How many line feeds answer such a transaction: of OK, of each QUEUED, of the array, of its numbers, and twice as many
-    of its texts."""
+    """How many line feeds answer such a transaction: of OK, of each QUEUED, of the array, of its numbers, and twice
+    as many of its texts."""
     return 2 + len(accesses) + sum(2 if access[0] == "get" else 1 for access in accesses)
 
 
@@ -187,7 +188,7 @@ def processor_seconds(process):
 
 
 def rounds(server):
-    """How many rounds the store has run, one of them to tell."""
+    """How many rounds the store has run; finding out takes one of them."""
     return json.loads(server.talk(b'{"batch":[]}\n'))["round"]
 
 

@@ -55,7 +55,7 @@ class Tree:
 
 
 def by_record_locks(tree: Tree, order: Order) -> None:
-    """Locks the records in sorted order, from the root down, and lets them go at the end."""
+    """Locks the records in sorted order, from the root down, and unlocks them at the end."""
     records = sorted(set(order.paths))
     for path in records:
         tree.locks[path].acquire()

@@ -1,4 +1,4 @@
-/* What the commands of grove say of a document, in a C program: docs/LIBRARY.md tells how to link it.
+/* What the commands of grove say of a document, in a C program: docs/LIBRARY.md says how to link it.
  *
  * Most calls take the bytes of a document (docs/FORMATS.md) and a buffer, and put the text there that the command of
  * their name prints. They keep nothing, so they may run in any number of threads at once, each with a buffer of its
@@ -7,7 +7,7 @@
  * What a caller owes, which nothing tests:
  * - `document_length` bytes stand at `document`, and nobody writes to them during the call;
  * - `room` bytes at `text` may be written, they are none of the document's, and nobody else reads or writes them then;
- * - either pointer may be NULL where its length is 0, and neither length is above PTRDIFF_MAX;
+ * - either pointer may be NULL if its length is 0, and neither length is above PTRDIFF_MAX;
  * - `malloc`, `realloc` and `free` are those of one allocator, and align a block to each power of two up to 16 that
  *   divides its size;
  * - no call is made from a signal handler, or in the forked child of a process with threads;
@@ -78,7 +78,7 @@ typedef struct grove_tree {
 
 #define GROVE_NOTHING {NULL}
 
-/* Reads the document's `nodes`, and holds their tree; what was held before is let go. It has no lines: if it is done,
+/* Reads the document's `nodes`, and holds their tree; what was held before is freed. It has no lines: if it is done,
  * `text` is as it was, and `length` is 0. If it isn't done, the handle is as it was. */
 grove_told grove_c_tree_open(
     grove_tree *tree, const uint8_t *document, size_t document_length, uint8_t *text, size_t room
@@ -95,7 +95,7 @@ grove_told grove_c_tree_check(
     grove_tree *tree, const uint8_t *document, size_t document_length, uint8_t *text, size_t room
 );
 
-/* Lets go what the handle holds: it is GROVE_NOTHING then. */
+/* Frees what the handle holds: it is GROVE_NOTHING then. */
 void grove_c_tree_close(grove_tree *tree);
 
 #ifdef __cplusplus

@@ -1,5 +1,5 @@
 """Batches whose lists contend for nodes, by seeded makers, and what is wrong with a run of one: it has to give the
-replies and the records of its lists done whole in the order that it tells, and no more waits than its plans allow."""
+replies and the records of its lists done whole in the order that it prints, and no more waits than its plans allow."""
 from __future__ import annotations
 
 import json
@@ -43,8 +43,8 @@ def hot(random: Random) -> dict:
 
 
 def passed(random: Random) -> dict:
-    """A light root that each list holds from end to end, and heavy children, which it lets go before the root: whoever
-    sleeps for its first one finds the root in its way when that is let go."""
+    """A light root that each list holds from end to end, and heavy children, which it unlocks before the root: a worker
+    that sleeps for its first one finds the root in its way when that is unlocked."""
     nodes = [a_row(None, "", 1)] + [a_row(0, f"n{number}", 1000) for number in range(40)]
     paths = Tree(nodes).paths
     firsts = [random.choice(paths[1:3]) for _ in range(MOST_LISTS)]
@@ -126,7 +126,7 @@ def steps_of(tree: Tree, lists: list[list]) -> int:
 
 
 def most_waits(tree: Tree, rounds: Iterable[list[list]]) -> list[int]:
-    """How often a lock of each node may have found it held, at most, where the lists of each round are run together.
+    """How often a lock of each node may have found it held, at most, if the lists of each round are run together.
     A lock counts once, however often it is tried; of a round, the first one of a node finds it free."""
     most: Counter[int] = Counter()
     for lists in rounds:
@@ -136,7 +136,7 @@ def most_waits(tree: Tree, rounds: Iterable[list[list]]) -> list[int]:
 
 
 def fault_of_waits(waits: list[int], most: list[int]) -> str | None:
-    """What is wrong with the waits of the nodes, where these are the most."""
+    """What is wrong with the waits of the nodes, if these are the most."""
     if len(waits) != len(most):
         return f"there are waits of {len(waits)} nodes, and not of {len(most)}"
     for node, (wait, limit) in enumerate(zip(waits, most)):
@@ -146,7 +146,7 @@ def fault_of_waits(waits: list[int], most: list[int]) -> str | None:
 
 
 def fault_of_run(document: dict, output: bytes, is_alone: bool = False) -> str | None:
-    """What is wrong with what `grove run` printed of the document. Where it has one worker, nobody waits."""
+    """What is wrong with what `grove run` printed of the document. If it has one worker, nobody waits."""
     lines = [line.split(" ", 1) for line in output.decode().splitlines()]
     if [line[0] for line in lines] != ["order", "replies", "records", "waits"]:
         return f"the lines are {[line[0] for line in lines]}"

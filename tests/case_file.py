@@ -1,4 +1,4 @@
-"""Reads a case from its file. README.md tells what the sections and their manners are."""
+"""Reads a case from its file. README.md says what the sections and their manners are."""
 import re
 from dataclasses import dataclass, field
 

@@ -1,4 +1,4 @@
-"""The texts of a case's sections. README.md tells in which manners they are written."""
+"""The texts of a case's sections. README.md says in which manners they are written."""
 import re
 
 import combs  # noqa: F401 (its makers join the others)
@@ -37,7 +37,7 @@ def unescaped(text):
 
 
 def made(body):
-    """The lines, where `= MAKER WORDS` stands for what a maker gives, and `= fill N` for blanks up to N bytes."""
+    """The lines, in which `= MAKER WORDS` stands for what a maker gives, and `= fill N` for blanks up to N bytes."""
     pieces, size = [], None
     for line in body.split("\n")[:-1]:
         maker, _, rest = line.removeprefix("= ").partition(" ")

@@ -14,7 +14,8 @@ def is_flow(flow):
 
 
 def fault_of_certificate(document, cost):
-    """The first fault of the document's flow as a certificate of this cost, as `check` tells it; `None` where it is one."""
+    """The first fault of the document's flow as a certificate of this cost, as `check` names it; `None` if it is
+    one."""
     tree, accesses, flow = Tree(document["nodes"]), document["list"], document["flow"]
     forced = tree.forced(accesses)
     wanted, found = [tree.paths[node] for node in forced], [row["node"] for row in flow]

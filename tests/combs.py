@@ -1,7 +1,7 @@
 """Makers of combs, the trees on which most is forced.
 
 A comb is a tree with chains of nodes side by side under its root, `chain` nodes in each but perhaps the last; each
-node's record is its number. Its list adds 1 to the last node of each of the first chains, in their order. Where nothing
+node's record is its number. Its list adds 1 to the last node of each of the first chains, in their order. If nothing
 else is said, the root weighs 1,000 and every other node 1.
 """
 from makers import compact, maker, numbers
@@ -74,7 +74,7 @@ def comb_records(words):
 @maker
 def comb_walk(words):
     """`comb_walk NODES ACCESSES CHAIN`: a legal plan that locks every node of the tree. The root is held throughout;
-    each chain is locked from the top down, then its access is done where it has one, and then it is unlocked."""
+    each chain is locked from the top down, then its access is done if it has one, and then it is unlocked."""
     nodes, accesses, chain = numbers(words)
     steps = [["lock", "/"]]
     for number in range((nodes - 2) // chain + 1):
@@ -96,7 +96,7 @@ def comb_throughout(words):
 def comb_plan(words):
     """`comb_plan ACCESSES CHAIN`: the settled plan of the list, for chains of at least two nodes.
 
-    The root is let go before the first access, since holding it costs more than all other nodes save by it. So the
+    The root is unlocked before the first access, since holding it costs more than all other nodes save by it. So the
     first node of each chain is locked before the first access, and waits: each other node of the chain is locked as
     late as it can be, just before the chain's access, and what is above the last one is unlocked then."""
     accesses, chain = numbers(words)

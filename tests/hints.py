@@ -5,5 +5,5 @@ HINT = re.compile(rb"hint: [ -~]{1,400}\n")
 
 
 def split_hint(errors: bytes) -> tuple[bytes, bytes]:
-    """The hint, where it is all that came on standard error, and what else came."""
+    """The hint, if it is all that came on standard error, and what else came."""
     return (errors, b"") if HINT.fullmatch(errors) else (b"", errors)

@@ -1,12 +1,12 @@
-"""Batches of many clients at once: put in the order that their replies tell, they are done once more, list by list."""
+"""Batches of many clients at once: put in the order that their replies give, they are done once more, list by list."""
 from store import Store
 
 MOST_LISTS = 256
 
 
 def fault_of_history(document, batches):
-    """What is wrong with all the batches that a new store of the document was sent, each as its lists and the reply that
-    they got; `None` where the replies are those of the lists done whole, by rounds and by the places in them."""
+    """What is wrong with all the batches that a new store of the document was sent, each as its lists and the reply
+    that they got; `None` if the replies are those of the lists done whole, by rounds and by the places in them."""
     done = {}
     for lists, found in batches:
         if not len(lists) == len(found["places"]) == len(found["replies"]):

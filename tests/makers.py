@@ -21,7 +21,7 @@ def compact(value):
 
 @maker
 def text(words):
-    """The words themselves, without a line feed."""
+    """The given words themselves, without a line feed."""
     return words
 
 

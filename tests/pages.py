@@ -12,7 +12,7 @@ PAGE = Path(__file__).resolve().parents[1] / "crates/grove_page/page/page.html"
 MOST_BODY, MOST_LINES = 4_194_304, 16_384
 # After a longer body the connection ends.
 MOST_KEPT = 65_536
-# The methods of each path, as `allow` tells them.
+# The methods of each path, as `allow` lists them.
 LOOKS = {b"GET", b"HEAD"}
 ALLOWED = {"/": {*LOOKS, b"POST"}, "/document": LOOKS, "/nodes": LOOKS, "/health": LOOKS}
 HEALTHY = b'{"status":"ok"}\n'
@@ -65,7 +65,7 @@ def is_known(host):
 
 
 def fault_of_response(store, row, response):
-    """What is wrong with the response to a request of this method, path and body, and these fields; `None` where it is
+    """What is wrong with the response to a request of this method, path and body, and these fields; `None` if it is
     right. The store is then what that leaves."""
     method, path, body, *fields = row
     if response is None:

@@ -25,7 +25,7 @@ class Locks:
 
 
 def fault_of_plan(tree, accesses, steps):
-    """The name of the plan's first fault; `None` where it is legal for the list."""
+    """The name of the plan's first fault; `None` if it is legal for the list."""
     return fault_of_steps(tree, accesses, steps, Locks(tree))
 
 
@@ -65,8 +65,8 @@ def cost_of_plan(tree, accesses, steps):
 
 
 def bars_of_plan(tree, accesses, steps):
-    """Of each node that a legal plan locks, in the tree's order: its path, how many accesses come before its lock and before
-    its release, and what it costs."""
+    """Of each node that a legal plan locks, in the tree's order: its path, how many accesses come before its lock and
+    before its release, and what it costs."""
     done, ends, costs = 0, {}, {}
     for kind, what in steps:
         if kind == "access":

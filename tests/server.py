@@ -11,8 +11,8 @@ HOST = "127.0.0.1"
 # Below the ports that the system gives to clients; two runs at once begin at different ones.
 PORTS = range(20000, 32000)
 TURNS = itertools.count(os.getpid() * 97)
-# How long a server may take to start, and to answer. (It serves a few clients at once, and lets the others wait for those,
-# so this is far more than any of them takes.)
+# How long a server may take to start, and to answer. (It serves a few clients at once, and lets the others wait for
+# those, so this is far more than any of them takes.)
 SECONDS = 60.0
 PIECE = 65536
 
@@ -64,7 +64,7 @@ class Server:
         return self
 
     def hears_of_port(self, line):
-        """Does the line say where it listens? Where any port was asked for, it says which."""
+        """Does the line say where it listens? If any port was asked for, it says which."""
         before, _, port = line.rstrip(b"\n").rpartition(b":")
         shown = f"[{self.host}]" if ":" in self.host else self.host
         if before != b"listening " + shown.encode() or line != before + b":%d\n" % int(port or 0):
@@ -106,8 +106,8 @@ def connected(port, host=HOST):
 
 
 def talk(port, text, piece=PIECE, leaves=False, host=HOST):
-    """Sends the text, a piece at a time, and no more; gives all that comes back. One that leaves looks at nothing of it,
-    and closes at once."""
+    """Sends the text, a piece at a time, and no more; gives all that comes back. One that leaves looks at nothing of
+    it, and closes at once."""
     with connected(port, host) as connection:
         if leaves:
             send(connection, text, piece)
@@ -141,7 +141,7 @@ def ask_in_turn(connection, lines):
             connection.shutdown(socket.SHUT_WR)
             came.append(replies.read())
         except ConnectionError:
-            # It closed with a line unread, as where no thread could be started.
+            # It closed with a line unread, as if no thread could be started.
             pass
     return b"".join(came)
 
@@ -152,7 +152,7 @@ def send(connection, text, piece):
 
 
 def send_all(connection, text, piece):
-    """Sends the text and closes this side. (A server that has gone is seen by whoever reads.)"""
+    """Sends the text and closes this side. (A server that has gone is noticed when the replies are read.)"""
     try:
         send(connection, text, piece)
         connection.shutdown(socket.SHUT_WR)

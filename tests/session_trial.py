@@ -11,7 +11,7 @@ PIECES = {"in-1": 1, "in-7": 7}
 
 
 def faults_of_case(program, case):
-    """What differs, a line each; no line where the case passes."""
+    """What differs, a line each; no line if the case passes."""
     port = free_port()
     case = replace(case, words=[b"%d" % port if word == b"PORT" else word for word in case.words])
     if case.connections:

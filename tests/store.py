@@ -1,4 +1,4 @@
-"""A store as docs/SESSIONS.md tells of it, by itself: which reply is right for a line, and what does it leave?
+"""A store as docs/SESSIONS.md describes it, by itself: which reply is right for a line, and what does it leave?
 
 It is that of one worker, which does a batch's lists in their order, so that no node is ever waited for. Of the plans
 that are right for a list it takes any least one that locks what it has to, with whatever flow certifies it.
@@ -31,7 +31,7 @@ class Store:
         self.rounds = 0
 
     def fault_of(self, line, reply):
-        """What is wrong with the reply (without its line feed) to the line; `None` where it is right. The store is then
+        """What is wrong with the reply (without its line feed) to the line; `None` if it is right. The store is then
         what the line leaves."""
         try:
             need_short(line)

@@ -23,7 +23,7 @@ class Ran:
 
 
 def faults_of_run(program, case):
-    """What differs, a line each; no line where the case passes."""
+    """What differs, a line each; no line if the case passes."""
     if not program.is_file():
         return [f"there is no program {program}"]
     ran = run(program, case.words, case, case.input)
@@ -40,7 +40,7 @@ def faults_of_run(program, case):
 
 
 def run(program, words, case, text):
-    """The program's run on this input, in a folder with the case's files; `None` where it took too long."""
+    """The program's run on this input, in a folder with the case's files; `None` if it took too long."""
     with tempfile.TemporaryDirectory(prefix="grove-case-") as folder:
         lay_out(case, folder)
         pipe = subprocess.PIPE
@@ -66,7 +66,7 @@ def lay_out(case, folder):
 
 
 def faults_of_errors(case, ran):
-    """Where a case doesn't say what comes on standard error, a refusal may have a hint there."""
+    """If a case doesn't say what comes on standard error, a refusal may have a hint there."""
     if case.errors:
         return faults_of_stream("errors", case.errors, ran.errors)
     return faults_of_stream("errors", Wanted(), split_hint(ran.errors)[1] if ran.status == REFUSED else ran.errors)

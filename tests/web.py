@@ -30,7 +30,7 @@ class Response(NamedTuple):
 
 
 def request(method, path, body=None, *fields):
-    """The bytes of a request; with a body it tells how long it is, and its host where the fields don't."""
+    """The bytes of a request; with a body it says how long it is, and its host if the fields don't."""
     length = [] if body is None else [f"content-length: {len(body)}"]
     host = [] if values_of(fields, "host") else [f"host: {HOST}"]
     head = [f"{method} {path} HTTP/1.1", *host, *fields, *length]
@@ -54,7 +54,7 @@ def chunked(pieces):
 
 
 def response_of(stream, method):
-    """The next response in the stream of bytes, to a request by this method; `None` where the stream has ended."""
+    """The next response in the stream of bytes, to a request by this method; `None` if the stream has ended."""
     line = stream.readline(MOST_LINE)
     if not line:
         return None
@@ -138,7 +138,7 @@ class Client:
 
 
 def responses_in(data, may_be_bodiless):
-    """All responses that the bytes are made of, where some may answer `HEAD`, and so have no body."""
+    """All responses that the bytes are made of, some of which may answer `HEAD`, and so have no body."""
     stream, found = io.BytesIO(data), []
     while stream.tell() < len(data):
         behind = data.find(b"\r\n\r\n", stream.tell()) + 4

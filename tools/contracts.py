@@ -47,7 +47,7 @@ def functions(item):
 
 
 def contract(function):
-    """The contract of a function: from its first clause to its body, or to its end where it has none."""
+    """The contract of a function: from its first clause to its body, or to its end if it has none."""
     return "".join(re.findall(r"(?ms)^\s*(?:requires|ensures).*?(?=^\s*\{\}?$|\Z)", function))
 
 

@@ -1,7 +1,8 @@
-"""The words of a call, as far as an unproved run has to understand them.
+"""The arguments of a call, as far as an unproved run has to understand them.
 
-grove_words decides what words mean. Here stands only which word names a document, where a server is to listen, and whether
-standard input is read, and that only of words that are right: what is wrong the program refuses itself, before it reads.
+grove_words decides what arguments mean. Here stands only which one names a document, where a server is to listen, and
+whether standard input is read. That is so only of arguments that are right: the program itself refuses wrong ones,
+before it reads.
 """
 
 from __future__ import annotations
@@ -24,7 +25,7 @@ DOCUMENT = "document"
 
 @dataclass
 class Given:
-    """The words, with what was found in them: values by their option and plain words, each with its place."""
+    """The arguments, with what was found in them: values by their option and plain ones, each with its place."""
 
     words: list[str]
     command: str = "judge"
@@ -59,7 +60,7 @@ class Given:
         return self.command in (*READING, "ask") and self.is_known and not self.plain
 
     def document(self) -> tuple[int, str] | None:
-        """The document's name, and the place of the word that has it."""
+        """The document's name, and the place of the argument that has it."""
         if self.serves():
             return self.values.get("--tree")
         return self.plain[0] if self.command in READING and self.plain else None
@@ -80,7 +81,8 @@ class Given:
 
 @dataclass
 class HandedIn:
-    """The words with which the program is called, the flags that hand it the document, and the names to put back."""
+    """The arguments with which the program is called, the flags that hand it the document, and the names to put
+    back."""
 
     words: list[str]
     flags: list[str]
@@ -96,7 +98,8 @@ class HandedIn:
 
 
 def hand_in(given: Given, room: str) -> HandedIn:
-    """Copies the document into the room. One that can't be opened is named by its whole path: the program can't either."""
+    """Copies the document into the room. One that can't be opened is named by its whole path: the program can't
+    either."""
     named = given.document()
     if not named or not named[1]:
         return HandedIn(given.words, [])
@@ -111,12 +114,12 @@ def hand_in(given: Given, room: str) -> HandedIn:
 
 
 def renamed_at(words: list[str], at: int, name: str, wanted: str) -> list[str]:
-    """The words with another name in one of them, at its end."""
+    """The arguments with another name in one of them, at its end."""
     return [*words[:at], words[at][: len(words[at]) - len(name)] + wanted, *words[at + 1 :]]
 
 
 def copy_part(source: int, copy: str) -> int:
-    """Copies what can be read, as far as the program would read it, and tells how many bytes that were."""
+    """Copies what can be read, as far as the program would read it, and returns how many bytes that were."""
     count = 0
     with open(copy, "wb") as target:
         while count <= MOST_BYTES:

@@ -99,7 +99,11 @@ LIMITS = [
             ("docs/COMMANDS.md", "(`--workers N`, 1 to {}, by default"),
         ],
     ),
-    ("crates/grove_words/src/options.rt", "FEW_WORKERS", [("docs/COMMANDS.md", "a long round, 1 to 16, by default {} |")]),
+    (
+        "crates/grove_words/src/options.rt",
+        "FEW_WORKERS",
+        [("docs/COMMANDS.md", "a long round, 1 to 16, by default {} |")],
+    ),
     (
         "crates/grove_words/src/options.rt",
         "MOST_HTTP_SEATS",
@@ -141,12 +145,20 @@ LIMITS = [
             ("docs/PAGE.md", "A line of more than {} bytes"),
         ],
     ),
-    ("crates/grove_session/src/sessions.rt", "MOST_HELD", [("docs/SESSIONS.md", "at the latest when they have {} KiB")]),
+    (
+        "crates/grove_session/src/sessions.rt",
+        "MOST_HELD",
+        [("docs/SESSIONS.md", "at the latest when they have {} KiB")],
+    ),
     ("crates/grove_desk/src/board.rt", "MOST_LINES", [("docs/SESSIONS.md", "- At most {} lines wait;")]),
     ("crates/grove_page/src/service.rt", "MOST_LINES", [("docs/PAGE.md", "a body of more than {} line feeds")]),
     ("crates/grove_page/src/service.rt", "MOST_KEPT", [("docs/PAGE.md", "After a body of more than {} bytes")]),
     ("crates/grove_page/src/serving.rt", "MOST_BODY", [("docs/PAGE.md", "the body has more than {} bytes |")]),
-    ("crates/grove_page/src/replies_sink.rt", "MOST_REPLIES", [("docs/PAGE.md", "the replies would have more than {} MiB")]),
+    (
+        "crates/grove_page/src/replies_sink.rt",
+        "MOST_REPLIES",
+        [("docs/PAGE.md", "the replies would have more than {} MiB")],
+    ),
     (
         "crates/grove_build/src/kept_plans.rt",
         "MOST_KEPT",

@@ -1,4 +1,5 @@
-"""Which process below this one listens at an address, from /proc alone: a connection would take a seat, and be told of."""
+"""Which process below this one listens at an address, from /proc alone: a connection would take a slot, and be
+logged."""
 
 from __future__ import annotations
 

@@ -49,7 +49,7 @@ def reach(files):
 
 
 def roots_in(there, names):
-    """What the clauses of these names, or all where none is named, and those that are required name."""
+    """What the clauses of these names, or all if none is named, and those that are required name."""
     wanted = [clause for clause in there if clause.kind == "requires" or not names or clause.name in names]
     return {root for clause in wanted for root in clause.roots}
 

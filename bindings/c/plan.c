@@ -17,7 +17,7 @@ struct text {
     size_t room;
 };
 
-/* Ends the program where there is no memory. */
+/* Ends the program if there is no memory. */
 static void make_room(struct text *text, size_t room) {
     uint8_t *bytes = realloc(text->bytes, room);
     if (bytes == NULL) {
@@ -28,7 +28,7 @@ static void make_room(struct text *text, size_t room) {
     text->room = room;
 }
 
-/* All that a file has; 0 where it can't be read. */
+/* All that a file has; 0 if it can't be read. */
 static int read_file(const char *name, struct text *text) {
     FILE *file = fopen(name, "rb");
     size_t count;

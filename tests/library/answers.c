@@ -27,7 +27,7 @@ static void make_room(struct buffer *buffer, size_t room) {
     }
 }
 
-/* A length from standard input; 0 where that has ended. */
+/* A length from standard input; 0 if that has ended. */
 static int read_length(size_t *length) {
     uint8_t bytes[LENGTH];
     int at;

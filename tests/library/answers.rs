@@ -33,7 +33,7 @@ fn main() -> io::Result<()> {
     sink.flush()
 }
 
-/// The next document; none where the stream has ended.
+/// The next document; none if the stream has ended.
 fn next_document(source: &mut impl Read) -> io::Result<Option<Vec<u8>>> {
     let mut length = [0; 8];
     if source.read(&mut length[..1])? == 0 {

@@ -14,7 +14,7 @@ from documents import Plans, answers_in, framed, some_document
 from sweeps.documents import examples
 from sweeps.program import Tally, run
 
-# The calls of the library, in the order of answers.*, by the words of the program that say the same.
+# The calls of the library, in the order of answers.*, by the arguments of the program that say the same.
 CALLS = {
     ("plan",): "grove_c_plan",
     ("plan", "--document"): "grove_c_plan_document",
@@ -67,7 +67,7 @@ def short(text: bytes) -> bytes:
 
 @dataclass(frozen=True)
 class Difference:
-    """Where two lists of answers are not the same."""
+    """The first difference of two lists of answers."""
 
     document: int
     words: tuple[str, ...]

@@ -109,7 +109,7 @@ static void try_closed(void) {
 
 /* ---- a handle is opened */
 
-/* A refusal is told, and what was held stays. */
+/* A refusal is returned, and what was held stays. */
 static void try_refused(grove_tree *tree) {
     void *held = tree->held;
     long before = blocks;

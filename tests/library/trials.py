@@ -41,7 +41,7 @@ pickbracken = { path = "CRATE" }
 
 @dataclass(frozen=True)
 class Given:
-    """What is tried, and how much of it where that can be chosen."""
+    """What is tried, and how much of it if that can be chosen."""
 
     program: str
     documents: int
@@ -56,7 +56,7 @@ class Trial:
     needs: tuple[str, ...] = ()
 
     def absent(self) -> str:
-        """What is needed and isn't there; nothing where it can be run."""
+        """What is needed and isn't there; nothing if it can be run."""
         return ", ".join(name for name in self.needs if not shutil.which(name))
 
 
@@ -253,7 +253,7 @@ def documents_of(count: int) -> tuple[bytes, ...]:
 
 
 def planned(document: bytes) -> bytes:
-    """The document with its settled plan and flow in it; as it is where it is refused."""
+    """The document with its settled plan and flow in it; as it is if it is refused."""
     status, text = said("grove_c_plan_document", document)
     return text if status == 0 else document
 

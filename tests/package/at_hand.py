@@ -1,4 +1,4 @@
-"""What is there for whoever types: manual pages, and completions."""
+"""What is there for a person who types: manual pages, and completions."""
 
 from __future__ import annotations
 
@@ -73,7 +73,7 @@ def names_of_manual(packages: Packages, _room: Path, tally: Tally) -> None:
 
 
 def completed_by_bash(packages: Packages, room: Path, tally: Tally) -> None:
-    """What bash is told of some beginnings, in a folder with a file and a folder."""
+    """What bash completes of some beginnings, in a folder with a file and a folder."""
     (room / "tree.json").write_text("{}")
     (room / "other").mkdir()
     script = packages.prefix / "share/bash-completion/completions/grove"

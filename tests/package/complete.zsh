@@ -1,5 +1,5 @@
-# Prints what becomes of the line `grove WORDS` in zsh once Tab is pressed behind it.
-#   usage: zsh -f complete.zsh FOLDER WORDS    (the folder has the function _grove)
+# Prints what becomes of the line `grove ARGUMENTS` in zsh once Tab is pressed behind it.
+#   usage: zsh -f complete.zsh FOLDER ARGUMENTS    (the folder has the function _grove)
 zmodload zsh/zpty
 zpty shell "TERM=dumb zsh -f -i"
 zpty -w shell "PROMPT=; unsetopt zle_bracketed_paste prompt_cr prompt_sp; unset zle_bracketed_paste

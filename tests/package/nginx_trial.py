@@ -113,7 +113,7 @@ class Nginx:
         self.started.wait()
 
     def ask(self, method: str, path: str, body: bytes | None = None, /, **fields: str) -> Came:
-        """By TLS, as somebody who knows the password, where no field says something else."""
+        """By TLS, as somebody who knows the password, unless a field says something else."""
         return self.asked(method, path, body, {"authorization": KNOWN, **fields})
 
     def asked(self, method: str, path: str, body: bytes | None, fields: dict[str, str]) -> Came:
@@ -199,7 +199,7 @@ def is_connected(nginx: Nginx, context: ssl.SSLContext) -> bool:
 
 
 def note_password(nginx: Nginx, tally: Tally) -> None:
-    """Whoever has none sees nothing, and does nothing."""
+    """A client without one sees nothing, and does nothing."""
     wrong = base64.b64encode(f"{NAME}:another".encode()).decode()
     known: list[dict[str, str]] = [{}, {"authorization": f"Basic {wrong}"}, {"origin": f"https://{SITE}"}]
     for fields in known:
@@ -259,7 +259,7 @@ def note_crowd(nginx: Nginx, tally: Tally) -> None:
 
 
 def note_hurry(nginx: Nginx, tally: Tally) -> None:
-    """Who asks too often is told so, and let in again later."""
+    """A client that asks too often gets 429, and is let in again later."""
     ask = f"GET /none HTTP/1.1\r\nhost: {SITE}\r\nauthorization: {KNOWN}\r\n"
     asks = (OFTEN - 1) * (ask + "\r\n") + ask + "connection: close\r\n\r\n"
     with ThreadPoolExecutor(HURRIES) as pool:

@@ -112,7 +112,7 @@ class Root:
             shutil.copy(library, folder / library.relative_to("/"))
 
     def words(self, *words: str) -> list[str]:
-        """The words that run the program there."""
+        """The command that runs the program there."""
         entered = ["chroot"] if os.geteuid() == 0 else ["unshare", "--map-root-user", "chroot"]
         return [*entered, str(self.folder), f"/{USUAL_PREFIX}/bin/grove", *words]
 

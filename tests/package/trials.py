@@ -34,7 +34,7 @@ UNITS = {
 
 @dataclass(frozen=True)
 class Trial:
-    """Something to try, the commands that it needs, and what tells of anything else that is needed and isn't there."""
+    """Something to try, the commands that it needs, and what names anything else that is needed and isn't there."""
 
     name: str
     call: Callable[[Packages, Path, Tally], None]
@@ -42,7 +42,7 @@ class Trial:
     is_absent: Callable[[], str] = str
 
     def absent(self) -> str:
-        """What is needed and isn't there; nothing where it can be run."""
+        """What is needed and isn't there; nothing if it can be run."""
         return ", ".join(name for name in self.needs if not shutil.which(name)) or self.is_absent()
 
 
@@ -55,7 +55,7 @@ def twice_the_same(packages: Packages, room: Path, tally: Tally) -> None:
 
 
 def refused(packages: Packages, room: Path, tally: Tally) -> None:
-    """Nothing is made where program and library aren't those of the sources."""
+    """Nothing is made if program and library aren't those of the sources."""
     copy = copy_of_checkout(packages.copy / PROGRAM, room / "copy")
     cargo = copy / "bindings/rust/Cargo.toml"
     told = cargo.read_text()
@@ -141,7 +141,7 @@ def debian(packages: Packages, room: Path, tally: Tally) -> None:
 
 
 def lintian(packages: Packages, _room: Path, tally: Tally) -> None:
-    """No error. What it warns of is told by docs/PACKAGE.md."""
+    """No error. docs/PACKAGE.md says what it warns of."""
     ran = called("lintian", "--fail-on", "error", "--tag-display-limit", "0", packages.debian or "no package")
     errors = [line for line in ran.stdout.splitlines() if line.startswith("E:")]
     tally.note("errors", None if not errors and ran.returncode == 0 else "\n".join([*errors, ran.stderr]))

@@ -1,9 +1,10 @@
-"""Each growth of calls by themselves refused, alone: a call answers what is right for it, or `memory`; made again on the same
-values it then answers what is right for it. A session that ends so has given just the replies before; one more, with a fresh
-store, gives all of them.
+"""Each growth of calls by themselves refused, alone: a call answers what is right for it, or `memory`; made again on
+the same values it then answers what is right for it. A session that ends so has given just the replies before; one
+more, with a fresh store, gives all of them.
 
-`grove_bench` makes the calls, by words that end in `-again`; it stands beside the program where the gate has built both,
-and where it isn't there nothing is tried. It makes no command's run anew: the sweeps `growths` and `served_growths` do.
+`grove_bench` makes the calls, by arguments that end in `-again`; it stands beside the program if the gate has built
+both, and if it isn't there nothing is tried. It makes no command's run anew: the sweeps `growths` and
+`served_growths` do.
 """
 
 from __future__ import annotations
@@ -18,7 +19,7 @@ from sweeps.growths import MOST_GROWTHS, is_told, library_in, refusing
 from sweeps.program import Ran, Tally, Try, run
 
 TRIED = "growths of calls refused, each alone, and the calls made again"
-# What the program says where the values of a call can't be made: the command line, a vector or text, our own types.
+# What the program prints if the values of a call can't be made: the command line, a vector or text, our own types.
 STOPPED = [b"Error: out of memory\n", b"Error: memory allocation failed\n", b"Error: memory\n"]
 TEN_REPLIES = REPLIES.splitlines()
 
@@ -45,7 +46,7 @@ RECEIPTS = [
     b'receipt 1 {"places":[0],"replies":[[21]],"round":2} rounds 2',
     b'receipt 2 {"places":[0],"replies":[[22]],"round":3} rounds 3',
 ]
-# By the word of the command line, the calls in their order.
+# By the argument of the command line, the calls in their order.
 CALLS = {
     "plan": [Call("Tree::build", [b"tree 4"]), Call("AccessList::new", [b"list 2"]), Call("plan", [PLANNED])],
     "check": [Call("check", [b"cost 3"])],
@@ -86,7 +87,7 @@ def tries(program: str, room: str) -> list[Try]:
 
 @dataclass(frozen=True)
 class Right:
-    """The outputs that are right: where no call was refused, and where one was, each with what it tells of."""
+    """The outputs that are right: if no call was refused, and if one was, each with what it shows."""
 
     whole: list[bytes]
     refused: dict[str, list[bytes]]
@@ -111,8 +112,8 @@ def by_sessions() -> Right:
 
 
 def refuse_each(bench: Path, library: str, word: str, right: Right, tally: Tally) -> None:
-    """Refuses the growths of a word's run in turn, until a run has no growth of that number. Each call that takes memory
-    has to have been refused some."""
+    """Refuses the allocations of an argument's run in turn, until a run has none of that number. Each call that takes
+    memory has to have been refused some."""
     unseen = set(right.refused)
     for number in range(1, MOST_GROWTHS + 1):
         with refusing(library, number) as (how, ends):
@@ -134,6 +135,7 @@ def done(lines: list[bytes]) -> Ran:
 
 
 def is_stopped(ran: Ran, right: Right) -> bool:
-    """Did the run end before a call, since a value of it couldn't be made? Answers may have come before, none refused."""
+    """Did the run end before a call, since a value of it couldn't be made? Answers may have come before, none
+    refused."""
     begun = b"".join(line + b"\n" for line in right.whole)
     return ran.status == 1 and ran.err in STOPPED and begun.startswith(ran.out) and ran.out[-1:] in (b"", b"\n")

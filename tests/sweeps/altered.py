@@ -1,8 +1,9 @@
-"""Altered certificates: each amount of a flow that `check` accepts changed, one of it moved to another amount of its row, each
-row dropped, doubled and swapped: refused, by the first rule of docs/CERTIFICATE.md that it breaks, as tests/certificate.py works it out.
+"""Altered certificates: each amount of a flow that `check` accepts changed, one of it moved to another amount of its
+row, each row dropped, doubled and swapped: refused, by the first rule of docs/CERTIFICATE.md that it breaks, as
+tests/certificate.py works it out.
 
-All are asked as lines of a session, whose replies have the fault's name, and some by the command `check`, which tells its
-place too.
+All are asked as lines of a session, whose replies have the fault's name, and some by the command `check`, which
+prints its place too.
 """
 
 from __future__ import annotations

@@ -40,11 +40,11 @@ def is_refused(ran: Ran) -> bool:
     return ran.status == 1 and not ran.err and REFUSED.fullmatch(ran.out) is not None
 
 
-def amiss(command: str, ran: Ran) -> str | None:
-    """What is amiss with the form of the run, if it neither answers nor refuses."""
+def form_fault(command: str, ran: Ran) -> str | None:
+    """What is wrong with the form of the run, if it neither answers nor refuses."""
     return None if is_done(command, ran) or is_refused(ran) else f"no answer and no refusal: {ran}"
 
 
 def cost_of(command: str, ran: Ran) -> int | None:
-    """The cost that the run tells; none where it is no answer."""
+    """The cost that the run prints; none if it is no answer."""
     return int(DONE[command].fullmatch(ran.out)[1]) if is_done(command, ran) else None

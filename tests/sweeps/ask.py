@@ -1,4 +1,5 @@
-"""`grove ask` at a server, at none, and at ones that are lost: what it prints is what came, and its status is right for it."""
+"""`grove ask` at a server, at none, and at ones that are lost: what it prints is what came, and its status is right
+for it."""
 
 from __future__ import annotations
 
@@ -54,7 +55,7 @@ def ten_lines(program: str, tally: Tally) -> None:
 
 
 def as_words(program: str, tally: Tally) -> None:
-    """The same as words. Then nothing is read of standard input."""
+    """The same as arguments. Then nothing is read of standard input."""
     with Serving(program, TREE) as server:
         words = [line.decode() for line in lines_of(TEXT)]
         wanted = Ran(REFUSED if has_error(REPLIES) else OK, REPLIES, b"")
@@ -126,7 +127,8 @@ def lost(program: str, tally: Tally) -> None:
 
 
 def explained(program: str, tally: Tally) -> None:
-    """A server that closes before a reply or within one, that says more than a line, that speaks HTTP, or that breaks off."""
+    """A server that closes before a reply or within one, that says more than a line, that speaks HTTP, or that breaks
+    off."""
     lose = "lost the server at {}: it closed the connection before the end of a reply"
     long = "no reply of the server at {}: more than a line came for one"
     http = "no reply of the server at {}: it speaks HTTP"

@@ -1,5 +1,5 @@
-"""Broken session lines by a seeded generator, alone and between good ones, and lines about as long as one may be: each gets
-its one reply, the good ones their own, and the store is what the good ones made it."""
+"""Broken session lines by a seeded generator, alone and between good ones, and lines about as long as one may be:
+each gets its one reply, the good ones their own, and the store is what the good ones made it."""
 
 from __future__ import annotations
 

@@ -1,5 +1,5 @@
-"""Servers of lines and of pages with `--busy`: a connection beyond the sixteen is told so and closed, and the sixteen
-go on."""
+"""Servers of lines and of pages with `--busy`: a connection beyond the sixteen gets `busy` and is closed, and the
+sixteen go on."""
 
 from __future__ import annotations
 
@@ -22,12 +22,12 @@ BUSY = b'{"error":"busy"}\n'
 SEATS = 16
 # How many come too late.
 LATE = 40
-# How long a seat that was left may take to be free.
+# How long a connection slot that was left may take to be free.
 LONGEST = 60.0
 
 
 def tries(program: str, room: str) -> list[Try]:
-    others = {"more clients than there are seats": (), "the same with a time to idle": ("--idle", "600")}
+    others = {"more clients than there are slots": (), "the same with a time to idle": ("--idle", "600")}
     return [
         Try(f"{command}, {name}", partial(full, program, command, further))
         for command in COMMANDS
@@ -36,10 +36,10 @@ def tries(program: str, room: str) -> list[Try]:
 
 
 def told(port: int, text: bytes) -> bytes:
-    """What a client that sends this text is told, up to the end."""
+    """What a client that sends this text gets, up to the end."""
     with connected(port) as late:
         came = b""
-        # (It may be closed before it has sent, and is told all the same.)
+        # (It may be closed before it has sent, and gets the reply all the same.)
         with suppress(ConnectionError):
             late.sendall(text)
         with suppress(ConnectionError):
@@ -61,12 +61,12 @@ def full(program: str, command: str, further: tuple[str, ...], tally: Tally) -> 
         everybody("beside the late ones", tally)
         streams.pop().close()
         clients.pop().close()
-        note_replies(store, ADD, admitted(command, server.port), "the one in the seat that was left", tally)
+        note_replies(store, ADD, admitted(command, server.port), "the one in the slot that was left", tally)
         everybody("at the end", tally)
 
 
 def is_told(command: str, came: bytes) -> bool:
-    """Is a client told that it is too late?"""
+    """Does a client get the reply that it is too late?"""
     if command == "serve":
         return came == BUSY
     responses = responses_in(came, False)
@@ -84,7 +84,7 @@ def note_everybody(store: Store, command: str, clients: list, streams: list, whe
 
 
 def admitted(command: str, port: int) -> bytes:
-    """The reply to a line, once a seat is free."""
+    """The reply to a line, once a connection slot is free."""
     ends = time.monotonic() + LONGEST
     while time.monotonic() < ends:
         with connected(port) as client, client.makefile("rb") as stream:

@@ -35,7 +35,7 @@ MANY, MOST_LISTS, MOST_ACCESSES = 70_000, 256, 64
 OTHER_HOST = "127.0.0.2"
 # How many pairs of lines are sent at once, and what takes longer than a reply that waits for none to arrive.
 PAIRS, DELAYED = 60, 0.03
-# How long a client that never reads goes on sending, where nothing holds it up.
+# How long a client that never reads goes on sending, if nothing holds it up.
 SECONDS = 2.0
 
 
@@ -86,7 +86,7 @@ def two_at_once(program: str, tally: Tally) -> None:
 
 
 def answer_pairs(program: str, tally: Tally) -> str | None:
-    """What is wrong where most pairs take long."""
+    """What is wrong if most pairs take long."""
     slow = 0
     store = Store(json.loads(TREE))
     with Serving(program, TREE) as server, connected(server.port) as client, client.makefile("rb") as replies:
@@ -188,7 +188,7 @@ def failing_devices(program: str, tally: Tally) -> None:
 
 
 def no_threads(program: str, library: str, tally: Tally) -> None:
-    """Connections for which no thread can be started, more of them than there are seats: each is closed with no reply.
+    """Connections for which no thread can be started, more of them than there are slots: each is closed with no reply.
     Those before them, of which one stays all the time, and those after them are served."""
     first, last = 3, 3 + 20
     surroundings = {**os.environ, "LD_PRELOAD": library, "FIRST_REFUSED": str(first), "LAST_REFUSED": str(last)}

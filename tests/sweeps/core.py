@@ -1,6 +1,7 @@
-"""A run of the core that no document can ask for: as many jobs as there may be, each with as many accesses as it may have.
+"""A run of the core that no document can ask for: as many jobs as there may be, each with as many accesses as it may
+have.
 
-The timing program makes it; it stands beside the program where the gate has built both. Where it isn't there, nothing is
+The timing program makes it; it stands beside the program if the gate has built both. If it isn't there, nothing is
 tried, and the count says so.
 """
 

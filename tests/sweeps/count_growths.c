@@ -1,4 +1,4 @@
-/* Preloaded before a program, tells of each of its growths by a byte on the descriptor whose number stands in
+/* Preloaded before a program, reports each of its growths by a byte on the descriptor whose number stands in
    GROWTHS_TELL. */
 #include <errno.h>
 #include <stddef.h>

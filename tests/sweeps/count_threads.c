@@ -1,4 +1,4 @@
-/* Preloaded before a program, counts the threads that it starts. Tells of each by a byte on the descriptor whose number
+/* Preloaded before a program, counts the threads that it starts. Reports each by a byte on the descriptor whose number
    stands in THREADS_TELL: `+` before it starts, and `-` when it has done its work. */
 #define _GNU_SOURCE
 #include <dlfcn.h>

@@ -1,6 +1,6 @@
-"""Sixteen clients at once, half of which break off, flood or never read: the others get their replies, and nothing is lost.
-Sixteen good ones share rounds, eight add up, a client is served while another stays, and a 17th one once one of sixteen
-leaves.
+"""Sixteen clients at once, half of which break off, flood or never read: the others get their replies, and nothing is
+lost. Sixteen good ones share rounds, eight add up, a client is served while another stays, and a 17th one once one of
+sixteen leaves.
 
 All their batches have to be one serial history, whichever rounds they share.
 """
@@ -74,7 +74,7 @@ def share_rounds(program: str, tally: Tally) -> None:
 
 
 def share(program: str, tally: Tally) -> str | None:
-    """What is wrong where no two of the batches share a round."""
+    """What is wrong if no two of the batches share a round."""
     asked = [[request_of(number % GOOD, 0)] * LINES for number in range(SEATS)]
     with Serving(program, document(), 4) as server, ThreadPoolExecutor(SEATS) as pool:
         came = list(pool.map(good, [server.port] * SEATS, asked, range(SEATS)))

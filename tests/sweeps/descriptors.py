@@ -1,5 +1,5 @@
-"""A server that has few descriptors, or none: whoever it has one for is served, and the others once one is free. Nothing
-that is open is closed, and the server doesn't spin. Any other failure to take a connection ends it."""
+"""A server that has few descriptors, or none: a connection that it has one for is served, and the others once one is
+free. Nothing that is open is closed, and the server doesn't spin. Any other failure to take a connection ends it."""
 
 from __future__ import annotations
 
@@ -60,7 +60,8 @@ def at_most(count: int) -> None:
 
 
 def serve_some(program: str, tally: Tally) -> None:
-    """Ten clients come and ask. Those that there are descriptors for are answered; once they leave, so are the others."""
+    """Ten clients come and ask. Those that there are descriptors for are answered; once they leave, so are the
+    others."""
     store = Store(json.loads(TREE))
     with Serving(program, TREE, preexec_fn=partial(at_most, FEW)) as server, ExitStack() as room:
         clients = [room.enter_context(connected(server.port)) for _ in range(CLIENTS)]
@@ -108,7 +109,8 @@ def serve_later(program: str, library: str, error: int, tally: Tally) -> None:
 
 
 def serve_busy(program: str, library: str, tally: Tally) -> None:
-    """With `--busy`, whoever couldn't be taken leaves no seat: sixteen have one, and the 17th is told so."""
+    """With `--busy`, a connection that couldn't be accepted leaves no slot: sixteen have one, and the 17th gets
+    `busy`."""
     store = Store(json.loads(TREE))
     surroundings = failing(library, FAILURES, errno.EMFILE)
     with Serving(program, TREE, further=("--busy",), env=surroundings) as server, ExitStack() as room:

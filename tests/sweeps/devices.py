@@ -1,4 +1,4 @@
-"""Devices that fail or come in pieces: `device` and status 3 where one was needed, else the whole answer."""
+"""Devices that fail or come in pieces: `device` and status 3 if one was needed, else the whole answer."""
 
 from __future__ import annotations
 
@@ -20,7 +20,7 @@ from sweeps.served_devices import failing, library_in
 
 TRIED = "runs with a device that is closed, full, of another kind, or in pieces"
 NOBODY = 65534
-# How many bytes go in or out at once where each read or write fails, and more of these than any run has.
+# How many bytes go in or out at once if each read or write fails, and more of these than any run has.
 PIECE = 40
 MOST_CALLS = 20_000
 # A terminal holds no more than this before it is read. Ctrl-D is typed at the end of an input.
@@ -28,7 +28,7 @@ TERMINAL_HOLDS = 4000
 END_OF_INPUT = b"\x04"
 # What `--explain` says before the system's reason.
 NO_READ, NO_WRITE = "cannot read standard input", "cannot write standard output"
-# Where standard error fails too, nothing can be said.
+# If standard error fails too, nothing can be printed.
 SILENT = Ran(3, b"", b"")
 
 
@@ -71,7 +71,7 @@ def failing_output(program: str, tally: Tally) -> None:
 
 
 def explained(asked: Asked) -> Asked:
-    """The same words with `--explain`."""
+    """The same arguments with `--explain`."""
     return replace(asked, words=(*asked.words, "--explain"))
 
 
@@ -201,7 +201,7 @@ def unreadable_names(program: str, tally: Tally) -> None:
 
 
 def forbidden(program: str, room: str, tally: Tally) -> None:
-    """A file that whoever runs the program may not read; root may read all, so the program then runs as nobody."""
+    """A file that the user of the program may not read; root may read all, so the program then runs as nobody."""
     os.chmod(room, 0o711)
     own = shutil.copy(program, f"{room}/program")
     for asked in named_examples():
@@ -260,7 +260,7 @@ def run_on_pieces(program: str, asked: Asked, size: int) -> Ran:
     try:
         return run(program, *asked.words, text=None, stdin=ends)
     finally:
-        # (a writer of more than was read is let go)
+        # (a writer of more than was read is released)
         os.close(ends)
         writer.join()
 
@@ -276,7 +276,7 @@ def write_pieces(starts: int, pieces: list[bytes]) -> None:
 
 
 def closing(program: str, streams: str, asked: Asked) -> Ran:
-    """Runs the program with streams closed, as the shell's words for it say."""
+    """Runs the program with streams closed, as the shell's redirections say."""
     return run("sh", "-c", f'exec "$@" {streams}', "sh", program, *asked.words, text=asked.text)
 
 

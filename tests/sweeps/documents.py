@@ -1,4 +1,4 @@
-"""What the sweeps ask of the program: documents and words, with the answers that are right for them."""
+"""What the sweeps ask of the program: documents and arguments, with the answers that are right for them."""
 
 from __future__ import annotations
 
@@ -16,9 +16,9 @@ OPTIONS = {("run", ".txt"): ("--workers", "1"), ("draw", ".txt"): ("--text",)}
 
 @dataclass(frozen=True)
 class Asked:
-    """Words and an input, with the status and the output that are right for them.
+    """Arguments and an input, with the status and the output that are right for them.
 
-    Without an output any text is right: on standard error where the status is 2, else on standard output."""
+    Without an output any text is right: on standard error if the status is 2, else on standard output."""
 
     name: str
     words: tuple[str, ...]
@@ -141,7 +141,7 @@ def refusal(command: str, document: bytes, text: str) -> Asked:
 
 
 def helped() -> list[Asked]:
-    """Words that ask for help."""
+    """Arguments that ask for help."""
     return [Asked("help", ("--help",), b"", 0), Asked("help of a command", ("plan", "--help"), b"", 0)]
 
 

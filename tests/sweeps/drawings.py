@@ -1,6 +1,6 @@
 """Drawings of seeded documents, of which half have a plan of their own: the bars and costs are those of the plans, as
-tests/plans.py works them out, in the SVG and in the text alike. The SVG is well-formed; no bar lies over another, and each
-lies between the lines of its slots."""
+tests/plans.py works them out, in the SVG and in the text alike. The SVG is well-formed; no bar lies over another, and
+each lies between the lines of its slots."""
 
 from __future__ import annotations
 
@@ -27,15 +27,15 @@ def tries(program: str, _room: str) -> list[Try]:
 
 
 def draw_each(program: str, seed: int, tally: Tally) -> None:
-    """Draws a document without a plan, and with one that locks everything first and lets all go last."""
+    """Draws a document without a plan, and with one that locks everything first and unlocks all last."""
     document = json.loads(seeded(seed))
     settled = json.loads(put_back(seeded(seed), run(program, "plan", text=seeded(seed)).out))["plan"]
     for plans in ([settled], [whole_plan(document), settled]):
         asked = document | ({"plan": plans[0]} if len(plans) == 2 else {})
         text = json.dumps(asked).encode()
         wanted = [told_of(document, steps) for steps in plans]
-        tally.note(f"{len(plans)} plans, as SVG", amiss(run(program, "draw", text=text), in_svg, wanted))
-        tally.note(f"{len(plans)} plans, as text", amiss(run(program, "draw", "--text", text=text), in_text, wanted))
+        tally.note(f"{len(plans)} plans, as SVG", drawing_fault(run(program, "draw", text=text), in_svg, wanted))
+        tally.note(f"{len(plans)} plans, as text", drawing_fault(run(program, "draw", "--text", text=text), in_text, wanted))
 
 
 def whole_plan(document: dict) -> list:
@@ -54,7 +54,7 @@ def told_of(document: dict, steps: list) -> dict:
     }
 
 
-def amiss(ran: Ran, read, wanted: list[dict]) -> str | None:
+def drawing_fault(ran: Ran, read, wanted: list[dict]) -> str | None:
     """What is wrong with a drawing, if anything is."""
     if ran.status != 0 or ran.err:
         return f"wanted a drawing; came {ran}"

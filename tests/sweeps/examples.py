@@ -1,5 +1,5 @@
 """The documents of examples/ and those refused in each way: named and on standard input, the output that is right. The
-session of examples/, by the client of bindings/python; each call of that client, and how it ends where the server is
+session of examples/, by the client of bindings/python; each call of that client, and how it ends if the server is
 lost."""
 
 from __future__ import annotations
@@ -101,7 +101,7 @@ def run_hot_root(tally: Tally) -> None:
 
 
 def lose_server(tally: Tally) -> None:
-    """Nobody listens; a server that reads a line and closes; words that name no port."""
+    """Nobody listens; a server that reads a line and closes; arguments that name no port."""
     tally.note("no server", lost(run_client(free_port(), b"{}\n")))
     with socket.create_server((HOST, 0)) as listener:
         closing = threading.Thread(target=read_and_close, args=[listener])

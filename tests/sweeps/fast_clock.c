@@ -48,7 +48,7 @@ long syscall(long number, ...) {
     va_end(all);
     const struct timespec *most = (const struct timespec *)given[3];
     int waits = number == SYS_futex && (given[1] & FUTEX_CMD_MASK) == FUTEX_WAIT && most;
-    // (Who waits for ever is given more seconds than nanoseconds can tell.)
+    // (A wait for ever has more seconds than nanoseconds can count.)
     if (waits && most->tv_sec < NANOS) {
         less = of_nanos((most->tv_sec * NANOS + most->tv_nsec) / clock_times());
         given[3] = (long)&less;

@@ -1,4 +1,4 @@
-"""Each growth of a run refused, alone: the whole answer, or want of memory with nothing on standard output."""
+"""Each allocation of a run refused, alone: the whole answer, or `memory` with nothing on standard output."""
 
 from __future__ import annotations
 
@@ -53,14 +53,14 @@ def refuse_each(program: str, library: str, asked: Asked, tally: Tally) -> None:
 
 
 def run_refusing(program: str, library: str, number: int, asked: Asked) -> tuple[Ran, bool]:
-    """Runs the program with one growth refused, and tells whether there was one of that number."""
+    """Runs the program with one growth refused, and returns whether there was one of that number."""
     with refusing(library, number) as (how, ends):
         return run(program, *asked.words, text=asked.text, **how), is_told(ends)
 
 
 @contextlib.contextmanager
 def refusing(library: str, number: int) -> Iterator[tuple[dict, int]]:
-    """How to start a program that is refused one growth, and the pipe on which that is told."""
+    """How to start a program that is refused one growth, and the pipe on which that is reported."""
     ends, tell = os.pipe()
     surroundings = {**os.environ, "LD_PRELOAD": library, "REFUSED_GROWTH": str(number), "REFUSED_TELL": str(tell)}
     try:

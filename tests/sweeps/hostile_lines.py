@@ -1,6 +1,6 @@
-"""Sixteen clients that send lines of the longest length, made of the smallest values, over TCP or in bodies over HTTP: what
-the server takes for them at most, what of that it still has a second later, and how long an honest line beside them
-waits."""
+"""Sixteen clients that send lines of the longest length, made of the smallest values, over TCP or in bodies over
+HTTP: what the server takes for them at most, what of that it still has a second later, and how long an honest line
+beside them waits."""
 
 from __future__ import annotations
 
@@ -32,7 +32,8 @@ LINES = 3
 MOST_AT_ONCE = 64
 LATER = 1.0
 MOST_LATER = 16
-# In seconds. Without other work an honest line takes a fraction of a millisecond; half of them wait for three large lines at most.
+# In seconds. Without other work an honest line takes a fraction of a millisecond; half of them wait for three large
+# lines at most.
 LONGEST_WAIT = 2.0
 MOST_LARGE_LINES = 3
 # What `./grove` puts into the environment of a server.

@@ -1,4 +1,4 @@
-"""Servers of lines and of pages with `--idle`: clients that say nothing or take no replies lose their seats, and of
+"""Servers of lines and of pages with `--idle`: clients that say nothing or take no replies lose their slots, and of
 lines those that drip bytes; nobody else does, and a line that comes in pieces, however long, is answered."""
 
 from __future__ import annotations
@@ -29,7 +29,7 @@ IDLE = ("--idle", "1")
 IDLE_SECONDS = 1.0
 # A time to idle that no client reaches who means to go on.
 LONG_IDLE = ("--idle", "60")
-# A seat is lost after a second. A machine may stand still for a while; but more than this is too long.
+# A connection slot is lost after a second. A machine may stand still for a while; but more than this is too long.
 LONGEST = 60.0
 # So much sooner a connection may seem to be closed by the clock here, and no sooner.
 SOONEST = 0.9
@@ -44,8 +44,8 @@ PIECES = (1, 1_000, 4_096, 16_384, MOST_LINE + 2)
 MOST_PIECES = 5_000
 # So many pieces are sent apart, so that each is read by itself.
 FEW_PIECES, APART = 12, 0.002
-# What a client asks who takes no replies, which are more bytes than the system keeps for it. (The weights are those of a
-# tree of so many nodes.)
+# What a client asks who takes no replies, which are more bytes than the system keeps for it. (The weights are those
+# of a tree of so many nodes.)
 UNTAKEN = {"serve": 2_400 * WEIGHTS, "page": 360 * request("GET", "/")}
 NODES, LEAST_UNTAKEN = 500, 8_000_000
 # How much room the client's end of such a connection has.
@@ -82,7 +82,7 @@ def sent(command: str, line: bytes) -> bytes:
 
 
 def reply_in(command: str, stream: BinaryIO) -> bytes:
-    """The reply that comes back; nothing where the connection ends."""
+    """The reply that comes back; nothing if the connection ends."""
     if command == "serve":
         return stream.readline()
     response = response_of(stream, "POST")
@@ -111,17 +111,17 @@ def closes_within(connection: socket.socket, seconds: float) -> bool:
 
 
 def note_after(has_closed: bool, after: float, soonest: float, where: str, tally: Tally) -> None:
-    fault = None if has_closed else f"it has its seat after {after:.1f} s"
+    fault = None if has_closed else f"it has its slot after {after:.1f} s"
     if has_closed and after < soonest:
-        fault = f"it lost its seat after {after:.2f} s"
+        fault = f"it lost its slot after {after:.2f} s"
     tally.note(where, fault)
 
 
-# ---- who loses a seat
+# ---- who loses a connection slot
 
 
 def silent(program: str, command: str, tally: Tally) -> None:
-    """Sixteen take all seats and say nothing, or a piece of a line; the 17th is served once they have lost them."""
+    """Sixteen take all slots and say nothing, or a piece of a line; the 17th is served once they have lost them."""
     store = Store(json.loads(TREE))
     with serving(program, command) as server, ExitStack() as room:
         started = time.monotonic()
@@ -135,7 +135,7 @@ def silent(program: str, command: str, tally: Tally) -> None:
 
 
 def dripping(program: str, command: str, pace: float, idle: int, tally: Tally) -> None:
-    """Sixteen take all seats and send a byte so often, and never a whole line or request; the 17th is served."""
+    """Sixteen take all slots and send a byte so often, and never a whole line or request; the 17th is served."""
     store = Store(json.loads(TREE))
     with ThreadPoolExecutor(SEATS) as pool, ExitStack() as room:
         server = room.enter_context(serving(program, command, ("--idle", str(idle))))
@@ -162,7 +162,7 @@ def drip(client: socket.socket, text: bytes, pace: float, started: float) -> tup
 
 
 def taking_nothing(program: str, command: str, tally: Tally) -> None:
-    """Sixteen take all seats, ask for megabytes and read nothing; the 17th is served. When they read at last, after the
+    """Sixteen take all slots, ask for megabytes and read nothing; the 17th is served. When they read at last, after the
     server has closed all of them, they have a part of what they asked, and then the end."""
     tree = large_tree()
     store = Store(json.loads(tree))
@@ -177,7 +177,7 @@ def taking_nothing(program: str, command: str, tally: Tally) -> None:
             time.sleep(0.05)
         for number, client in enumerate(clients):
             came = taken_before(client, time.monotonic() + LONGEST)
-            fault = "it has its seat" if came is None else f"it has {came} bytes that it took too late"
+            fault = "it has its slot" if came is None else f"it has {came} bytes that it took too late"
             tally.note(f"client {number}", None if came is not None and came < LEAST_UNTAKEN else fault)
 
 
@@ -209,7 +209,7 @@ def narrow(port: int) -> socket.socket:
 
 
 def taken_before(client: socket.socket, ends: float) -> int | None:
-    """How many bytes come up to the end; nothing where there is none in time."""
+    """How many bytes come up to the end; nothing if there is none in time."""
     count = 0
     while time.monotonic() < ends:
         client.settimeout(max(0.01, ends - time.monotonic()))
@@ -235,7 +235,7 @@ def honest(program: str, command: str, tally: Tally) -> None:
 
 
 def go_on(program: str, command: str, tally: Tally) -> str | None:
-    """Each line is answered. Where a seat is lost, this tells whether it was so late that a client may lose it: the
+    """Each line is answered. If a slot is lost, this returns whether it was so late that a client may lose it: the
     line is waited for since the one before was sent, or later."""
     store = Store(json.loads(TREE))
     with serving(program, command) as server, ExitStack() as room:
@@ -307,7 +307,7 @@ def send_apart(client: socket.socket, text: bytes, piece: int) -> None:
 
 
 def unlimited(program: str, command: str, tally: Tally) -> None:
-    """Where nothing is said of idling, nobody loses a seat."""
+    """If nothing is said of idling, nobody loses a connection slot."""
     store = Store(json.loads(TREE))
     with serving(program, command, ()) as server, connected(server.port) as client, client.makefile("rb") as stream:
         tally.note("two seconds", "it was closed" if closes_within(client, 2.0) else None)

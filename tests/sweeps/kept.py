@@ -1,5 +1,5 @@
-"""Plans that a store keeps: a list that is asked for again costs fewer growths than at first, and as few once 1,024 plans
-are kept in all. So it isn't planned again."""
+"""Plans that a store keeps: a list that is asked for again costs fewer growths than at first, and as few once 1,024
+plans are kept in all. So it isn't planned again."""
 
 from __future__ import annotations
 

@@ -1,5 +1,5 @@
 """Looks at a store over HTTP that a long round has: a line waits for the store, then clients ask for the document or
-the nodes, and nobody else is there who could wake anyone. All of them are answered, each time. And where a round is
+the nodes, and nobody else is there who could wake anyone. All of them are answered, each time. And if a round is
 held until lines wait for the next one, and then looks: these find what the round left, before any of the lines."""
 
 from __future__ import annotations
@@ -128,7 +128,7 @@ def look_once(store: Store, clients: list[Client], line: bytes, lasts: float, wh
 
 
 class Holding(NamedTuple):
-    """How to start a program whose later threads are held: what tells of each, and what ends it."""
+    """How to start a program whose later threads are held: what reports each, and what ends it."""
 
     how: dict
     tells: int
@@ -223,7 +223,7 @@ def all_asleep(server: Serving) -> dict[str, int]:
 
 
 def sleeps(server: Serving) -> dict[str, int | None]:
-    """How often each thread of the server came to wait so far, where it waits now."""
+    """How often each thread of the server came to wait so far, at the place where it waits now."""
     found = {}
     for status in Path(f"/proc/{server.started.pid}/task").glob("*/status"):
         values = dict(line.split(":", 1) for line in status.read_text().splitlines())
@@ -233,7 +233,7 @@ def sleeps(server: Serving) -> dict[str, int | None]:
 
 
 def reply_in(response: Response | None) -> int:
-    """The one number in the reply to a batch of one list, or -1 where it is none."""
+    """The one number in the reply to a batch of one list, or -1 if it is none."""
     try:
         return json.loads(response.body)["replies"][0][0] if response else -1
     except (ValueError, KeyError, IndexError):

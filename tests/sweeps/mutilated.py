@@ -6,7 +6,7 @@ import json
 from functools import partial
 from random import Random
 
-from sweeps.answers import amiss, cost_of
+from sweeps.answers import cost_of, form_fault
 from sweeps.documents import certified_examples, examples, put_back, seeded
 from sweeps.program import Ran, Tally, Try, run
 
@@ -47,21 +47,21 @@ def mutilate_each(program: str, text: bytes, seed: int, tally: Tally) -> None:
 
 
 def planned(program: str, text: bytes) -> bytes:
-    """The document with the program's plan and flow, where it has no plan of its own, and else as it stands."""
+    """The document with the program's plan and flow, if it has no plan of its own, and else as it stands."""
     ran = run(program, "plan", text=text)
     return text if b'"plan"' in text or ran.status else put_back(text, ran.out)
 
 
 def ask(program: str, command: str, document: bytes, where: str, tally: Tally) -> int | None:
     ran = run(program, command, text=document)
-    tally.note(f"{where}, {command}", told(amiss(command, ran) or unhinted(ran), document))
+    tally.note(f"{where}, {command}", told(form_fault(command, ran) or unhinted(ran), document))
     return cost_of(command, ran)
 
 
 def plan(program: str, document: bytes, where: str, tally: Tally) -> int | None:
     """Asks for a plan, and has it checked."""
     ran = run(program, "plan", text=document)
-    tally.note(f"{where}, plan", told(amiss("plan", ran) or unhinted(ran), document))
+    tally.note(f"{where}, plan", told(form_fault("plan", ran) or unhinted(ran), document))
     cost = cost_of("plan", ran)
     if cost is not None:
         checked = run(program, "check", text=put_back(document, ran.out))
@@ -72,7 +72,7 @@ def plan(program: str, document: bytes, where: str, tally: Tally) -> int | None:
 
 
 def unhinted(ran: Ran) -> str | None:
-    """What is amiss with a refusal that has no hint beside it."""
+    """What is wrong with a refusal that has no hint beside it."""
     return f"a refusal without a hint: {ran}" if ran.status == 1 and not ran.hint else None
 
 
@@ -81,7 +81,7 @@ def told(fault: str | None, document: bytes) -> str | None:
 
 
 def disagreement(costs: dict[str, int | None]) -> str | None:
-    """What is wrong with the costs that the three commands tell of one document; none where a command tells no cost."""
+    """What is wrong with the costs that the three commands print of one document; none if a command prints no cost."""
     judged, checked, least = costs["judge"], costs["check"], costs["plan"]
     if checked is not None and not judged == checked == least:
         return f"a certified plan has one cost: {costs}"

@@ -1,9 +1,9 @@
-"""General networks through the search, which the planner itself asks only where its proposal fails.
+"""General networks through the search, which the planner itself asks only if its proposal fails.
 
 Each network has up to six rows, arcs both ways between any variables, and a directed cycle of arcs that are tight
 whatever the places, as no list's network has one. Places come first, and arcs ask for what these give or for less, so
 the network can be solved: the needs go along the rows' own arcs. The program that solves them tests each answer; it
-stands beside the program where the gate has built both, and where it isn't there nothing is tried.
+stands beside the program if the gate has built both, and if it isn't there nothing is tried.
 """
 
 from __future__ import annotations
@@ -65,6 +65,7 @@ def arc(rng: random.Random, places: list[int], start: int, end: int) -> tuple[in
 
 
 def tight_cycle(rng: random.Random, places: list[int]) -> list[tuple[int, int, int]]:
-    """Round some of the variables, each arc as long as its ends are apart. In all they ask for 0, so they stay tight."""
+    """Round some of the variables, each arc as long as its ends are apart. In all they ask for 0, so they stay
+    tight."""
     way = rng.sample(range(len(places)), rng.randint(2, len(places)))
     return [(v, w, places[w] - places[v]) for v, w in zip(way, way[1:] + way[:1])]

@@ -67,7 +67,7 @@ ORIGINS = [
     (f"origin: http://{HOST}", f"origin: http://{HOST}"),
     (f"origin: http://{HOST}, http://{HOST}",),
 ]
-# The hosts that requests may name; whoever names another one isn't served.
+# The hosts that requests may name; a request that names another one isn't served.
 HERE = ["127.0.0.1", "127.0.0.1:80", "10.1.2.3:", "localhost", "LocalHost:9", "LOCALHOST", "[::1]", "[::1]:80"]
 HERE += ["[::ffff:1.2.3.4]"]
 ELSEWHERE = ["elsewhere.example", "localhost.", "localhost.example", "a.localhost", "127.0.0.1.example", "127.1"]
@@ -502,13 +502,13 @@ def asked_and_ended(port: int, data: bytes, leaves: bool) -> tuple[bytes, bool]:
 
 
 def need_broken(error: OSError) -> None:
-    """The other side may have reset the connection, but it may not keep it without a word."""
+    """The other side may have reset the connection, but it may not keep it without an answer."""
     if isinstance(error, TimeoutError):
         raise BadServer("no answer, and no end") from None
 
 
 def fault_of_answers(came: bytes, is_broken: bool, sent: bytes) -> str | None:
-    """What is wrong with what came back to these bytes. (Whoever is broken off may lose what was said last.)"""
+    """What is wrong with what came back to these bytes. (A client that is broken off may lose what was sent last.)"""
     try:
         responses = responses_in(came, b"HEAD" in sent)
     except BadResponse as bad:

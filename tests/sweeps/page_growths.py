@@ -1,5 +1,6 @@
 """Each growth of a server of pages refused, alone: it ends with `memory` before it listens, or one request is answered
-`{"error":"memory"}` or not at all. Those before it and after it have their answers, and what was answered isn't lost."""
+`{"error":"memory"}` or not at all. Those before it and after it have their answers, and what was answered isn't
+lost."""
 
 from __future__ import annotations
 
@@ -53,7 +54,7 @@ def refuse_each(program: str, library: str, first: int, tally: Tally) -> None:
 
 
 def ask_all(program: str, how: dict, where: str, tally: Tally) -> None:
-    """Asks the rows on one connection, and on another one where it ends."""
+    """Asks the rows on one connection, and on another one if it ends."""
     lost = 0
     try:
         with serving(program, TREE, **how) as server:
@@ -79,7 +80,7 @@ def ask_all(program: str, how: dict, where: str, tally: Tally) -> None:
 
 
 def answered(client: Client, row: tuple):
-    """The response; none where the connection ends."""
+    """The response; none if the connection ends."""
     try:
         return client.ask(*row)
     except ConnectionError:
@@ -91,7 +92,7 @@ def is_refused(response) -> bool:
 
 
 def store_left(store: Store, row: tuple, response, looks: list[tuple]) -> Store | None:
-    """What the request left, by what is found afterwards. Where memory was refused by name, the lines have had their
+    """What the request left, by what is found afterwards. If memory was refused by name, the lines have had their
     effect whose replies came before it, and else some first lines."""
     lines = lines_in(row[2] or b"") if row[0] == "POST" else []
     sizes = range(len(lines) + 1) if response is None else [response.body.count(b"\n") - 1]

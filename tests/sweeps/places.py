@@ -1,5 +1,6 @@
-"""Servers at addresses of both kinds, at ports of their own and at any that is free: each says where it is, and answers there.
-At an address that isn't this machine's, and at a port in use: `device`, and before it the reason where `--explain` asks for it."""
+"""Servers at addresses of both kinds, at ports of their own and at any that is free: each says where it is, and
+answers there. At an address that isn't this machine's, and at a port in use: `device`, and before it the reason if
+`--explain` asks for it."""
 
 from __future__ import annotations
 

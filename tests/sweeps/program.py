@@ -12,7 +12,7 @@ from hints import split_hint
 
 # The longest that a run may take: it ends in milliseconds, but a machine may stand still for seconds.
 SECONDS = 60.0
-# How many wrong runs a try tells before it ends.
+# How many wrong runs a try prints before it ends.
 MOST_FAULTS = 3
 # How often something is tried that goes by timing, and so need not be seen the first time.
 MOST_TRIES = 20
@@ -39,7 +39,7 @@ MEMORY = Ran(3, b"", b"memory\n")
 
 
 def because(reason: str, number: int | None = None, out: bytes = b"") -> Ran:
-    """What `--explain` brings: the reason, with the system's error of a number, before the word."""
+    """What `--explain` adds: the reason, with the system's error of a number, before `device`."""
     system = f": {os.strerror(number)} (os error {number})" if number else ""
     return Ran(3, out, f"{reason}{system}\ndevice\n".encode())
 
@@ -74,12 +74,13 @@ class Tally:
     faults: list[str] = field(default_factory=list)
 
     def note(self, where: str, fault: str | None) -> None:
-        """Counts one more thing tried; no fault where it was right."""
+        """Counts one more thing tried; no fault if it was right."""
         self.tried += 1
         self.blame(where, fault)
 
     def blame(self, where: str, fault: str | None) -> None:
-        """Tells a fault, if there is one, of what is counted already. Ends the try where it has told enough of them."""
+        """Prints a fault, if there is one, of what is counted already. Ends the try once it has printed enough of
+        them."""
         if fault:
             self.faults.append(f"{where}: {fault}")
         if len(self.faults) >= MOST_FAULTS:
@@ -91,7 +92,7 @@ class Tally:
 
 def until_well(look: Callable[[], str | None], where: str, tally: Tally, most: int = MOST_TRIES) -> None:
     """Looks again as long as there is a fault in what goes by timing, as that no two lines were there at once, and
-    tells it where it is there each time. What has to be right each time is noted by each look."""
+    prints it if it is there each time. What has to be right each time is noted by each look."""
     for _ in range(most):
         fault = look()
         if not fault:

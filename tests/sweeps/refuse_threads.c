@@ -1,4 +1,5 @@
-/* Preloaded before a program, refuses some of its threads: those whose numbers, from 1, are FIRST_REFUSED to LAST_REFUSED. */
+/* Preloaded before a program, refuses some of its threads: those whose numbers, from 1, are FIRST_REFUSED to
+   LAST_REFUSED. */
 #define _GNU_SOURCE
 #include <dlfcn.h>
 #include <errno.h>

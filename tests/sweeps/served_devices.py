@@ -1,6 +1,6 @@
-"""A server that reads and writes a connection byte by byte, and each read and write that fails in turn, alone: the session
-ends there, and just what was due before went out. The next session is whole, over the store that it left. A call that is
-interrupted is made again."""
+"""A server that reads and writes a connection byte by byte, and each read and write that fails in turn, alone: the
+session ends there, and just what was due before went out. The next session is whole, over the store that it left. A
+call that is interrupted is made again."""
 
 from __future__ import annotations
 
@@ -89,7 +89,8 @@ def ask_next(server: Serving, done: int, where: str, tally: Tally) -> None:
 
 
 def due(kind: str, number: int) -> tuple[bytes, int]:
-    """What goes out before the read or write of this number, each of one byte, fails; and how many lines are done then."""
+    """What goes out before the read or write of this number, each of one byte, fails; and how many lines are done
+    then."""
     if kind == "write":
         out = REPLIES[: number - 1]
         return out, out.count(b"\n") + 1
@@ -99,7 +100,7 @@ def due(kind: str, number: int) -> tuple[bytes, int]:
 
 @contextmanager
 def failing(library: str, kind: str, number: int, pieces: dict = BYTE_BY_BYTE) -> Iterator[tuple[dict, int]]:
-    """How to start a program of which one call fails, and the pipe on which that is told."""
+    """How to start a program of which one call fails, and the pipe on which that is reported."""
     ends, tell = os.pipe()
     calls = {"LD_PRELOAD": library, **pieces, f"FAILED_{kind.upper()}": str(number), "FAILED_TELL": str(tell)}
     surroundings = {**os.environ, **calls}

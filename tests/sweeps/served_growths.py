@@ -1,6 +1,6 @@
 """Each growth of a server refused, alone: it ends with `memory` before it listens, or a session ends before some
 line, with the replies of those before; the next session is whole, over the store that those lines left. With
-`--verbose` the end of each session is told, with its reason, and each line that is refused, though maybe without its
+`--verbose` the end of each session is logged, with its reason, and each line that is refused, though maybe without its
 hint."""
 
 from __future__ import annotations

@@ -1,5 +1,5 @@
 """Three clients at once, one that looks at a record and two that add to it, with each growth of the server refused in
-turn, alone. Their lines share rounds; where one is refused memory, all lines of its round are, and their connections end.
+turn, alone. Their lines share rounds; if one is refused memory, all lines of its round are, and their connections end.
 
 What was replied is one serial history, and a client that comes afterwards finds just what it left.
 """

@@ -14,7 +14,8 @@ def lines_of(text: bytes) -> list[bytes]:
 
 
 def note_replies(store: Store, text: bytes, came: bytes, where: str, tally: Tally) -> None:
-    """Counts the lines of the text, and tells which reply isn't right for its line. The store is then what they leave."""
+    """Counts the lines of the text, and returns which reply isn't right for its line. The store is then what they
+    leave."""
     lines, replies = lines_of(text), lines_of(came)
     for number, line in enumerate(lines):
         reply = replies[number] if number < len(replies) else b"nothing"

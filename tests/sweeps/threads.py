@@ -1,7 +1,7 @@
 """Batches of 2,048 steps and more, which threads do, and whose lists contend for nodes: by `run`, by lines of one
-session, and by rounds that sixteen clients share. Each answer is compared with the lists done one after the other in the
-order that it tells. The threads that the program starts are counted: for these batches, for shorter ones, and for new
-weights.
+session, and by rounds that sixteen clients share. Each answer is compared with the lists done one after the other in
+the order that it prints. The threads that the program starts are counted: for these batches, for shorter ones, and
+for new weights.
 
 A run or a server that doesn't answer within a minute hangs, and ends its part. That somebody waits for a node, and that
 two lines share a round, goes by timing, and is tried until it was seen; all else has to be right in each try.
@@ -93,7 +93,8 @@ def run_one(program: str, library: str, workers: int, document: dict, started: r
 
 
 def run_alone(program: str, library: str, tally: Tally) -> None:
-    """What is too little for a thread is done by the caller of the run; threads plan, at most one for each further list."""
+    """What is too little for a thread is done by the caller of the run; threads plan, at most one for each further
+    list."""
     batches = [(count, deep(Random(f"alone {count}"), count)) for count in (1, 2, 3)]
     for workers in WORKERS:
         for lists, document in batches:
@@ -109,7 +110,8 @@ def run_alone(program: str, library: str, tally: Tally) -> None:
 
 @dataclass(frozen=True)
 class Served:
-    """The batches that clients sent, with what they were replied, the waits of each node, and what was told of threads."""
+    """The batches that clients sent, with what they were replied, the waits of each node, and what was counted of
+    threads."""
 
     batches: list[tuple[list, dict]]
     waits: list[int]
@@ -142,12 +144,13 @@ def answer_by_each(program: str, library: str, shape: str, tally: Tally) -> str 
 
 
 def fault_of_contention(waits: int) -> str | None:
-    """The batches of a part are no good for what they are to show, where nobody waits in any of them."""
+    """The batches of a part are no good for what they are to show, if nobody waits in any of them."""
     return None if waits else "nobody waited for a node"
 
 
 def share_rounds(program: str, library: str, shape: str, tally: Tally) -> None:
-    """Sixteen clients send an eighth of the lists each, some times. Who waits while a round runs shares the next one."""
+    """Sixteen clients send an eighth of the lists each, some times. Who waits while a round runs shares the next
+    one."""
     until_well(partial(share_by_each, program, library, shape, tally), "all batches", tally)
 
 
@@ -260,7 +263,7 @@ def fault_of_threads(told: bytes, others: int, further: int, started: range) -> 
 
 @contextlib.contextmanager
 def counting(library: str) -> Iterator[tuple[dict, Callable[[], bytes]]]:
-    """How to start a program whose threads are counted, and a call that gives what was told of them so far."""
+    """How to start a program whose threads are counted, and a call that gives what was counted of them so far."""
     ends, tell = os.pipe()
     surroundings = {**os.environ, "LD_PRELOAD": library, "THREADS_TELL": str(tell)}
     try:

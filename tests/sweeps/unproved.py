@@ -23,7 +23,8 @@ TOP = Path(__file__).resolve().parents[2]
 PARTS = ("grove", "crates.txt", "HANDLES", "crates", "tools")
 # The whole of what an unproved run says beside the program's own lines.
 SAYS_SO = re.compile(rb"grove: this answer is unproved [^\n]*; \./grove prove makes [^\n]*\n")
-# How long a run may take to compile, and how long to end. What was told to end may take a moment to be gone.
+# How long a run may take to compile, and how long to end. A process that gets a signal to end may take a moment to be
+# gone.
 COMPILES, ENDS, GONE = 1800.0, 60.0, 10.0
 # The memory that a run takes, in kB.
 MEMORY_EACH = 3_000_000
@@ -44,7 +45,7 @@ def side_by_side() -> int:
 
 
 class Trial:
-    """A folder in which the proved program and the script are called, one after the other, by the same words."""
+    """A folder in which the proved program and the script are called, one after the other, by the same arguments."""
 
     def __init__(self, program: str, room: str, name: str, turns: threading.BoundedSemaphore):
         self.program, self.name, self.turns = program, name, turns
@@ -125,7 +126,7 @@ def answer(trial: Trial, name: str, tally: Tally) -> None:
 
 
 def serve(trial: Trial, tally: Tally) -> None:
-    """A server's line, its replies, and what it tells as it comes; then it is ended by SIGTERM."""
+    """A server's line, its replies, and what it logs as it comes; then it is ended by SIGTERM."""
     words = ("serve", "--tree", trial.document(TREE), "--verbose", "--port", str(free_port()))
     wanted = served(trial.start(trial.program, *words), int(words[-1]), tally)
     with trial.turns:
@@ -144,7 +145,7 @@ def served(started: subprocess.Popen, port: int, tally: Tally) -> tuple[Ran, byt
     told = b""
     try:
         replies = talk(port, TEXT) if listening else b""
-        # It tells of its client a moment later, and the script passes that on in another.
+        # It logs its client a moment later, and the script passes that on in another.
         told = told_up_to(started, b" ended after ") if listening else b""
     finally:
         started.send_signal(signal.SIGTERM)

@@ -1,5 +1,5 @@
-"""Servers with `--verbose`: standard error has just the lines that docs/SESSIONS.md tells of, in order for each
-connection, and sessions are as they are without the word."""
+"""Servers with `--verbose`: standard error has just the lines that docs/SESSIONS.md has, in order for each
+connection, and sessions are as they are without the option."""
 
 from __future__ import annotations
 
@@ -41,18 +41,18 @@ BAD_LENGTH = b'{"plan":[["get","/a",0]]}\n'
 LINES = (ADD, GET, WEIGHTS, SHAPE, NO_PATH, BAD_JSON, BAD_LENGTH)
 # The most bytes of a line that a hint looks into.
 MOST_HINTED = 65_536
-# How long a line on standard error, or a seat, may be waited for.
+# How long a line on standard error, or a connection slot, may be waited for.
 LONGEST = 60.0
 # How long a minute is waited for, and how long after it is late, or what doesn't wait for it.
 MINUTE, LATE = 60.0, 30.0
-# How many times as fast a clock may go, and what is told of minutes by it: the lines of each, and what they come to.
+# How many times as fast a clock may go, and what is logged of minutes by it: the lines of each, and what they come to.
 CLOCK_TIMES = 30
 MINUTES = (
     (ADD + SHAPE + GET, "3 lines, 1 refused, 2 rounds, 0 waits"),
     (ADD + NO_PATH, "2 lines, 1 refused, 1 rounds, 0 waits"),
     (GET + WEIGHTS, "2 lines, 0 refused, 1 rounds, 0 waits"),
 )
-# What is told where there is no descriptor, and with how many there is none for a connection.
+# What is logged if there is no descriptor, and with how many there is none for a connection.
 WANTS_DESCRIPTOR = "no descriptor is left for the next connection"
 NO_MORE_DESCRIPTORS = 4
 # Ends a connection by a reset.
@@ -70,7 +70,7 @@ def tries(program: str, room: str) -> list[Try]:
         Try("the same with a time to idle", partial(broken_off, program, ("--idle", "60"))),
         Try("connections that idle", partial(idle, program)),
         Try("a line without end", partial(endless, program)),
-        Try("connections without a seat", partial(busy, program)),
+        Try("connections without a slot", partial(busy, program)),
         Try("connections without a thread", partial(threadless, program, threads)),
         Try("connections without a descriptor", partial(no_descriptor, program, accepts)),
         Try("the same for a second time", partial(no_descriptor_again, program)),
@@ -96,7 +96,7 @@ def clock_library_in(room: str) -> str:
 
 
 class Telling(Serving):
-    """A server with `--verbose`, and what its standard error has been told."""
+    """A server with `--verbose`, and what it has logged on standard error."""
 
     def __init__(self, program: str, further: tuple[str, ...] = (), document: bytes = TREE, **how):
         self.errors = tempfile.NamedTemporaryFile(prefix="grove-told-")
@@ -107,7 +107,7 @@ class Telling(Serving):
         self.errors.close()
 
     def told(self) -> list[str]:
-        """The lines that are told by now."""
+        """The lines that are logged by now."""
         return [line.decode() for line in lines_of(Path(self.errors.name).read_bytes())]
 
     def told_of(self, count: int, seconds: float = LONGEST) -> list[str]:
@@ -145,7 +145,7 @@ def refusal(number: int, line: int, name: str) -> str:
 
 
 def refusals(number: int, replies: bytes, before: int = 0) -> list[str]:
-    """What is told of the replies, the first of which is to the line after so many."""
+    """What is logged of the replies, the first of which is to the line after so many."""
     values = [json.loads(reply) for reply in lines_of(replies)]
     return [refusal(number, before + at, value["error"]) for at, value in enumerate(values, 1) if "error" in value]
 
@@ -162,7 +162,7 @@ def ask(client: socket.socket, text: bytes) -> bytes:
 
 
 def in_turn(program: str, tally: Tally) -> None:
-    """Connections with seeded lines, the next of which comes once the end of the one before is told."""
+    """Connections with seeded lines, the next of which comes once the end of the one before is logged."""
     random, store, wanted = Random("verbose"), Store(json.loads(TREE)), []
     with Telling(program) as server:
         for number in range(1, 41):
@@ -211,7 +211,7 @@ def number_of(port: int, told: list[str]) -> int:
 
 
 def long_line(program: str, tally: Tally) -> None:
-    """A line that is too long, between others, is counted and told of too."""
+    """A line that is too long, between others, is counted and logged too."""
     text = ADD + b"x" * (MOST_LINE + 1) + b"\n" + SHAPE
     with Telling(program) as server, connected(server.port) as client:
         came = ask(client, text)
@@ -281,7 +281,7 @@ def endless(program: str, tally: Tally) -> None:
 
 
 def busy(program: str, tally: Tally) -> None:
-    """The 17th connection and the 18th find no seat; one after them has that of the first."""
+    """The 17th connection and the 18th find no slot; one after them has that of the first."""
     wanted = []
     with Telling(program, ("--busy",)) as server, ExitStack() as room:
         clients = []
@@ -302,7 +302,7 @@ def busy(program: str, tally: Tally) -> None:
 
 
 def admitted(server: Telling, number: int, wanted: list[str]) -> None:
-    """Comes until there is a seat: its end is told a moment before the seat is free."""
+    """Comes until there is a slot: its end is logged a moment before the slot is free."""
     ends = time.monotonic() + LONGEST
     while time.monotonic() < ends:
         with connected(server.port) as client:
@@ -316,7 +316,7 @@ def admitted(server: Telling, number: int, wanted: list[str]) -> None:
 
 
 def is_busy(client: socket.socket) -> bool:
-    """Is a client that asks something told that there is no seat?"""
+    """Does a client that asks something get the reply that there is no slot?"""
     try:
         return b"busy" in ask(client, ADD)
     except ConnectionError:
@@ -324,7 +324,7 @@ def is_busy(client: socket.socket) -> bool:
 
 
 def threadless(program: str, library: str, tally: Tally) -> None:
-    """Connections for which no thread can be started, between others. The first thread tells of minutes."""
+    """Connections for which no thread can be started, between others. The first thread logs minutes."""
     surroundings = {**os.environ, "LD_PRELOAD": library, "FIRST_REFUSED": "3", "LAST_REFUSED": "5"}
     wanted = []
     with Telling(program, env=surroundings) as server:
@@ -340,7 +340,7 @@ def threadless(program: str, library: str, tally: Tally) -> None:
 
 
 def no_descriptor(program: str, library: str, tally: Tally) -> None:
-    """No connection can be taken for a while, for want of a descriptor: this is told once."""
+    """No connection can be accepted for a while, for lack of a descriptor: this is logged once."""
     with Telling(program, env=failing(library, 5, errno.EMFILE)) as server, connected(server.port) as client:
         came = ask(client, ADD)
         wanted = [WANTS_DESCRIPTOR, arrival(1, client), ended(1, 1, "its input ended")]
@@ -349,7 +349,8 @@ def no_descriptor(program: str, library: str, tally: Tally) -> None:
 
 
 def no_descriptor_again(program: str, tally: Tally) -> None:
-    """A descriptor is wanting, then connections are taken, and then one is wanting again: this is told both times."""
+    """A descriptor is missing, then connections are accepted, and then one is missing again: this is logged both
+    times."""
     _, most = resource.getrlimit(resource.RLIMIT_NOFILE)
     with Telling(program) as server:
         for times in (1, 2):
@@ -363,7 +364,7 @@ def no_descriptor_again(program: str, tally: Tally) -> None:
 
 
 def wants_descriptor(server: Telling, times: int) -> bool:
-    """Is it told so often, before long, that there is no descriptor?"""
+    """Is it logged so often, before long, that there is no descriptor?"""
     ends = time.monotonic() + LATE
     while server.told().count(WANTS_DESCRIPTOR) < times and time.monotonic() < ends:
         time.sleep(0.02)
@@ -381,7 +382,7 @@ def no_listener(program: str, library: str, tally: Tally) -> None:
 
 
 def at_another_address(program: str, tally: Tally) -> None:
-    """At an address of IPv6 the other side is told in brackets; nothing is tried where this machine has none."""
+    """At an address of IPv6 the other side is logged in brackets; nothing is tried if this machine has none."""
     try:
         with Telling(program, ("--bind", "::1")) as server, connected(server.port, "::1") as client:
             ask(client, ADD)
@@ -447,7 +448,7 @@ def pages_broken_off(program: str, tally: Tally) -> None:
 
 
 def minutes(program: str, tally: Tally) -> None:
-    """A minute in which lines were answered is told of, once it is over."""
+    """A minute in which lines were answered is logged, once it is over."""
     text = ADD + SHAPE + GET + NO_PATH + WEIGHTS
     started = time.monotonic()
     with Telling(program) as server:
@@ -461,8 +462,8 @@ def minutes(program: str, tally: Tally) -> None:
 
 
 def minutes_on_end(program: str, library: str, tally: Tally) -> None:
-    """By a clock that goes faster: of each minute just its own lines are told, and of a quiet one nothing. It is tried
-    until a machine with other work has had the lines of each minute in it."""
+    """By a clock that goes faster: of each minute just its own lines are logged, and of a quiet one nothing. It is
+    tried until a machine with other work has had the lines of each minute in it."""
     until_well(partial(some_minutes, program, fast(library), tally), "minutes", tally)
 
 
@@ -471,7 +472,7 @@ def fast(library: str) -> dict[str, str]:
 
 
 def some_minutes(program: str, surroundings: dict[str, str], tally: Tally) -> str | None:
-    """What is wrong with what is told of minutes with lines, after each of which comes a quiet one."""
+    """What is wrong with what is logged of minutes with lines, after each of which comes a quiet one."""
     with Telling(program, env=surroundings) as server:
         count = 0
         for text, wanted in MINUTES:
@@ -487,7 +488,7 @@ def some_minutes(program: str, surroundings: dict[str, str], tally: Tally) -> st
 
 
 def minute_with_waits(program: str, library: str, tally: Tally) -> None:
-    """A batch in which lists wait for several nodes: of the minute the sum of what `weights` tells then is told."""
+    """A batch in which lists wait for several nodes: of the minute the sum of what `weights` gives then is logged."""
     until_well(partial(some_waits, program, fast(library), tally), "waits", tally)
 
 
@@ -531,7 +532,7 @@ def answered(program: str, where: str, tally: Tally, **how) -> None:
 
 
 def quiet(program: str, tally: Tally) -> None:
-    """Without the word nothing is told."""
+    """Without the option nothing is logged."""
     store = Store(json.loads(TREE))
     with Serving(program, TREE) as server:
         text = b"".join(LINES)

@@ -14,9 +14,9 @@ sys.path.insert(0, str(Path(__file__).resolve().parents[2] / "bindings/python/bu
 import wheels  # noqa: E402
 
 STATIC, SHARED = "out/library/libgrove.a", "out/library/libgrove.so"
-# Where the files that have a version of their own tell it.
+# Where the files that have a version of their own name it.
 VERSIONED = ("bindings/rust/Cargo.toml", "bindings/python/pyproject.toml")
-# Below the prefix: where linkers look, and where nobody looks but who is told to.
+# Below the prefix: where linkers look, and where they look only if the path is given.
 LINKED, LOADED = "lib/libgrove.a", "lib/grove/libgrove.so"
 PYTHON = "lib/grove/python"
 SHARE = "share/grove"

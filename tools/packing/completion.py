@@ -64,7 +64,7 @@ _grove "$@"
 
 
 def in_bash(helps: Helps) -> str:
-    """Behind an option that takes a value a file, or nothing; else options where a dash stands, commands, and files."""
+    """Behind an option that takes a value a file, or nothing; else options if there is a dash, commands, and files."""
     values, words = [], []
     for command, of in helps.commands.items():
         for option in of.options():

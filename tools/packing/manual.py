@@ -26,7 +26,7 @@ class BadText(Exception):
 
 @dataclass(frozen=True)
 class Edition:
-    """What stands at the foot of each page, and what the pages tell of the place."""
+    """What stands at the foot of each page, and what the pages say of the place."""
 
     version: str
     made: int

@@ -169,7 +169,7 @@ SERVE = {
     "WHAT": "the records of a tree over TCP",
     "KEPT": "",
     "PORT": "7777",
-    "IDLE": "who sends no whole line for ten minutes leaves the seat to others; there are 16.",
+    "IDLE": "a client that sends no whole line for ten minutes loses its connection slot; there are 16.",
 }
 PAGE = {
     "COMMAND": "page",
@@ -177,7 +177,7 @@ PAGE = {
     "WHAT": "the records of a tree over HTTP, with a page to look at them",
     "KEPT": "\n# `curl http://127.0.0.1:8080/document` prints a document of what they are now, to begin with instead.",
     "PORT": "8080",
-    "IDLE": "who sends no whole request for ten minutes leaves the seat to others; there are 16.",
+    "IDLE": "a client that sends no whole request for ten minutes loses its connection slot; there are 16.",
 }
 
 

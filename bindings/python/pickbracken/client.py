@@ -3,15 +3,15 @@
     with Client(7777) as client:
         print(client.batch([Access.get("/bulbs"), Access.take("/bulbs", 1)]).replies)
 
-Nothing is sent twice: a line whose reply hasn't come may have had its effect, and only its caller can tell whether it
+Nothing is sent twice: a line whose reply hasn't come may have had its effect, and only its caller can know whether it
 may be sent again. So once a server is lost, the client is closed.
 
 As a program it sends lines, and prints the replies as they come:
 
     usage: python3 -m pickbracken.client PORT < LINES        (beside `grove serve --port PORT`)
 
-Each line is sent once the one before is answered. The status is 0, or 1 where a reply was a refusal, 2 where the words
-are wrong, 3 where there is no server or it is lost, with a line on standard error that says so.
+Each line is sent once the one before is answered. The status is 0, or 1 if a reply was a refusal, 2 if the arguments
+are wrong, 3 if there is no server or it is lost, with a line on standard error that says so.
 """
 
 from __future__ import annotations

@@ -1,6 +1,6 @@
 """The commands over the bytes of a document, as the program reads it and prints it (docs/FORMATS.md).
 
-What is refused is raised as `Refused`, with the fault that the program tells.
+What is refused is raised as `Refused`, with the fault that the program prints.
 """
 
 from __future__ import annotations

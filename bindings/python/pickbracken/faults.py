@@ -4,7 +4,7 @@ from __future__ import annotations
 
 from typing import List
 
-# In how many words of a fault's text what it is told of stands before its name.
+# How many words of a fault's text name the item at fault, before the fault's own name.
 BEFORE = {"row": 2, "step": 2, "access": 2, "node": 2, "event": 2, "tree": 1}
 
 
@@ -16,7 +16,7 @@ class Refused(Error):
     """What was handed in is refused: by the rule of this name, for what stands at this place.
 
     `name` is a word, as `parent-not-held`; `place` is what breaks the rule, as `step 7`, `list 3` or `node /a`, and
-    empty where the fault is told of nothing; `text` is both, as the program prints them.
+    empty if the fault names no place; `text` is both, as the program prints them.
     """
 
     def __init__(self, text: str) -> None:

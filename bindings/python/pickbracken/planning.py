@@ -84,7 +84,7 @@ def plan(tree: Tree, accesses: Iterable[Access]) -> Plan:
 
 def check(tree: Tree, accesses: Iterable[Access], plan: Plan) -> int:
     """What a plan costs that its flow proves to be least. Else it is refused, whoever made the two; the cost that the
-    plan tells isn't looked at."""
+    plan has isn't looked at."""
     question = written(None, accesses, plan.steps, plan.flow)
     return cost_in(lines_of(tree.kept.say(Kept.CHECK, question)))
 
@@ -124,13 +124,13 @@ def plan_parts(steps: Optional[Sequence[Step]], flow: Optional[Sequence[FlowRow]
 
 
 def plan_of(told: Dict[str, Any]) -> Plan:
-    """The plan that an answer tells."""
+    """The plan that an answer has."""
     steps = tuple(Step(kind, of) for kind, of in told["plan"])
     return Plan(told["cost"], steps, tuple(FlowRow(**row) for row in told["flow"]))
 
 
 def lines_of(answer: str) -> Dict[str, Any]:
-    """What each line of an answer tells, by the line's name."""
+    """What each line of an answer has, by the line's name."""
     parts: List[List[str]] = [line.split(" ", 1) for line in answer.splitlines()]
     return {name: json.loads(value) for name, value in parts}
 

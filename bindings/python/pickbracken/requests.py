@@ -1,4 +1,4 @@
-"""The requests of a session (docs/SESSIONS.md), for whoever has a store that answers lines."""
+"""The requests of a session (docs/SESSIONS.md), for a class that has a store which answers lines."""
 
 from __future__ import annotations
 
@@ -23,7 +23,7 @@ class Round:
 
 
 class Requests(ABC):
-    """A method for each request; what is told of the lines is for whoever answers them."""
+    """A method for each request; a subclass answers the lines."""
 
     @abstractmethod
     def send(self, line: bytes) -> bytes:

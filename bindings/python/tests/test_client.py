@@ -1,4 +1,4 @@
-"""The client, at servers that answer as they are told."""
+"""The client, at servers that answer as each test says."""
 
 import socket
 import threading

@@ -1,6 +1,6 @@
 //! The commands over the bytes of a document, as the program reads it and prints it (docs/FORMATS.md).
 //!
-//! What is refused is an [`Error::Refused`], with the fault that the program tells.
+//! What is refused is an [`Error::Refused`], with the fault that the program prints.
 
 use crate::error::Error;
 use crate::library::Command;

@@ -24,7 +24,7 @@ impl fmt::Display for Error {
 
 impl error::Error for Error {}
 
-/// What is amiss with something that is refused, and where.
+/// What is wrong with something that is refused, and where.
 #[derive(Clone, Debug, PartialEq, Eq)]
 pub struct Fault {
     text: String,
@@ -49,7 +49,7 @@ impl Fault {
         &self.name
     }
 
-    /// What breaks it, as `step 7`, `list 3` or `node /a`; empty where the fault is told of nothing.
+    /// What breaks it, as `step 7`, `list 3` or `node /a`; empty if the fault names no place.
     pub fn place(&self) -> &str {
         &self.place
     }

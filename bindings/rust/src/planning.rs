@@ -28,7 +28,7 @@ impl Tree {
     }
 
     /// What a plan costs that its certificate proves to be least; or why that isn't so, whoever made the two. The cost
-    /// that the plan tells isn't looked at.
+    /// that the plan has isn't looked at.
     pub fn check(&self, list: &[Access], plan: &Plan) -> Result<u64, Error> {
         let question = question(list, Some(&plan.steps), Some(&plan.certificate));
         let answer = self
@@ -67,13 +67,13 @@ fn drawn(form: Form, document: &str) -> Result<String, Error> {
     }
 }
 
-/// What an answer tells in the line of a name.
+/// What an answer has in the line of a name.
 fn told<'a>(answer: &'a str, name: &str) -> Option<&'a str> {
     let mut lines = answer.lines();
     lines.find_map(|line| line.strip_prefix(name)?.strip_prefix(' '))
 }
 
-/// What it tells there, as a value.
+/// What it has there, as a value.
 fn value_of(answer: &str, name: &str) -> Option<Value> {
     Value::read(told(answer, name)?)
 }

@@ -5,7 +5,7 @@ use crate::kept::Kept;
 use crate::plan::{Certificate, FlowRow, Step};
 use std::fmt::Write;
 
-/// The version of documents in which accesses tell their lengths.
+/// The version of documents in which accesses have lengths.
 const VERSION: u32 = 2;
 
 /// Nodes with a weight and a record each, in preorder. Whether they are a tree as grove takes it is seen by each call.
@@ -144,7 +144,7 @@ impl Branch {
         }
     }
 
-    /// The child of this name, which is made where there is none.
+    /// The child of this name, which is made if there is none.
     fn child(&mut self, name: &str) -> &mut Branch {
         let found = self.children.iter().position(|it| it.name == name);
         let at = found.unwrap_or(self.children.len());
