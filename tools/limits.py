@@ -185,14 +185,7 @@ LIMITS = [
     ),
     ("crates/grove_store/src/waiting.rt", "MOST_WAITS", [("docs/PROTOCOL.md", "what would exceed {} stays at")]),
     ("crates/grove_base/src/line.rt", "MOST", [("docs/PROOFS.md", "`hint: ` and 1 to {} printable characters")]),
-    (
-        "crates/grove_run/src/worth.rt",
-        "WORTH_A_THREAD",
-        [
-            ("docs/DECISIONS.md", "enough is jobs of {} steps"),
-            ("bench/README.md", "jobs of fewer than {} steps in all"),
-        ],
-    ),
+    ("crates/grove_run/src/worth.rt", "WORTH_A_THREAD", [("docs/DECISIONS.md", "enough is jobs of {} steps")]),
 ]
 
 

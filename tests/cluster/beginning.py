@@ -153,7 +153,7 @@ def what_was_made_ready_isnt_made_after_a_sign(cluster, grove):
 
 
 def more_jobs_are_read_while_there_is_work(cluster, grove):
-    """So a worker that was told of two goes on with all of them."""
+    """So a worker that was given two goes on with all of them."""
     store = Store(cluster, grove, "more", [AT_A, AT_B] * 14)
     worker = store.worker(work=lambda *_: None, patience=SECONDS)
     worker.do_one_by_one(worker.jobs(store.jobs[:2]))

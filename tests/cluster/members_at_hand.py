@@ -23,7 +23,7 @@ class Cluster:
         self.clients, self.peers = ([f"{HOST}:{free_port()}" for _ in range(count)] for _ in range(2))
         self.started = [None] * count
         self.room = tempfile.TemporaryDirectory(prefix="grove-etcd-")
-        # As the programs' words have them, and as the members are spoken to.
+        # As the programs' arguments have them, and as the members are called.
         self.credentials, self.scheme, self.more_words = [], "http", []
         self.let_in = Credentials()
 

@@ -41,7 +41,7 @@ class Untimely(Exception):
 
 
 def in_time(trial):
-    """What the trial gives, which is told the number of the try: it is made again if it was untimely."""
+    """What the trial gives, which gets the number of the try: it is made again if it was untimely."""
     for number in range(TRIES):
         try:
             return trial(number)
@@ -151,7 +151,7 @@ class Programs:
         return int(words[2]), int(words[4]), int(words[6])
 
     def standing(self):
-        """The same, read at once, where a program would come too late."""
+        """The same, read at once, if a program would come too late."""
         return Standing.read(self.cluster.members(), Keys(self.store), None)
 
     def file(self, name, content):

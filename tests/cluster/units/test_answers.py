@@ -1,4 +1,4 @@
-"""What a member told of a transaction, and how a job is seen by it."""
+"""What a member answered of a transaction, and how a job is seen by it."""
 import unittest
 
 import here  # noqa: F401

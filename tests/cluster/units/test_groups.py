@@ -125,7 +125,7 @@ class Audits(unittest.TestCase):
         self.assertEqual((passing.hands["/a"], passing.holders), (2, {}))
 
     def test_a_node_that_is_handed_on(self):
-        """Also where the two jobs are in two epochs."""
+        """Also if the two jobs are in two epochs."""
         one, two = past("one", HOLD, (1, 1, False), (2, 1, False)), past("two", HOLD, (2, 1, False), (3, 1, False))
         two.taken[0] = replace(two.taken[0], event=replace(two.taken[0].event, place=1))
         together, apart = Passing(), (Passing(), Passing())

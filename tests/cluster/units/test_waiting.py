@@ -1,4 +1,4 @@
-"""Watches, by a member that has been told what to answer."""
+"""Watches, by a member whose answers are given."""
 import unittest
 from types import SimpleNamespace
 
@@ -21,7 +21,7 @@ class Answers(list):
 
 
 class Member:
-    """Its watch is there at this revision, at which these keys stand; it then tells of these events."""
+    """Its watch is there at this revision, at which these keys stand; it then reports these events."""
 
     token, calls = (), SimpleNamespace(Range=None)
 
