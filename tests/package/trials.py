@@ -99,8 +99,8 @@ def moved(packages: Packages, room: Path, tally: Tally) -> None:
     note_equal(tally, "the files", below(elsewhere), below(packages.prefix))
     surroundings = {**os.environ, "PATH": f"{elsewhere}/bin:{os.environ['PATH']}"}
     examples = elsewhere / "share/doc/grove/examples"
-    told = called(examples / "plan-then-check", examples / "one-leaf.json", env=surroundings)
-    note_equal(tally, "plan-then-check", (told.stdout.splitlines()[-1:], told.stderr), (["cost 1"], ""))
+    told = called(examples / "plan-then-check", examples / "one-setting.json", env=surroundings)
+    note_equal(tally, "plan-then-check", (told.stdout.splitlines()[-1:], told.stderr), (["cost 2"], ""))
 
 
 def owned(packages: Packages, _room: Path, tally: Tally) -> None:

@@ -21,10 +21,10 @@ After=network.target
 Type=exec
 # The words behind the document. `systemctl edit grove-@COMMAND@` gives others (Environment= again), and so does a line
 # GROVE_@NAME@="--port @PORT@" in /etc/default/grove.
-#   --explain   if the document can't be read or the port not be had, the journal gets the system's reason.
-#   --verbose   the journal gets who comes and goes and why, which lines are refused, and what each minute brought.
+#   --explain   if the document can't be read or the port not be listened on, the journal gets the system's reason.
+#   --verbose   the journal gets who comes and goes and why, which lines are refused, and what was done in each minute.
 #   --idle 600  @IDLE@
-# It listens at 127.0.0.1; --bind ADDRESS is for another address, and whoever reaches that may read and write.
+# It listens at 127.0.0.1; --bind ADDRESS is for another address, and every client that reaches that may read and write.
 Environment="GROVE_@NAME@=--port @PORT@ --explain --verbose --idle 600"
 EnvironmentFile=-/etc/default/grove
 ExecStart=@PREFIX@/bin/grove @COMMAND@ --tree /etc/grove/tree.json $GROVE_@NAME@
