@@ -47,7 +47,8 @@ def show(name, times):
         line = f"{name} {what}: " + ", ".join(f"{statistics.median(each) / 1e6:.3f}" for each in spent) + " ms"
         line += ", at best " + ", ".join(f"{min(each) / 1e6:.3f}" for each in spent)
         if what.startswith("run"):
-            line += "; " + ", ".join(f"{JOBS * 1e9 / statistics.median(each):,.0f}" for each in spent) + " jobs a second"
+            done = ", ".join(f"{JOBS * 1e9 / statistics.median(each):,.0f}" for each in spent)
+            line += f"; {done} jobs a second"
         print(line)
 
 

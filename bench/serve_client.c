@@ -4,10 +4,10 @@
 
    A request is so many LINES of standard input, and a reply has so many line FEEDS. Each of the CLIENTS is a connection
    that sends the requests in turn, from a place of its own on and then round again, and keeps so many AHEAD of their
-   replies. One thread serves them all. Once a tenth of the SECONDS is over it counts for so many seconds, and prints four
-   numbers: requests answered a second, nanoseconds from when a request may be sent to the end of its reply, in the middle
-   and at the 99th of 100, and requests answered from the beginning on. A reply that begins a line as an error does, here
-   or in Redis, ends it. */
+   replies. One thread serves them all. Once a tenth of the SECONDS is over it counts for so many seconds, and prints
+   four numbers: requests answered a second, nanoseconds from when a request may be sent to the end of its reply, in
+   the middle and at the 99th of 100, and requests answered from the beginning on. A reply that begins a line as an
+   error does, here or in Redis, ends it. */
 #define _GNU_SOURCE
 #include <arpa/inet.h>
 #include <errno.h>
@@ -168,7 +168,9 @@ static int by_size(const void *one, const void *other) {
 }
 
 /* Asks until the time is over, and waits for what is still to come. Gives how many requests were answered. */
-static size_t ask(struct client *clients, size_t count, const struct requests *all, size_t feeds, struct latencies *taken) {
+static size_t ask(
+    struct client *clients, size_t count, const struct requests *all, size_t feeds, struct latencies *taken
+) {
     struct pollfd watched[MOST_CLIENTS];
     size_t allowed = 0, answered = 0;
     for (size_t at = 0; at < count; at++) allowed += clients[at].allowed;
@@ -198,7 +200,8 @@ int main(int count, char **words) {
     struct requests all = read_requests(strtoul(words[5], NULL, 10));
     static struct client clients[MOST_CLIENTS];
     for (size_t at = 0; at < many; at++) {
-        clients[at] = (struct client){.socket = connected(atoi(words[1])), .next = at * all.count / many, .feeds = feeds};
+        size_t next = at * all.count / many;
+        clients[at] = (struct client){.socket = connected(atoi(words[1])), .next = next, .feeds = feeds};
         allow(&clients[at], ahead, nanoseconds());
         send_due(&clients[at], &all);
     }

@@ -20,7 +20,8 @@ def fault_of_certificate(document, cost):
     forced = tree.forced(accesses)
     wanted, found = [tree.paths[node] for node in forced], [row["node"] for row in flow]
     if found != wanted:
-        return f"rows {next((i for i, (a, b) in enumerate(zip(found, wanted)) if a != b), min(len(found), len(wanted)))}"
+        shorter = min(len(found), len(wanted))
+        return f"rows {next((i for i in range(shorter) if found[i] != wanted[i]), shorter)}"
     rows = dict(zip(forced, flow))
     accessed = tree.accessed(accesses)
     for name, is_well in RULES:

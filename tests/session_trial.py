@@ -32,7 +32,8 @@ def faults_of_session(program, case):
         try:
             with server:
                 for number, connection in enumerate(case.connections):
-                    faults += faults_of_stream(f"replies {number}", Wanted(connection.replies), came(server, connection))
+                    wanted = Wanted(connection.replies)
+                    faults += faults_of_stream(f"replies {number}", wanted, came(server, connection))
                 if not server.is_running():
                     faults.append(f"the server has ended with status {server.started.returncode}")
         except (BadServer, OSError) as bad:

@@ -28,7 +28,8 @@ def exported(crate):
 
 def blocks(text):
     """The top-level items of a source text: each with its head line and its whole text."""
-    starts = [m.start() for m in re.finditer(r"^(?:pub(?:\(crate\))? |impl|fn |trait |struct |enum |#\[cfg)", text, re.M)]
+    first_words = r"^(?:pub(?:\(crate\))? |impl|fn |trait |struct |enum |#\[cfg)"
+    starts = [found.start() for found in re.finditer(first_words, text, re.M)]
     return [text[a:b] for a, b in zip(starts, [*starts[1:], len(text)])]
 
 

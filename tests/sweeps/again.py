@@ -56,7 +56,10 @@ CALLS = {
         Call("serial_order", [b"order [1, 0] replies [Done] [Value(7)] records 0 1 0"]),
     ],
     "run_batch": [
-        Call(f"run_batch by {who}", [b"order [0, 1] replies [Value(11), Value(11)] [Value(12), Value(12)] records 0 12 0"])
+        Call(
+            f"run_batch by {who}",
+            [b"order [0, 1] replies [Value(11), Value(11)] [Value(12), Value(12)] records 0 12 0"],
+        )
         for who in ("the caller alone", "one worker")
     ],
     "reweigh": [Call("reweigh", [b"changed 2 weights 501 1 1000"], takes_memory=False)],

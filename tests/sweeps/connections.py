@@ -150,7 +150,8 @@ def leave_in_a_reply(program: str, tally: Tally) -> None:
                 connection.sendall(200 * WEIGHTS)
                 size = random.randrange(1, len(wanted))
                 came = connection.makefile("rb").read(size)
-            tally.note(f"client {number}", None if came == wanted[:size] else f"{size} bytes came wrong: {came[-80:]!r}")
+            fault = None if came == wanted[:size] else f"{size} bytes came wrong: {came[-80:]!r}"
+            tally.note(f"client {number}", fault)
         note_replies(store, look(store), server.talk(look(store)), "at the end", tally)
 
 

@@ -91,7 +91,8 @@ def add_up(program: str, tally: Tally) -> None:
         came = list(pool.map(talk_in_turn, [server.port] * ADDING, [[ADD] * BATCHES] * ADDING))
         [after] = looked(server.talk(GET))
     sums = sorted(sum_of for replies in came for sum_of in looked(replies))
-    tally.note("the sums", None if sums == list(range(before + 1, before + ADDING * BATCHES + 1)) else f"they are {sums}")
+    wanted = list(range(before + 1, before + ADDING * BATCHES + 1))
+    tally.note("the sums", None if sums == wanted else f"they are {sums}")
     tally.note("the record", None if after == before + ADDING * BATCHES else f"it was {before} and is {after}")
 
 

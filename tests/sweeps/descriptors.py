@@ -126,4 +126,5 @@ def fail(program: str, library: str, tally: Tally) -> None:
     port = free_port()
     words = ["serve", "--tree", str(EXAMPLES / "two-leaves.json"), "--port", str(port)]
     listened = b"listening %s:%d\n" % (HOST.encode(), port)
-    tally.compare("a listener that fails", run(program, *words, env=failing(library, 1, errno.EINVAL)), Ran(3, listened, b"device\n"))
+    ran = run(program, *words, env=failing(library, 1, errno.EINVAL))
+    tally.compare("a listener that fails", ran, Ran(3, listened, b"device\n"))

@@ -34,8 +34,9 @@ def draw_each(program: str, seed: int, tally: Tally) -> None:
         asked = document | ({"plan": plans[0]} if len(plans) == 2 else {})
         text = json.dumps(asked).encode()
         wanted = [told_of(document, steps) for steps in plans]
-        tally.note(f"{len(plans)} plans, as SVG", drawing_fault(run(program, "draw", text=text), in_svg, wanted))
-        tally.note(f"{len(plans)} plans, as text", drawing_fault(run(program, "draw", "--text", text=text), in_text, wanted))
+        as_svg, as_text = run(program, "draw", text=text), run(program, "draw", "--text", text=text)
+        tally.note(f"{len(plans)} plans, as SVG", drawing_fault(as_svg, in_svg, wanted))
+        tally.note(f"{len(plans)} plans, as text", drawing_fault(as_text, in_text, wanted))
 
 
 def whole_plan(document: dict) -> list:

@@ -1,8 +1,8 @@
 /* Preloaded before the program, lets one of its calls on connections fail: the one whose number, from 1, stands in
-   FAILED_READ or FAILED_WRITE. Says so by one byte on the descriptor whose number stands in FAILED_TELL. All other calls
-   are the system's; of a read at most as many bytes come as READ_AT_MOST says, and of a write as WRITE_AT_MOST says. So
-   too for standard input and output, by FAILED_INPUT, FAILED_OUTPUT, INPUT_AT_MOST and OUTPUT_AT_MOST. If a number
-   stands in INTERRUPTED_EACH, each call of a multiple of it is interrupted, and does nothing. */
+   FAILED_READ or FAILED_WRITE. Says so by one byte on the descriptor whose number stands in FAILED_TELL. All other
+   calls are the system's; of a read at most as many bytes come as READ_AT_MOST says, and of a write as WRITE_AT_MOST
+   says. So too for standard input and output, by FAILED_INPUT, FAILED_OUTPUT, INPUT_AT_MOST and OUTPUT_AT_MOST. If a
+   number stands in INTERRUPTED_EACH, each call of a multiple of it is interrupted, and does nothing. */
 #include <errno.h>
 #include <stdlib.h>
 #include <sys/syscall.h>

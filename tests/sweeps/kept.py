@@ -74,8 +74,8 @@ def asking(program: str, library: str) -> Iterator:
     surroundings = {**os.environ, "LD_PRELOAD": library, "GROWTHS_TELL": str(tell)}
     try:
         os.set_blocking(ends, False)
-        with Serving(program, DOCUMENT, env=surroundings, pass_fds=(tell,)) as server, connected(server.port) as connection:
-            with connection.makefile("rb") as replies:
+        with Serving(program, DOCUMENT, env=surroundings, pass_fds=(tell,)) as server:
+            with connected(server.port) as connection, connection.makefile("rb") as replies:
                 yield partial(growths_of, connection, replies, ends)
     finally:
         os.close(ends)

@@ -17,9 +17,15 @@ from sweeps.connections import TREE, WEIGHTS
 from sweeps.program import DEVICE, Ran, Tally, Try, because
 from sweeps.talks import note_replies
 
-TRIED = "places that a server was told"
+TRIED = "places that a server was given"
 # Those of this machine; the last two are any address of it, asked at the first ones.
-ADDRESSES = [("127.0.0.1", "127.0.0.1"), ("127.0.0.2", "127.0.0.2"), ("::1", "::1"), ("0.0.0.0", "127.0.0.3"), ("::", "::1")]
+ADDRESSES = [
+    ("127.0.0.1", "127.0.0.1"),
+    ("127.0.0.2", "127.0.0.2"),
+    ("::1", "::1"),
+    ("0.0.0.0", "127.0.0.3"),
+    ("::", "::1"),
+]
 # For examples in texts: no machine has it.
 NOWHERE = "192.0.2.1"
 # How many servers at once take any port.
@@ -27,7 +33,8 @@ MANY = 8
 
 
 def tries(program: str, _room: str) -> list[Try]:
-    return [Try(f"at {address}", partial(serve_at, program, address, asked)) for address, asked in ADDRESSES if is_here(asked)] + [
+    here = [(address, asked) for address, asked in ADDRESSES if is_here(asked)]
+    return [Try(f"at {address}", partial(serve_at, program, address, asked)) for address, asked in here] + [
         Try("many at any port", partial(serve_many, program)),
         Try("a port in use", partial(serve_twice, program)),
         Try("at no address of this machine", partial(serve_nowhere, program)),

@@ -73,7 +73,8 @@ def interrupt_each(program: str, library: str, tally: Tally) -> None:
         with Serving(program, TREE, env=surroundings) as server:
             came = talk_in_turn(server.port, LINES)
         tally.note(f"each of {each} interrupted", None if came == REPLIES else f"wanted {REPLIES!r}; came {came!r}")
-        tally.compare(f"judge, each of {each} interrupted", run(program, "judge", text=document, env=surroundings), wanted)
+        judged = run(program, "judge", text=document, env=surroundings)
+        tally.compare(f"judge, each of {each} interrupted", judged, wanted)
 
 
 def ask_next(server: Serving, done: int, where: str, tally: Tally) -> None:

@@ -22,7 +22,8 @@ def note_replies(store: Store, text: bytes, came: bytes, where: str, tally: Tall
         fault = store.fault_of(line, reply)
         tally.note(f"{where}, line {number}", fault and f"{fault}, to {line[:300]!r}")
     is_whole = len(lines) == len(replies) and (not came or came.endswith(b"\n"))
-    tally.blame(where, None if is_whole else f"{len(lines)} lines have {len(replies)} replies, {came[-80:]!r} at their end")
+    fault = f"{len(lines)} lines have {len(replies)} replies, {came[-80:]!r} at their end"
+    tally.blame(where, None if is_whole else fault)
 
 
 def look(store: Store) -> bytes:

@@ -101,7 +101,8 @@ def run_alone(program: str, library: str, tally: Tally) -> None:
             further = min(workers, lists) - 1
             run_one(program, library, workers, document, range(further, further + 1), f"{lists} lists", tally)
         below, above = of_steps(WORTH_A_THREAD - 1), of_steps(WORTH_A_THREAD)
-        run_one(program, library, workers, below, range(workers - 1, workers), "a step less than a thread is worth", tally)
+        planning = range(workers - 1, workers)
+        run_one(program, library, workers, below, planning, "a step less than a thread is worth", tally)
         run_one(program, library, workers, above, batch_threads(workers), "as many steps as a thread is worth", tally)
 
 
