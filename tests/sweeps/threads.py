@@ -1,7 +1,7 @@
 """Batches of 2,048 steps and more, which threads do, and whose lists contend for nodes: by `run`, by lines of one
-session, and by rounds that sixteen clients share. Each answer is compared with the lists done one after the other in
-the order that it prints. The threads that the program starts are counted: for these batches, for shorter ones, and
-for new weights.
+session, and by rounds that sixteen clients share. Each answer is compared with the lists done one after the other in the
+order that it tells. The threads that the program starts are counted: for these batches, for shorter ones, and for new
+weights.
 
 A run or a server that doesn't answer within a minute hangs, and ends its part. That somebody waits for a node, and that
 two lines share a round, goes by timing, and is tried until it was seen; all else has to be right in each try.

@@ -145,7 +145,7 @@ def served(started: subprocess.Popen, port: int, tally: Tally) -> tuple[Ran, byt
     told = b""
     try:
         replies = talk(port, TEXT) if listening else b""
-        # It logs its client a moment later, and the script passes that on in another.
+        # It tells of its client a moment later, and the script passes that on in another.
         told = told_up_to(started, b" ended after ") if listening else b""
     finally:
         started.send_signal(signal.SIGTERM)

@@ -52,7 +52,7 @@ MINUTES = (
     (ADD + NO_PATH, "2 lines, 1 refused, 1 rounds, 0 waits"),
     (GET + WEIGHTS, "2 lines, 0 refused, 1 rounds, 0 waits"),
 )
-# What is logged if there is no descriptor, and with how many there is none for a connection.
+# What is told where there is no descriptor, and with how many there is none for a connection.
 WANTS_DESCRIPTOR = "no descriptor is left for the next connection"
 NO_MORE_DESCRIPTORS = 4
 # Ends a connection by a reset.
@@ -107,7 +107,7 @@ class Telling(Serving):
         self.errors.close()
 
     def told(self) -> list[str]:
-        """The lines that are logged by now."""
+        """The lines that are told by now."""
         return [line.decode() for line in lines_of(Path(self.errors.name).read_bytes())]
 
     def told_of(self, count: int, seconds: float = LONGEST) -> list[str]:
@@ -162,7 +162,7 @@ def ask(client: socket.socket, text: bytes) -> bytes:
 
 
 def in_turn(program: str, tally: Tally) -> None:
-    """Connections with seeded lines, the next of which comes once the end of the one before is logged."""
+    """Connections with seeded lines, the next of which comes once the end of the one before is told."""
     random, store, wanted = Random("verbose"), Store(json.loads(TREE)), []
     with Telling(program) as server:
         for number in range(1, 41):

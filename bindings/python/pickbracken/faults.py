@@ -16,7 +16,7 @@ class Refused(Error):
     """What was handed in is refused: by the rule of this name, for what stands at this place.
 
     `name` is a word, as `parent-not-held`; `place` is what breaks the rule, as `step 7`, `list 3` or `node /a`, and
-    empty if the fault names no place; `text` is both, as the program prints them.
+    empty where the fault is told of nothing; `text` is both, as the program prints them.
     """
 
     def __init__(self, text: str) -> None:

@@ -108,7 +108,7 @@ def say_kept(kept: Kept, handle: Handle, text: bytes) -> str:
 
 
 def close(handle: Handle) -> None:
-    """Frees what a handle holds, if it holds anything."""
+    """Lets go what a handle holds, if it holds anything."""
     call_of(CLOSE)(ctypes.byref(handle))
 
 
@@ -117,7 +117,7 @@ Call = Callable[["ctypes.Array[ctypes.c_char]", int], Told]
 
 
 def text_of(call: Call) -> str:
-    """What a call writes. It is made once more if its text has no room."""
+    """What a call says, which is made once more where its text has no room."""
     room = FIRST_ROOM
     while True:
         text = ctypes.create_string_buffer(room)

@@ -134,7 +134,7 @@ impl Drop for KeptTree {
     }
 }
 
-/// What a call writes. It is made once more if its text has no room.
+/// What a call says, which is made once more where its text has no room.
 fn text_of(mut call: impl FnMut(&mut [u8]) -> Told) -> Result<String, Error> {
     let mut room = FIRST_ROOM;
     loop {
