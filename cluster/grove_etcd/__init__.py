@@ -1,1 +1,1 @@
-"""Plans of the tree protocol, run by any number of workers on an etcd cluster: docs/CLUSTER.md tells how."""
+"""Plans of the tree protocol, run by any number of workers on an etcd cluster (docs/CLUSTER.md)."""

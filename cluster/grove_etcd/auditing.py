@@ -1,4 +1,4 @@
-"""An epoch's history, collected into a document for `grove audit`; closing an epoch, and forgetting one."""
+"""Collects an epoch's history into a document for `grove audit`, closes an epoch, and forgets one."""
 from __future__ import annotations
 
 import json
@@ -23,7 +23,7 @@ from .wire import Operation, deleting, deleting_below, deleting_from, putting, u
 
 @dataclass(frozen=True)
 class Audited:
-    """What `grove audit` printed of an epoch, as lines by their first word; its jobs are numbered as they are here."""
+    """The lines that `grove audit` printed of an epoch, by their first word; the jobs have the numbers of `jobs`."""
 
     epoch: int
     jobs: list[str]
@@ -31,7 +31,7 @@ class Audited:
 
 
 class History:
-    """An epoch's jobs and nodes, as they stood at the revision of the head."""
+    """An epoch's jobs and nodes, as they stood at the revision at which the head was read."""
 
     def __init__(self, members: Members, keys: Keys, head: Head, number: int) -> None:
         self.head, self.number = head, number
@@ -57,20 +57,21 @@ class History:
         return {path: self.chain.left(path) for path in sorted(self.named)}
 
     def document(self) -> str:
-        """Weights don't matter to a run. A node that no job of the epoch names has a record of 0 in it."""
+        """Weights don't matter to a run. A node that no job of the epoch names has the record 0 in the document."""
         opening = {path: self.chain.opening(path) for path in self.named}
         left = {path: left.record for path, left in self.left().items()}
         rows = rows_of(self.paths, dict.fromkeys(self.paths, 1), opening)
         jobs = [{"list": past.job.accesses, "plan": past.job.plan} for past in self.jobs]
         replies = [past.progress.replies for past in self.jobs]
         standing = {"records": [left.get(path, 0) for path in self.paths], "replies": replies}
-        told = {"version": 2, "nodes": rows, "jobs": jobs, "events": self.events.listed, "standing": standing}
-        return written(told)
+        return written(
+            {"version": 2, "nodes": rows, "jobs": jobs, "events": self.events.listed, "standing": standing}
+        )
 
 
 class Events:
     """What an epoch's jobs did, step by step, by the numbers of the jobs. A mark that was made while a job of an
-    earlier epoch held the node isn't in the epoch's run; it is a wait all the same."""
+    earlier epoch held the node isn't in the epoch's run, but counts as a wait."""
 
     def __init__(self, names: list[str], groups: Iterable[Taken], chain: Chain) -> None:
         self.listed: list[list[object]] = []
@@ -92,7 +93,7 @@ class Events:
 def audit(
     members: Members, keys: Keys, grove: str, number: Optional[int] = None, document: Optional[str] = None
 ) -> Audited:
-    """Audits an epoch, the open one where none is named; that is closed then, and the next one opened."""
+    """Audits an epoch. Without a number it is the open one, which is then closed, and the next one opened."""
     head = need_store(members, keys)
     number = number or head.epoch
     history = History(members, keys, head, number)
@@ -113,8 +114,8 @@ def write_to(file: str, text: str) -> None:
 
 
 def close(members: Members, keys: Keys, history: History, waits: list[int]) -> None:
-    """Says first which jobs the epoch has, so that an audit which breaks off is finished by the next one, and last
-    that the next epoch is open. Whatever another audit has closed meanwhile stays as it is."""
+    """Puts the epoch's jobs first, so that the next audit finishes one that broke off, and the new head last. If
+    another audit has closed the epoch meanwhile, it stays as it is."""
     head = history.head
     key, text = keys.closed(head.epoch), Epoch(history.names).text()
     begun = members.write([putting(key, text)], [head.guard(keys), unchanged(key, 0)])
@@ -135,8 +136,8 @@ def left_by(keys: Keys, history: History, waits: list[int]) -> Iterable[Operatio
 
 
 def forget(members: Members, keys: Keys, number: int) -> None:
-    """Deletes a closed epoch's jobs and events, and what epochs before it left of its nodes. None but the oldest that
-    is kept, so that each epoch that is kept has what the one before left."""
+    """Deletes a closed epoch's jobs and events, and what epochs before it left of its nodes. It has to be the oldest
+    one, so that for each epoch that is kept there is what the epochs before it left."""
     head = need_store(members, keys)
     epochs = epochs_of(members, keys)
     if number not in epochs or number >= head.epoch:
@@ -161,6 +162,6 @@ def deletions(keys: Keys, name: str) -> list[Operation]:
 
 
 def is_going(members: Members, keys: Keys, number: int) -> bool:
-    """Did forgetting this epoch break off?"""
+    """Has the forgetting of this epoch begun, and not ended?"""
     epoch = epochs_of(members, keys).get(number)
     return epoch is not None and epoch.going

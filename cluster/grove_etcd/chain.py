@@ -1,7 +1,7 @@
-"""The chain of records: what an epoch begins with and leaves of each node, and that nobody else came to the node.
+"""The chain of records: what an epoch begins with at each node, what it leaves, and that nothing else changed the node.
 
-The groups of all jobs that no closed epoch has are gone through in the order of their revisions. They say who holds
-each node, how often each owner's key was put, and which revisions put a record. What stands in etcd has to be that.
+The groups of all jobs in no closed epoch are followed in the order of their revisions. They give the holder of each
+node, how often its owner's key was put, and the revision that put its record last. What stands in etcd has to agree.
 """
 from __future__ import annotations
 
@@ -25,12 +25,12 @@ from .wire import Entry, Found, reading, reading_last
 @dataclass(frozen=True)
 class Left:
     """What an epoch, or `load`, left of a node: the record, the revision of the write that left it, and how often the
-    owner's key had been put."""
+    owner's key had been put by then."""
 
     record: int
     revision: int
     hands: int = 0
-    # At which revision the node was let go last.
+    # The revision at which the node was unlocked last.
     freed: int = 0
 
     @staticmethod
@@ -43,13 +43,13 @@ class Left:
 
 @dataclass
 class Passing:
-    """What groups did to nodes, one after the other."""
+    """What groups did to nodes, followed one after the other."""
 
     holders: dict[str, str] = field(default_factory=dict)
-    # How often each owner's key was put; and the last group that put each record.
+    # How often each owner's key was put, and the last group that put each record.
     hands: Counter[str] = field(default_factory=Counter)
     writers: dict[str, Taken] = field(default_factory=dict)
-    # At which revision each node was let go last.
+    # The revision at which each node was unlocked last.
     freed: dict[str, int] = field(default_factory=dict)
     # The jobs that locked each node, in order.
     lockers: dict[str, list[str]] = field(default_factory=dict)
@@ -60,8 +60,8 @@ class Passing:
             self.need_mark(group)
 
     def pass_by(self, group: Taken) -> None:
-        """The owner's key of a node is put where a group takes the node or lets it go; where it is handed to the next
-        job that counts as one put, the one by which it is let go."""
+        """A group that locks or unlocks a node puts its owner's key. If the node is handed to the next job, that is one
+        put, and counts for the group that unlocks it."""
         name = group.job.name
         changing = {step.path for step in group.steps if step.kind is not Kind.ACCESS}
         held = {path for path in changing if self.holders.get(path) == name}
@@ -82,8 +82,8 @@ class Passing:
             self.writers[path] = group
 
     def need_mark(self, group: Taken) -> None:
-        """A group that stops before a lock marks it, where another job holds the node. (One that has all the steps
-        that were looked at hasn't looked at the next one, and neither has one that was handed its node.)"""
+        """Refuses a group without a mark that stopped before a lock whose node another job held. (A group with all the
+        steps of its window didn't look at the next step, and neither did one that was handed its node.)"""
         step, name = group.next_step, group.job.name
         if step is None or step.kind is not Kind.LOCK or group.event.mark or group.is_handed:
             return
@@ -94,7 +94,7 @@ class Passing:
 
 @dataclass(frozen=True)
 class Node:
-    """A node as it stood: its record, its owner, its weight, what the epoch began with, and what the last epoch
+    """A node as it stands: its record, its owner, its weight, what the epoch began with, and what the last epoch
     left."""
 
     path: str
@@ -107,12 +107,12 @@ class Node:
 
 
 class Chain:
-    """An epoch's nodes, in the midst of all that was done since the last closed epoch."""
+    """An epoch's nodes, with all that was done since the last closed epoch."""
 
     def __init__(
         self, head: Head, number: int, nodes: dict[str, Node], epoch: list[Past], open_jobs: list[Past]
     ) -> None:
-        """`open_jobs` are all those that no closed epoch has, where it is open those of the epoch, too."""
+        """`open_jobs` are all those in no closed epoch, which includes those of an open epoch."""
         self.head, self.number, self.nodes = head, number, nodes
         self.is_open = number == head.epoch
         self.own, self.all = Passing(), Passing()
@@ -125,7 +125,8 @@ class Chain:
             self.check_owner(path, node)
 
     def check_record(self, path: str, node: Node) -> None:
-        """It was put last by the last of those that say so, or by the epoch that is closed, or by `load`."""
+        """Refuses the record unless it was put last by the last group that has it in its event, or if there is none,
+        by the last closed epoch, or by `load`."""
         last, put_at = node.last, node.record.put_at if node.record else 0
         if node.record and not RECORD.fullmatch(node.record.value):
             raise Refused(f"stray-record {path}")
@@ -153,7 +154,7 @@ class Chain:
         return node.opening.record if node.opening else node.weight.loaded
 
     def left(self, path: str) -> Left:
-        """What the epoch leaves: of a record that stands, what stands; else what the group that put it says."""
+        """What the epoch leaves: the standing record, if it is the epoch's, or else that in the last group's event."""
         node = self.nodes[path]
         opening = node.opening or Left(node.weight.loaded, self.loaded_revision(node))
         writer = self.own.writers.get(path)
@@ -165,25 +166,26 @@ class Chain:
         return Left(record, revision, opening.hands + self.own.hands[path], freed)
 
     def was_held(self, path: str, group: Taken) -> bool:
-        """Did a job of an earlier epoch let the node go only after the group? In one transaction that which begins a
-        job is the first."""
+        """Did a job of an earlier epoch unlock the node only after the group? If both are in one transaction, the group
+        that begins a job is the first."""
         opening = self.nodes[path].opening
         return opening is not None and (group.revision, group.event.place) < (opening.freed, 1)
 
     def stands(self, path: str, node: Node) -> bool:
-        """Has nobody put the record since, not even a later job in the same transaction?"""
+        """Is the standing record the epoch's, not put since, even by a later job in the same transaction?"""
         if self.is_open:
             return self.own.writers.get(path) is self.all.writers.get(path)
         return node.last_epoch == self.number and path not in self.all.writers
 
     def loaded_revision(self, node: Node) -> int:
-        """0 where the node's record has been put since; then nobody asks."""
+        """The revision at which `load` put the record; 0 if it has been put since, when it doesn't matter."""
         is_loaded = node.record is not None and node.record.put_at <= self.head.loaded_at
         return node.record.put_at if node.record and is_loaded else 0
 
 
 def nodes_at(members: Members, keys: Keys, paths: Iterable[str], epoch: int, head: Head) -> dict[str, Node]:
-    """These nodes at the head's revision, with what the epochs before this one left, and those before the open one."""
+    """These nodes at the head's revision, with what the last epoch before this one left of each, and the last closed
+    epoch."""
     at, reads = head.revision, []
     paths = sorted(paths)
     for path in paths:

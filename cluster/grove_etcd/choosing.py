@@ -1,7 +1,7 @@
-"""Which jobs make up the next epoch: ended ones, with all that were at one of their nodes before them.
+"""The choice of the next epoch's jobs: ended ones, with all jobs that were at one of their nodes before them.
 
-So an epoch closes behind the jobs that go on, and nobody has to wait for it. Whichever jobs are chosen, the audit says
-whether they are a finished run.
+So an epoch closes behind the jobs that go on, and nobody has to wait for it. Whatever is chosen, the audit decides
+whether it is a finished run.
 """
 from __future__ import annotations
 
@@ -12,12 +12,12 @@ from .chain import Passing
 from .past import Past, in_order
 from .tree import ways_down
 
-# What one audit takes (docs/FORMATS.md), and bytes of lists with their plans, so that its document is never too long.
+# The limits of one audit (docs/FORMATS.md), and of the bytes of lists and plans, so that its document isn't too long.
 MOST_JOBS, MOST_NODES, MOST_EVENTS, MOST_BYTES = 256, 4096, 2**20, 2**24
 
 
 def choose(pasts: Mapping[str, Past]) -> list[str]:
-    """As many as one audit takes, none before one that was at a node before it."""
+    """As many jobs as one audit takes; none without those that were at one of its nodes before it."""
     before = forerunners(pasts)
     after: dict[str, set[str]] = {name: set() for name in pasts}
     for name, others in before.items():
@@ -43,7 +43,7 @@ def ended_at(past: Past) -> tuple[int, int]:
 
 
 def forerunners(pasts: Mapping[str, Past]) -> dict[str, set[str]]:
-    """For each job those that locked one of its nodes as the last before it."""
+    """For each job, those that were the last to lock one of its nodes before it."""
     passing = Passing()
     for group in in_order(pasts.values()):
         passing.pass_by(group)
@@ -56,7 +56,7 @@ def forerunners(pasts: Mapping[str, Past]) -> dict[str, set[str]]:
 
 
 class Chosen:
-    """The jobs, and how much they make of what an audit takes."""
+    """The chosen jobs, and how much of an audit's limits they use."""
 
     def __init__(self) -> None:
         self.names: list[str] = []

@@ -1,4 +1,4 @@
-"""What the programs have in common: their words, and how they end."""
+"""What the programs have in common: their arguments, and how they end."""
 from __future__ import annotations
 
 import argparse
@@ -17,20 +17,21 @@ PASSWORD = "ETCDCTL_PASSWORD"
 Program = Callable[[Members, Keys, argparse.Namespace], None]
 
 
-def words(description: str) -> argparse.ArgumentParser:
-    """The words that every program takes."""
+def arguments(description: str) -> argparse.ArgumentParser:
+    """The arguments that every program takes."""
     parser = argparse.ArgumentParser(description=description)
-    parser.add_argument("--members", default="127.0.0.1:2379", metavar="HOST:PORT,..", help="the cluster's members")
-    parser.add_argument("--store", default="grove", metavar="NAME", help="what all keys begin with")
-    parser.add_argument("--cacert", metavar="FILE", help="speak TLS, to members with certificates of this authority")
-    parser.add_argument("--cert", metavar="FILE", help="the certificate that members are shown")
-    parser.add_argument("--key", metavar="FILE", help="the key of that certificate")
-    parser.add_argument("--user", metavar="NAME[:PASSWORD]", help=f"a user of etcd; the password may be in {PASSWORD}")
+    add = parser.add_argument
+    add("--members", default="127.0.0.1:2379", metavar="HOST:PORT,..", help="the members (default: 127.0.0.1:2379)")
+    add("--store", default="grove", metavar="NAME", help="the store's name, with which its keys begin (default: grove)")
+    add("--cacert", metavar="FILE", help="use TLS, and trust certificates of this authority")
+    add("--cert", metavar="FILE", help="this client's certificate")
+    add("--key", metavar="FILE", help="the key of that certificate")
+    add("--user", metavar="NAME[:PASSWORD]", help=f"a user of etcd (default for the password: ${PASSWORD})")
     return parser
 
 
 def with_grove(parser: argparse.ArgumentParser) -> argparse.ArgumentParser:
-    parser.add_argument("--grove", default=str(GROVE), metavar="PROGRAM", help="the program that plans and audits")
+    parser.add_argument("--grove", default=str(GROVE), metavar="PROGRAM", help="the program that audits")
     return parser
 
 
@@ -44,8 +45,8 @@ def credentials_of(given: argparse.Namespace) -> Credentials:
 
 
 def run(parser: argparse.ArgumentParser, program: Program) -> None:
-    """Runs a program on the members and keys that its words name. Status 1 where it refuses, 2 where the words are
-    wrong, 3 where no member answers, or something doesn't do what it is asked for."""
+    """Runs a program on the members and keys that its arguments name. Its status is 1 if it refuses, 2 if an argument
+    is wrong, and 3 if no member answers, or a file, a program or etcd fails."""
     given = parser.parse_args()
     try:
         addresses, keys, credentials = addresses_of(given.members), Keys(given.store), credentials_of(given)
@@ -55,7 +56,7 @@ def run(parser: argparse.ArgumentParser, program: Program) -> None:
 
 
 def status_of(program: Callable[[], Any]) -> int:
-    """Runs the program; whatever it ends by is told in a line."""
+    """Runs the program; an error is printed as one line."""
     try:
         program()
         sys.stdout.flush()
@@ -64,9 +65,9 @@ def status_of(program: Callable[[], Any]) -> int:
         print(f"refused {refused}", flush=True)
         return 1
     except Lost as lost:
-        return told(f"no member answers; what was to be written may have been: {lost}", 3)
+        return print_error(f"no member answered, and the last change may or may not have been made: {lost}", 3)
     except Failed as failed:
-        return told(str(failed), 3)
+        return print_error(str(failed), 3)
     except BrokenPipeError:
         os.dup2(os.open(os.devnull, os.O_WRONLY), sys.stdout.fileno())
         return 3
@@ -74,6 +75,6 @@ def status_of(program: Callable[[], Any]) -> int:
         return 130
 
 
-def told(line: str, status: int) -> int:
+def print_error(line: str, status: int) -> int:
     print(" ".join(line.split()), file=sys.stderr)
     return status

@@ -1,4 +1,4 @@
-"""Documents as docs/FORMATS.md has them, read as the store's program reads them: a number is a whole one of 64 bits,
+"""Documents in the form of docs/FORMATS.md, read as the `grove` program reads them: a number is a whole one of 64 bits,
 and the first fault is named with its place. A tree here may have any number of nodes."""
 from __future__ import annotations
 
@@ -38,7 +38,7 @@ def parsed(content: bytes) -> dict[str, Any]:
 
 
 def whole(digits: str) -> int | float:
-    """What JSON writes as a whole number; `-0` and what leaves 64 bits is a float to the store's program."""
+    """What JSON writes as a whole number. To the `grove` program `-0` and what exceeds 64 bits is a float."""
     if digits == "-0" or len(digits) > 20:
         return finite(digits)
     number = int(digits)
@@ -52,8 +52,8 @@ def finite(digits: str) -> float:
     return number
 
 
-def not_json(word: str) -> None:
-    raise ValueError(word)
+def not_json(constant: str) -> None:
+    raise ValueError(constant)
 
 
 def has_surrogate(content: bytes, document: object) -> bool:
@@ -69,7 +69,7 @@ def is_whole(value: object, least: int, most: int) -> bool:
 
 
 def nests_deeper(value: object, most: int) -> bool:
-    """Do arrays and objects stand in each other deeper than that?"""
+    """Are arrays and objects nested deeper than that?"""
     level, depth = [value], 0
     while level:
         level = [below for each in level for below in children(each) if isinstance(below, (list, dict))]
@@ -93,7 +93,7 @@ def array_of(document: dict[str, Any], member: str) -> list[Any]:
 
 
 def paths_of(rows: list[Any]) -> list[str]:
-    """The path of each row, where the rows are a tree."""
+    """The path of each row, if the rows are a tree."""
     for number, row in enumerate(rows):
         if not is_row(row):
             raise Refused(f"shape nodes {number}")
@@ -115,7 +115,7 @@ def paths_of(rows: list[Any]) -> list[str]:
 
 
 def is_row(row: object) -> bool:
-    """Is it of a row's form?"""
+    """Has it the form of a row?"""
     if not isinstance(row, dict) or not {"parent", "name", "weight"} <= row.keys():
         return False
     parent_is_well = row["parent"] is None or is_whole(row["parent"], 0, MOST_UNSIGNED)

@@ -1,7 +1,7 @@
 """A group: the next steps of a job that one transaction takes, as far as the nodes are free.
 
-The steps are taken one after the other in the state that stood when the nodes were seen; the guards of the transaction
-are all that the steps need of it. Then the rules allow each of them at the transaction's revision, too.
+The steps are taken one after the other, in the state in which the nodes were seen. The guards of the transaction cover
+all of that state that the steps need. So the rules allow each step at the transaction's revision, too.
 """
 from __future__ import annotations
 
@@ -15,7 +15,7 @@ from .keys import Keys
 from .refusals import Refused
 from .wire import Found
 
-# Each is at most one change and one compare.
+# Each step is at most one change and one compare.
 MOST_STEPS = 100
 RECORD = re.compile(r"-?[0-9]{1,19}")
 
@@ -29,18 +29,18 @@ class Turn(Enum):
 
 @dataclass
 class Group:
-    """Steps that are taken from a progress on."""
+    """The steps that are taken from a progress on."""
 
     progress: Progress
     taken: int = 0
-    # The nodes that have to be free, and those that change hands, with whether they are held in the end.
+    # The nodes that have to be free; and for each node that changes hands, whether it is held in the end.
     locked: list[str] = field(default_factory=list)
     hands: dict[str, bool] = field(default_factory=dict)
-    # Records as they are in the end, and those of them that the group changes.
+    # The final records, and the nodes of those that the group changes.
     records: dict[str, int] = field(default_factory=dict)
     changed: set[str] = field(default_factory=set)
     replies: list[Reply] = field(default_factory=list)
-    # The node whose lock comes next and isn't for this job yet, and why.
+    # The node whose lock comes next but can't be taken yet, and why.
     blocked: str | None = None
     turn: Turn | None = None
     # Among the groups of one transaction.
@@ -72,12 +72,12 @@ class Group:
 
     @property
     def may_mark(self) -> bool:
-        """Does the next step get its mark, if its node is held at the group's transaction?"""
+        """Is the next step marked if its node is held when the transaction is made?"""
         return self.blocked is not None and (self.taken > 0 or not self.progress.marked)
 
     @property
     def waits(self) -> bool:
-        """Does it put the job among the waiters of its next node?"""
+        """Does the group put the job in the line of its next node?"""
         return self.blocked is not None and (self.taken > 0 or not self.progress.waits)
 
     def does_nothing(self) -> bool:
@@ -86,7 +86,7 @@ class Group:
         return not (self.taken or marks or self.waits or ends_empty_plan)
 
     def after(self, is_held: bool = False) -> Progress:
-        """The progress that it leaves, where the next node is held at its transaction, or isn't."""
+        """The progress that the group leaves, by whether the next node is held when the transaction is made."""
         old = self.progress
         stays = not self.taken
         marked = (is_held and self.may_mark) or (stays and old.marked)
@@ -100,8 +100,8 @@ class Group:
 
 @dataclass(frozen=True)
 class Limits:
-    """Up to where a group goes: whether an access ends it, since it has work; whether a free node is left to those
-    that wait for it longer; and a node at which the job stands in line first, since others came to it in between."""
+    """What ends a group: whether an access does, since it has work; whether a free node is left to those that have
+    waited for it longer; and a node for which the job has to stand in line first, since others came to it."""
 
     works: bool = False
     queues: bool = True
@@ -109,7 +109,7 @@ class Limits:
 
 
 def group_of(keys: Keys, job: Job, steps: list[Step], progress: Progress, found: Found, limits: Limits) -> Group:
-    """As many of the steps, which come next, as can be taken, as the nodes were seen."""
+    """As many of the next steps as can be taken in the state that was seen."""
     group = Group(progress)
     for step in steps:
         if step.kind is Kind.LOCK:
@@ -129,7 +129,8 @@ def group_of(keys: Keys, job: Job, steps: list[Step], progress: Progress, found:
 
 
 def turn_of(keys: Keys, job: Job, path: str, found: Found, limits: Limits, stands: bool) -> Turn | None:
-    """Who stands in line for the node goes before those that come later, and after those whose jobs are older."""
+    """Why the node can't be locked yet, if so. A job in its line goes before those that come later, and after older
+    ones."""
     if found.value(keys.owner(path)):
         return Turn.HELD
     if not limits.queues:
@@ -140,7 +141,7 @@ def turn_of(keys: Keys, job: Job, path: str, found: Found, limits: Limits, stand
 
 
 def older_waiter(keys: Keys, job: Job, path: str, found: Found) -> str | None:
-    """The key of the one that stands before the job in the node's line, as it was read."""
+    """The key of the job before this one in the node's line, as it was read."""
     own = keys.waiter(path, job.age, job.name)
     return max((key for key in found.below(keys.waiters(path)) if key < own), default=None)
 

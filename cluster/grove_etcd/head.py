@@ -1,4 +1,4 @@
-"""The store as a whole: is there one, of which format, and which epoch is open."""
+"""The store as a whole: whether it is there, its format, and the open epoch."""
 from __future__ import annotations
 
 import json
@@ -13,7 +13,7 @@ from .wire import Found, Guard, unchanged
 
 @dataclass(frozen=True)
 class Head:
-    """The open epoch; `loaded_at` is the revision at which the store was there as `load` left it."""
+    """The open epoch; `loaded_at` is the revision at which `load` made the head, as its last change."""
 
     epoch: int
     revision: int
@@ -32,12 +32,12 @@ def head_of(keys: Keys, found: Found) -> Head:
     entry = found.entries.get(keys.head())
     if entry is None:
         raise Refused("other-format 1" if keys.old_head() in found.entries else "not-loaded")
-    told = json.loads(entry.value)
-    if told["format"] != FORMAT:
-        raise Refused(f"other-format {told['format']}")
-    if entry.version != told["epoch"]:
+    fields = json.loads(entry.value)
+    if fields["format"] != FORMAT:
+        raise Refused(f"other-format {fields['format']}")
+    if entry.version != fields["epoch"]:
         raise Refused("stray-head")
-    return Head(told["epoch"], found.revision, entry.put_at, entry.made_at)
+    return Head(fields["epoch"], found.revision, entry.put_at, entry.made_at)
 
 
 def need_store(members: Members, keys: Keys) -> Head:

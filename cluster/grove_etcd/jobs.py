@@ -1,4 +1,4 @@
-"""Jobs as they stand in etcd: the list with its plan, the progress, who goes on with it, and the events."""
+"""Jobs as they stand in etcd: the list with its plan, the progress, the worker that goes on with it, and the events."""
 from __future__ import annotations
 
 import json
@@ -7,7 +7,7 @@ from enum import Enum
 from functools import cached_property
 from typing import Any, Iterable, Union
 
-# As a document has them: `["add","/a",1]`, `["lock","/a"]`, and 7, "ok", "range" or "short".
+# As in a document: `["add","/a",1]`, `["lock","/a"]`, and 7, "ok", "range" or "short".
 Access = list[Union[str, int]]
 Reply = Union[int, str]
 
@@ -24,7 +24,7 @@ class Kind(Enum):
 
 @dataclass(frozen=True)
 class Step:
-    """A step of a plan, with its node; that of an access is the one that it accesses."""
+    """A step of a plan, with its node; for an access, the accessed node."""
 
     kind: Kind
     path: str
@@ -43,7 +43,7 @@ def slots_of(access: Access) -> int:
 
 @dataclass(frozen=True)
 class Job:
-    """A list with a legal plan, under a name; `age` is when it was submitted, in microseconds by some clock."""
+    """A list with a legal plan, and a name; `age` is the time of its submission, in microseconds of some clock."""
 
     name: str
     age: int
@@ -52,8 +52,8 @@ class Job:
 
     @staticmethod
     def read(name: str, text: str) -> Job:
-        told = json.loads(text)
-        return Job(name, told["age"], told["list"], told["plan"])
+        fields = json.loads(text)
+        return Job(name, fields["age"], fields["list"], fields["plan"])
 
     def text(self) -> str:
         return written({"age": self.age, "list": self.accesses, "plan": self.plan})
@@ -68,18 +68,18 @@ class Job:
         return Step(Kind(kind), what)
 
     def nodes(self) -> set[str]:
-        """The nodes that it names."""
+        """The nodes that it locks or accesses."""
         return {step.path for step in self.steps} | set(map(path_of_access, self.accesses))
 
     def most_events(self) -> int:
-        """Each step is taken once, and each lock may be waited for once."""
+        """Each step is an event, and so may be a wait for each lock."""
         return len(self.plan) + sum(step.kind is Kind.LOCK for step in self.steps)
 
 
 @dataclass(frozen=True)
 class Progress:
-    """How many steps of how many are done, in how many groups, whether the next one has its mark and stands among the
-    waiters of its node, and the replies."""
+    """How many steps are done, of how many and in how many groups; whether the next step has its mark, and stands in
+    the line of its node; and the replies."""
 
     step: int
     steps: int
@@ -101,8 +101,9 @@ class Progress:
 
 @dataclass(frozen=True)
 class UnderWay:
-    """Which worker goes on with a job, and how often the present access's work has failed; a job that is set aside is
-    taken up by nobody, and one that is by nobody (an empty name) at once. `waits` is the node that it waits for."""
+    """The worker that goes on with a job, and how often the work of the present access has failed. A job that is set
+    aside is taken up by nobody. One with an empty name for its worker is taken up at once. `waits` is the node that
+    the job waits for."""
 
     by: str
     waits: str | None = None
@@ -120,8 +121,8 @@ class UnderWay:
 
 @dataclass(frozen=True)
 class Event:
-    """What a group of a job's steps did: how many it took, whether it marked the next one, and the records it left;
-    and its place among the groups of one transaction."""
+    """What a group did: how many steps it took, whether it marked the next one, the records that it left, and its place
+    among the groups of its transaction."""
 
     takes: int
     mark: bool
@@ -138,7 +139,7 @@ class Event:
 
 @dataclass(frozen=True)
 class Waiter:
-    """A job in a node's line, with what is put for it where the node is handed to it: its event's number, and its
+    """A job in a node's line, with what is put for it when the node is handed to it: the number of its event, and its
     progress once it has the lock."""
 
     group: int

@@ -1,4 +1,4 @@
-"""What a worker tells of itself: a line an event on standard error, and counts of them over HTTP."""
+"""What a worker logs: a line for each event on standard error, and counts of the events over HTTP."""
 from __future__ import annotations
 
 import logging
@@ -7,9 +7,9 @@ from collections import Counter
 from http.server import BaseHTTPRequestHandler, ThreadingHTTPServer
 
 LOG = logging.getLogger("grove")
-# Of which no line is written, since there are so many.
+# Events without a line, since there are so many.
 COUNTED = {"commit", "commit_failed", "stepped_back", "work"}
-# Of which a line is written even where none is asked for.
+# Events with a line even without --verbose.
 WARNED = {"work_failed", "set_aside", "lost", "stray"}
 FORM = """\
 # HELP grove_worker_events_total What happened to this worker, by event.
@@ -22,7 +22,7 @@ class Journal:
         self.counts: Counter[str] = Counter()
         self.lock = threading.Lock()
 
-    def tell(self, event: str, **facts: object) -> None:
+    def log(self, event: str, **facts: object) -> None:
         with self.lock:
             self.counts[event] += 1
         level = logging.WARNING if event in WARNED else logging.INFO
@@ -41,7 +41,7 @@ def line_of(event: str, facts: dict[str, object]) -> str:
 
 
 def quoted(text: str) -> str:
-    """On one line, and in quotes where it has a space."""
+    """On one line, and in quotes if it has a space."""
     plain = "".join(each if each.isprintable() else "?" for each in text)
     return '"' + plain.replace('"', "'") + '"' if " " in plain or not plain else plain
 
@@ -65,7 +65,7 @@ def serve_metrics(journal: Journal, host: str, port: int) -> ThreadingHTTPServer
             self.wfile.write(content)
 
         def log_message(self, *_: object) -> None:
-            """Whoever asks for counts isn't told of."""
+            """Requests for counts aren't logged."""
 
     server = ThreadingHTTPServer((host, port), Metrics)
     threading.Thread(target=server.serve_forever, daemon=True).start()

@@ -1,35 +1,37 @@
-"""The keys of a store in etcd, all below its name, and by which revisions an audit closes the chain of records.
+"""The keys of a store in etcd, all below its name, and the revisions by which an audit checks the chain of records.
 
-A path begins with a slash, so the weight of `/a/b` stands at `STORE/m/a/b`. A job has a NAME of its own, by which it
-is made once; its AGE, a time of the submitter's clock, only says whom to prefer. GROUP counts the transactions of a
-job.
+A path begins with a slash, so the weight of `/a/b` stands at `STORE/m/a/b`. A job has a NAME of its own, so that it is
+made once. Its AGE, a time of the submitter's clock, only decides which job goes first. GROUP counts the transactions of
+a job.
 
     head               the format, and the open epoch. Made by the last commit of `load`, put once by each audit that
                        closes an epoch: its version is the number of the open epoch
-    load               the token of the loader; no other one's batch is made
+    load               the token of the loader; guards its transactions, so that no other loader's succeed
     m/PATH             the node's weight, the reweighing that made it, and the record that was loaded
-    r/PATH             the node's record; 0 where there is no such key
+    r/PATH             the node's record; 0 if there is no such key
     o/PATH             the name of the job that holds the node, or nothing. It is never deleted, so its version counts
                        how often the node changed hands
     v/PATH//AGE/NAME   a job that waits for the node, in the order in which they are woken; with what is put for it
-                       where the node is handed to it
+                       when the node is handed to it
     p/NAME             the job: its list, plan and age; put once
     q/AGE/NAME         is there until the job's first group is taken
-    u/NAME             is there from then on until the job ends: which worker goes on with it. It is put by each of
-                       its groups, by each sign of life, and by whoever takes the job up; the guard of the next group,
-                       or sign, is that nobody else did
+    u/NAME             is there from then on until the job ends: the worker that goes on with it. It is put by each of
+                       the job's groups, by each sign of life, and by a worker that takes the job up; the guard of the
+                       next group, or sign, is that no other worker has put it
     j/NAME             the job's progress; put once by each group
     e/NAME/GROUP       what the group took, whether it marked the next step, the records that it left, and its place
                        among the groups of its transaction; put once
-    x/EPOCH            the jobs of an epoch that is closed or about to be
+    x/EPOCH            the jobs of an epoch that is closed or being closed; with a flag while it is being forgotten
     b/PATH//EPOCH      what the epoch left of a node that its jobs name: the record, the revision of the write that
                        left it, and the version of `o/PATH`
     w/EPOCH/PATH       how often the node was waited for
     weighing           the last reweighing, and whether it is done
 
-The chain: what an epoch begins with of a node is the last `b/PATH//EPOCH` before it, or what `load` left (`m/PATH`,
-with a record put before `head` was made). The key `r/PATH` has to have been put last by that write, or by a
-transaction with an event, of a job that isn't forgotten, which says so and whose steps access the node
+Workers write `r`, `o`, `v`, `q`, `u`, `j` and `e` alone; submitters `p` and `q`.
+
+The chain: an epoch begins at a node with the last `b/PATH//EPOCH` before it, or with what `load` left: the record in
+`m/PATH`, and a key `r/PATH` put before `head` was made. The key `r/PATH` has to have been put last by that write, or by
+a transaction with an event that has the record, of a job that isn't forgotten and whose steps access the node
 (`stray-record`).
 """
 from __future__ import annotations
@@ -37,23 +39,23 @@ from __future__ import annotations
 import re
 
 NAME = re.compile(r"[a-z0-9_-]{1,32}")
-# Of jobs: what is given by `submit --id`, or made up, and the number of the list.
+# Of a job: the ID given to `submit --id`, or a new one, and the number of the list.
 JOB_NAME = re.compile(r"[a-z0-9_-]{1,64}\.[0-9]{1,9}")
-# Of the keys and their values as they are described here.
+# The format of the keys and their values as described here.
 FORMAT = 2
 
 
 class Keys:
     def __init__(self, store: str) -> None:
         if not NAME.fullmatch(store):
-            raise ValueError(f"a store's name has 1 to 32 of a to z, 0 to 9, _ and -: {store!r}")
+            raise ValueError(f"a store's name has 1 to 32 characters of a to z, 0 to 9, _ and -: {store!r}")
         self.store = store
 
     def head(self) -> str:
         return f"{self.store}/head"
 
     def old_head(self) -> str:
-        """Where the first format had the present epoch."""
+        """The key of the open epoch in the first format."""
         return f"{self.store}/epoch"
 
     def load(self) -> str:
@@ -69,7 +71,7 @@ class Keys:
         return f"{self.store}/o{path}"
 
     def waiters(self, path: str) -> str:
-        """No name is empty, so no other node's waiters begin so."""
+        """No name is empty, so no other node's waiters have this prefix."""
         return f"{self.store}/v{path}//"
 
     def waiter(self, path: str, age: int, name: str) -> str:
@@ -112,10 +114,10 @@ class Keys:
         return f"{self.store}/weighing"
 
     def whole(self, kind: str) -> str:
-        """Below which all keys of a kind stand, as the `m` of weights."""
+        """The prefix of all keys of a kind, such as the `m` of weights."""
         return f"{self.store}/{kind}/"
 
 
 def last_part(key: str) -> str:
-    """A job's name, or an epoch's number, with which the key ends."""
+    """The job's name, or the epoch's number, with which the key ends."""
     return key.rpartition("/")[2]

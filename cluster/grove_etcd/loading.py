@@ -1,7 +1,7 @@
-"""A document's tree and records into etcd, in transactions of many nodes; a tree may have millions of nodes.
+"""Puts a document's tree and records into etcd, in transactions of many nodes; a tree may have millions of nodes.
 
-Until it is done there is no head, so that no job can be submitted. Each transaction is guarded by that, and by the
-loader's own token: of two loaders the later one goes on, and the other changes nothing from then on.
+Until that is done there is no head, so that no job can be submitted. Each transaction is guarded by that, and by the
+loader's own token. Of two loaders the later one goes on, and the other changes nothing from then on.
 """
 from __future__ import annotations
 
@@ -18,7 +18,7 @@ from .refusals import Refused
 from .weights import Weight
 from .wire import Guard, Operation, absent, deleting_below, putting, unchanged
 
-# Transactions on their way at once, and those that are made ready meanwhile.
+# Transactions that are sent at once, and those that are made ready meanwhile.
 AT_ONCE, READY = 8, 32
 
 
@@ -39,7 +39,7 @@ class Loader:
         self.guards: list[Guard] = []
 
     def begin(self) -> None:
-        """From now on no other loader's transaction is made."""
+        """From now on no transaction of another loader succeeds."""
         found = self.members.get(self.keys.head(), self.keys.old_head())
         if found.entries:
             raise Refused("loaded")
@@ -57,7 +57,7 @@ class Loader:
             raise Refused("other-loader")
 
     def is_made(self) -> bool:
-        """Did the commit that made the head bring no answer, and was made?"""
+        """Was the head made by an earlier try of this loader, whose answer was lost?"""
         found = self.members.get(self.keys.head(), self.keys.load())
         return found.value(self.keys.head()) is not None and found.value(self.keys.load()) == self.token
 
@@ -70,7 +70,7 @@ class Loader:
 
 
 def changes(keys: Keys, paths: list[str], rows: list[Any]) -> Iterator[Operation]:
-    """A weight for each node, and a record for each whose isn't 0."""
+    """A weight for each node, and a record for each node whose record isn't 0."""
     for path, row in zip(paths, rows):
         record = row.get("value", 0)
         yield putting(keys.weight(path), Weight(row["weight"], 0, record).text())

@@ -1,7 +1,7 @@
-"""The members of an etcd cluster, asked one at a time; where one is down, the next.
+"""The members of an etcd cluster, of which one is asked; if that is down, the next.
 
-What is read is as it stood when it was asked for (etcd's linearizable reads). A commit that brought no answer may have
-happened: it raises `Lost`, and isn't made again here.
+Reads are etcd's linearizable ones: they see all that was written before. A commit without an answer may have been made.
+It raises `Lost`, and isn't repeated here.
 """
 from __future__ import annotations
 
@@ -17,26 +17,26 @@ from etcd3 import etcdrpc
 from .refusals import Failed
 from .wire import Done, Found, Guard, Operation, Request, after, at_hand, counting, done, ranging, reading, request_of
 
-# Of operations in a transaction, and of its compares (etcd's own limit, as it comes).
+# Of operations in a transaction, and of its compares (etcd's default limit).
 MOST_OPERATIONS = 128
 # Keys of one answer.
 PAGE = 2000
-# How long one member may take to answer, and how long none may.
+# For how long one member is waited for, and for how long a call is repeated.
 CALL_SECONDS = 5.0
 GIVE_UP_SECONDS = 60.0
-# Between tries; each pause is some part of the next length.
+# Between tries; each pause is a random part of the next length.
 FIRST_PAUSE_SECONDS, LONGEST_PAUSE_SECONDS = 0.05, 3.0
 OPTIONS = [
     ("grpc.initial_reconnect_backoff_ms", 100),
     ("grpc.max_reconnect_backoff_ms", 1000),
     ("grpc.max_receive_message_length", -1),
-    # What may be made again is, below; so no copy of a request has to be kept.
+    # Calls are repeated below, so gRPC needs to keep no copy of a request.
     ("grpc.enable_retries", 0),
-    # So one connection that hangs, as those made while a member starts, is no other client's.
+    # So a connection that hangs, as one made while a member starts, isn't shared with other clients.
     ("grpc.use_local_subchannel_pool", 1),
 ]
 TRANSACT, WATCH = "/etcdserverpb.KV/Txn", "/etcdserverpb.Watch/Watch"
-# RESOURCE_EXHAUSTED is said by a member that has too much to do, or no space left.
+# RESOURCE_EXHAUSTED is the answer of a member that has too much to do, or no space left.
 NO_ANSWER = {
     grpc.StatusCode.UNAVAILABLE,
     grpc.StatusCode.DEADLINE_EXCEEDED,
@@ -49,12 +49,12 @@ NO_ANSWER = {
 
 
 class Lost(Exception):
-    """No member answered; what was to be written may have been."""
+    """No member answered; the change may have been made, or not."""
 
 
 @dataclass(frozen=True)
 class Credentials:
-    """As etcdctl has them: files with certificates and a key, and a user with a password."""
+    """As those of etcdctl: files with certificates and a key, and a user with a password."""
 
     cacert: str | None = None
     cert: str | None = None
@@ -83,9 +83,9 @@ class Member:
         self.address, self.credentials = address, credentials
         self.channel = credentials.channel(address)
         self.calls = etcdrpc.KVStub(self.channel)
-        # Called with a request that is written already.
+        # Takes a request that is serialized already.
         self.transact = self.channel.unary_unary(TRANSACT, response_deserializer=etcdrpc.TxnResponse.FromString)
-        # Called with one request: a stream of them would take a thread for each watch.
+        # Takes a single request: a stream of them would need a thread for each watch.
         self.watch = self.channel.unary_stream(
             WATCH,
             request_serializer=etcdrpc.WatchRequest.SerializeToString,
@@ -93,8 +93,8 @@ class Member:
         )
         self.token: tuple[tuple[str, str], ...] = ()
 
-    def let_in(self, seconds: float) -> None:
-        """Asks for a token by the user's name and password, if there is a user."""
+    def authenticate(self, seconds: float) -> None:
+        """Gets a token for the user's name and password, if there is a user."""
         if self.credentials.user is None:
             return
         request = etcdrpc.AuthenticateRequest(name=self.credentials.user, password=self.credentials.password or "")
@@ -102,15 +102,15 @@ class Member:
         self.token = (("token", answer.token),)
 
     def ask(self, call: Any, request: Any, seconds: float) -> Any:
-        """Calls the member; where a token is wanted, or another one, with that."""
+        """Calls the member, with a new token if it wants one."""
         if self.credentials.user is not None and not self.token:
-            self.let_in(seconds)
+            self.authenticate(seconds)
         try:
             return call(request, seconds, metadata=self.token)
         except grpc.RpcError as error:
             if self.credentials.user is None or not wants_token(error):
                 raise
-        self.let_in(seconds)
+        self.authenticate(seconds)
         return call(request, seconds, metadata=self.token)
 
 
@@ -122,23 +122,23 @@ class Members:
     def __init__(
         self, addresses: Sequence[str], credentials: Credentials = Credentials(), seconds: float = CALL_SECONDS
     ) -> None:
-        """Of a member that hasn't answered for so many seconds, no answer is waited for any longer."""
+        """A member is waited for as long as `seconds` says."""
         self.seconds = seconds
         self.members = [Member(address, credentials) for address in addresses]
         random.shuffle(self.members)
 
     @property
     def asked(self) -> Member:
-        """That which is asked at present."""
+        """The member that is asked at present."""
         return self.members[0]
 
     def turn(self, from_member: Member) -> None:
-        """From now on asks the next member, if it is this one that is asked."""
+        """Asks the next member from now on, unless that has been done already."""
         if self.members[0] is from_member:
             self.members = [*self.members[1:], from_member]
 
     def get(self, *keys: str, revision: int = 0) -> Found:
-        """These keys, all as they stood at one revision, at present where none is named; at most 128."""
+        """These keys, at most 128, all as they stood at one revision; without a revision, as they stand now."""
         return self.read([reading(key, revision) for key in keys])
 
     def read(self, reads: list[Operation]) -> Found:
@@ -146,26 +146,26 @@ class Members:
         return done(self.transact(request_of([], reads, []))).found
 
     def read_since(self, reads: list[Operation], revision: int) -> Found:
-        """The same, at this revision or a later one: where the member that is asked has it, as that has them."""
+        """The same, at this revision or a later one. If the member that is asked has it, no other one is involved."""
         found = self.read(list(map(at_hand, reads)))
         return found if found.revision >= revision else self.read(reads)
 
     def read_all(self, reads: Sequence[Operation], revision: int) -> Found:
-        """Any number of reads, all of which name this revision."""
+        """Any number of reads that all name this revision."""
         whole = Found(revision)
         for start in range(0, len(reads), MOST_OPERATIONS):
             whole.entries.update(self.read(list(reads[start : start + MOST_OPERATIONS])).entries)
         return whole
 
     def count(self, prefix: str) -> int:
-        """How many keys begin so."""
+        """How many keys have this prefix."""
         return int(self.range(counting(prefix)).count)
 
     def range(self, request: Any) -> Any:
-        return self.ask_until_told(lambda member: member.ask(member.calls.Range, request, self.seconds))
+        return self.call_until_answered(lambda member: member.ask(member.calls.Range, request, self.seconds))
 
     def pages(self, prefix: str, revision: int = 0, keys_only: bool = False) -> Iterator[Found]:
-        """The keys that begin so, in parts, all as they stood at one revision."""
+        """The keys with this prefix, page by page, all as they stood at one revision."""
         start, more = prefix, True
         while more:
             answer = self.range(ranging(start, after(prefix), PAGE, revision, keys_only))
@@ -195,7 +195,7 @@ class Members:
         return self.make(request_of(guards, [*changes, *then], list(otherwise)))
 
     def make(self, request: Request) -> Done:
-        """Makes a transaction, once."""
+        """Makes a transaction, without repeating it."""
         member = self.asked
         try:
             return done(member.ask(member.transact, request, self.seconds))
@@ -204,15 +204,15 @@ class Members:
             raise lost(member, error) from error
 
     def write(self, changes: list[Operation], guards: Sequence[Guard] = ()) -> bool:
-        """Makes changes that may as well be made twice, until they are made, or a guard doesn't hold."""
+        """Makes changes that are harmless if made twice; repeats them until they are made, or a guard doesn't hold."""
         return bool(self.transact(request_of(list(guards), changes, [])).succeeded)
 
     def transact(self, request: Request) -> Any:
-        """Makes a transaction that may as well be made twice, until it is answered."""
-        return self.ask_until_told(lambda member: member.ask(member.transact, request, self.seconds))
+        """Makes a transaction that is harmless if made twice. It repeats it until there is an answer."""
+        return self.call_until_answered(lambda member: member.ask(member.transact, request, self.seconds))
 
-    def ask_until_told(self, asked: Callable[[Member], Any]) -> Any:
-        """Asks one member after the other, for a minute."""
+    def call_until_answered(self, asked: Callable[[Member], Any]) -> Any:
+        """Calls one member after the other until one answers, for a minute."""
         until = time.monotonic() + GIVE_UP_SECONDS
         for pause in pauses():
             member = self.asked
@@ -231,7 +231,7 @@ class Members:
 
 
 def pauses() -> Iterator[float]:
-    """Growing, and of random length, so that many don't come again at once."""
+    """Growing pauses of random length, so that clients don't all return at once."""
     longest = FIRST_PAUSE_SECONDS
     while True:
         yield longest * random.uniform(0.5, 1)
@@ -239,17 +239,17 @@ def pauses() -> Iterator[float]:
 
 
 def lost(member: Member, error: Any) -> Lost:
-    """The error as `Lost`; any that is no want of an answer is told as it is."""
+    """`Lost`, if the error means that there was no answer; any other one is raised with etcd's own message."""
     if error.code() not in NO_ANSWER:
-        raise Failed(f"etcd at {member.address} says: {error.details()}") from error
+        raise Failed(f"etcd at {member.address}: {error.details()}") from error
     return Lost(f"{member.address}: {error.details()}")
 
 
 def addresses_of(text: str) -> list[str]:
-    """`HOST:PORT,..` as addresses, whichever are wrong by name."""
+    """The addresses of `HOST:PORT,..`; a wrong one is named."""
     addresses = text.split(",")
     for address in addresses:
         host, _, port = address.rpartition(":")
         if not (host and port.isdecimal() and 0 < int(port) < 65536):
-            raise ValueError(f"a member is HOST:PORT, as 127.0.0.1:2379: {address!r}")
+            raise ValueError(f"a member is HOST:PORT, such as 127.0.0.1:2379: {address!r}")
     return addresses

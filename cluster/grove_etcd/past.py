@@ -1,4 +1,4 @@
-"""What jobs left in etcd, as it stood at one revision: those that no closed epoch has, and those of one epoch."""
+"""What jobs left in etcd, as of one revision: those in no closed epoch, and those of one epoch."""
 from __future__ import annotations
 
 import json
@@ -14,7 +14,7 @@ from .wire import Found, reading, reading_below
 
 @dataclass(frozen=True)
 class Taken:
-    """A group that a job took at a revision, with the number of the first of its steps."""
+    """A group that a job took at a revision, with the number of its first step."""
 
     revision: int
     job: Job
@@ -27,12 +27,12 @@ class Taken:
 
     @property
     def is_handed(self) -> bool:
-        """Is it the lock of a node alone, which another job handed to this one?"""
+        """Is it only the lock of a node that another job handed to this one?"""
         return self.event.place > 0 and [step.kind for step in self.steps] == [Kind.LOCK]
 
     @property
     def next_step(self) -> Step | None:
-        """The one that the group stopped before."""
+        """The step before which the group stopped."""
         number = self.first + self.event.takes
         return self.job.steps[number] if number < len(self.job.steps) else None
 
@@ -65,13 +65,13 @@ class Epoch:
 
 
 def epochs_of(members: Members, keys: Keys, revision: int = 0) -> dict[int, Epoch]:
-    """Those that are kept, by number; the open one is among them where an audit broke off."""
+    """The epochs that are kept, by number; the open one is among them if an audit of it broke off."""
     found = members.below(keys.whole("x"), revision)
     return {int(last_part(key)): Epoch.read(entry.value) for key, entry in found.entries.items()}
 
 
 def job_names(members: Members, keys: Keys, revision: int) -> list[str]:
-    """Of all jobs that aren't forgotten. Each was put once."""
+    """The names of all jobs that aren't forgotten. Each job has been put once."""
     names = []
     for page in members.pages(keys.whole("p"), revision, keys_only=True):
         for key, entry in page.entries.items():
@@ -82,7 +82,7 @@ def job_names(members: Members, keys: Keys, revision: int) -> list[str]:
 
 
 def pasts(members: Members, keys: Keys, names: Iterable[str], revision: int) -> dict[str, Past]:
-    """What these jobs left, by their names."""
+    """What these jobs left, by name."""
     names = list(names)
     reads = []
     for name in names:
@@ -100,8 +100,8 @@ def past_of(keys: Keys, name: str, found: Found, events: list[str]) -> Past:
     if text is None:
         raise Refused(f"left-out {name}")
     job = Job.read(name, text)
-    told = found.value(keys.progress(name))
-    progress = Progress.read(told) if told is not None else Progress(0, len(job.plan))
+    standing = found.value(keys.progress(name))
+    progress = Progress.read(standing) if standing is not None else Progress(0, len(job.plan))
     taken, step = [], 0
     for key in events:
         event = Event.read(found.entries[key].value)
@@ -112,7 +112,7 @@ def past_of(keys: Keys, name: str, found: Found, events: list[str]) -> Past:
 
 
 def need_whole(keys: Keys, progress: Progress, found: Found, events: list[str], step: int, job: Job) -> None:
-    """The events are all of the job's groups, each put once, and its progress stands at their end."""
+    """Refuses the job unless its events are those of all its groups, each put once, and lead to its progress."""
     version = found.version_of(keys.progress(job.name))
     are_all = [keys.event(job.name, number) for number in range(progress.groups)] == events
     if not are_all or version != progress.groups or any(found.version_of(key) != 1 for key in events):
@@ -122,7 +122,7 @@ def need_whole(keys: Keys, progress: Progress, found: Found, events: list[str], 
 
 
 def in_order(pasts: Iterable[Past]) -> list[Taken]:
-    """The groups of all these jobs, by the revisions of their transactions, and their places there."""
+    """The groups of all these jobs, in the order of their revisions and of their places there."""
     return sorted(
         (taken for past in pasts for taken in past.taken), key=lambda taken: (taken.revision, taken.event.place)
     )

@@ -1,4 +1,4 @@
-"""Who plans a list: the library, inside this process, where it is there, or else the store's program."""
+"""What plans a list: the library, inside this process, if it is there, or else the `grove` program."""
 from __future__ import annotations
 
 import sys
@@ -11,14 +11,14 @@ from .refusals import Failed, Refused
 
 @dataclass(frozen=True)
 class By:
-    """Somebody who tells of a document what `grove plan` prints, as lines by their first word."""
+    """What gives for a document the lines that `grove plan` prints, each by its first word."""
 
     name: str
     plan: Callable[[str], dict[str, str]]
 
 
 def planner_of(program: Optional[str]) -> By:
-    """The program that is named. Where none is, the library, or the program at hand if there is no library."""
+    """The program that is named. If none is named it is the library, or the default program if there is no library."""
     return by_program(program) if program is not None else by_library() or by_program(str(GROVE))
 
 
@@ -27,7 +27,7 @@ def by_program(program: str) -> By:
 
 
 def by_library() -> Optional[By]:
-    """None where Python can't load the library: the package isn't there, or has no shared object for this machine."""
+    """None if Python can't load the library: the package isn't there, or has no shared object for this machine."""
     if str(PACKAGES) not in sys.path:
         sys.path.append(str(PACKAGES))
     try:
@@ -47,4 +47,4 @@ def plan_by_library(document: str) -> dict[str, str]:
     except faults.Refused as refused:
         raise Refused(refused.text) from refused
     except NoMemory as why:
-        raise Failed("the library has no memory") from why
+        raise Failed("the library is out of memory") from why

@@ -1,7 +1,7 @@
-"""Settled plans, over the nodes on the ways down to those accessed alone.
+"""Settled plans, over the nodes on the ways down to the accessed ones alone.
 
-A plan depends on the tree with its weights, and on the nodes and lengths of the accesses, and on no name. So a plan is
-kept by numbers, and serves each list whose ways have this form.
+A plan depends on the tree with its weights, and on the nodes and lengths of the accesses, but on no name. So a plan is
+kept with numbers in place of names, and serves each list whose ways have the same form.
 """
 from __future__ import annotations
 
@@ -19,14 +19,14 @@ ITEMS = {"get": 2, "set": 3, "add": 3, "take": 3}
 
 
 class Planner:
-    """Plans by the program of this name; without one by the library, or the program at hand if there is no library."""
+    """Plans by the program of this name; without a name by the library, or if there is none by the default program."""
 
     def __init__(self, grove: Optional[str] = None) -> None:
         self.by = planner_of(grove)
         self.kept: dict[Hashable, list[list[Any]]] = {}
 
     def plan(self, accesses: list[Any], weights: Mapping[str, int]) -> list[list[Any]]:
-        """The plan, or what the store's program refuses the list for. Weights are those of the nodes on the ways."""
+        """The plan, or the refusal of the `grove` program. Weights are those of the nodes on the ways."""
         ways = ways_of(accesses)
         paths = [path for path in ways if all(above in weights for above in way_down(path))]
         rows = rows_of(paths, weights, {})
@@ -42,20 +42,20 @@ class Planner:
         return [[kind, what if kind == "access" else paths[what]] for kind, what in self.kept[form]]
 
     def ask(self, rows: list[Row], accesses: list[Any]) -> list[list[Any]]:
-        told = self.by.plan(written({"version": 2, "nodes": rows, "list": accesses}))
-        plan: list[list[Any]] = json.loads(told["plan"])
+        lines = self.by.plan(written({"version": 2, "nodes": rows, "list": accesses}))
+        plan: list[list[Any]] = json.loads(lines["plan"])
         return plan
 
 
 def ways_of(accesses: Any) -> list[str]:
-    """What isn't of an access's form is left for the store's program to refuse."""
+    """What hasn't the form of an access is left for the `grove` program to refuse."""
     items = accesses if isinstance(accesses, list) else []
     named = [access[1] for access in items if isinstance(access, list) and len(access) > 1]
     return ways_down([path for path in named if isinstance(path, str) and path.startswith("/")] + ["/"])
 
 
 def form_of(rows: list[Row], paths: list[str], accesses: list[Any]) -> Hashable | None:
-    """What the plan depends on; None where the list can't be planned, or may not be."""
+    """What the plan depends on; None if the list can't be planned, or possibly can't be."""
     number_of = {path: number for number, path in enumerate(paths)}
     if not isinstance(accesses, list) or len(accesses) > MOST_ACCESSES:
         return None

@@ -1,4 +1,4 @@
-"""The store's program, which plans and audits."""
+"""The `grove` program, which plans and audits."""
 from __future__ import annotations
 
 import shlex
@@ -9,14 +9,14 @@ from .refusals import Failed, Refused
 
 TOP = Path(__file__).resolve().parents[2]
 IS_CHECKOUT = (TOP / "crates").is_dir()
-# The program of the checkout; or, where tools/package has put these into lib/grove/cluster, that of the same prefix.
+# The program of the checkout; or, if tools/package has put these files into lib/grove/cluster, that of the same prefix.
 GROVE = TOP / "crates/grove/out/grove" if IS_CHECKOUT else TOP.parents[1] / "bin/grove"
-# Where the Python package is that has the library, likewise.
+# The folder with the Python package that calls the library, likewise.
 PACKAGES = TOP / "bindings/python" if IS_CHECKOUT else TOP / "python"
 
 
 def ask(grove: str, command: str, document: str) -> dict[str, str]:
-    """What it prints for a document, as lines by their first word."""
+    """What a command of the program prints for a document, as lines by their first word."""
     try:
         ran = subprocess.run([*shlex.split(grove), command], input=document.encode(), capture_output=True, check=False)
     except OSError as why:
@@ -30,5 +30,5 @@ def ask(grove: str, command: str, document: str) -> dict[str, str]:
 
 
 def by_first_words(text: str) -> dict[str, str]:
-    """The lines of an answer."""
+    """The lines of an answer, each by its first word."""
     return dict(line.split(" ", 1) for line in text.splitlines())

@@ -1,7 +1,7 @@
-"""A group's transaction that is ready to be made, and the thread that makes it ready while work goes on.
+"""A group's transaction that is ready to be sent, and the thread that makes it ready while work goes on.
 
-What a group leaves is known before the work of its access, which gives nothing back. So once the work is done, nothing
-is left but to send the transaction.
+What a group leaves is known before the work of its access, since the work returns nothing. So once the work is done,
+the transaction only has to be sent.
 """
 from __future__ import annotations
 
@@ -14,14 +14,14 @@ from .groups import Group
 from .seeing import Seen
 from .wire import Guard, Operation, Request, choosing
 
-# Of operations that the transaction within a group's has which finds out whether a node is held.
+# Of operations in the nested transaction of a group that finds out whether a node is held.
 MOST_INNER = 3
 
 
 @dataclass(frozen=True)
 class Beginning:
-    """A job's first group, for the transaction that ends the one before: taken if the job is still as it was seen. In
-    both cases it reads what comes next."""
+    """A job's first group, for the transaction that ends the job before: taken if the job is still as it was seen. In
+    either case it reads what comes next."""
 
     guards: list[Guard]
     then: list[Operation]
@@ -31,7 +31,7 @@ class Beginning:
 
     @property
     def size(self) -> int:
-        """Of operations, as etcd counts them."""
+        """How many operations it is, as etcd counts them."""
         return MOST_INNER + max(len(self.guards), len(self.then), len(self.otherwise))
 
     def operation(self) -> Operation:
@@ -45,16 +45,16 @@ class Ready:
     found: Seen
     group: Group
     request: Request
-    # The job as the group leaves it, but for what the transaction reads; None where the job has ended, or where only
-    # the transaction finds that out.
+    # The job as the group leaves it, without what the transaction reads; None if the job ends, or if it depends on what
+    # the transaction finds.
     leaves: Seen | None
-    # How it begins the next job; and whether it reads what comes next.
+    # How it begins the next job, and whether it reads what comes next.
     begins: Beginning | None
     looks: bool
 
 
 class Aside:
-    """Makes one transaction ready at a time. Whoever begins that has to end it before the next."""
+    """Makes one transaction ready at a time. After each `begin` there has to be an `end`."""
 
     def __init__(self) -> None:
         self.begun: SimpleQueue[Callable[[], Ready]] = SimpleQueue()
@@ -68,7 +68,7 @@ class Aside:
         self.begun.put(make_ready)
 
     def end(self) -> Ready | None:
-        """Once it is ready; None where that has failed. Then whoever makes it ready again is told why."""
+        """Waits for the transaction, and gives it; None if that has failed. Making it again then raises the error."""
         return self.ended.get()
 
     def run(self) -> None:
@@ -79,5 +79,5 @@ class Aside:
 def ready_or_none(make_ready: Callable[[], Ready]) -> Ready | None:
     try:
         return make_ready()
-    except Exception:  # whatever it is, it is raised where the group is made ready again
+    except Exception:  # any error is raised again when the group is made again
         return None

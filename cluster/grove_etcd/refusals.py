@@ -1,10 +1,10 @@
-"""How a program ends that doesn't do what it was asked for."""
+"""The errors by which a program ends without having done what it was asked for."""
 from __future__ import annotations
 
 
 class Refused(Exception):
-    """Named as docs/CLUSTER.md and docs/FORMATS.md have it; nothing has changed."""
+    """A refusal, by its name in docs/CLUSTER.md or docs/FORMATS.md. Nothing has changed."""
 
 
 class Failed(Exception):
-    """A file, a program or etcd itself didn't do its part; told in a line."""
+    """A file, a program or etcd itself failed. The error is printed as one line."""

@@ -1,4 +1,5 @@
-"""A job as a worker sees it: its progress, who goes on with it, and what its next steps need, all at one revision."""
+"""A job as a worker sees it: its progress, the worker that goes on with it, and what its next steps need, all at one
+revision."""
 from __future__ import annotations
 
 from dataclasses import dataclass, replace
@@ -8,19 +9,19 @@ from .jobs import Job, Kind, Progress, Step, UnderWay
 from .keys import Keys
 from .wire import Entry, Found, Guard, Operation, reading, reading_below, reading_last, unchanged
 
-# Of what is read for the next steps.
+# Of reads for the next steps.
 MOST_READS = 120
 
 
 @dataclass(frozen=True)
 class Seen:
     progress: Progress
-    # None while nobody has begun the job.
+    # None if nobody has begun the job yet.
     under_way: UnderWay | None
     found: Found
 
     def claim(self, keys: Keys, job: Job) -> Guard:
-        """That nobody else has begun the job, or gone on with it, or taken it up."""
+        """The guard that nobody else has begun the job, gone on with it, or taken it up."""
         key = keys.under_way(job.name) if self.under_way else keys.fresh(job.age, job.name)
         return unchanged(key, self.found.revision_of(key))
 
@@ -28,12 +29,12 @@ class Seen:
         return self.under_way is None or self.under_way.by == worker
 
     def read_with(self, found: Found) -> Seen:
-        """The same, at the revision of the transaction that put it, with what that read."""
+        """The same, at the revision of the transaction that put it, with what that transaction read."""
         put = {key: Entry(entry.value, found.revision, 0, 0) for key, entry in self.found.known.items()}
         return Seen(self.progress, self.under_way, found.with_known(put))
 
     def freed(self, keys: Keys, path: str, revision: int) -> Seen:
-        """The same, but for a node that was let go at this revision, as a watch told."""
+        """The same, except that a watch has reported the node to be free since this revision."""
         entry = Entry("", revision, 0, 0)
         return replace(self, found=Found(revision, {**self.found.entries, keys.owner(path): entry}))
 
@@ -51,7 +52,7 @@ def window(job: Job, step: int) -> list[Step]:
 
 
 def is_last(job: Job, step: int) -> bool:
-    """Do the steps from this one on make one group, whoever comes, where each access has work?"""
+    """Are the steps from this one on a single group, whatever other jobs do, if each access has work?"""
     kinds = [each.kind for each in job.steps[step:]]
     return len(kinds) <= len(window(job, step)) and Kind.LOCK not in kinds and Kind.ACCESS not in kinds[1:]
 
@@ -63,7 +64,7 @@ def reads_for(keys: Keys, job: Job, step: int, limits: Limits) -> list[Operation
 
 
 def reads_of_steps(keys: Keys, job: Job, step: int, limits: Limits, stands: bool) -> list[Operation]:
-    """What has to be read before these steps, where the job may stand in line, or doesn't."""
+    """What has to be read before these steps; `stands` is whether the job may stand in a line."""
     reads: list[Operation] = []
     records: set[str] = set()
     for number, each in enumerate(window(job, step)):
@@ -79,24 +80,25 @@ def reads_of_steps(keys: Keys, job: Job, step: int, limits: Limits, stands: bool
             if stands:
                 reads.append(reading_last(line, own, keys_only=True))
         else:
-            # Whom the node is handed to.
+            # The job to which the node is handed.
             reads.append(reading_below(keys.waiters(each.path), limit=1))
     return reads + [reading(keys.record(path)) for path in sorted(records)]
 
 
 def seen(keys: Keys, job: Job, found: Found) -> Seen | None:
-    """None where the job has ended, or is forgotten."""
+    """The job as it was read; None if it has ended, or is forgotten."""
     if found.value(keys.fresh(job.age, job.name)) is not None:
         return Seen(Progress(0, len(job.plan)), None, found)
     under_way, progress = found.value(keys.under_way(job.name)), found.value(keys.progress(job.name))
     if under_way is None:
         return None
-    told = Progress.read(progress) if progress is not None else Progress(0, len(job.plan))
-    return Seen(told, UnderWay.read(under_way), found)
+    now = Progress.read(progress) if progress is not None else Progress(0, len(job.plan))
+    return Seen(now, UnderWay.read(under_way), found)
 
 
 def left_by(keys: Keys, job: Job, group: Group, worker: str) -> Seen | None:
-    """The job as the worker's group leaves it, at no revision yet; None where only the transaction finds that out."""
+    """The job as the worker's group leaves it, without a revision; None if the job ends, or if it depends on what the
+    transaction finds."""
     after = group.after()
     if after.has_ended() or group.blocked is not None:
         return None
@@ -106,7 +108,7 @@ def left_by(keys: Keys, job: Job, group: Group, worker: str) -> Seen | None:
 
 
 def contested(keys: Keys, group: Group, before: Found, now: Found) -> str | None:
-    """The first node of the group's locks that another job came to in between."""
+    """The first of the nodes that the group locks to which another job came in between."""
     for path in group.locked:
         if any(before.revision_of(key) != now.revision_of(key) for key in (keys.owner(path), keys.record(path))):
             return path

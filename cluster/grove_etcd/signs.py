@@ -1,4 +1,4 @@
-"""Signs of life: given while a job's work goes on, and missed where a worker gives none."""
+"""Signs of life: those that a worker gives while work goes on, and the absence of those of others."""
 from __future__ import annotations
 
 import threading
@@ -16,13 +16,13 @@ if TYPE_CHECKING:
 
 
 class Signs:
-    """Puts `u/NAME` anew every so many seconds for the job that work goes on for, as long as nobody takes it up. One
+    """Puts `u/NAME` again every so many seconds while a job's work goes on, unless another worker takes the job up. One
     thread does so for all of a worker's jobs, one after the other."""
 
     def __init__(self, members: Members, keys: Keys, seconds: float) -> None:
         self.members, self.keys, self.seconds = members, keys, seconds
         self.lock = threading.Lock()
-        # The job as it was seen, with its last sign; None while no work goes on.
+        # The job as it was seen at its last sign; None while no work goes on.
         self.name, self.taken = "", False
         self.last: Seen | None = None
         self.due = 0.0
@@ -37,7 +37,7 @@ class Signs:
             self.thread.start()
 
     def end(self) -> Seen | None:
-        """The job with its last sign; None where another worker has taken it up."""
+        """The job as of its last sign; None if another worker has taken it up."""
         with self.lock:
             last, self.last = self.last, None
             return None if self.taken else last
@@ -57,7 +57,7 @@ class Signs:
             done = self.members.commit([guard], [putting(key, text)], [reading(key)], [reading(key)])
         except (Lost, Failed):
             return
-        # Where a sign brought no answer and was given all the same, it is still this worker that it tells of.
+        # If the answer to a sign was lost although it was given, the key still names this worker.
         self.taken = done.found.value(key) != text
         entries = {**found.entries, **done.found.entries}
         self.last = replace(last, found=Found(found.revision, entries))
@@ -66,12 +66,12 @@ class Signs:
 
 @dataclass
 class Stills:
-    """When each job's last sign was first seen, by the job's name."""
+    """By the job's name, when its last sign was first seen."""
 
     since: dict[str, tuple[int, float]] = field(default_factory=dict)
 
     def is_still(self, name: str, revision: int, patience: float) -> bool:
-        """Has the last sign of the job been that of this revision for as long as one is patient?"""
+        """Has this revision been that of the job's last sign for as long as `patience` says?"""
         before, since = self.since.get(name, (None, 0.0))
         if before != revision:
             self.since[name] = revision, time.monotonic()

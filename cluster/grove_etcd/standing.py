@@ -1,4 +1,4 @@
-"""How far jobs are, and which are set aside."""
+"""How far jobs are, and which of them are set aside."""
 from __future__ import annotations
 
 from dataclasses import dataclass, replace
@@ -15,8 +15,7 @@ from .wire import putting, unchanged
 
 @dataclass(frozen=True)
 class Standing:
-    """Of an epoch: its jobs, how many have ended, and how many nodes are held; and which epochs are closed and
-    kept."""
+    """An epoch's jobs, how many of them have ended, how many nodes are held, and which epochs are closed and kept."""
 
     epoch: int
     names: list[str]
@@ -60,7 +59,7 @@ def failed(members: Members, keys: Keys) -> Iterator[tuple[str, str]]:
 
 
 def retry(members: Members, keys: Keys, names: Iterable[str]) -> list[str]:
-    """Lets workers take these jobs up again, or all that are set aside where none is named; gives those that were."""
+    """Lets workers take these jobs up again, or all that are set aside if none is named; gives their names."""
     need_store(members, keys)
     wanted = set(names)
     found = members.below(keys.whole("u"))

@@ -1,5 +1,5 @@
-"""Lists become jobs. Each has a name of its own, so that it is made once whatever is repeated, and submitters need no
-number from each other."""
+"""Lists become jobs. Each has a name of its own. So it is made once even if a call is repeated, and submitters share no
+number."""
 from __future__ import annotations
 
 import time
@@ -16,16 +16,16 @@ from .waiting import Watched, changes
 from .weights import Weight
 from .wire import Operation, absent, after, putting, reading
 
-# Of a job's text, and of those of one transaction, so that this has less than the 1.5 MiB that etcd takes.
+# Of a job's text, and of all those in one transaction, for which etcd takes 1.5 MiB.
 MOST_BYTES = 1_000_000
 # Of jobs in one transaction; each is two puts.
 MOST_JOBS = MOST_OPERATIONS // 2
-# How long a watch for replies lasts.
+# The length of a watch for replies.
 WATCH_SECONDS = 5.0
 
 
 class Submitter:
-    """Plans lists, and submits them."""
+    """Plans lists, and submits them as jobs."""
 
     def __init__(self, members: Members, keys: Keys, grove: Optional[str] = None) -> None:
         self.members, self.keys = members, keys
@@ -33,12 +33,12 @@ class Submitter:
         need_store(members, keys)
 
     def submit(self, accesses: list[Any]) -> str:
-        """Gives the job's name."""
+        """Submits one list; gives the job's name."""
         return self.submit_all([accesses])[0]
 
     def submit_all(self, lists: list[Any], name: Optional[str] = None) -> list[str]:
-        """Gives the jobs' names, `name` with the number of the list. Where a list is refused nothing is submitted; one
-        that was submitted by its name isn't again."""
+        """Gives the jobs' names: `name` with the number of the list. If a list is refused, nothing is submitted. A list
+        that was submitted by its name before isn't submitted again."""
         name = uuid.uuid4().hex if name is None else name
         if not JOB_NAME.fullmatch(f"{name}.0"):
             raise Refused("bad-id")
@@ -65,7 +65,7 @@ class Submitter:
             raise Refused(place_in_lists(str(why), number)) from why
 
     def weights(self, lists: list[Any]) -> dict[str, int]:
-        """Those on the ways down to all nodes that are accessed."""
+        """The weights of the nodes on the ways down to all that are accessed."""
         paths = sorted({path for accesses in lists for path in ways_of(accesses)})
         weights: dict[str, int] = {}
         for start in range(0, len(paths), MOST_OPERATIONS):
@@ -88,7 +88,7 @@ class Submitter:
                     break
 
     def put(self, jobs: list[Job]) -> list[Job]:
-        """Puts jobs in one transaction; gives those that weren't, since others were there already."""
+        """Puts jobs in one transaction. If some are there already, it puts none, and gives the others."""
         keys = [self.keys.job(job.name) for job in jobs]
         done = self.members.commit(list(map(absent, keys)), self.changes(jobs), [], list(map(reading, keys)))
         if done.succeeded:
@@ -107,13 +107,13 @@ class Submitter:
         return texts + [putting(self.keys.fresh(job.age, job.name), "") for job in jobs]
 
     def replies(self, names: list[str]) -> Iterator[tuple[str, list[Reply]]]:
-        """Those of these jobs, each once it has ended."""
+        """The replies of these jobs, each once the job has ended."""
         left = dict.fromkeys(names)
         while left:
             some = list(left)[:MOST_OPERATIONS]
             found = self.members.get(*map(self.keys.progress, some))
-            told = {name: found.value(self.keys.progress(name)) for name in some}
-            ended = {name: text for name, text in told.items() if text and Progress.read(text).has_ended()}
+            texts = {name: found.value(self.keys.progress(name)) for name in some}
+            ended = {name: text for name, text in texts.items() if text and Progress.read(text).has_ended()}
             for name, text in ended.items():
                 del left[name]
                 yield name, Progress.read(text).replies
@@ -122,7 +122,7 @@ class Submitter:
                 self.await_change(self.keys.progress(first), after(self.keys.progress(last)), found.revision)
 
     def await_change(self, start: str, end: str, revision: int) -> None:
-        """Until one of these jobs has ended; others whose names lie between them may be told of, too."""
+        """Waits until one of these jobs has ended. The watch may report other jobs whose names lie between theirs."""
         came = changes(self.members, Watched(start, end), revision, WATCH_SECONDS)
         try:
             for change in came:
@@ -147,9 +147,9 @@ def batches_of(jobs: list[Job]) -> Iterator[list[Job]]:
 
 
 def place_in_lists(fault: str, number: int) -> str:
-    """A fault of a list as one of a document's lists (docs/FORMATS.md)."""
-    words = fault.split()
-    if "list" not in words:
+    """A fault of a list, with its place among a document's lists (docs/FORMATS.md)."""
+    parts = fault.split()
+    if "list" not in parts:
         return f"{fault} lists {number}"
-    at = words.index("list")
-    return " ".join([*words[:at], "lists", str(number), *words[at + 1 :]])
+    at = parts.index("list")
+    return " ".join([*parts[:at], "lists", str(number), *parts[at + 1 :]])

@@ -1,7 +1,7 @@
 """Several jobs in one transaction: those that nobody has begun, that have no work, and whose nodes are all free.
 
-They are done one after the other in the state that was seen, each whole. So none holds a node when the transaction is
-made, and their events, which have one revision, have places in it.
+They are done whole, one after the other, in the state that was seen. So no node is held once the transaction is made.
+Their events have the same revision, and so a place in it.
 """
 from __future__ import annotations
 
@@ -13,24 +13,24 @@ from .keys import Keys
 from .refusals import Refused
 from .wire import Entry, Found, Guard, Operation, deleting, putting, reading, reading_below, unchanged
 
-# Of operations that the jobs of one transaction make, and of their reads; each has less than etcd takes.
+# Of the changes of one transaction, and of the reads for it; each is below etcd's limit.
 MOST_CHANGES, MOST_READS = 120, 120
 
 
 @dataclass
 class Together:
-    """Jobs as they were seen, and those of them that one transaction does."""
+    """Jobs as they were seen, and those that one transaction does."""
 
     keys: Keys
     found: Found
     done: list[tuple[Job, Group]] = field(default_factory=list)
-    # Those that have to be done by themselves.
+    # Those that have to be done one by one.
     left: list[Job] = field(default_factory=list)
     records: dict[str, int] = field(default_factory=dict)
     seen: dict[str, int] = field(default_factory=dict)
 
     def add(self, job: Job) -> None:
-        """Does the job if it is still fresh and can be done whole, and there is room."""
+        """Does the job if nobody has begun it, it can be done whole, and there is room."""
         key = self.keys.fresh(job.age, job.name)
         if self.found.value(key) is None:
             return
@@ -49,7 +49,7 @@ class Together:
         self.done.append((job, group))
 
     def group(self, job: Job) -> Group | None:
-        """All of the job's steps; None where they can't be taken at once."""
+        """All of the job's steps as one group; None if they can't be taken at once."""
         try:
             group = group_of(self.keys, job, job.steps, Progress(0, len(job.plan)), self.found, Limits())
         except Refused:
@@ -57,7 +57,7 @@ class Together:
         return group if group.after().has_ended() else None
 
     def guards(self) -> list[Guard]:
-        """At most 128, since there is one for each key that was read."""
+        """At most as many as the reads."""
         return [unchanged(key, revision) for key, revision in self.seen.items()]
 
     def changes(self) -> list[Operation]:
@@ -70,12 +70,12 @@ class Together:
         return changes
 
     def are_taken(self, now: Found) -> bool:
-        """Has somebody else begun one of the jobs?"""
+        """Has another worker begun one of the jobs?"""
         return any(now.value(self.keys.fresh(job.age, job.name)) is None for job, _ in self.done)
 
 
 def keys_of(keys: Keys, job: Job) -> dict[str, Operation]:
-    """What is read of a job that nobody has begun, by the key or the prefix."""
+    """The reads for a job that nobody has begun, by key or prefix."""
     reads = {keys.fresh(job.age, job.name): reading(keys.fresh(job.age, job.name))}
     for step in job.steps:
         if step.kind is Kind.LOCK:
@@ -87,7 +87,7 @@ def keys_of(keys: Keys, job: Job) -> dict[str, Operation]:
 
 
 def reads_together(keys: Keys, jobs: list[Job]) -> tuple[list[Job], list[Operation]]:
-    """As many of the jobs as are read at once, and how."""
+    """As many of the jobs as can be read at once, and the reads for them."""
     reads: dict[str, Operation] = {}
     for number, job in enumerate(jobs):
         more = {**reads, **keys_of(keys, job)}

@@ -1,4 +1,4 @@
-"""Nodes as paths, and what is cut out of a tree for some of its nodes."""
+"""Nodes as paths, and the part of a tree above some of its nodes."""
 from __future__ import annotations
 
 from typing import Iterable, Mapping, TypedDict
@@ -14,7 +14,7 @@ class Row(TypedDict):
 
 
 def names_of(path: str) -> tuple[str, ...]:
-    """The names from below the root down; sorted by them, paths are in preorder, as by their bytes they aren't."""
+    """The names from below the root down. Paths sorted by them are in preorder; paths sorted by their bytes aren't."""
     return tuple(path[1:].split("/")) if path != "/" else ()
 
 
@@ -23,7 +23,7 @@ def path_of(names: tuple[str, ...]) -> str:
 
 
 def way_down(path: str) -> list[str]:
-    """The paths of the nodes above a node, itself last."""
+    """The paths of the nodes above a node, and its own as the last."""
     names = names_of(path)
     return [path_of(names[:depth]) for depth in range(len(names) + 1)]
 
@@ -34,7 +34,7 @@ def ways_down(paths: Iterable[str]) -> list[str]:
 
 
 def rows_of(paths: list[str], weights: Mapping[str, int], records: Mapping[str, int]) -> list[Row]:
-    """The rows of a document for nodes in preorder, with all those above them; a record that isn't told is 0."""
+    """The rows of a document for nodes in preorder, all those above them included; a record that isn't given is 0."""
     number_of = {path: number for number, path in enumerate(paths)}
     rows: list[Row] = []
     for path in paths:

@@ -1,7 +1,7 @@
 """Waiting for keys to change, by a watch.
 
-etcd looks but ten times a second after watches that begin in the past. So one begins with the present, and what came
-before is read once the watch is there, at the same member.
+etcd serves watches that begin in the past only ten times a second. So each watch begins with the present, and earlier
+changes are read at the same member once the watch is there.
 """
 from __future__ import annotations
 
@@ -13,13 +13,13 @@ import grpc
 from .members import Members
 from .wire import Change, change, looking_back, missed, watching
 
-# So etcd ends a watch at a member that has lost the others, which else would never tell anything.
+# With it etcd ends a watch at a member that has lost the others, and that would never report anything.
 NEEDS_LEADER = ("hasleader", "true")
 
 
 @dataclass(frozen=True)
 class Watched:
-    """A key, or all from it up to `end`; `there` are those that were there, so that it is told if they are gone."""
+    """A key, or all from it up to `end`. Of the keys in `there`, which were there, it is reported if they are gone."""
 
     key: str
     end: str | None = None
@@ -27,8 +27,8 @@ class Watched:
 
 
 def changes(members: Members, watched: Watched, revision: int, seconds: float) -> Generator[Change, None, None]:
-    """The changes after this revision, as they come, for so long. Where the member is lost the next one is asked from
-    then on; it ends then, and the caller has to look by itself."""
+    """The changes after this revision, as they come, for so many seconds. If the member is lost, the next one is asked
+    from then on. The changes end then, and the caller has to read again."""
     member = members.asked
     metadata = (*member.token, NEEDS_LEADER)
     answers = member.watch(watching(watched.key, watched.end), timeout=seconds, metadata=metadata)
@@ -38,7 +38,7 @@ def changes(members: Members, watched: Watched, revision: int, seconds: float) -
                 request = looking_back(watched.key, watched.end, 0 if watched.there else revision + 1)
                 present = member.ask(member.calls.Range, request, seconds)
                 yield from missed(present, revision, watched.there)
-            # A member may be behind the one that told of the revision.
+            # A member may be behind the one that gave the revision.
             yield from (each for each in map(change, answer.events) if each.revision > revision)
             if answer.canceled:
                 return
@@ -56,7 +56,7 @@ def wait(
     seconds: float,
     is_it: Callable[[Change], bool] = lambda _: True,
 ) -> Change | None:
-    """The first change that is it, of those that came after the revision within so many seconds."""
+    """The first change after the revision for which `is_it` holds, if there is one within so many seconds."""
     came = changes(members, watched, revision, seconds)
     try:
         return next((each for each in came if is_it(each)), None)

@@ -1,4 +1,4 @@
-"""Waits into weights, by the rule of docs/PROTOCOL.md."""
+"""New weights from waits, by the rule of docs/PROTOCOL.md."""
 from __future__ import annotations
 
 import json
@@ -14,13 +14,13 @@ from .members import MOST_OPERATIONS, Members
 from .weights import Weight
 from .wire import Operation, deleting_below, putting
 
-# What a node's waits are held at.
+# A node's waits count up to this number.
 MOST_WAITS = 1000
 
 
 @dataclass(frozen=True)
 class Weighing:
-    """The last reweighing: its number, whether it is done, and of which epochs it counts the waits."""
+    """The last reweighing: its number, whether it is done, and the epochs whose waits it counts."""
 
     number: int
     done: bool
@@ -35,10 +35,11 @@ def new_weight(weight: int, waits: int) -> int:
 
 
 def reweigh(members: Members, keys: Keys) -> int:
-    """Makes each node's new weight by the waits of the epochs audited since the last reweighing; how many changed.
+    """Computes each node's new weight from the waits of the epochs audited since the last reweighing; gives how many
+    changed.
 
-    A weight says which reweighing made it. So one that broke off is finished by the next call, and no weight is made
-    anew twice; jobs that are planned in the meantime have legal plans by whichever weights they find."""
+    A weight names the reweighing that made it. So the next call finishes one that broke off, and no weight is changed
+    twice. Jobs that are planned meanwhile have legal plans, with old or new weights."""
     head = need_store(members, keys)
     text = members.get(keys.weighing()).value(keys.weighing())
     last = Weighing(**json.loads(text)) if text else Weighing(0, True, [])
@@ -61,13 +62,13 @@ def reweigh(members: Members, keys: Keys) -> int:
 
 
 def audited_epochs(members: Members, keys: Keys, open_epoch: int) -> list[int]:
-    """Those whose waits stand in etcd, and that are closed; as many as are deleted at once."""
+    """The closed epochs whose waits stand in etcd; at most as many as one transaction deletes."""
     waited = {int(key.split("/")[2]) for key in members.below(keys.whole("w"), keys_only=True).entries}
     return sorted(epoch for epoch in waited if epoch < open_epoch)[: MOST_OPERATIONS - 1]
 
 
 def new_weights(members: Members, keys: Keys, number: int, waits: Mapping[str, int]) -> Iterator[Operation]:
-    """A change for each node whose weight changes and isn't made by this reweighing yet."""
+    """A put for each node whose weight changes, unless this reweighing has made it already."""
     for page in members.pages(keys.whole("m")):
         for key, entry in page.entries.items():
             old = Weight.read(entry.value)

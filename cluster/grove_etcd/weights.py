@@ -1,4 +1,4 @@
-"""What `m/PATH` has: a node's weight, which reweighing made it, and the record that was loaded."""
+"""The value of `m/PATH`: a node's weight, the reweighing that made it, and the record that was loaded."""
 from __future__ import annotations
 
 from dataclasses import dataclass

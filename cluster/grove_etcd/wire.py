@@ -1,4 +1,4 @@
-"""etcd's messages: the only module, beside that of the members, that knows the generated stubs."""
+"""etcd's messages. Only this module and that of the members know the generated stubs."""
 from __future__ import annotations
 
 from dataclasses import dataclass
@@ -7,17 +7,17 @@ from typing import Any, Iterable, Iterator, NamedTuple, NewType, Sequence
 
 from etcd3 import etcdrpc
 
-# What a transaction compares, and what it does: a read or a change.
+# A compare of a transaction; and an operation: a read or a change.
 Guard = NewType("Guard", object)
 Operation = NewType("Operation", object)
-# A transaction as it is sent.
+# A serialized transaction.
 Request = NewType("Request", bytes)
-# The kind of an event by which a key is deleted.
+# The type of an event that deletes a key.
 DELETED = 1
 
 
 class Entry(NamedTuple):
-    """A key's value, the revisions at which it was put last and made, and how often it was put since it was made."""
+    """A key's value, the revisions at which it was put last and created, and how often it was put since."""
 
     value: str
     put_at: int
@@ -26,36 +26,36 @@ class Entry(NamedTuple):
 
 
 class Found:
-    """Keys that were read, all as they stood at one revision. What a member told is looked through once it is asked
-    for, so that may be done while something else goes on."""
+    """Keys that were read, all as they stood at one revision. A member's responses are parsed when they are needed,
+    which may be while something else goes on."""
 
-    def __init__(self, revision: int, entries: dict[str, Entry] | None = None, told: Sequence[Any] = ()) -> None:
-        """Entries that are known go before those that a member told."""
-        self.revision, self.known, self.told = revision, entries or {}, told
+    def __init__(self, revision: int, entries: dict[str, Entry] | None = None, responses: Sequence[Any] = ()) -> None:
+        """Known entries take precedence over those of the responses."""
+        self.revision, self.known, self.responses = revision, entries or {}, responses
 
     @cached_property
     def entries(self) -> dict[str, Entry]:
-        return {**dict(map(entry_of, reversed(list(pairs_from_last(self.told))))), **self.known}
+        return {**dict(map(entry_of, reversed(list(pairs_from_last(self.responses))))), **self.known}
 
     def add(self, pairs: Iterable[Any]) -> None:
         self.entries.update(map(entry_of, pairs))
 
     def with_known(self, entries: dict[str, Entry]) -> Found:
-        return Found(self.revision, {**self.known, **entries}, self.told)
+        return Found(self.revision, {**self.known, **entries}, self.responses)
 
     def value(self, key: str) -> str | None:
         entry = self.entries.get(key)
         return entry.value if entry else None
 
     def value_from_last(self, key: str) -> str | None:
-        """The same; where nothing has been looked through yet, that is done from the last one to the key alone."""
+        """The same. If nothing has been parsed yet, only the responses from the last one back to the key are."""
         if "entries" in vars(self) or key in self.known:
             return self.value(key)
-        told, wanted = pairs_from_last(self.told), key.encode()
-        return next((pair.value.decode() for pair in told if pair.key == wanted), None)
+        pairs, wanted = pairs_from_last(self.responses), key.encode()
+        return next((pair.value.decode() for pair in pairs if pair.key == wanted), None)
 
     def revision_of(self, key: str) -> int:
-        """At which revision the key was put; 0 where it isn't there, as etcd has it."""
+        """The revision at which the key was put; 0 if it isn't there, as in etcd."""
         entry = self.entries.get(key)
         return entry.put_at if entry else 0
 
@@ -69,18 +69,18 @@ class Found:
 
 @dataclass(frozen=True)
 class Done:
-    """What became of a transaction: whether its guards held, and what it read at which revision."""
+    """The outcome of a transaction: whether its guards held, and what it read at which revision."""
 
     succeeded: bool
     found: Found
 
     def ends_with_then(self) -> bool:
-        """Of one that ends with a transaction within it: did that one's guards hold?"""
-        return bool(self.found.told[-1].response_txn.succeeded)
+        """Did the guards of the nested transaction hold with which this one ends?"""
+        return bool(self.found.responses[-1].response_txn.succeeded)
 
 
 def after(prefix: str) -> str:
-    """The first key behind all that begin so."""
+    """The first key after all those with this prefix."""
     return prefix[:-1] + chr(ord(prefix[-1]) + 1)
 
 
@@ -93,11 +93,11 @@ def request_of(guards: list[Guard], then: list[Operation], otherwise: list[Opera
 
 
 def done(answer: Any) -> Done:
-    return Done(answer.succeeded, Found(answer.header.revision, told=answer.responses))
+    return Done(answer.succeeded, Found(answer.header.revision, responses=answer.responses))
 
 
 def pairs_from_last(responses: Sequence[Any]) -> Iterator[Any]:
-    """What was read, also by transactions within the one; what was read last comes first."""
+    """The key-value pairs that were read, those of nested transactions included, in reverse order."""
     for response in reversed(responses):
         kind = response.WhichOneof("response")
         if kind == "response_range":
@@ -112,7 +112,7 @@ def entry_of(pair: Any) -> tuple[str, Entry]:
 
 
 def ranging(start: str, end: str, limit: int = 0, revision: int = 0, keys_only: bool = False) -> Any:
-    """The keys from `start` up to `end`, in their order."""
+    """Reads the keys from `start` up to `end`, in their order."""
     return etcdrpc.RangeRequest(
         key=start.encode(), range_end=end.encode(), limit=limit, revision=revision, keys_only=keys_only
     )
@@ -127,7 +127,7 @@ def reading(key: str, revision: int = 0) -> Operation:
 
 
 def at_hand(read: Operation) -> Operation:
-    """The same read, of what the member that is asked has itself, without a word with the others."""
+    """The same read, answered by the asked member alone (etcd's serializable reads)."""
     request = etcdrpc.RequestOp()
     request.CopyFrom(read)
     request.request_range.serializable = True
@@ -140,7 +140,7 @@ def reading_below(prefix: str, limit: int = 0, revision: int = 0, keys_only: boo
 
 
 def reading_last(start: str, end: str, revision: int = 0, keys_only: bool = False) -> Operation:
-    """The last key from `start` up to `end`."""
+    """Reads the last key from `start` up to `end`."""
     request = ranging(start, end, 1, revision, keys_only)
     request.sort_order, request.sort_target = etcdrpc.RangeRequest.DESCEND, etcdrpc.RangeRequest.KEY
     return Operation(etcdrpc.RequestOp(request_range=request))
@@ -164,12 +164,12 @@ def deleting_below(prefix: str) -> Operation:
 
 
 def choosing(guards: list[Guard], then: list[Operation], otherwise: list[Operation]) -> Operation:
-    """One or the other, within a transaction."""
+    """A nested transaction: one or the other."""
     return Operation(etcdrpc.RequestOp(request_txn=transaction(guards, then, otherwise)))
 
 
 def unchanged(key: str, revision: int) -> Guard:
-    """Was the key last put at this revision? At revision 0, isn't it there?"""
+    """The key was last put at this revision; at revision 0, it isn't there."""
     return Guard(etcdrpc.Compare(result="EQUAL", target="MOD", key=key.encode(), mod_revision=revision))
 
 
@@ -182,19 +182,19 @@ def present(key: str) -> Guard:
 
 
 def other_than(key: str, value: str) -> Guard:
-    """Is there such a key, with another value?"""
+    """The key is there, with another value."""
     return Guard(etcdrpc.Compare(result="NOT_EQUAL", target="VALUE", key=key.encode(), value=value.encode()))
 
 
 def watching(key: str, end: str | None = None) -> Any:
-    """Tells of each change of the key, or of those up to `end`, from now on."""
+    """Watches the key, or those from it up to `end`, from now on."""
     create = etcdrpc.WatchCreateRequest(key=key.encode(), range_end=(end or "").encode())
     return etcdrpc.WatchRequest(create_request=create)
 
 
 def looking_back(key: str, end: str | None, since: int) -> Any:
-    """Asks for the key, or for those up to `end`, that were put at this revision or later, as the member that is asked
-    has them."""
+    """Reads the key, or those from it up to `end`, if put at this revision or later; answered by the asked member
+    alone."""
     return etcdrpc.RangeRequest(
         key=key.encode(), range_end=(end or "").encode(), min_mod_revision=since, serializable=True
     )
@@ -202,7 +202,7 @@ def looking_back(key: str, end: str | None, since: int) -> Any:
 
 @dataclass(frozen=True)
 class Change:
-    """What a watch tells of: a key that was put, or deleted (then it has no value), and at which revision."""
+    """A change that a watch reports: a key that was put at a revision, or deleted, which leaves no value."""
 
     key: str
     value: str | None
@@ -215,8 +215,7 @@ def change(event: Any) -> Change:
 
 
 def missed(answer: Any, revision: int, there: Iterable[str] = ()) -> list[Change]:
-    """What was put after the revision, by the answer to `looking_back`, and which of the keys that were there are
-    gone."""
+    """By the answer to `looking_back`, what was put after the revision, and those keys of `there` that are gone."""
     put = [Change(pair.key.decode(), pair.value.decode(), pair.mod_revision) for pair in answer.kvs]
     left = {each.key for each in put}
     gone = [Change(key, None, answer.header.revision) for key in there if key not in left]

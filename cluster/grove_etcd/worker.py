@@ -1,6 +1,6 @@
-"""A worker: looks for jobs that nobody has begun, and for those that nobody goes on with any more, and does them.
+"""A worker: does jobs that nobody has begun, and those with which nobody goes on any more.
 
-A job belongs to nobody for good. A worker may die at any time; another takes up what it left, once that hasn't given a
+A job belongs to no worker for good. A worker may die at any time. Another one takes its job up once there has been no
 sign of life for a while.
 """
 from __future__ import annotations
@@ -23,11 +23,11 @@ from .together import Together, reads_together
 from .waiting import Watched, wait
 from .wire import Found, after, reading_below
 
-# Jobs that are looked at at once, and those whose plans are read at once.
+# How many jobs are looked at, and how many plans are read, at once.
 MOST_LOOKED_AT, MOST_BEGUN = 256, 24
-# Where workers come to the same jobs, each takes a smaller share of them; this is the smallest.
+# If workers choose the same jobs, each takes a smaller share of them, at least one in so many.
 MOST_SHARES = 32
-# How long a worker steps back where others come to the nodes of its jobs.
+# How long a worker pauses if others come to the nodes of its jobs.
 STEP_BACK_SECONDS, LONGEST_STEP_BACK_SECONDS = 0.05, 1.5
 
 
@@ -43,25 +43,25 @@ class Worker:
         tries: int = 5,
         journal: Optional[Journal] = None,
     ) -> None:
-        """What gives no sign of life for `patience` seconds is taken up; a job whose work has failed `tries` times at
-        one access is set aside."""
+        """A job without a sign of life for `patience` seconds is taken up. One whose work has failed `tries` times at
+        an access is set aside."""
         name = uuid.uuid4().hex[:12]
         self.means = Means(members, keys, name, work, patience, tries, journal or Journal())
         self.members, self.keys = members, keys
-        # How many times in a row others had come to the nodes in between.
+        # How many times in a row others have come to the nodes in between.
         self.clashes = 0
-        # Which share of the jobs that are looked at it takes.
+        # It takes one in so many of the jobs that it looks at.
         self.shares = 1
         self.pauses = pauses()
 
     def stop(self) -> None:
-        """Ends after the group that goes on; others may go on with the job at once."""
+        """Ends after the group in progress; others may go on with the job at once."""
         self.means.stopping = True
 
     def run(self, until_ended: bool = False) -> None:
-        """Does jobs for good, or until all that are there have ended or are set aside."""
+        """Does jobs until it is stopped, or until all have ended or are set aside."""
         need_store(self.members, self.keys)
-        self.means.journal.tell("started", worker=self.means.name)
+        self.means.journal.log("started", worker=self.means.name)
         while not self.means.stopping:
             found = self.look()
             fresh = self.fresh_of(found)
@@ -74,10 +74,10 @@ class Worker:
                 self.run_batch(self.batch_of(fresh))
             else:
                 self.idle(found)
-        self.means.journal.tell("stopped", worker=self.means.name)
+        self.means.journal.log("stopped", worker=self.means.name)
 
     def look(self) -> Found:
-        """The oldest jobs that nobody has begun, and those under way."""
+        """Reads the oldest jobs that nobody has begun, and those under way."""
         fresh, begun = self.keys.whole("q"), self.keys.whole("u")
         return self.members.read([reading_below(fresh, MOST_LOOKED_AT, keys_only=True), reading_below(begun)])
 
@@ -89,7 +89,7 @@ class Worker:
         return {last_part(key): UnderWay.read(entry.value) for key, entry in begun.items()}
 
     def batch_of(self, fresh: list[str]) -> list[Job]:
-        """Some of those jobs, from a random one on, with their plans."""
+        """Some of these jobs, from a random one on, with their plans."""
         first = random.randrange(len(fresh))
         chosen = (fresh[first:] + fresh[:first])[: max(1, min(MOST_BEGUN, len(fresh) // self.shares))]
         return self.jobs(chosen)
@@ -100,14 +100,14 @@ class Worker:
         return [Job.read(name, text) for name, text in texts if text is not None]
 
     def run_batch(self, jobs: list[Job]) -> None:
-        """Does jobs that nobody has begun: without work as many as can be in one transaction, and the others one by
-        one, until it meets one that another worker has."""
+        """Does jobs that nobody has begun: without work as many as possible in one transaction, and the others one by
+        one, until it meets one that another worker has begun."""
         if self.means.work is None:
             jobs = self.do_together(jobs)
         self.do_one_by_one(jobs)
 
     def do_together(self, jobs: list[Job]) -> list[Job]:
-        """Gives those of the jobs that have to be done by themselves."""
+        """Gives those jobs that have to be done one by one."""
         some, reads = reads_together(self.keys, jobs)
         if not some:
             return jobs[:1]
@@ -119,20 +119,20 @@ class Worker:
         try:
             done = self.members.commit(together.guards(), together.changes(), [], reads)
         except Lost as lost:
-            self.means.journal.tell("lost", why=lost)
+            self.means.journal.log("lost", why=lost)
             time.sleep(next(self.pauses))
             return []
         self.pauses = pauses()
-        self.means.journal.tell("commit" if done.succeeded else "commit_failed")
+        self.means.journal.log("commit" if done.succeeded else "commit_failed")
         for job, _ in together.done if done.succeeded else ():
-            self.means.journal.tell("ended", job=job.name, groups=1)
+            self.means.journal.log("ended", job=job.name, groups=1)
         are_taken = not done.succeeded and together.are_taken(done.found)
         self.shares = min(MOST_SHARES, self.shares * 2) if are_taken else max(1, self.shares // 2)
         self.step_back(not done.succeeded and not are_taken)
         return together.left if done.succeeded else []
 
     def do_one_by_one(self, jobs: list[Job]) -> None:
-        """Where it ends early, it still goes on with a job that was begun with the one before."""
+        """If it ends early, it still goes on with a job that was begun with the end of the one before."""
         until = time.monotonic() + self.means.patience
         ahead: Seen | None = None
         for attempt in self.in_turn(jobs):
@@ -149,7 +149,7 @@ class Worker:
                 return
 
     def in_turn(self, jobs: list[Job]) -> Iterator[Attempt]:
-        """At these jobs, and at more, which are read while there is work for the last but one."""
+        """Attempts at these jobs, and at more, which are read while there is work for the last but one."""
         attempts = deque(self.attempts(jobs))
         more: Future[list[Job]] | None = None
         while attempts:
@@ -162,29 +162,29 @@ class Worker:
             yield attempt
 
     def more_jobs(self, known: set[str]) -> list[Job]:
-        """Some that nobody has begun, without those that are known."""
+        """Some jobs that nobody has begun, without those that are known."""
         found = self.members.read([reading_below(self.keys.whole("q"), MOST_LOOKED_AT, keys_only=True)])
         fresh = [name for name in self.fresh_of(found) if name not in known]
         return self.batch_of(fresh) if fresh else []
 
     def attempts(self, jobs: list[Job]) -> list[Attempt]:
-        """At these jobs, one after the other."""
+        """Attempts at these jobs, each of which knows the one that follows."""
         attempts = [self.attempt(self.means, job) for job in jobs]
         for attempt, following in zip(attempts, attempts[1:]):
             attempt.following = following
         return attempts
 
     def step_back(self, clashed: bool) -> None:
-        """From the second time on that others were at a job's nodes, one after the other, this worker pauses: they get
-        on the faster, and it tries less often in vain."""
+        """From the second time in a row on that others came to a job's nodes, this worker pauses. So the others are
+        done sooner, and fewer of its commits fail."""
         self.clashes = self.clashes + 1 if clashed else 0
         if self.clashes > 1:
-            self.means.journal.tell("stepped_back")
+            self.means.journal.log("stepped_back")
             longest = min(LONGEST_STEP_BACK_SECONDS, STEP_BACK_SECONDS * 3 ** (self.clashes - 2))
             time.sleep(longest * random.uniform(0.5, 1))
 
     def take_up(self, begun: dict[str, UnderWay], found: Found) -> bool:
-        """Goes on with one job that nobody goes on with. Is there any?"""
+        """Goes on with one job with which nobody goes on; gives whether there was one."""
         self.means.stills.forget_all_but(set(begun))
         left = []
         for name, under_way in begun.items():
@@ -196,7 +196,7 @@ class Worker:
         return bool(left) and self.go_on_with(random.choice(left))
 
     def those_that_can_go_on(self, begun: dict[str, UnderWay], names: list[str]) -> list[str]:
-        """Without those that wait for a node which another job holds."""
+        """These jobs without those that wait for a node that another job holds."""
         names = names[:MOST_BEGUN]
         nodes = {name: begun[name].waits for name in names}
         owners = {path: self.keys.owner(path) for path in nodes.values() if path is not None}
@@ -204,7 +204,7 @@ class Worker:
         return [name for name, path in nodes.items() if path is None or held.value(owners[path]) in (None, "", name)]
 
     def go_on_with(self, name: str) -> bool:
-        """Takes a job up, if it is there and nobody else does."""
+        """Takes a job up, if it is there and no other worker does; gives whether it did."""
         jobs = self.jobs([name])
         if not jobs:
             return False
@@ -212,7 +212,7 @@ class Worker:
         found = attempt.look(0)
         if found is None or found.under_way is None or found.under_way.aside:
             return False
-        self.means.journal.tell("taken_up", job=name, by=self.means.name)
+        self.means.journal.log("taken_up", job=name, by=self.means.name)
         attempt.run(
             attempt.put_under_way(found, UnderWay(self.means.name, found.under_way.waits, found.under_way.fails))
         )
@@ -220,11 +220,11 @@ class Worker:
         return True
 
     def take_up_abandoned(self, attempt: Attempt) -> bool:
-        """Does the job that the attempt has waited for, if nobody does; was there one?"""
+        """Takes up the job that the attempt has waited for, if nobody goes on with it; gives whether it did."""
         return attempt.abandoned is not None and self.go_on_with(attempt.abandoned)
 
     def idle(self, found: Found) -> None:
-        """Until jobs are submitted, or it is time to look for those that are left."""
+        """Waits until jobs are submitted, or until it is time to look for abandoned ones."""
         fresh = self.keys.whole("q")
         seconds = min(1.0, self.means.patience / 4)
         watched = Watched(fresh, after(fresh))

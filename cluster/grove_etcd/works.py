@@ -1,4 +1,4 @@
-"""What an access stands for: a function that the command line names, or time alone."""
+"""The work of an access: a function that the command line names, or time alone."""
 from __future__ import annotations
 
 import importlib
@@ -14,7 +14,7 @@ def work_named(text: str) -> Work:
     module, _, name = text.partition(":")
     try:
         found = vars(importlib.import_module(module)).get(name)
-    except Exception as why:  # whatever stands in the module, it is told in a line
+    except Exception as why:  # any error of the module is printed as one line
         raise Failed(f"{text}: {type(why).__name__}: {why}") from why
     if not callable(found):
         raise Failed(f"{text}: the module has no such function")
@@ -23,7 +23,7 @@ def work_named(text: str) -> Work:
 
 
 def slots(seconds: float) -> Work:
-    """Each access takes its slots' time."""
+    """Each access takes so many seconds for each of its slots."""
 
     def wait(access: Access, _record: int, _token: str) -> None:
         time.sleep(seconds * slots_of(access))
@@ -32,8 +32,8 @@ def slots(seconds: float) -> Work:
 
 
 def address_of(text: str) -> tuple[str, int]:
-    """`[ADDRESS:]PORT`; of no address, this machine alone."""
+    """Of `[ADDRESS:]PORT`; without an address it is this machine alone."""
     host, _, port = text.rpartition(":")
     if not port.isdecimal() or not 0 < int(port) < 65536:
-        raise Failed(f"--metrics is [ADDRESS:]PORT, as 9464: {text!r}")
+        raise Failed(f"--metrics takes [ADDRESS:]PORT, such as 9464: {text!r}")
     return host or "127.0.0.1", int(port)

@@ -130,10 +130,10 @@ class Rewrites(Attempt):
 class StaysBehind(Attempt):
     """Says of its last step that it is left."""
 
-    def told(self, group):
+    def progress_and_event(self, group):
         after, name = group.after(), self.job.name
         behind = replace(after, step=after.step - 1) if after.has_ended() else after
-        return [putting(self.keys.progress(name), behind.text()), *super().told(group)[1:]]
+        return [putting(self.keys.progress(name), behind.text()), *super().progress_and_event(group)[1:]]
 
 
 def inside(cluster, grove, kind, wanted):

@@ -202,7 +202,7 @@ def errors_are_a_line_and_a_status(cluster, grove):
         (1, "epoch 1: 0 jobs, 0 ended; 0 nodes held\nrefused no-path /q\n"),
     ]
     wanted += [(3, "no_module:it: ModuleNotFoundError: No module named 'no_module'\n")]
-    wanted += [(3, "--metrics is [ADDRESS:]PORT, as 9464: 'x'\n"), (3, "/no/such: No such file or directory\n")]
+    wanted += [(3, "--metrics takes [ADDRESS:]PORT, such as 9464: 'x'\n"), (3, "/no/such: No such file or directory\n")]
     words = [
         programs.run("status", *each)[0] for each in (("--members", "127.0.0.1"), ("--store", "A"), ("--cert", "x"))
     ]

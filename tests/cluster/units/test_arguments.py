@@ -8,9 +8,9 @@ from unittest import mock
 
 import here  # noqa: F401
 from grove_etcd import planners
-from grove_etcd.command_line import credentials_of, words
+from grove_etcd.command_line import arguments, credentials_of
 from grove_etcd.journal import Journal, line_of
-from grove_etcd.members import LONGEST_PAUSE_SECONDS, addresses_of, pauses
+from grove_etcd.members import LONGEST_PAUSE_SECONDS, Credentials, addresses_of, pauses
 from grove_etcd.planners import By, planner_of
 from grove_etcd.planning import Planner
 from grove_etcd.refusals import Refused
@@ -18,9 +18,9 @@ from grove_etcd.submitting import place_in_lists
 from grove_etcd.works import address_of
 
 
-class Words(unittest.TestCase):
+class Arguments(unittest.TestCase):
     def given(self, *some):
-        return words("").parse_args(some)
+        return arguments("").parse_args(some)
 
     def test_members(self):
         self.assertEqual(addresses_of("a:1,b:65535"), ["a:1", "b:65535"])
@@ -29,8 +29,8 @@ class Words(unittest.TestCase):
                 addresses_of(wrong)
 
     def test_credentials(self):
-        told = credentials_of(self.given("--cacert", "a", "--cert", "b", "--key", "c", "--user", "root:s:x"))
-        self.assertEqual((told.cacert, told.cert, told.key, told.user, told.password), ("a", "b", "c", "root", "s:x"))
+        given = self.given("--cacert", "a", "--cert", "b", "--key", "c", "--user", "root:s:x")
+        self.assertEqual(credentials_of(given), Credentials("a", "b", "c", "root", "s:x"))
         with mock.patch.dict("os.environ", ETCDCTL_PASSWORD="p"):
             self.assertEqual(credentials_of(self.given("--user", "root")).password, "p")
         for wrong in (["--cert", "b"], ["--cert", "b", "--key", "c"]):
@@ -59,19 +59,19 @@ class Others(unittest.TestCase):
 
     def test_counts(self):
         journal = Journal()
-        journal.tell("commit")
+        journal.log("commit")
         self.assertIn('grove_worker_events_total{event="commit"} 1\n', journal.metrics())
 
     def test_a_plan_is_asked_for_once_for_each_form(self):
         planner, weights = Planner("no program"), {"/": 5, "/a": 1, "/b": 1, "/c": 2}
         asked = []
 
-        def told(document):
+        def plan(document):
             asked.append(document)
             path = json.loads(document)["list"][0][1]
             return {"plan": json.dumps([["lock", path], ["access", 0], ["unlock", path]])}
 
-        planner.by = By("a test", told)
+        planner.by = By("a test", plan)
         self.assertEqual(planner.plan([["add", "/a", 1]], weights)[0], ["lock", "/a"])
         self.assertEqual(planner.plan([["get", "/b"]], weights), [["lock", "/b"], ["access", 0], ["unlock", "/b"]])
         planner.plan([["get", "/c"]], weights)
