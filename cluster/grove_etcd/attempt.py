@@ -23,7 +23,7 @@ from .members import MOST_OPERATIONS, Lost, Members, pauses
 from .ready import MOST_INNER, Aside, Beginning, Ready
 from .refusals import Refused
 from .seeing import MOST_READS, Seen, contested, is_last, left_by, reads_for, reads_of_steps, seen, window
-from .signs import Signs, Stills
+from .signs import Abandoned, Signs, Stills
 from .waiting import Watched, wait
 from .wire import Done, Found, Guard, Operation, choosing, deleting, other_than, putting, request_of, unchanged
 
@@ -73,7 +73,7 @@ class Attempt:
         self.following: Attempt | None = None
         self.ahead: Seen | None = None
         # A job for which this one waits, and with which nobody goes on.
-        self.abandoned: str | None = None
+        self.abandoned: Abandoned | None = None
         # Others came to its nodes in between, and nobody had begun it.
         self.stepped_back = False
         self.limits = Limits(works=means.work is not None)
@@ -438,12 +438,13 @@ class Attempt:
         other = last_part(before) if before else str(found.found.value(self.keys.owner(path)))
         key = self.keys.under_way(other)
         found_other = self.members.get(key)
-        is_still = self.means.stills.is_still(other, found_other.revision_of(key), self.means.patience)
+        last = Abandoned(other, found_other.revision_of(key))
+        is_still = self.means.stills.is_still(*last, self.means.patience)
         text = found_other.value(key)
         others = UnderWay.read(text) if text is not None else None
         if others is not None and (others.by == "" or is_still):
             if not before:
-                self.abandoned = None if others.aside else other
+                self.abandoned = None if others.aside else last
                 self.leave(found)
                 return None
             self.limits = replace(self.limits, queues=False)

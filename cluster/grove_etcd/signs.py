@@ -4,7 +4,7 @@ from __future__ import annotations
 import threading
 import time
 from dataclasses import dataclass, field, replace
-from typing import TYPE_CHECKING
+from typing import TYPE_CHECKING, NamedTuple
 
 from .keys import Keys
 from .members import Lost, Members
@@ -62,6 +62,13 @@ class Signs:
         entries = {**found.entries, **done.found.entries}
         self.last = replace(last, found=Found(found.revision, entries))
         self.due = time.monotonic() + self.seconds
+
+
+class Abandoned(NamedTuple):
+    """A job with which nobody goes on, and the revision of its last sign."""
+
+    name: str
+    revision: int
 
 
 @dataclass

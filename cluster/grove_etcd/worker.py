@@ -19,6 +19,7 @@ from .journal import Journal
 from .keys import Keys, last_part
 from .members import Lost, Members, pauses
 from .seeing import Seen
+from .signs import Abandoned
 from .together import Together, reads_together
 from .waiting import Watched, wait
 from .wire import Found, after, reading_below
@@ -188,29 +189,34 @@ class Worker:
         self.means.stills.forget_all_but(set(begun))
         left = []
         for name, under_way in begun.items():
-            revision = found.revision_of(self.keys.under_way(name))
-            is_still = self.means.stills.is_still(name, revision, self.means.patience)
+            last = Abandoned(name, found.revision_of(self.keys.under_way(name)))
+            is_still = self.means.stills.is_still(*last, self.means.patience)
             if not under_way.aside and (under_way.by == "" or is_still):
-                left.append(name)
+                left.append(last)
         left = self.those_that_can_go_on(begun, left)
         return bool(left) and self.go_on_with(random.choice(left))
 
-    def those_that_can_go_on(self, begun: dict[str, UnderWay], names: list[str]) -> list[str]:
+    def those_that_can_go_on(self, begun: dict[str, UnderWay], left: list[Abandoned]) -> list[Abandoned]:
         """These jobs without those that wait for a node that another job holds."""
-        names = names[:MOST_BEGUN]
-        nodes = {name: begun[name].waits for name in names}
+        left = left[:MOST_BEGUN]
+        nodes = {name: begun[name].waits for name, _ in left}
         owners = {path: self.keys.owner(path) for path in nodes.values() if path is not None}
         held = self.members.get(*owners.values()) if owners else Found(0)
-        return [name for name, path in nodes.items() if path is None or held.value(owners[path]) in (None, "", name)]
+        free = {name for name, path in nodes.items() if path is None or held.value(owners[path]) in (None, "", name)}
+        return [each for each in left if each.name in free]
 
-    def go_on_with(self, name: str) -> bool:
-        """Takes a job up, if it is there and no other worker does; gives whether it did."""
+    def go_on_with(self, abandoned: Abandoned) -> bool:
+        """Takes the job up, unless there has been a sign of life since, as of another worker that has done so; gives
+        whether it did."""
+        name, last_sign = abandoned
         jobs = self.jobs([name])
         if not jobs:
             return False
         attempt = self.attempt(self.means, jobs[0])
         found = attempt.look(0)
         if found is None or found.under_way is None or found.under_way.aside:
+            return False
+        if found.found.revision_of(self.keys.under_way(name)) != last_sign:
             return False
         self.means.journal.log("taken_up", job=name, by=self.means.name)
         attempt.run(

@@ -1,14 +1,13 @@
-"""Workers with a planted bug, and what is planted between epochs: each has to be refused by name, or shown to be
-right."""
+"""Workers with a planted bug: each has to be refused by name, or shown to be right. What is planted between epochs
+stands in between.py."""
 from dataclasses import replace
 
 from store_at_hand import BOTH, Store, one_group, refusal
 
 from grove_etcd.attempt import Attempt
-from grove_etcd.head import head_text
 from grove_etcd.jobs import Event, Job, Progress, UnderWay
 from grove_etcd.standing import failed
-from grove_etcd.wire import deleting, deleting_below, putting
+from grove_etcd.wire import putting
 
 
 class SkipsALock(Attempt):
@@ -184,110 +183,6 @@ def marks_that_are_left_out_are_told(cluster, grove):
     hides.run(later)
     store.work()
     return told_as(refusal(store.audit), "left-out ")
-
-
-# What is planted between the first epoch, which added 1 to /a, and the one after it, which gets /a, /b and /b/c.
-
-
-def a_stray_write(store):
-    store.do([["add", "/b", 1]], kind=Strays)
-
-
-def a_stray_write_that_is_told(store):
-    store.do([["add", "/b", 1]], kind=StraysWithAnEvent)
-
-
-def a_write_by_nobody(store):
-    store.write(putting(store.keys.record("/a"), "99"))
-
-
-def the_same_record_again(store):
-    store.write(putting(store.keys.record("/a"), "11"))
-
-
-def a_record_that_is_gone(store):
-    store.write(deleting(store.keys.record("/a")))
-
-
-def a_loaded_record_that_is_gone(store):
-    store.write(deleting(store.keys.record("/b/c")))
-
-
-def an_owner_that_came_and_went(store):
-    store.write(putting(store.keys.owner("/a"), "nobody.0"))
-    store.write(putting(store.keys.owner("/a"), ""))
-
-
-def an_owner_that_is_gone(store):
-    store.do([["add", "/a", 1], ["add", "/b", 1]], work=lambda *_: None)
-    store.write(deleting(store.keys.owner("/a")))
-
-
-def a_job_that_is_rewritten(store):
-    store.do([["add", "/b", 1]], kind=Rewrites)
-
-
-def a_job_that_is_gone(store):
-    store.do([["add", "/a", 1]])
-    keys, name = store.keys, store.jobs[-1]
-    store.write(deleting(keys.job(name)), deleting(keys.progress(name)), deleting_below(keys.events(name)))
-
-
-def an_event_that_is_gone(store):
-    store.do([["add", "/b", 1]])
-    store.write(deleting(store.keys.event(store.jobs[-1], 0)))
-
-
-def an_event_that_is_rewritten(store):
-    store.do([["add", "/b", 1]])
-    store.write(putting(store.keys.event(store.jobs[-1], 0), Event(3, False, {"/b": 1}).text()))
-
-
-def replies_that_are_rewritten(store):
-    store.do([["add", "/b", 1]])
-    key = store.keys.progress(store.jobs[-1])
-    store.write(putting(key, replace(Progress.read(store.read(key)), replies=[7]).text()))
-
-
-def a_head_that_is_rewritten(store):
-    store.write(putting(store.keys.head(), head_text(2)))
-
-
-BETWEEN = {
-    a_stray_write: "stray-record /a",
-    a_stray_write_that_is_told: "stray-record /a",
-    a_write_by_nobody: "stray-record /a",
-    the_same_record_again: "stray-record /a",
-    a_record_that_is_gone: "stray-record /a",
-    a_loaded_record_that_is_gone: "stray-record /b/c",
-    an_owner_that_came_and_went: "left-out /a",
-    an_owner_that_is_gone: "left-out /a",
-    a_job_that_is_rewritten: "job-rewritten ",
-    a_job_that_is_gone: "stray-record /a",
-    an_event_that_is_gone: "left-out ",
-    an_event_that_is_rewritten: "left-out ",
-    replies_that_are_rewritten: "left-out ",
-    a_head_that_is_rewritten: "stray-head",
-}
-
-
-def between(cluster, grove, plant, wanted):
-    """Whether the epoch in which the nodes come again is refused: by an audit, and so it isn't opened, nor
-    forgotten."""
-    store = Store(cluster, grove, plant.__name__.replace("_", "-")[:32])
-    store.do([["add", "/a", 1]])
-    store.audit()
-    plant(store)
-    if wanted != "stray-head":
-        store.do([["get", "/a"], ["get", "/b"], ["get", "/b/c"]])
-    again = told_as(refusal(store.audit), wanted)
-    return told_as(refusal(store.audit), wanted) or again
-
-
-def what_is_planted_between_epochs_is_told(cluster, grove):
-    faults = (between(cluster, grove, plant, wanted) for plant, wanted in BETWEEN.items())
-    told = [f"{plant.__name__}: {fault}" for plant, fault in zip(BETWEEN, faults) if fault]
-    return "; ".join(told) or None
 
 
 def a_stray_write_is_told_after_forgetting(cluster, grove):

@@ -20,6 +20,7 @@ from beginning import (
     where_its_node_is_taken_it_is_begun_later,
     where_the_worker_is_told_to_end_no_other_is_begun,
 )
+from between import what_is_planted_between_epochs_is_told
 from members_at_hand import SecretCluster
 from planted import (
     a_record_that_is_none_sets_its_job_aside,
@@ -28,10 +29,10 @@ from planted import (
     a_wait_for_a_job_of_an_earlier_epoch_is_counted,
     another_record_that_is_told_is_caught,
     marks_that_are_left_out_are_told,
-    what_is_planted_between_epochs_is_told,
     what_is_written_over_is_right,
     workers_with_a_bug_are_caught,
 )
+from rights import a_worker_needs_few_rights
 from serial import fault_of_order
 from store_at_hand import BOTH, SECONDS, SLOT, SMALL, Programs, Store, Untimely, in_time, one_group
 from submitted import (
@@ -46,6 +47,7 @@ from submitted import (
 from tree import Tree
 from working import (
     a_worker_that_is_told_to_end_ends_after_its_group,
+    an_abandoned_job_is_taken_up_once,
     slow_work_is_done_once,
     work_of_a_killed_worker_is_done_again,
     work_that_fails_sets_its_job_aside,
@@ -334,6 +336,7 @@ TRIALS = [
     loads_that_mix_leave_one_document,
     slow_work_is_done_once,
     work_of_a_killed_worker_is_done_again,
+    an_abandoned_job_is_taken_up_once,
     work_that_fails_sets_its_job_aside,
     a_worker_that_is_told_to_end_ends_after_its_group,
     a_commit_without_an_answer_is_done_once,
@@ -358,4 +361,5 @@ TRIALS = [
     errors_are_a_line_and_a_status,
     a_document_is_read_as_the_program_reads_it,
     members_are_spoken_to_as_etcdctl_does,
+    a_worker_needs_few_rights,
 ]

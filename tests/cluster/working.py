@@ -3,16 +3,22 @@ import http.client
 import os
 import signal
 import subprocess
+import threading
+import time
 from collections import Counter
 from functools import partial
 from pathlib import Path
 
 from members_at_hand import TOP
 from server import HOST, free_port
-from store_at_hand import SECONDS, Programs, Store, Untimely, await_true, in_time
+from store_at_hand import SECONDS, Programs, Store, Untimely, await_true, in_time, one_group
+
+from grove_etcd.worker import Worker
 
 HERE = Path(__file__).parent
 ROOT = [["add", "/", 1], ["add", "/a", 1]]
+# How long a job may be without a sign of life, in seconds, until it is taken up.
+PATIENCE = 0.3
 
 
 class Counted:
@@ -87,6 +93,42 @@ def work_again(cluster, grove, number):
     started = [counted.start("begin", "--patience", "1", "--until-ended") for _ in range(3)]
     statuses = [worker.wait(SECONDS) for worker in started]
     return counted.fault(12, killed) or (None if statuses == [0] * 3 else f"statuses {statuses}")
+
+
+class TakesUpLate(Worker):
+    """Reads the job that it has decided to take up only once another worker has done so."""
+
+    other = None
+
+    def jobs(self, names):
+        if self.other is not None:
+            self.other()
+        return super().jobs(names)
+
+
+def an_abandoned_job_is_taken_up_once(cluster, grove):
+    """Two workers find the job abandoned at the same time, and the second one leaves it to the first."""
+    store = Store(cluster, grove, "late", [[["add", "/a", 1]]])
+    one_group(store.attempt(0))
+    works = []
+
+    def work(_access, _record, token):
+        works.append(token)
+        time.sleep(10 * PATIENCE)
+
+    first, late = (kind(store.members, store.keys, work, PATIENCE) for kind in (Worker, TakesUpLate))
+    thread = threading.Thread(target=first.run, args=(True,))
+
+    def take_up():
+        late.other = None
+        thread.start()
+        await_true(lambda: works)
+
+    late.other = take_up
+    late.run(until_ended=True)
+    thread.join()
+    store.audit()
+    return None if (works, store.records("/a")) == ([f"{store.jobs[0]}/0"], [11]) else f"{works}, {store.records('/a')}"
 
 
 def work_that_fails_sets_its_job_aside(cluster, grove):
