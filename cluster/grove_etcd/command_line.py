@@ -4,6 +4,7 @@ from __future__ import annotations
 import argparse
 import os
 import sys
+import traceback
 from typing import Any, Callable
 
 from .keys import Keys
@@ -46,7 +47,7 @@ def credentials_of(given: argparse.Namespace) -> Credentials:
 
 def run(parser: argparse.ArgumentParser, program: Program) -> None:
     """Runs a program on the members and keys that its arguments name. Its status is 1 if it refuses, 2 if an argument
-    is wrong, and 3 if no member answers, or a file, a program or etcd fails."""
+    is wrong, and 3 if no member answers, a file, a program or etcd fails, or the program itself has an error."""
     given = parser.parse_args()
     try:
         addresses, keys, credentials = addresses_of(given.members), Keys(given.store), credentials_of(given)
@@ -56,7 +57,7 @@ def run(parser: argparse.ArgumentParser, program: Program) -> None:
 
 
 def status_of(program: Callable[[], Any]) -> int:
-    """Runs the program; an error is printed as one line."""
+    """Runs the program. An error is printed as one line, but for one of the program itself, with its traceback."""
     try:
         program()
         sys.stdout.flush()
@@ -73,6 +74,9 @@ def status_of(program: Callable[[], Any]) -> int:
         return 3
     except KeyboardInterrupt:
         return 130
+    except Exception:  # an error of the program itself, or a value in etcd that hasn't its form
+        traceback.print_exc()
+        return 3
 
 
 def print_error(line: str, status: int) -> int:

@@ -207,7 +207,15 @@ def errors_are_a_line_and_a_status(cluster, grove):
         programs.run("status", *each)[0] for each in (("--members", "127.0.0.1"), ("--store", "A"), ("--cert", "x"))
     ]
     faults = [f"wanted {want}; came {each}" for each, want in zip(came, wanted) if each != want]
-    return "; ".join(faults) or (None if words == [2, 2, 2] else f"statuses {words}")
+    return "; ".join(faults) or (None if words == [2, 2, 2] else f"statuses {words}") or fault_of_garbage(programs)
+
+
+def fault_of_garbage(programs):
+    """A value in etcd that isn't in its form is an error with a traceback, and no refusal."""
+    programs.cluster.members().write([putting(Keys("garbage").head(), "x")])
+    ran = programs.ran("status", "--store", "garbage")
+    is_well = (ran.returncode, ran.stdout, ran.stderr[:9]) == (3, "", "Traceback")
+    return None if is_well else f"status {ran.returncode}, {ran.stdout}{ran.stderr}"
 
 
 def a_document_is_read_as_the_program_reads_it(_cluster, grove):
