@@ -66,7 +66,7 @@ def status_of(program: Callable[[], Any]) -> int:
         print(f"refused {refused}", flush=True)
         return 1
     except Lost as lost:
-        return print_error(f"no member answered, and the last change may or may not have been made: {lost}", 3)
+        return print_error(f"no member answered, so a change may or may not have been made: {lost}", 3)
     except Failed as failed:
         return print_error(str(failed), 3)
     except BrokenPipeError:

@@ -148,6 +148,22 @@ def a_full_epoch_is_followed_by_the_next(cluster, grove):
     return None if came == wanted else f"wanted {wanted}; came {came}"
 
 
+def closed_epochs_are_forgotten_without_new_jobs(cluster, grove):
+    """By `audit --all --forget`; a third call finds nothing to do."""
+    store, programs = Store(cluster, grove, "forgotten"), Programs(cluster, "forgotten")
+    words = "audit", "--grove", grove, "--all", "--forget"
+    for _ in range(2):
+        store.do([["add", "/a", 1]])
+        store.audit()
+    store.do([["add", "/a", 1]])
+    lines = programs.lines(*words)
+    store.do([["add", "/a", 1]])
+    store.audit()
+    came = [line for line in lines if line[:5] in ("epoch", "forgo")], programs.run(*words), programs.run(*words)
+    wanted = ["epoch 3", "forgotten 1", "forgotten 2", "forgotten 3"], (0, "forgotten 4\n"), (1, "refused no-jobs\n")
+    return None if came == wanted else f"wanted {wanted}; came {came}"
+
+
 def what_is_wrong_is_refused_by_name(cluster, grove):
     store, empty, old = Store(cluster, grove, "refused"), Keys("empty"), Keys("old")
     store.write(putting(old.old_head(), "{}"), putting(Keys("new").head(), '{"format":3,"epoch":1}'))
