@@ -57,8 +57,8 @@ class Timed(Journal):
 
     last = 0.0
 
-    def tell(self, event, **facts):
-        super().tell(event, **facts)
+    def log(self, event, **facts):
+        super().log(event, **facts)
         if event == "commit":
             self.last = time.time()
 
