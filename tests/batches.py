@@ -11,8 +11,9 @@ from store import LEAST, MOST, Store
 from tree import Tree
 
 MOST_LISTS, MOST_ACCESSES = 256, 64
-# Plans of fewer steps in all are done by their caller alone (docs/DECISIONS.md, Work in threads).
-WORTH_A_THREAD = 2048
+# Plans of fewer steps in all are done by their caller alone: those of `run`, and those of a store's round
+# (docs/DECISIONS.md, Work in threads).
+WORTH_A_THREAD, ROUND_WORTH_THREADS = 2048, 65_536
 # A store counts no more waits of a node.
 MOST_WAITS = 1000
 
@@ -87,6 +88,35 @@ def deep(random: Random, count: int = 128) -> dict:
     return a_batch(nodes, [accesses_of(random, way) for way in ways])
 
 
+def shelves(random: Random, root: int = 1000, leaf: int = 1, count: int = MOST_LISTS) -> dict:
+    """Ninety-six leaves, each on a shelf of its own, of which each list needs sixty-four: its plan has 322 steps. A heavy
+    root is held for a moment; a light one from end to end."""
+    nodes = [a_row(None, "", root)]
+    for number in range(96):
+        nodes += [a_row(0, f"n{number}", leaf), a_row(len(nodes), "l", leaf)]
+    leaves = [path for path in Tree(nodes).paths if path.count("/") == 2]
+    return a_batch(nodes, [accesses_of(random, random.sample(leaves, MOST_ACCESSES)) for _ in range(count)])
+
+
+def light_shelves(random: Random) -> dict:
+    return shelves(random, 1, 1000)
+
+
+def round_of_steps(steps: int) -> dict:
+    """As many such lists as have fewer steps, and one that has the steps that are left."""
+    document = shelves(Random(f"a round of {steps} steps"), count=steps // 322 - 1)
+    left = steps - steps_of(Tree(document["nodes"]), document["lists"])
+    half = left // 2
+    return {**document, "lists": document["lists"] + [list_of_steps(half), list_of_steps(left - half)]}
+
+
+def list_of_steps(steps: int) -> list[list]:
+    """A list of leaves of shelves, the last one of which it adds to as often as is needed."""
+    leaves, more = divmod(steps - 2, 5)
+    adds = [["add", f"/n{number}/l", 1] for number in range(leaves)]
+    return adds + more * adds[-1:]
+
+
 def of_steps(steps: int) -> dict:
     """Lists of two children of the root, the last one, and of one child, whose plans have from 2,047 to 2,048 steps."""
     nodes = [a_row(None, "", 1000)] + [a_row(0, f"n{number}", 1) for number in range(31)]
@@ -96,6 +126,8 @@ def of_steps(steps: int) -> dict:
 
 
 SHAPES = {"mixed": mixed, "hot": hot, "passed": passed, "chains": chains, "wide": wide, "deep": deep}
+# Those that have steps enough for the threads of a store.
+ROUND_SHAPES = {"shelves": shelves, "light shelves": light_shelves, "deep": deep}
 
 
 def a_batch(nodes: list[dict], lists: list[list]) -> dict:

@@ -39,10 +39,9 @@ TIMED = 3
 NUMBERED = "/n0/n0"
 # How many lines wait for the round after one that is held, how many clients look then, and how many times.
 WAITING, LOOKING, TIMES_HELD = 9, 2, 8
-# Leaves below a root; a batch of so many steps that its round starts a thread, though no list waits; and one of few.
+# Leaves below a root, and a batch of one list.
 LEAVES = [f"n{number}" for number in range(64)]
 FLAT = [{"parent": None, "name": "", "weight": 1}, *({"parent": 0, "name": name, "weight": 1} for name in LEAVES)]
-MANY_STEPS = compact({"batch": [64 * [["get", f"/{name}"]] for name in LEAVES]})
 ADD_ONE = compact({"batch": [[["add", "/n0", 1]]]})
 # How long a thread may take to get to where it waits.
 LONGEST = 60.0
@@ -170,14 +169,19 @@ def look_last(program: str, library: str, tally: Tally) -> None:
         for client in clients:
             client.get("/nodes")
         for number in range(TIMES_HELD):
-            look_beside_held(server, store, held, clients, f"time {number}", tally)
+            look_beside_held(server, store, held, clients, number, tally)
+
+
+def two_new_lists(number: int) -> bytes:
+    """A batch of two lists for which no plan is kept, so that its round starts a thread to plan one of them."""
+    return compact({"batch": [[["get", f"/{name}"]] for name in LEAVES[2 + 2 * number :][:2]]})
 
 
 def look_beside_held(
-    server: Serving, store: Store, held: Holding, clients: list[Client], where: str, tally: Tally
+    server: Serving, store: Store, held: Holding, clients: list[Client], number: int, tally: Tally
 ) -> None:
-    runs, waiting, looking = clients[0], clients[1 : 1 + WAITING], clients[1 + WAITING :]
-    runs.send(post(MANY_STEPS))
+    runs, waiting, looking, where = clients[0], clients[1 : 1 + WAITING], clients[1 + WAITING :], f"time {number}"
+    runs.send(post(two_new_lists(number)))
     if not held.is_held():
         tally.blame(where, "no round starts a thread")
     for client in waiting:

@@ -1,7 +1,7 @@
-"""Batches of 2,048 steps and more, which threads do, and whose lists contend for nodes: by `run`, by lines of one
-session, and by rounds that sixteen clients share. Each answer is compared with the lists done one after the other in the
-order that it tells. The threads that the program starts are counted: for these batches, for shorter ones, and for new
-weights.
+"""Batches that threads do, and whose lists contend for nodes: of 2,048 steps and more by `run`, and of 65,536 and more
+by lines of one session and by rounds that sixteen clients share; and lines of shorter batches, which are done in place.
+Each answer is compared with the lists done one after the other in the order that it tells. The threads that the program
+starts are counted: for these batches, for shorter ones, and for new weights.
 
 A run or a server that doesn't answer within a minute hangs, and ends its part. That somebody waits for a node, and that
 two lines share a round, goes by timing, and is tried until it was seen; all else has to be right in each try.
@@ -21,8 +21,8 @@ from pathlib import Path
 from random import Random
 from typing import Callable, Iterator
 
-from batches import MOST_WAITS, SHAPES, WORTH_A_THREAD, deep, fault_of_run, fault_of_waits
-from batches import most_waits, of_steps, steps_of
+from batches import MOST_WAITS, ROUND_SHAPES, ROUND_WORTH_THREADS, SHAPES, WORTH_A_THREAD
+from batches import deep, fault_of_run, fault_of_waits, most_waits, of_steps, round_of_steps, steps_of
 from history import fault_of_history
 from server import SECONDS, Serving, talk
 from store import compact
@@ -36,7 +36,7 @@ WORKERS = (2, 3, 4, 16, 1)
 # among others.
 BATCHES, LINES, SHARED = 2, 8, 3
 CLIENTS, SHARES = 16, 8
-NONE_LARGE = "no round has steps enough for a thread"
+NONE_LARGE = "no round has steps enough for threads"
 WEIGHTS, REWEIGH = b'{"weights":null}\n', b'{"reweigh":null}\n'
 ROOT = {"parent": None, "name": "", "weight": 1}
 STAR = {"nodes": [ROOT] + [{"parent": 0, "name": f"n{number}", "weight": 1} for number in range(16)]}
@@ -44,10 +44,19 @@ STAR = {"nodes": [ROOT] + [{"parent": 0, "name": f"n{number}", "weight": 1} for 
 
 def tries(program: str, room: str) -> list[Try]:
     library = library_in(room)
-    ways = {"run": run_batches, "lines": answer_lines, "rounds": share_rounds}
-    pairs = [(shape, way) for way in ways for shape in SHAPES]
-    parts = [Try(f"{shape}, by {way}", partial(ways[way], program, library, shape)) for shape, way in pairs]
+    ways = {
+        "run": (run_batches, SHAPES),
+        "lines": (answer_lines, ROUND_SHAPES),
+        "rounds": (share_rounds, ROUND_SHAPES),
+        "lines in place": (answer_in_place, SHAPES),
+    }
+    parts = [
+        Try(f"{shape}, by {way}", partial(call, program, library, shape))
+        for way, (call, shapes) in ways.items()
+        for shape in shapes
+    ]
     parts.append(Try("too few steps for a thread", partial(run_alone, program, library)))
+    parts.append(Try("a round of just so many steps", partial(answer_of_steps, program, library)))
     return parts + [Try(f"reweigh by {workers}", partial(reweigh, program, library, workers)) for workers in WORKERS]
 
 
@@ -61,13 +70,25 @@ def library_in(room: str) -> str:
 
 
 def batch_of(shape: str, seed: object) -> dict:
+    """A batch for `run`, of steps enough for a thread."""
     document = SHAPES[shape](Random(f"threads {shape} {seed}"))
     assert is_worth_a_thread(Tree(document["nodes"]), document["lists"])
     return document
 
 
+def round_of(shape: str, seed: object) -> dict:
+    """A batch for a store, of steps enough for its threads."""
+    document = ROUND_SHAPES[shape](Random(f"threads {shape} {seed}"))
+    assert is_worth_threads(Tree(document["nodes"]), document["lists"])
+    return document
+
+
 def is_worth_a_thread(tree: Tree, lists: list) -> bool:
     return steps_of(tree, lists) >= WORTH_A_THREAD
+
+
+def is_worth_threads(tree: Tree, lists: list) -> bool:
+    return steps_of(tree, lists) >= ROUND_WORTH_THREADS
 
 
 # ---- by `run`
@@ -137,7 +158,7 @@ def answer_lines(program: str, library: str, shape: str, tally: Tally) -> None:
 def answer_by_each(program: str, library: str, shape: str, tally: Tally) -> str | None:
     waits = 0
     for workers in WORKERS:
-        document = batch_of(shape, workers)
+        document = round_of(shape, workers)
         seen = note_clients(program, library, workers, document, [[document["lists"]] * LINES], tally)
         tally.blame(f"by {workers}", None if seen.has_large else NONE_LARGE)
         waits += seen.waits
@@ -147,6 +168,27 @@ def answer_by_each(program: str, library: str, shape: str, tally: Tally) -> str 
 def fault_of_contention(waits: int) -> str | None:
     """The batches of a part are no good for what they are to show, if nobody waits in any of them."""
     return None if waits else "nobody waited for a node"
+
+
+def answer_in_place(program: str, library: str, shape: str, tally: Tally) -> None:
+    """A batch of fewer steps is sent twice: it is planned once, by threads, done by its caller alone, and nobody waits."""
+    for workers in WORKERS:
+        document = SHAPES[shape](Random(f"in place {shape} {workers}"))
+        count = (ROUND_WORTH_THREADS - 1) * len(document["lists"]) // steps_of(Tree(document["nodes"]), document["lists"])
+        lists = document["lists"][: int(0.9 * count)]
+        seen = note_clients(program, library, workers, document, [[lists, lists]], tally)
+        tally.blame(f"by {workers}", "a round has steps enough for threads" if seen.has_large else None)
+
+
+def answer_of_steps(program: str, library: str, tally: Tally) -> None:
+    """A step less than threads are worth, which are started to plan alone; and as many."""
+    for workers in WORKERS:
+        for steps in (ROUND_WORTH_THREADS - 1, ROUND_WORTH_THREADS):
+            document = round_of_steps(steps)
+            assert steps_of(Tree(document["nodes"]), document["lists"]) == steps
+            seen = note_clients(program, library, workers, document, [[document["lists"]]], tally)
+            fault = None if seen.has_large == (steps == ROUND_WORTH_THREADS) else f"large is {seen.has_large}"
+            tally.blame(f"{steps} steps by {workers}", fault)
 
 
 def share_rounds(program: str, library: str, shape: str, tally: Tally) -> None:
@@ -162,7 +204,7 @@ def share_by_each(program: str, library: str, shape: str, tally: Tally) -> str |
 def shared_by(program: str, library: str, shape: str, workers: int, tally: Tally) -> int:
     """Has the clients ask until two lines shared a round and a round had steps enough for a thread. Gives how often
     anybody waited for a node."""
-    document, found = batch_of(shape, workers), []
+    document, found = round_of(shape, workers), []
     asked = [[document["lists"][number % SHARES :: SHARES]] * SHARED for number in range(CLIENTS)]
 
     def share() -> str | None:
@@ -177,13 +219,13 @@ def shared_by(program: str, library: str, shape: str, workers: int, tally: Tally
 
 def note_clients(program: str, library: str, workers: int, document: dict, asked: list, tally: Tally) -> Seen:
     """Compares what the clients of a server are replied. Each round of many steps is run by one thread at least beside
-    its caller; what was planned once is kept."""
+    its caller, and others by none; what was planned once is kept."""
     served = serve(program, library, workers, document, asked, tally)
     tree, rounds = Tree(document["nodes"]), rounds_of(served.batches)
-    large = [lists for lists in rounds if is_worth_a_thread(tree, lists)]
+    large = [lists for lists in rounds if is_worth_threads(tree, lists)]
     most = most_waits(tree, large if workers > 1 else [])
     further = workers - 1
-    started = range(further + len(large) if further else 0, 2 * further * len(rounds) + 1)
+    started = range(further + len(large) if further else 0, further * (len(asked) + len(large)) + 1)
     tally.tried += len(served.batches)
     faults = [
         fault_of_history(document, served.batches),

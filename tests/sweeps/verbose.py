@@ -18,7 +18,7 @@ from functools import partial
 from pathlib import Path
 from random import Random
 
-from batches import hot
+from batches import shelves
 from server import HOST, NotListening, Serving, connected
 from store import MOST_LINE, Store, compact
 from web import Client, post
@@ -493,7 +493,7 @@ def minute_with_waits(program: str, library: str, tally: Tally) -> None:
 
 
 def some_waits(program: str, surroundings: dict[str, str], tally: Tally) -> str | None:
-    batch = hot(Random("waits of a minute"))
+    batch = shelves(Random("waits of a minute"))
     document = compact({"nodes": batch["nodes"]})
     with Telling(program, document=document, workers=4, env=surroundings) as server:
         with connected(server.port) as client:

@@ -14,3 +14,5 @@ pub mod Accepted
 pub mod TextEntries
 pub mod PlanTexts
 pub mod RoundsAlone
+pub mod Sharing
+pub mod Beginning

@@ -1,6 +1,6 @@
 -- For the proofs alone, as no public contract reaches it: the parts that an answer is made of.
-use Rattle.std.specs.Prelude.{◌≡◌, ◌⊎◌, ℕ, ◌+◌, ◌-◌, ◌≤◌, min, ℤ, List, [], ◌∷◌, ◌++◌, length, map, take, get_or, All}
-use Rattle.std.specs.Prelude.{Option, Some}
+use Rattle.std.specs.Prelude.{◌≡◌, ◌⊎◌, ℕ, ◌+◌, ◌-◌, ◌^◌, ◌<◌, ◌≤◌, min, ℤ, List, [], ◌∷◌, ◌++◌, length, map, sum, take}
+use Rattle.std.specs.Prelude.{get_or, All, Option, Some}
 use Rattle.serde_json.specs.Data.{Data}
 use Rattle.serde_json.specs.Written.{compact_text}
 use Rattle.grove_tree.specs.Trees.{Rows}
@@ -9,14 +9,16 @@ use Rattle.grove_access.specs.Lists.{nodes_of, AreNodes}
 use Rattle.grove_build.specs.SettledJobs.{AreSettledJobs}
 use Rattle.grove_core.specs.declared.job.Job.{Job}
 use Rattle.grove_core.specs.declared.event.Event.{Event}
-use Rattle.grove_core.specs.Runs.{IsRun, IsFinished, replies_of, run_records, waits_of}
+use Rattle.grove_core.specs.Runs.{IsRun, IsFinished, AllLegal, replies_of, run_records, waits_of}
 use Rattle.grove_core.specs.Orders.{placement_order}
 use Rattle.grove_run.specs.Runs.{places_of}
 use Rattle.grove_wire.specs.Replies.{changed_data}
 use Rattle.grove_meter.specs.Waits.{reweighed}
 use Rattle.grove_store.specs.StoreStates.{StoreState, changes, reweighed_store}
 use Rattle.grove_store.specs.Rounds.{batches_in, joined, first_fits, fitting, waits_after, RunsRound, FailsRound}
-use Rattle.grove_store.specs.Rounds.{round_texts}
+use Rattle.grove_store.specs.Rounds.{round_texts, round_length, IsLawfulRound}
+use Rattle.grove_store.specs.declared.begun.Begun.{Begun}
+use Rattle.grove_store.specs.declared.begun.Begun.TheVariants.{Answered, Jobs}
 
 -- the text of a reply of which something holds
 abbrev pub IsTextOfReply : (Data → Type 0) → List ℕ → Type 0
@@ -76,6 +78,26 @@ AnswersRound before lists counts replies after = (batches : List (List (List Acc
 abbrev pub AnswersJobs : StoreState → List Job → List ℕ → List (List ℕ) → StoreState → Type 0
 AnswersJobs before jobs counts replies after = (lists : List (List Access)) → AreSettledJobs before.rows lists jobs
     → AnswersRound before lists counts replies after
+
+-- the replies of a lawful round of the first of the lines
+abbrev pub AnswersFirst : StoreState → List (List ℕ) → List (List ℕ) → StoreState → Type 0
+AnswersFirst before lines replies after = (length replies ≡ round_length before.rows lines)
+    × IsLawfulRound before (take (length replies) lines) replies after
+
+-- jobs that are to be done: whatever they are answered, so much is answered by that
+pub record IsLeft (Answers : List (List ℕ) → StoreState → Type 0) (before : StoreState) (jobs : List Job)
+    (counts : List ℕ) : Type 0 where
+  pub room : before.rounds < 2 ^ 64 - 1
+  pub counted : sum counts ≡ length jobs
+  pub few : length jobs ≤ 256
+  pub legal : AllLegal before.rows jobs
+  pub answers : (replies : List (List ℕ)) (after : StoreState) → AnswersJobs before jobs counts replies after
+      → Answers replies after
+
+-- so much is answered, or jobs are left to do for it
+abbrev pub Begins : (List (List ℕ) → StoreState → Type 0) → StoreState → Begun → StoreState → Type 0
+Begins Answers before (Answered replies) after = Answers replies.items after
+Begins Answers before (Jobs jobs counts) after = IsLeft Answers before jobs.items counts.items × (after ≡ before)
 
 -- the one reply to a reweighing
 abbrev pub AnswersReweigh : StoreState → List (List ℕ) → StoreState → Type 0

@@ -7,6 +7,8 @@ pub use refusal::Refusal;
 pub use refused::NoStore;
 pub use store::Store;
 
+mod begun;
+mod crew;
 mod kept_texts;
 mod laws;
 mod line_reply;
@@ -18,3 +20,4 @@ mod same;
 mod store;
 mod texts;
 mod waiting;
+mod worth;

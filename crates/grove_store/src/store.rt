@@ -12,6 +12,7 @@ use std::marker::Model;
 
 mod answering;
 mod lines;
+mod replying;
 mod reweighing;
 mod rounds;
 

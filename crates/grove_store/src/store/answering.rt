@@ -1,11 +1,10 @@
 ghost use Rattle.std.specs.Prelude.{◌≡◌, ◌<◌, ◌≤◌, length, map, take, All, IfOk, OnErr};
 ghost use Rattle.grove_store.specs.Rounds.{round_length, IsLawfulRound, IsLawfulAnswer};
 
-use crate::round::round_of;
-use crate::texts::{alone, check_text, plan_text, weights_text, wire_refusal};
+use crate::begun::Begun;
+use crate::crew::Workers;
 use crate::{LineReply, Store};
 use grove_tree::{Gate, NoMemory, OpenGate};
-use grove_wire::{Request, read_request};
 use std::alloc::Global;
 use std::sync::Wait;
 use std::thread::Threads;
@@ -25,6 +24,19 @@ impl Store {
         let mut replies = self.answer_round(rt, alloc, &[line], &OpenGate)?;
         match replies.pop() {
             Some(reply) => Ok(reply),
+            None => unreachable!(),
+        }
+    }
+
+    /// The same by the caller alone, who starts no thread, takes no lock and never waits.
+    pub fn answer_alone(&mut self, alloc: Global, line: &[u8]) -> Result<Vec<u8>, NoMemory>
+        requires { length line.now ≤ 1048576 }
+        ensures lawful { IfOk result (λ reply. IsLawfulAnswer self.old line.now reply.items self.new) }
+        ensures err { OnErr result (self.new ≡ self.old) }
+    {
+        let mut replies = self.reply_round_alone(alloc, &[line])?;
+        match replies.pop() {
+            Some(reply) => Ok(reply.into_text()),
             None => unreachable!(),
         }
     }
@@ -73,24 +85,9 @@ impl Store {
             (take (length replies.items) (map (λ line. line.now) lines.now)) replies.items self.new) }
         ensures err { OnErr result (self.new ≡ self.old) }
     {
-        let first = lines[0];
-        match read_request(alloc, &self.tree, first) {
-            Ok(Request::Batch(lists)) => {
-                let round = round_of(alloc, &self.tree, lists, &lines[1..])?;
-                self.run_round(rt, alloc, round, gate)
-            }
-            Ok(Request::Plan(list)) => {
-                alone(
-                    alloc,
-                    plan_text(alloc, &self.tree, &mut self.plans, &mut self.texts, &list),
-                )
-            }
-            Ok(Request::Check(list, plan, flow)) => {
-                alone(alloc, check_text(alloc, &self.tree, &list, &plan, &flow))
-            }
-            Ok(Request::Weights) => alone(alloc, weights_text(alloc, &self.tree, &self.waits)),
-            Ok(Request::Reweigh) => self.reweigh(rt, alloc),
-            Err(fault) => alone(alloc, wire_refusal(alloc, fault)),
+        match self.begin_round(&Workers { rt }, alloc, lines)? {
+            Begun::Answered(replies) => Ok(replies),
+            Begun::Jobs(jobs, counts) => self.do_jobs(rt, alloc, &jobs, &counts, gate),
         }
     }
 }

@@ -1,46 +1,68 @@
 ghost use Rattle.std.specs.Prelude.{◌≡◌, ◌-◌, ◌^◌, ◌<◌, ◌≤◌, length, sum, All, IfOk, OnErr};
 ghost use Rattle.grove_access.specs.Lists.{nodes_of, AreNodes};
 ghost use Rattle.grove_core.specs.Runs.{AllLegal};
-ghost use Rattle.grove_store.specs.Parts.{AnswersJobs, AnswersRound};
+ghost use Rattle.grove_store.specs.Parts.{AnswersJobs, AnswersRound, Begins};
 
+use crate::begun::Begun;
+use crate::crew::Crew;
 use crate::round::Round;
 use crate::running::{RoundOutcome, alone_texts, outcome_of};
 use crate::texts::{refusals, run_refusals};
+use crate::worth::are_worth_threads;
 use crate::{LineReply, Refusal, Store};
-use grove_build::kept_jobs;
 use grove_core::{Job, do_alone};
-use grove_run::{are_worth_a_thread, run_legal};
+use grove_run::run_legal;
 use grove_tree::{Gate, NoMemory};
 use std::alloc::Global;
 use std::sync::Wait;
 use std::thread::Threads;
 
 impl Store {
-    /// Runs a round, and puts what it leaves in place once its replies are made. A run that fails is told to each line.
-    pub(crate) fn run_round<R: Threads + Wait + Sync, G: Gate + Sync>(
+    /// Makes the jobs of a round. If no further round can be counted, each line is told so.
+    pub(crate) fn begin_batch<C: Crew>(
         &mut self,
-        rt: &R,
+        crew: &C,
         alloc: Global,
         round: Round,
-        gate: &G,
-    ) -> Result<Vec<LineReply>, NoMemory>
+    ) -> Result<Begun, NoMemory>
+        requires asks { C.asks }
         requires counts { sum round.counts.items ≡ length round.lists.items }
         requires few { length round.lists.items ≤ 256 }
         requires fit { All (λ list. AreNodes self.old.rows (nodes_of list)) round.lists.items }
-        ensures round { IfOk result
-            (λ replies. AnswersRound self.old round.lists.items round.counts.items replies.items self.new) }
+        ensures begun { IfOk result
+            (λ begun. Begins (AnswersRound self.old round.lists.items round.counts.items) self.old begun self.new) }
         ensures err { OnErr result (self.new ≡ self.old) }
     {
         let Round { counts, lists } = round;
         if self.rounds == u64::MAX {
-            return refusals(alloc, Refusal::Rounds, counts.len());
+            let replies = refusals(alloc, Refusal::Rounds, counts.len())?;
+            return Ok(Begun::Answered(replies));
         }
-        let workers = self.workers;
-        let jobs = kept_jobs(rt, alloc, &self.tree, &mut self.plans, lists, workers)?;
-        if are_worth_a_thread(&jobs, gate) {
-            self.run_together(rt, alloc, &jobs, &counts, gate)
+        let jobs = crew.jobs(alloc, &self.tree, &mut self.plans, lists, self.workers)?;
+        Ok(Begun::Jobs(jobs, counts))
+    }
+
+    /// Does the jobs of a round, and puts what they leave in place once its replies are made. A run that fails is told
+    /// to each line.
+    pub(crate) fn do_jobs<R: Threads + Wait + Sync, G: Gate + Sync>(
+        &mut self,
+        rt: &R,
+        alloc: Global,
+        jobs: &[Job],
+        counts: &[usize],
+        gate: &G,
+    ) -> Result<Vec<LineReply>, NoMemory>
+        requires room { self.old.rounds < 2 ^ 64 - 1 }
+        requires counts { sum counts.now ≡ length jobs.now }
+        requires few { length jobs.now ≤ 256 }
+        requires legal { AllLegal self.old.rows jobs.now }
+        ensures round { IfOk result (λ replies. AnswersJobs self.old jobs.now counts.now replies.items self.new) }
+        ensures err { OnErr result (self.new ≡ self.old) }
+    {
+        if are_worth_threads(jobs, gate) {
+            self.run_together(rt, alloc, jobs, counts, gate)
         } else {
-            self.run_alone(alloc, &jobs, &counts)
+            self.run_alone(alloc, jobs, counts)
         }
     }
 
@@ -79,7 +101,7 @@ impl Store {
     }
 
     /// Does the jobs in place, one after the other. Where the replies find no memory, the old records are put back.
-    fn run_alone(
+    pub(crate) fn run_alone(
         &mut self,
         alloc: Global,
         jobs: &[Job],

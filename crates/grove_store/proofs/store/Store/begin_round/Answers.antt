@@ -1,0 +1,83 @@
+use Rattle.std.proofs.Common.{◌<◌, refl, length, map, sym, ap, subst}
+use Rattle.std.specs.Prelude.{Ok, Err}
+use Rattle.std.proofs.lemmas.List.{take_rest}
+use Rattle.std.proofs.lemmas.Result.{IfOk-weaker}
+use Rattle.grove_meter.specs.Waits.{reweighed}
+use Rattle.grove_wire.specs.Names.{wire_name}
+use Rattle.grove_wire.specs.Replies.{error_data, weights_data, weights_in_rows, changed_data}
+use Rattle.grove_wire.specs.Requests.{Plan, Weights, Reweigh}
+use Rattle.grove_store.specs.StoreStates.{StoreState, IsStore, changes}
+use Rattle.grove_store.specs.Parts.{AnswersFirst, AnswersRound}
+use Rattle.grove_store.proofs.Beginning.{begins_for}
+use Rattle.grove_store.proofs.Together.{counts_all}
+use Rattle.grove_store.proofs.Telling.{text_made}
+use Rattle.grove_store.proofs.Lawful.{first_alone, first_kept, first_round, fails_so}
+use Rattle.grove_store.proofs.store.Store.begin_round.Goals as goal
+
+pub begin_batch-requires-clause-counts : goal.begin_batch-requires-clause-counts
+begin_batch-requires-clause-counts g c = counts_all _ _ _ _ _ c.in_ok-round-in-Ok-Batch.ensures
+
+pub returns-in_ok-round-in-Ok-Batch-clause-begun : goal.returns-in_ok-round-in-Ok-Batch-clause-begun
+returns-in_ok-round-in-Ok-Batch-clause-begun g c =
+    let fits = rw c.in-Ok-Batch.field-0-is at c.in-Ok-Batch.ensures.fits in
+    let read = rw c.in-Ok-Batch.field-0-is at c.in-Ok-Batch.ensures.read in
+    let now = c.args.self.now in
+    let round = c.in_ok-round-in-Ok-Batch.round in
+    let some : 0 < length c.args.lines.now = c.requires.count.0 in
+    IfOk-weaker c.begin_batch.result _ _
+    (λ begun begins. begins_for (AnswersFirst now (map (λ line. line.now) c.args.lines.now))
+    (AnswersRound now round.lists.items round.counts.items) now begun c.begin_batch.new.self
+    (λ replies after answers. first_round now after c.self.inside.tree c.args.lines.now _ _
+    c.in-Ok-Batch.lists.items _ _
+    replies (length replies) (subst IsStore c.self.view_is c.self.invariant.0)
+    (ap (λ (s : StoreState). s.rows) c.self.view_is) some (take_rest c.args.lines.now 1)
+    read fits.0 c.in_ok-round-in-Ok-Batch.ensures answers refl) begins) c.begin_batch.ensures.begun
+
+pub returns-in_ok-replies-in-Ok-Plan-clause-begun : goal.returns-in_ok-replies-in-Ok-Plan-clause-begun
+returns-in_ok-replies-in-Ok-Plan-clause-begun g c =
+    let read = rw c.in-Ok-Plan.field-0-is at c.in-Ok-Plan.ensures.read in
+    let now = c.args.self.now in
+    let replies = c.in_ok-replies-in-Ok-Plan.replies.items in
+    let some : 0 < length c.args.lines.now = c.requires.count.0 in
+    let made = text_made c.plan_text-text.result replies c.plan_text-text.ensures.text
+    c.in_ok-replies-in-Ok-Plan.ensures in
+    subst (λ (after : StoreState). AnswersFirst now (map (λ line. line.now) c.args.lines.now) replies after)
+    (sym c.self.view_is)
+    (first_kept _ now c.args.lines.now _ (Ok (Plan c.in-Ok-Plan.list)) made.1.0 made.0
+    replies (length replies) c.self.view_is c.self.invariant.0 some read refl
+    (made.1.1, refl) made.1.2 made.2 refl)
+
+pub returns-in_ok-replies-in-Ok-Weights-clause-begun : goal.returns-in_ok-replies-in-Ok-Weights-clause-begun
+returns-in_ok-replies-in-Ok-Weights-clause-begun g c =
+    let read = rw c.in-Ok-Weights.field-0-is at c.in-Ok-Weights.ensures.read in
+    let replies = c.in_ok-replies-in-Ok-Weights.replies.items in
+    let some : 0 < length c.args.lines.now = c.requires.count.0 in
+    let made = text_made c.weights_text-text.result replies c.weights_text-text.ensures
+    c.in_ok-replies-in-Ok-Weights.ensures in
+    first_kept _ c.args.self.now c.args.lines.now _ (Ok Weights)
+    (weights_data c.deref.result.now (weights_in_rows c.self.inside.tree)) made.0
+    replies (length replies) c.self.view_is c.self.invariant.0 some read refl
+    (ap (λ waits. weights_data waits (weights_in_rows c.self.inside.tree)) c.deref.ensures.value, refl) made.1 made.2
+    refl
+
+pub returns-in_ok-replies-in-Ok-Reweigh-clause-begun : goal.returns-in_ok-replies-in-Ok-Reweigh-clause-begun
+returns-in_ok-replies-in-Ok-Reweigh-clause-begun g c =
+    let read = rw c.in-Ok-Reweigh.field-0-is at c.in-Ok-Reweigh.ensures.read in
+    let now = c.args.self.now in
+    let replies = c.in_ok-replies-in-Ok-Reweigh.replies.items in
+    let answers = c.in_ok-replies-in-Ok-Reweigh.ensures.reply in
+    let some : 0 < length c.args.lines.now = c.requires.count.0 in
+    first_alone now c.reweigh.new.self c.self.inside.tree c.args.lines.now _ (Ok Reweigh)
+    (changed_data (changes now.rows (reweighed now.waits now.rows))) _
+    replies (length replies) (subst IsStore c.self.view_is c.self.invariant.0)
+    (ap (λ (s : StoreState). s.rows) c.self.view_is) some read refl (refl, answers.1) refl answers.0 refl
+
+pub returns-in_ok-replies-in-Err-clause-begun : goal.returns-in_ok-replies-in-Err-clause-begun
+returns-in_ok-replies-in-Err-clause-begun g c =
+    let replies = c.in_ok-replies-in-Err.replies.items in
+    let some : 0 < length c.args.lines.now = c.requires.count.0 in
+    let made = text_made c.wire_refusal-text.result replies c.wire_refusal-text.ensures
+    c.in_ok-replies-in-Err.ensures in
+    first_kept _ c.args.self.now c.args.lines.now _ (Err c.in-Err.fault) (error_data (wire_name c.in-Err.fault)) made.0
+    replies (length replies) c.self.view_is c.self.invariant.0 some
+    (fails_so c.in-Err.fault _ made.1.0 c.in-Err.ensures.read) refl (refl, refl) made.1.1 made.2 refl

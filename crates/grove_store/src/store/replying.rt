@@ -1,0 +1,78 @@
+ghost use Rattle.std.specs.Prelude.{◌≡◌, ◌<◌, ◌≤◌, length, map, All, IfOk, OnErr};
+ghost use Rattle.grove_store.specs.Parts.{AnswersFirst, Begins};
+
+use crate::begun::Begun;
+use crate::crew::{Alone, Crew};
+use crate::round::round_of;
+use crate::texts::{alone, check_text, plan_text, weights_text, wire_refusal};
+use crate::{LineReply, Store};
+use grove_tree::NoMemory;
+use grove_wire::{Request, read_request};
+use std::alloc::Global;
+
+impl Store {
+    /// Answers the first of the lines, or makes the jobs of its batch and of those that follow it.
+    pub(crate) fn begin_round<C: Crew>(
+        &mut self,
+        crew: &C,
+        alloc: Global,
+        lines: &[&[u8]],
+    ) -> Result<Begun, NoMemory>
+        requires asks { C.asks }
+        requires count { (0 < length lines.now) × (length lines.now ≤ 16) }
+        requires limit { All (λ line. length line.now ≤ 1048576) lines.now }
+        ensures begun { IfOk result
+            (λ begun. Begins (AnswersFirst self.old (map (λ line. line.now) lines.now)) self.old begun self.new) }
+        ensures err { OnErr result (self.new ≡ self.old) }
+    {
+        let first = lines[0];
+        match read_request(alloc, &self.tree, first) {
+            Ok(Request::Batch(lists)) => {
+                let round = round_of(alloc, &self.tree, lists, &lines[1..])?;
+                self.begin_batch(crew, alloc, round)
+            }
+            Ok(Request::Plan(list)) => {
+                let text = plan_text(alloc, &self.tree, &mut self.plans, &mut self.texts, &list);
+                let replies = alone(alloc, text)?;
+                Ok(Begun::Answered(replies))
+            }
+            Ok(Request::Check(list, plan, flow)) => {
+                let text = check_text(alloc, &self.tree, &list, &plan, &flow);
+                let replies = alone(alloc, text)?;
+                Ok(Begun::Answered(replies))
+            }
+            Ok(Request::Weights) => {
+                let text = weights_text(alloc, &self.tree, &self.waits);
+                let replies = alone(alloc, text)?;
+                Ok(Begun::Answered(replies))
+            }
+            Ok(Request::Reweigh) => {
+                let replies = self.reweigh(crew, alloc)?;
+                Ok(Begun::Answered(replies))
+            }
+            Err(fault) => {
+                let text = wire_refusal(alloc, fault);
+                let replies = alone(alloc, text)?;
+                Ok(Begun::Answered(replies))
+            }
+        }
+    }
+
+    /// Answers the first of the lines by the caller alone.
+    pub(crate) fn reply_round_alone(
+        &mut self,
+        alloc: Global,
+        lines: &[&[u8]],
+    ) -> Result<Vec<LineReply>, NoMemory>
+        requires count { (0 < length lines.now) × (length lines.now ≤ 16) }
+        requires limit { All (λ line. length line.now ≤ 1048576) lines.now }
+        ensures answers { IfOk result
+            (λ replies. AnswersFirst self.old (map (λ line. line.now) lines.now) replies.items self.new) }
+        ensures err { OnErr result (self.new ≡ self.old) }
+    {
+        match self.begin_round(&Alone, alloc, lines)? {
+            Begun::Answered(replies) => Ok(replies),
+            Begun::Jobs(jobs, counts) => self.run_alone(alloc, &jobs, &counts),
+        }
+    }
+}
