@@ -1,6 +1,6 @@
 use super::Crew;
 use grove_access::AccessList;
-use grove_build::{KeptPlans, kept_jobs};
+use grove_build::{KeptPlans, kept_jobs, kept_jobs_alone};
 use grove_core::Job;
 use grove_meter::reweigh;
 use grove_tree::{NoMemory, OpenGate, Tree};
@@ -26,6 +26,10 @@ impl<R: Threads + Sync> Crew for Workers<'_, R> {
         lists: Vec<AccessList>,
         workers: u32,
     ) -> Result<Vec<Job>, NoMemory> {
+        // A thread would have nothing to plan beside the caller.
+        if workers < 2 || lists.len() < 2 {
+            return kept_jobs_alone(alloc, tree, plans, lists);
+        }
         kept_jobs(self.rt, alloc, tree, plans, lists, workers)
     }
 
