@@ -95,7 +95,7 @@ def audit(
 ) -> Audited:
     """Audits an epoch. Without a number it is the open one, which is then closed, and the next one opened."""
     head = need_store(members, keys)
-    number = number or head.epoch
+    number = head.epoch if number is None else number
     history = History(members, keys, head, number)
     text = history.document()
     if document:

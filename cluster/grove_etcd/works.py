@@ -35,5 +35,5 @@ def address_of(text: str) -> tuple[str, int]:
     """Of `[ADDRESS:]PORT`; without an address it is this machine alone."""
     host, _, port = text.rpartition(":")
     if not port.isdecimal() or not 0 < int(port) < 65536:
-        raise Failed(f"--metrics takes [ADDRESS:]PORT, such as 9464: {text!r}")
+        raise ValueError(f"it is [ADDRESS:]PORT, such as 9464: {text!r}")
     return host or "127.0.0.1", int(port)

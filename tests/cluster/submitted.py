@@ -204,7 +204,7 @@ def errors_are_a_line_and_a_status(cluster, grove):
         programs.run("submit", "--grove", "/usr/bin/false", lists),
         programs.run("status", "--record", "/q"),
         programs.run("work", "--work", "no_module:it", "--until-ended"),
-        programs.run("work", "--metrics", "x"),
+        programs.run("audit", "--grove", grove, "--epoch", "0"),
         programs.run("status", "--cacert", "/no/such", "--members", cluster.addresses),
     ]
     wanted = [
@@ -218,12 +218,12 @@ def errors_are_a_line_and_a_status(cluster, grove):
         (1, "epoch 1: 0 jobs, 0 ended; 0 nodes held\nrefused no-path /q\n"),
     ]
     wanted += [(3, "no_module:it: ModuleNotFoundError: No module named 'no_module'\n")]
-    wanted += [(3, "--metrics takes [ADDRESS:]PORT, such as 9464: 'x'\n"), (3, "/no/such: No such file or directory\n")]
-    words = [
-        programs.run("status", *each)[0] for each in (("--members", "127.0.0.1"), ("--store", "A"), ("--cert", "x"))
-    ]
+    wanted += [(1, "refused no-jobs\n"), (3, "/no/such: No such file or directory\n")]
+    wrong = ["status --members 127.0.0.1", "status --store A", "status --cert x"]
+    wrong += ["work --metrics x", "work --patience 0"]
+    statuses = [programs.run(*each.split())[0] for each in wrong]
     faults = [f"wanted {want}; came {each}" for each, want in zip(came, wanted) if each != want]
-    return "; ".join(faults) or (None if words == [2, 2, 2] else f"statuses {words}") or fault_of_garbage(programs)
+    return "; ".join(faults) or (None if statuses == [2] * 5 else f"statuses {statuses}") or fault_of_garbage(programs)
 
 
 def fault_of_garbage(programs):
