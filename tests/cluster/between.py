@@ -6,8 +6,10 @@ from planted import Rewrites, Strays, StraysWithAnEvent, told_as
 from store_at_hand import Store, one_group, refusal
 
 from grove_etcd.attempt import Attempt
+from grove_etcd.chain import Left
 from grove_etcd.head import head_text
 from grove_etcd.jobs import Event, Job, Progress, Waiter
+from grove_etcd.past import Epoch
 from grove_etcd.wire import deleting, deleting_below, putting
 
 
@@ -252,3 +254,37 @@ def what_is_planted_between_epochs_is_told(cluster, grove):
     faults = (between(cluster, grove, plant, wanted) for plant, wanted in BETWEEN.items())
     told = [f"{plant.__name__}: {fault}" for plant, fault in zip(BETWEEN, faults) if fault]
     return "; ".join(told) or None
+
+
+# Of keys that no worker writes: a change that no audit of the open epoch sees, as docs/CLUSTER.md says.
+
+
+def another_record_that_an_epoch_left(store):
+    record, key = store.keys.record("/a"), store.keys.left("/a", 1)
+    store.write(putting(record, "99"))
+    revision = store.members.get(record).revision_of(record)
+    store.write(putting(key, replace(Left.read(store.read(key)), record=99, revision=revision).text()))
+
+
+def another_record_that_was_loaded(store):
+    store.write(putting(store.keys.record("/b"), "7"), putting(store.keys.weight("/b"), "1 0 7"))
+    store.do([["add", "/b", 1]])
+
+
+def a_job_in_a_closed_epoch(store):
+    store.do([["get", "/a"]], kind=RepliesByOldRecords)
+    store.write(putting(store.keys.closed(1), Epoch(store.jobs).text()))
+
+
+def what_no_worker_writes_is_not_seen(cluster, grove):
+    """So workers need to be without a right to it. The job is seen once its epoch is audited again."""
+    for plant in (another_record_that_an_epoch_left, another_record_that_was_loaded, a_job_in_a_closed_epoch):
+        store = Store(cluster, grove, plant.__name__.replace("_", "-")[:32])
+        store.do([["add", "/a", 1]])
+        store.audit()
+        plant(store)
+        store.do([["get", "/a"], ["get", "/b"]])
+        audited = refusal(store.audit)
+        if isinstance(audited, str):
+            return f"{plant.__name__}: {audited}"
+    return told_as(refusal(store.audit, 1), "standing replies")

@@ -20,7 +20,7 @@ from beginning import (
     where_its_node_is_taken_it_is_begun_later,
     where_the_worker_is_told_to_end_no_other_is_begun,
 )
-from between import what_is_planted_between_epochs_is_told
+from between import what_is_planted_between_epochs_is_told, what_no_worker_writes_is_not_seen
 from members_at_hand import SecretCluster
 from planted import (
     a_record_that_is_none_sets_its_job_aside,
@@ -328,6 +328,7 @@ TRIALS = [
     workers_with_a_bug_are_caught,
     marks_that_are_left_out_are_told,
     what_is_planted_between_epochs_is_told,
+    what_no_worker_writes_is_not_seen,
     a_stray_write_before_any_epoch_is_told,
     a_stray_write_is_told_after_forgetting,
     a_wait_for_a_job_of_an_earlier_epoch_is_counted,
