@@ -2,7 +2,7 @@
  *
  * Most calls take the bytes of a document (docs/FORMATS.md) and a buffer, and put the text there that the command of
  * their name prints. They keep nothing, so they may run in any number of threads at once, each with a buffer of its
- * own. The calls by a handle, at the end, keep a tree in it. No call reads a file or starts a thread.
+ * own. The calls by a handle, at the end, keep a tree or a store in it. No call reads a file or starts a thread.
  *
  * What a caller owes, which nothing tests:
  * - `document_length` bytes stand at `document`, and nobody writes to them during the call;
@@ -65,7 +65,8 @@ grove_told grove_c_draw_text(const uint8_t *document, size_t document_length, ui
 /* `grove audit`: what the run of the document's jobs replies and leaves that its events are, if that is finished. */
 grove_told grove_c_audit(const uint8_t *document, size_t document_length, uint8_t *text, size_t room);
 
-/* A handle that holds a tree, or nothing: what a call keeps for the next. It begins as GROVE_NOTHING.
+/* A handle that holds a tree, or nothing: what a call keeps for the next. It begins as GROVE_NOTHING. The same is owed
+ * of a grove_store, below.
  *
  * What a caller owes of a handle, which nothing tests:
  * - it is GROVE_NOTHING, or what the last call by it left there; only calls change it, and nobody copies it;
@@ -97,6 +98,31 @@ grove_told grove_c_tree_check(
 
 /* Frees what the handle holds: it is GROVE_NOTHING then. */
 void grove_c_tree_close(grove_tree *tree);
+
+/* A handle that holds a store, or nothing. It begins as GROVE_NOTHING. */
+typedef struct grove_store {
+    void *held;
+} grove_store;
+
+/* Reads a document, and holds a store of its tree and its records, as `grove serve --workers 1` opens it; what was held
+ * before is let go. It has no lines: if it is done, `text` is as it was, and `length` is 0. If it isn't done, the handle
+ * is as it was. */
+grove_told grove_c_store_open(
+    grove_store *store, const uint8_t *document, size_t document_length, uint8_t *text, size_t room
+);
+
+/* The reply of `grove serve` to a line (docs/SESSIONS.md), both without a line feed. It is GROVE_DONE also if the line
+ * is refused: its reply says so then. GROVE_ROOM says how long the reply is; the line has had its effect, and
+ * grove_c_store_reply has the reply. After GROVE_MEMORY the store is as it was. */
+grove_told grove_c_store_answer(
+    grove_store *store, const uint8_t *line, size_t line_length, uint8_t *text, size_t room
+);
+
+/* The reply to the last line that had one, once more; it is empty before the first line. */
+grove_told grove_c_store_reply(grove_store *store, uint8_t *text, size_t room);
+
+/* Lets go what the handle holds: it is GROVE_NOTHING then. */
+void grove_c_store_close(grove_store *store);
 
 #ifdef __cplusplus
 }

@@ -6,85 +6,14 @@
  * DOC has a list, a plan and a flow; a QUESTION is the same with no nodes, or with others. Says what is wrong, and ends
  * with status 1 then.
  */
-#include <stdio.h>
-#include <stdlib.h>
-#include <string.h>
-
+#include "counted.h"
 #include "grove.h"
-
-enum { MOST = 1 << 22, AGAIN = 10000, BEYOND = 32 };
 
 typedef grove_told call(const uint8_t *, size_t, uint8_t *, size_t);
 typedef grove_told ask(grove_tree *, const uint8_t *, size_t, uint8_t *, size_t);
 
-void *__real_malloc(size_t size);
-void *__real_realloc(void *block, size_t size);
-void __real_free(void *block);
-void *__wrap_malloc(size_t size);
-void *__wrap_realloc(void *block, size_t size);
-void __wrap_free(void *block);
-
-/* The blocks that the calls have now, the growths so far, and the number of the one that is refused. */
-static long blocks, growths, refused;
-
-static int is_refused(void) { return ++growths == refused; }
-
-void *__wrap_malloc(size_t size) {
-    void *block = is_refused() ? NULL : __real_malloc(size);
-    blocks += block != NULL;
-    return block;
-}
-
-void *__wrap_realloc(void *block, size_t size) {
-    void *grown = is_refused() ? NULL : __real_realloc(block, size);
-    blocks += block == NULL && grown != NULL;
-    return grown;
-}
-
-void __wrap_free(void *block) {
-    blocks -= block != NULL;
-    __real_free(block);
-}
-
-/* A file that is read. */
-typedef struct bytes {
-    uint8_t at[MOST];
-    size_t length;
-} bytes;
-
 static bytes document, question;
-static uint8_t whole[MOST], text[MOST];
-static int is_wrong;
-
-static void want(int is_so, const char *name, const char *what) {
-    if (!is_so) {
-        printf("%s: not so: %s\n", name, what);
-        is_wrong = 1;
-    }
-}
-
-static void read_file(const char *path, bytes *read) {
-    FILE *file = fopen(path, "rb");
-    if (file == NULL)
-        exit(2);
-    read->length = fread(read->at, 1, MOST, file);
-    fclose(file);
-}
-
-/* Is the buffer from here on as it was filled? */
-static int is_untouched(size_t from) {
-    size_t at;
-    for (at = from; at < from + BEYOND; at++)
-        if (text[at] != 0xA5)
-            return 0;
-    return 1;
-}
-
-/* A room of so many bytes, behind which it is seen that nothing is written. */
-static size_t filled(size_t room) {
-    memset(text, 0xA5, room + BEYOND);
-    return room;
-}
+static uint8_t whole[MOST];
 
 static grove_told opened(grove_tree *tree) {
     return grove_c_tree_open(tree, document.at, document.length, NULL, 0);

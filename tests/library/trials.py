@@ -13,6 +13,7 @@ from pathlib import Path
 from typing import Callable
 
 from comparing import Answer, all_documents, by_program, note_answers, read_answers, streams_of
+from storing import note_talk, talks, written
 from sweeps.documents import EXAMPLES
 from sweeps.program import Tally
 
@@ -24,6 +25,14 @@ STRICT = ["-Wall", "-Wextra", "-pedantic", "-Werror"]
 # A program counts the blocks that it has, and refuses one.
 WRAPS = [f"-Wl,--wrap={name}" for name in ("malloc", "realloc", "free")]
 HERE = Path(__file__).resolve().parent
+# How many lines a store in C and in Rust answers.
+FEW_LINES = 300
+# What a store of examples/settings.json replies to `note_store`.
+STORE_SAID = """\
+{"places":[0],"replies":[[9]],"round":1}
+{"error":"shape"}
+{"waits":[0,0,0,0,0,0,0,0,0,0,0,0,0,0,0],"weights":[50,10,2,2,4,1,1,10,2,4,1,1,10,1,1]}
+"""
 MANIFEST = """\
 [package]
 name = "NAME"
@@ -45,6 +54,7 @@ class Given:
 
     program: str
     documents: int
+    lines: int
 
 
 @dataclass(frozen=True)
@@ -80,12 +90,15 @@ def note_equal(tally: Tally, where: str, found: object, wanted: object) -> None:
 
 
 def example_in_c(_given: Given, room: Path, tally: Tally) -> None:
-    """Compiled without a warning, by the static library and by the shared one, it says what the program does."""
+    """Compiled without a warning, by the static library and by the shared one, they say what the program does."""
     for standard in ("c99", "c11", "c17"):
         for library in ("libgrove.a", "libgrove.so"):
             made = compiled("bindings/c/plan.c", room, library, f"-std={standard}")
             note_well(tally, f"{standard}, {library}", made)
             note_example(tally, room)
+            made = compiled("bindings/c/store.c", room, library, f"-std={standard}")
+            note_well(tally, f"store, {standard}, {library}", made)
+            note_store(tally, room)
 
 
 def note_example(tally: Tally, room: Path) -> None:
@@ -97,11 +110,19 @@ def note_example(tally: Tally, room: Path) -> None:
     note_equal(tally, "none.json", (ran.returncode, ran.stdout, ran.stderr), (1, "refused shape whole\n", ""))
 
 
+def note_store(tally: Tally, room: Path) -> None:
+    lines = b'{"batch":[[["add","/web/workers",1]]]}\n{}\n{"weights":null}'
+    surroundings = {**os.environ, "LD_LIBRARY_PATH": str(LIBRARY)}
+    for name, wanted in (("settings.json", (0, STORE_SAID)), ("none.json", (1, "refused shape whole\n"))):
+        document = room / name if (room / name).exists() else EXAMPLES / name
+        ran = called(room / "program", document, input=lines.decode(), stdin=None, env=surroundings)
+        note_equal(tally, f"store of {name}", (ran.returncode, ran.stdout), wanted)
+
+
 def compiled(source: str, room: Path, library: str, *words: str) -> subprocess.CompletedProcess:
     """Compiles a program with a library, as `program` in the room."""
-    return called(
-        "cc", *STRICT, *words, f"-I{TOP / 'include'}", TOP / source, LIBRARY / library, "-o", room / "program"
-    )
+    folders = [f"-I{TOP / 'include'}", f"-I{HERE}"]
+    return called("cc", *STRICT, *words, *folders, TOP / source, LIBRARY / library, "-o", room / "program")
 
 
 def example_on(room: Path, document: Path, *under: str) -> subprocess.CompletedProcess:
@@ -120,9 +141,11 @@ def valgrind(_given: Given, room: Path, tally: Tally) -> None:
     words = ["valgrind", "--quiet", "--error-exitcode=9", "--leak-check=full", "--show-leak-kinds=all"]
     for name in ("settings.json", "slow-log.json"):
         note_equal(tally, name, example_on(room, EXAMPLES / name, *words).returncode, 0)
-    compile_handles(room, tally)
+    compile_trial("handles", room, tally)
     document, bare, _ = written_for_handles(room, EXAMPLES / "two-leaves-certified.json")
     note_well(tally, "handles", called(*words, room / "program", document, bare))
+    compile_trial("stores", room, tally)
+    note_well(tally, "stores", called(*words, room / "program", *written_for_stores(room)))
 
 
 def buffers(_given: Given, room: Path, tally: Tally) -> None:
@@ -135,15 +158,22 @@ def buffers(_given: Given, room: Path, tally: Tally) -> None:
 
 
 def handles(_given: Given, room: Path, tally: Tally) -> None:
-    """The calls by a handle, likewise."""
-    compile_handles(room, tally)
+    """The calls by a handle of a tree, likewise."""
+    compile_trial("handles", room, tally)
     for name in ("settings.json", "two-leaves-certified.json"):
         document, bare, strange = written_for_handles(room, EXAMPLES / name)
         note_well(tally, name, called(room / "program", document, document, bare, strange))
 
 
-def compile_handles(room: Path, tally: Tally) -> None:
-    note_well(tally, "compiled handles", compiled("tests/library/handles.c", room, "libgrove.a", "-g", "-O1", *WRAPS))
+def stores(_given: Given, room: Path, tally: Tally) -> None:
+    """The calls by a handle of a store, likewise."""
+    compile_trial("stores", room, tally)
+    note_well(tally, "stores", called(room / "program", *written_for_stores(room)))
+
+
+def compile_trial(name: str, room: Path, tally: Tally) -> None:
+    made = compiled(f"tests/library/{name}.c", room, "libgrove.a", "-g", "-O1", *WRAPS)
+    note_well(tally, f"compiled {name}", made)
 
 
 def written_for_handles(room: Path, document: Path) -> list[Path]:
@@ -154,6 +184,12 @@ def written_for_handles(room: Path, document: Path) -> list[Path]:
     for name, parts in written.items():
         (room / name).write_text(json.dumps(parts))
     return [room / name for name in written]
+
+
+def written_for_stores(room: Path) -> tuple[Path, Path]:
+    """A document, and the line of a plan over it."""
+    (room / "line").write_bytes(b'{"plan":[["get","/a"],["add","/b",1,7]]}')
+    return EXAMPLES / "two-leaves-certified.json", room / "line"
 
 
 # ---- Rust
@@ -247,6 +283,33 @@ def built_in_rust(name: str, room: Path, tally: Tally) -> Path:
     return room / "target/release" / name
 
 
+# ---- A store by each language
+
+
+def c_store_says_the_same(given: Given, room: Path, tally: Tally) -> None:
+    """What a server of one worker replies to each line, to the byte; so the other two."""
+    note_well(tally, "compiled", compiled("bindings/c/store.c", room, "libgrove.a", "-std=c99", "-O1"))
+    note_lines(given, FEW_LINES, room, tally, [room / "program"])
+
+
+def rust_store_says_the_same(given: Given, room: Path, tally: Tally) -> None:
+    note_lines(given, FEW_LINES, room, tally, [built_in_rust("lines", room, tally)])
+
+
+def python_store_says_the_same(given: Given, room: Path, tally: Tally) -> None:
+    note_lines(given, given.lines, room, tally, ["python3", "-B", HERE / "lines.py"], env=with_package())
+
+
+def note_lines(given: Given, count: int, room: Path, tally: Tally, words: list[str | Path], **how) -> None:
+    """Compares the replies of a program that opens a store and answers lines."""
+    for talk in talks(given.program, count):
+        document, lines = written(talk, room)
+        with lines.open("rb") as source:
+            ran = called(*words, document, stdin=source, text=False, **how)
+        tally.blame("it ran", None if ran.returncode == 0 else f"status {ran.returncode}: {ran.stderr[-2000:]!r}")
+        note_talk(tally, talk, ran.stdout)
+
+
 @lru_cache(maxsize=1)
 def documents_of(count: int) -> tuple[bytes, ...]:
     return tuple(all_documents(count, planned))
@@ -285,6 +348,7 @@ TRIALS = [
     Trial("header_in_cpp", header_in_cpp, ("c++",)),
     Trial("buffers", buffers, ("cc",)),
     Trial("handles", handles, ("cc",)),
+    Trial("stores", stores, ("cc",)),
     Trial("valgrind", valgrind, ("cc", "valgrind")),
     Trial("rust", rust, ("cargo",)),
     Trial("python", python, ("python3",)),
@@ -292,4 +356,7 @@ TRIALS = [
     Trial("c_says_the_same", c_says_the_same, ("cc",)),
     Trial("rust_says_the_same", rust_says_the_same, ("cargo",)),
     Trial("python_says_the_same", python_says_the_same, ("python3",)),
+    Trial("c_store_says_the_same", c_store_says_the_same, ("cc",)),
+    Trial("rust_store_says_the_same", rust_store_says_the_same, ("cargo",)),
+    Trial("python_store_says_the_same", python_store_says_the_same, ("python3",)),
 ]

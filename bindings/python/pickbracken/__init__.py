@@ -10,17 +10,20 @@ A tree has a weight for each node, which is what it costs others to find the nod
 plan of a list of accesses: it obeys the tree protocol, and no legal plan costs less. Its flow proves that, and `check`
 sees it, whoever made plan and flow. Planner and checker are grove's, which are proved; this package hands documents to
 its shared library, and reads the answers. `pickbracken.client` has the requests to `grove serve`.
-`pickbracken.document` has the calls over the bytes of a document.
+`pickbracken.document` has the calls over the bytes of a document. A `Store` runs lists by such plans in this process.
 """
 
 from .accesses import Access, Kind, Reply
-from .faults import BadPath, Error, NoMemory, Refused
+from .faults import BadPath, Closed, Error, NoMemory, Refused
 from .planning import Drawing, FlowRow, Judgement, Plan, Step, check, draw, judge, plan
+from .requests import Round
+from .store import Store
 from .tree import Tree
 
 __all__ = [
     "Access",
     "BadPath",
+    "Closed",
     "Drawing",
     "Error",
     "FlowRow",
@@ -30,7 +33,9 @@ __all__ = [
     "Plan",
     "Refused",
     "Reply",
+    "Round",
     "Step",
+    "Store",
     "Tree",
     "check",
     "draw",

@@ -2,7 +2,7 @@
 
 from __future__ import annotations
 
-from typing import List
+from typing import List, Optional
 
 # How many words of a fault's text name the item at fault, before the fault's own name.
 BEFORE = {"row": 2, "step": 2, "access": 2, "node": 2, "event": 2, "tree": 1}
@@ -16,20 +16,26 @@ class Refused(Error):
     """What was handed in is refused: by the rule of this name, for what stands at this place.
 
     `name` is a word, as `parent-not-held`; `place` is what breaks the rule, as `step 7`, `list 3` or `node /a`, and
-    empty where the fault is told of nothing; `text` is both, as the program prints them.
+    empty where the fault is told of nothing; `text` is both, as the program prints them. `hint` says what is wrong and
+    where, for a person, if a server with `--hints` has said it.
     """
 
-    def __init__(self, text: str) -> None:
-        super().__init__(text)
+    def __init__(self, text: str, hint: Optional[str] = None) -> None:
+        super().__init__(text if hint is None else f"{text}; hint: {hint}")
         words = text.split(" ")
         name = words.pop(min(name_at(words), len(words) - 1))
         self.text = text
         self.name = "access-missing" if name == "missing" and "access" in words else name
         self.place = " ".join(words)
+        self.hint = hint
 
 
 class NoMemory(Error, MemoryError):
     """An allocation failed."""
+
+
+class Closed(Error, ValueError):
+    """It was closed before."""
 
 
 class BadPath(Error, ValueError):

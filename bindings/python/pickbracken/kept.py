@@ -5,7 +5,7 @@ from __future__ import annotations
 import weakref
 from threading import Lock
 
-from .library import Handle, Kept, close, say_kept
+from .library import Close, Handle, Kept, close, say_kept
 
 
 class KeptTree:
@@ -14,7 +14,7 @@ class KeptTree:
     def __init__(self, document: bytes) -> None:
         self.handle, self.lock = Handle(), Lock()
         # (At the end of the process another thread may be in a call.)
-        weakref.finalize(self, close, self.handle).atexit = False
+        weakref.finalize(self, close, Close.TREE, self.handle).atexit = False
         say_kept(Kept.OPEN, self.handle, document)
 
     def say(self, call: Kept, question: bytes) -> str:

@@ -9,9 +9,9 @@ from functools import lru_cache
 from pathlib import Path
 from typing import Any, Callable, Iterator, List
 
-from .faults import NoMemory, Refused
+from .faults import Closed, NoMemory, Refused
 
-DONE, REFUSED, ROOM, MEMORY = 0, 1, 2, 3
+DONE, REFUSED, ROOM, MEMORY, CLOSED = 0, 1, 2, 3, 4
 # The room that a text is given at first.
 FIRST_ROOM = 16_384
 
@@ -23,7 +23,7 @@ class Told(ctypes.Structure):
 
 
 class Handle(ctypes.Structure):
-    """What a tree is kept by. It's changed by the calls below alone, and is never copied."""
+    """What a tree or a store is kept by. It's changed by the calls below alone, and is never copied."""
 
     _fields_ = [("held", ctypes.c_void_p)]
 
@@ -46,10 +46,19 @@ class Kept(Enum):
     OPEN = "grove_c_tree_open"
     PLAN = "grove_c_tree_plan"
     CHECK = "grove_c_tree_check"
+    OPEN_STORE = "grove_c_store_open"
+    ANSWER = "grove_c_store_answer"
 
 
-# The call with a handle that takes no text.
-CLOSE = "grove_c_tree_close"
+class Close(Enum):
+    """A call with a handle that takes no text, and says none."""
+
+    TREE = "grove_c_tree_close"
+    STORE = "grove_c_store_close"
+
+
+# The call with a handle that takes no text, and says one.
+REPLY = "grove_c_store_reply"
 
 
 def places() -> Iterator[Path]:
@@ -80,7 +89,9 @@ def typed(library: ctypes.CDLL) -> ctypes.CDLL:
         declare(library, command.value, [*text, *text], Told)
     for kept in Kept:
         declare(library, kept.value, [handle, *text, *text], Told)
-    declare(library, CLOSE, [handle], None)
+    declare(library, REPLY, [handle, *text], Told)
+    for close in Close:
+        declare(library, close.value, [handle], None)
     return library
 
 
@@ -107,9 +118,23 @@ def say_kept(kept: Kept, handle: Handle, text: bytes) -> str:
     return text_of(lambda said, room: call(ctypes.byref(handle), text, len(text), said, room))
 
 
-def close(handle: Handle) -> None:
+def answer(handle: Handle, line: bytes) -> bytes:
+    """The reply of the store that a handle holds to a line, which has its effect once. Its caller has the handle
+    alone."""
+    text = ctypes.create_string_buffer(FIRST_ROOM)
+    told = call_of(Kept.ANSWER.value)(ctypes.byref(handle), line, len(line), text, FIRST_ROOM)
+    return last_reply(handle) if told.status == ROOM else bytes_by(told, text)
+
+
+def last_reply(handle: Handle) -> bytes:
+    """The last reply of the store that a handle holds, once more."""
+    call = call_of(REPLY)
+    return bytes_of(lambda text, room: call(ctypes.byref(handle), text, room))
+
+
+def close(call: Close, handle: Handle) -> None:
     """Lets go what a handle holds, if it holds anything."""
-    call_of(CLOSE)(ctypes.byref(handle))
+    call_of(call.value)(ctypes.byref(handle))
 
 
 # Makes a call with a buffer and its length.
@@ -117,22 +142,28 @@ Call = Callable[["ctypes.Array[ctypes.c_char]", int], Told]
 
 
 def text_of(call: Call) -> str:
+    return bytes_of(call).decode()
+
+
+def bytes_of(call: Call) -> bytes:
     """What a call says, which is made once more where its text has no room."""
     room = FIRST_ROOM
     while True:
         text = ctypes.create_string_buffer(room)
         told = call(text, room)
         if told.status != ROOM:
-            return told_by(told, text)
+            return bytes_by(told, text)
         room = told.length
 
 
-def told_by(told: Told, text: ctypes.Array[ctypes.c_char]) -> str:
+def bytes_by(told: Told, text: ctypes.Array[ctypes.c_char]) -> bytes:
     """The text of a call that had room for it."""
     if told.status == DONE:
-        return text.raw[: told.length].decode()
+        return text.raw[: told.length]
     if told.status == REFUSED:
         raise Refused(text.raw[: told.length].decode())
     if told.status == MEMORY:
         raise NoMemory("memory")
-    raise AssertionError(f"status {told.status}, though a handle holds what was opened")
+    if told.status == CLOSED:
+        raise Closed("it is closed")
+    raise AssertionError(f"there is no status {told.status}")

@@ -18,12 +18,13 @@
 //! # }
 //! ```
 //!
-//! [`document`] has the same calls over the bytes of a document.
+//! [`document`] has the same calls over the bytes of a document. A [`Store`] runs lists by such plans in this process.
 
 pub use access::{Access, Op, Reply};
 pub use error::{Error, Fault};
 pub use plan::{Certificate, FlowRow, Judgement, Plan, Step};
 pub use planning::Form;
+pub use store::Store;
 pub use tree::Tree;
 
 mod access;
@@ -34,4 +35,5 @@ mod kept;
 mod library;
 mod plan;
 mod planning;
+mod store;
 mod tree;

@@ -19,7 +19,7 @@ const MEMORY: u32 = 3;
 /// The room that a text is given at first.
 const FIRST_ROOM: usize = 16_384;
 
-/// What a tree is kept by. It is never copied.
+/// What a tree or a store is kept by. It is never copied.
 #[repr(C)]
 struct Handle {
     held: *mut c_void,
@@ -70,6 +70,23 @@ unsafe extern "C" {
         room: usize,
     ) -> Told;
     fn grove_c_tree_close(tree: *mut Handle);
+
+    fn grove_c_store_open(
+        store: *mut Handle,
+        document: *const u8,
+        length: usize,
+        text: *mut u8,
+        room: usize,
+    ) -> Told;
+    fn grove_c_store_answer(
+        store: *mut Handle,
+        line: *const u8,
+        length: usize,
+        text: *mut u8,
+        room: usize,
+    ) -> Told;
+    fn grove_c_store_reply(store: *mut Handle, text: *mut u8, room: usize) -> Told;
+    fn grove_c_store_close(store: *mut Handle);
 }
 
 /// A command, as the library has a call for it.
@@ -131,6 +148,55 @@ impl Drop for KeptTree {
     fn drop(&mut self) {
         // SAFETY: the handle is what the last call left, and this is the last that has it.
         unsafe { grove_c_tree_close(&mut self.0) }
+    }
+}
+
+/// A store that the library has opened, until it is dropped.
+pub(crate) struct KeptStore(Handle);
+
+// SAFETY: as that of a tree.
+unsafe impl Send for KeptStore {}
+
+impl KeptStore {
+    pub(crate) fn open(document: &[u8]) -> Result<KeptStore, Error> {
+        let mut store = KeptStore(Handle::NOTHING);
+        text_of(|text| told_kept(grove_c_store_open, &mut store.0, document, text))?;
+        Ok(store)
+    }
+
+    /// The reply to a line, which has its effect once.
+    pub(crate) fn answer(&mut self, line: &[u8]) -> Result<String, Error> {
+        let mut text = buffer(FIRST_ROOM)?;
+        let told = told_kept(grove_c_store_answer, &mut self.0, line, &mut text);
+        match told.status {
+            ROOM => Ok(self.reply_of(told.length)),
+            _ => said(told, text),
+        }
+    }
+
+    /// The last reply once more.
+    pub(crate) fn reply(&mut self) -> String {
+        let told = self.told_reply(&mut []);
+        self.reply_of(told.length)
+    }
+
+    /// The last reply, which has this length.
+    fn reply_of(&mut self, length: usize) -> String {
+        let mut text = vec![0; length];
+        let told = self.told_reply(&mut text);
+        first(text, told.length)
+    }
+
+    fn told_reply(&mut self, text: &mut [u8]) -> Told {
+        // SAFETY: as below; the pointer and the length are those of a slice that is this call's alone.
+        unsafe { grove_c_store_reply(&mut self.0, text.as_mut_ptr(), text.len()) }
+    }
+}
+
+impl Drop for KeptStore {
+    fn drop(&mut self) {
+        // SAFETY: the handle is what the last call left, and this is the last that has it.
+        unsafe { grove_c_store_close(&mut self.0) }
     }
 }
 

@@ -41,7 +41,7 @@ module _ (MaySay : Outcome → Type 0) (before after : List ℕ) (told : Told) w
     known = omega arith;
   }
 
-  tells_memory : (told.status ≡ 3) × (told.length ≡ 0) × (after ≡ before) → Tells MaySay before after told
+  pub tells_memory : (told.status ≡ 3) × (told.length ≡ 0) × (after ≡ before) → Tells MaySay before after told
   tells_memory (status, none, same) = record {
     done = λ zero. absurd (omega arith);
     refused = λ one. absurd (omega arith);
@@ -50,7 +50,8 @@ module _ (MaySay : Outcome → Type 0) (before after : List ℕ) (told : Told) w
     known = omega arith;
   }
 
-  tells_text : (lines : List ℕ) → IsPut 0 lines before after told → MaySay (Ok lines) → Tells MaySay before after told
+  pub tells_text : (lines : List ℕ) → IsPut 0 lines before after told → MaySay (Ok lines)
+      → Tells MaySay before after told
   tells_text lines is may =
       elim (cases_lt (length before) (length lines)) [
         | inl small ↦ tells_room (Ok lines) may small (is.room small)

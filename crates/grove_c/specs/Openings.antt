@@ -9,7 +9,6 @@ use Rattle.grove_c.specs.declared.kept.Kept.{Kept}
 use Rattle.grove_c.specs.Handles.{OpenSays, stored_in}
 
 -- what is made of the document, or why there is nothing
-abbrev pub IsOpening : List ℕ → Result (Box Kept Global) Refusal → Type 0
-IsOpening bytes (Ok made) =
-    (stored : Rows × List ℤ) × (stored_in bytes ≡ Ok stored) × (made.value ≡ record { tree = stored.0 })
-IsOpening bytes (Err why) = IfSome (refusal_outcome why) (OpenSays bytes)
+abbrev pub IsOpening : (Rows × List ℤ → Kept → Type 0) → List ℕ → Result (Box Kept Global) Refusal → Type 0
+IsOpening IsOf bytes (Ok made) = (stored : Rows × List ℤ) × (stored_in bytes ≡ Ok stored) × IsOf stored made.value
+IsOpening IsOf bytes (Err why) = IfSome (refusal_outcome why) (OpenSays bytes)

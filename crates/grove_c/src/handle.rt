@@ -10,8 +10,8 @@ use std::marker::Model;
 use std::mem::replace;
 use std::ptr::null_mut;
 
-/// A tree by its pointer, or nothing if that is null. A program in another language has one of its own, and changes it
-/// by the calls alone.
+/// A tree or a store by its pointer, or nothing if that is null. A program in another language has one of its own, and
+/// changes it by the calls alone.
 #[repr(C)]
 pub struct Handle {
     at: *mut u8,

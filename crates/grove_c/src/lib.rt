@@ -4,14 +4,14 @@
 #![tactic(auto, using(crate::proofs::Tellings::tells))]
 
 ghost use Rattle.std.specs.Prelude.{◌≡◌, None};
-ghost use Rattle.grove_c.specs.Handles.{Asks, Opens};
+ghost use Rattle.grove_c.specs.Handles.{Answers, Asks, IsStoreOf, IsTreeOf, OfStore, OfTree, Opens};
 ghost use Rattle.grove_c.specs.Sayings.{AuditSays, CheckSays, DocumentSays, DrawSays, JudgeSays, PlanSays};
 ghost use Rattle.grove_c.specs.Sayings.{ClaimSays, ListPlanSays};
 ghost use Rattle.grove_c.specs.Tellings.{Tells};
 
 use grove_draw::Form;
 pub use handle::Handle;
-use opening::{open, tree_opened};
+use opening::{open, store_opened, tree_opened};
 use sayings::{audited, checked, drawn, judged, planned, planned_in_document};
 use std::alloc::Global;
 pub use telling::Told;
@@ -19,6 +19,7 @@ use telling::{tell, told_closed};
 
 mod handle;
 mod kept;
+mod kept_store;
 mod loose;
 mod opening;
 mod sayings;
@@ -88,7 +89,7 @@ pub extern "C" fn grove_c_tree_open(
     document: &[u8],
     text: &mut [u8],
 ) -> Told
-    ensures { Opens document.now tree.old.value tree.new.value text.old text.new result }
+    ensures { Opens IsTreeOf document.now tree.old.value tree.new.value text.old text.new result }
 {
     open(alloc, tree_opened(alloc, document), tree, text)
 }
@@ -101,7 +102,8 @@ pub extern "C" fn grove_c_tree_plan(
     document: &[u8],
     text: &mut [u8],
 ) -> Told
-    ensures { Asks (λ rows. ListPlanSays rows document.now) tree.old.value tree.new.value text.old text.new result }
+    ensures { Asks (OfTree (λ rows. ListPlanSays rows document.now)) tree.old.value tree.new.value text.old text.new
+        result }
 {
     match tree.take(alloc) {
         Some(kept) => {
@@ -121,7 +123,8 @@ pub extern "C" fn grove_c_tree_check(
     document: &[u8],
     text: &mut [u8],
 ) -> Told
-    ensures { Asks (λ rows. ClaimSays rows document.now) tree.old.value tree.new.value text.old text.new result }
+    ensures { Asks (OfTree (λ rows. ClaimSays rows document.now)) tree.old.value tree.new.value text.old text.new
+        result }
 {
     match tree.take(alloc) {
         Some(kept) => {
@@ -139,4 +142,61 @@ pub extern "C" fn grove_c_tree_close(alloc: Global, tree: &mut Handle)
     ensures { tree.new.value ≡ None }
 {
     *tree = Handle::empty(alloc);
+}
+
+/// Reads a document, and has the handle hold a store of its tree and records, as `serve --workers 1` opens it.
+#[unsafe(no_mangle)]
+pub extern "C" fn grove_c_store_open(
+    alloc: Global,
+    store: &mut Handle,
+    document: &[u8],
+    text: &mut [u8],
+) -> Told
+    ensures { Opens IsStoreOf document.now store.old.value store.new.value text.old text.new result }
+{
+    open(alloc, store_opened(alloc, document), store, text)
+}
+
+/// The reply to a line by the store that is held, without a line feed. The line has its effect even if the reply has no
+/// room.
+#[unsafe(no_mangle)]
+pub extern "C" fn grove_c_store_answer(
+    alloc: Global,
+    store: &mut Handle,
+    line: &[u8],
+    text: &mut [u8],
+) -> Told
+    ensures { Answers line.now store.old.value store.new.value text.old text.new result }
+{
+    match store.take(alloc) {
+        Some(mut kept) => {
+            let told = kept.answer(alloc, line, text);
+            store.hold(kept);
+            told
+        }
+        None => told_closed(),
+    }
+}
+
+/// The last reply of the store that is held, once more.
+#[unsafe(no_mangle)]
+pub extern "C" fn grove_c_store_reply(alloc: Global, store: &mut Handle, text: &mut [u8]) -> Told
+    ensures { Asks OfStore store.old.value store.new.value text.old text.new result }
+{
+    match store.take(alloc) {
+        Some(kept) => {
+            let told = kept.reply(text);
+            store.hold(kept);
+            told
+        }
+        None => told_closed(),
+    }
+}
+
+/// Lets go what the handle holds.
+#[unsafe(no_mangle)]
+pub extern "C" fn grove_c_store_close(alloc: Global, store: &mut Handle)
+    ensures { store.new.value ≡ None }
+{
+    *store = Handle::empty(alloc);
 }

@@ -11,25 +11,16 @@ use Rattle.std.specs.Prelude.{Option, Some, None}
 use Rattle.std.specs.declared.alloc.Global.{Global}
 use Rattle.std.proofs.Crossing.{crosses, frees}
 use Rattle.std_alloc.proofs.SendSync.{quiet, lies}
-use Rattle.grove_tree.proofs.outline.Outline.TheLaws.TheKnot.{send-Outline}
-use Rattle.grove_tree.specs.contracts.name.Name as name
-use Rattle.grove_tree.specs.contracts.outline.Outline as outline
+use Rattle.grove_store.proofs.Sharing.{Outline-send, Store-send}
 use Rattle.grove_c.specs.Handles.{handle_owns}
 use Rattle.grove_c.specs.contracts.handle.Handle.{the_row, the_type}
 use Rattle.grove_c.specs.contracts.kept.Kept as kept
 use Rattle.grove_c.specs.declared.kept.Kept.{Kept}
 use Rattle.std.proofs.alloc.Global.TheSendSync.{the_field_send as heap_send}
 
-name_send : IsSend name.the_row
-name_send = search (sendable, crosses) depth 30 fits 2000
-
--- a node with all that is below it
-outline_send : IsSend outline.the_row
-outline_send = search (sendable, crosses, send-Outline, name_send) depth 60 fits 4000
-
--- a tree
+-- a tree, or a store with its last reply
 kept_send : IsSend kept.the_row
-kept_send = search (sendable, crosses, outline_send) depth 60 fits 4000
+kept_send = search (sendable, crosses, Outline-send, Store-send) depth 60 fits 4000
 
 held_keyless : (a : Global) (p : Ptr) (v : Option Kept) → Keyless (handle_owns a p v)
 held_keyless a p None = tt

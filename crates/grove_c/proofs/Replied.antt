@@ -1,0 +1,34 @@
+-- What is told of a line that is answered, or isn't for lack of memory.
+use Rattle.std.proofs.Common.{◌≡◌, ℕ, List, length, refl, arith, inl, inr}
+use Rattle.std.specs.Prelude.{Ok}
+use Rattle.std.proofs.lemmas.Bool.{cases_lt}
+use Rattle.grove_session.specs.Sessions.{IsReplied}
+use Rattle.grove_store.specs.Rounds.{IsLawfulAnswer}
+use Rattle.grove_c.specs.declared.kept_store.KeptStore.{KeptStore}
+use Rattle.grove_c.specs.declared.telling.Told.{Told}
+use Rattle.grove_c.specs.Endings.{IsPut}
+use Rattle.grove_c.specs.Handles.{Replies}
+use Rattle.grove_c.proofs.Tellings.{tells_text, tells_memory}
+
+module _ (line before after : List ℕ) (told : Told) (old new : KeptStore) where
+  -- the reply is put into the buffer, and kept
+  pub replied : IsPut 0 new.reply.items before after told
+      → IsReplied IsLawfulAnswer old.store line new.reply.items new.store → Replies line old new before after told
+  replied put is = record {
+    tells = tells_text (λ said. (said ≡ Ok new.reply.items)
+        × IsReplied IsLawfulAnswer old.store line new.reply.items new.store) before after told new.reply.items put
+        (refl, is);
+    stays = λ three. elim (cases_lt (length before) (length new.reply.items)) [
+      | inl small ↦ absurd (omega (arith, three, (put.room small).0))
+      | inr fits ↦ absurd (omega (arith, three, (put.fits fits).0))
+    ];
+  }
+
+  -- memory ran out, and all is as it was
+  pub unreplied : (told.status ≡ 3) × (told.length ≡ 0) × (after ≡ before) → new ≡ old
+      → Replies line old new before after told
+  unreplied is same = record {
+    tells = tells_memory (λ said. (said ≡ Ok new.reply.items)
+        × IsReplied IsLawfulAnswer old.store line new.reply.items new.store) before after told is;
+    stays = λ _. same;
+  }
