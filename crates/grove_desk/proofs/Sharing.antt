@@ -1,5 +1,6 @@
 -- Threads may share a desk.
 use denote.RattleType.{RattleType}
+use denote.Builtin.{u64}
 use denote.Struct.Declared.{shape}
 use denote.Param.Send.{IsSend, IsSync, AllSend, AllSync, sendable, struct_send, struct_sync, recorded_send, recorded_sync, view_send, view_sync}
 use Rattle.std.proofs.Crossing.{crosses, Vec-send}
@@ -63,13 +64,22 @@ Slot-send = search (sendable, crosses) depth 60 fits 4000
 Slots-send : IsSend (Vec.the_row Slot.the_row Heap.the_row ghosts)
 Slots-send = Vec-send Slot.the_row Slot-send
 
+Numbers-send : IsSend (Vec.the_row u64 Heap.the_row ghosts)
+Numbers-send = Vec-send u64 (search (sendable, crosses))
+
 -- and what lies behind the lock
 BoardInside-send : (B : RattleType) (picked : opening.Ghosts B.Denot) → IsSend B → IsSync B → IsSend (BoardInside.the_row B picked)
 BoardInside-send B picked send sync =
     let ledger = Ledger-send B picked send sync in
     let each : AllSend (shape (BoardInside.the_type B picked)).fields = (
       search (sendable, crosses, ledger) depth 60 fits 4000,
-      (Slots-send, (search (sendable, crosses), (search (sendable, crosses), (search (sendable, crosses), tt)))),
+      (
+        Slots-send,
+        (
+          search (sendable, crosses),
+          (search (sendable, crosses), (search (sendable, crosses), (search (sendable, crosses), (Numbers-send, tt)))),
+        ),
+      ),
     ) in
     recorded_send _ _ _ (BoardInside.the_type B picked).to_one (struct_send (shape (BoardInside.the_type B picked)) each)
 

@@ -1,10 +1,13 @@
 -- A desk and a visit to it, as their callers see them.
-use Rattle.std.specs.Prelude.{◌≡◌, ℕ, ◌≤◌, Bool, true, false, List, Option, Some, None}
+use Rattle.std.specs.Prelude.{◌≡◌, ℕ, ◌<◌, ◌≤◌, Bool, true, false, List, Option, Some, None}
 use Rattle.grove_store.specs.StoreStates.{StoreState}
 use Rattle.grove_store.specs.Refusals.{TellsRefusal}
 use Rattle.grove_desk.specs.declared.told.Told.{Told}
 use Rattle.grove_desk.specs.declared.told.Told.TheVariants.{Nothing, Accepted, Refused}
+use Rattle.grove_desk.specs.declared.awaited.Awaited.{Awaited}
+use Rattle.grove_desk.specs.declared.awaited.Awaited.TheVariants.{Later, Unchanged}
 use Rattle.grove_desk.specs.Receipts.{Names, ReceiptState, Allows}
+use Rattle.grove_desk.specs.Histories.{Led}
 
 -- the store that a desk was opened with, and whether it keeps a journal
 pub record DeskState : Type 0 where
@@ -16,6 +19,12 @@ pub record VisitState : Type 0 where
   pub names : Names
   pub rounds : ℕ
   pub told : Told
+
+-- lawful rounds lead to the store from the opening one, and it has run more of them than the number that was waited at,
+-- or else no more
+abbrev pub TellsLater : StoreState → ℕ → Awaited → Type 0
+TellsLater opening after (Later store) = Led opening store × (after < store.rounds)
+TellsLater opening after (Unchanged store) = Led opening store × (store.rounds ≤ after)
 
 -- the count of rounds of a last receipt, 0 before the first
 abbrev pub rounds_seen : Option ReceiptState → ℕ

@@ -7,6 +7,10 @@ use std::sync::Condvar;
 /// How many bells there are for lines. Two callers share one only where a ticket is collected that late.
 const LINE_BELLS: usize = 2 * MOST_LINES;
 
+/// How many bells there are for those who wait for a round. Two wait at one bell only if their numbers leave the same
+/// rest.
+const ROUND_BELLS: usize = 16;
+
 /// Where the callers of a desk wait, so that each is woken only for what it waits for.
 #[derive(Drop)]
 pub(crate) struct Bells {
@@ -16,6 +20,8 @@ pub(crate) struct Bells {
     pub room: Condvar,
     /// For those who want a copy of the store.
     pub looks: Condvar,
+    /// For those who wait for a round later than a number, by that number.
+    rounds: [Condvar; ROUND_BELLS],
 }
 
 /// Which bells are to ring.
@@ -23,6 +29,7 @@ pub(crate) struct Bells {
 pub(crate) struct Rings {
     lines: [bool; LINE_BELLS],
     looks: bool,
+    rounds: [bool; ROUND_BELLS],
 }
 
 impl Bells {
@@ -31,12 +38,18 @@ impl Bells {
             lines: array::from_fn(|_| Condvar::new()),
             room: Condvar::new(),
             looks: Condvar::new(),
+            rounds: array::from_fn(|_| Condvar::new()),
         }
     }
 
     /// Where the caller of this ticket waits.
     pub(crate) fn of(&self, ticket: u64) -> &Condvar {
         &self.lines[place_of(ticket)]
+    }
+
+    /// Where a caller waits for a round later than this one.
+    pub(crate) fn of_round(&self, after: u64) -> &Condvar {
+        &self.rounds[round_place_of(after)]
     }
 
     pub(crate) fn ring(&self, rings: &Rings) {
@@ -47,6 +60,15 @@ impl Bells {
         }
         if rings.looks {
             self.looks.notify_all();
+        }
+        self.ring_rounds(rings);
+    }
+
+    fn ring_rounds(&self, rings: &Rings) {
+        for place in 0..ROUND_BELLS {
+            if rings.rounds[place] {
+                self.rounds[place].notify_all();
+            }
         }
     }
 
@@ -64,6 +86,7 @@ impl Rings {
         Rings {
             lines: [false; LINE_BELLS],
             looks,
+            rounds: [false; ROUND_BELLS],
         }
     }
 
@@ -71,10 +94,21 @@ impl Rings {
     pub(crate) fn add(&mut self, ticket: u64) {
         self.lines[place_of(ticket)] = true;
     }
+
+    /// And the bell of those who wait for a round later than this one.
+    pub(crate) fn add_round(&mut self, after: u64) {
+        self.rounds[round_place_of(after)] = true;
+    }
 }
 
 fn place_of(ticket: u64) -> usize
     ensures { result < 32 }
 {
     (ticket % LINE_BELLS as u64) as usize
+}
+
+fn round_place_of(after: u64) -> usize
+    ensures { result < 16 }
+{
+    (after % ROUND_BELLS as u64) as usize
 }

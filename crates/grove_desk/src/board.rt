@@ -31,6 +31,10 @@ pub(crate) struct Board<B: Opening> {
     copies: u64,
     /// How many callers wait for room for their lines.
     outside: u64,
+    /// The store's count of rounds when it was last here.
+    rounds: u64,
+    /// For each caller who waits for a later round: which one it has to be later than.
+    awaited: Vec<u64>,
 }
 
 impl<B: Opening> Model for Board<B> {
@@ -50,11 +54,13 @@ impl<B: Opening> Board<B> {
         ensures { result ≡ [] }
     {
         Board {
+            rounds: ledger.rounds(),
             ledger: Some(ledger),
             slots: Vec::new(alloc),
             tickets: 0,
             copies: 0,
             outside: 0,
+            awaited: Vec::new(alloc),
         }
     }
 
@@ -100,8 +106,25 @@ impl<B: Opening> Board<B> {
             .min(MOST_LINES.saturating_sub(self.waiting()) as u64)
     }
 
-    /// Whom to wake: the callers whose lines are answered and, where the store is here, all who want a copy of it; or
-    /// else the caller of the first line that waits, who is to lead.
+    /// Is a round later than this one done?
+    pub(crate) fn is_past(&self, after: u64) -> bool {
+        self.rounds > after
+    }
+
+    /// A caller waits for a round later than this one.
+    pub(crate) fn await_round(&mut self, after: u64) -> Result<(), NoMemory> {
+        Ok(self.awaited.push(after)?)
+    }
+
+    /// It waits no more.
+    pub(crate) fn leave_round(&mut self, after: u64) {
+        if let Some(place) = self.awaited.iter().position(|awaited| *awaited == after) {
+            self.awaited.swap_remove(place);
+        }
+    }
+
+    /// Whom to wake: the callers whose lines are answered, those who waited for a round that is done and, where the
+    /// store is here, all who want a copy of it; or else the caller of the first line that waits, who is to lead.
     pub(crate) fn rings(&self) -> Rings {
         let is_here = self.ledger.is_some();
         let mut rings = Rings::new(is_here && self.copies > 0);
@@ -112,7 +135,17 @@ impl<B: Opening> Board<B> {
             }
             is_led |= slot.is_waiting();
         }
+        self.add_rounds(&mut rings);
         rings
+    }
+
+    /// And those who waited for a round that is done.
+    fn add_rounds(&self, rings: &mut Rings) {
+        for after in &self.awaited {
+            if self.is_past(*after) {
+                rings.add_round(*after);
+            }
+        }
     }
 
     /// Keeps the store here, once it is back, until it was copied.
@@ -185,6 +218,7 @@ impl<B: Opening> Board<B> {
             let state = state_after(&mut answered, taken.len(), asked.line);
             restore(&mut self.slots, asked.ticket, state);
         }
+        self.rounds = ledger.rounds();
         self.ledger = Some(ledger);
     }
 }

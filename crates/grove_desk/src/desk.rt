@@ -11,7 +11,7 @@ use crate::board::{Board, MOST_LINES};
 use crate::ledger::Ledger;
 use crate::line::Line;
 use crate::slot::Asked;
-use crate::{DeskFault, Opening, Receipt};
+use crate::{DeskFault, Opening, Receipt, RoundWatch, Unwatched};
 pub use closing::Closed;
 use grove_session::LINE_LIMIT;
 use grove_store::Store;
@@ -22,6 +22,7 @@ use std::sync::{Mutex, Wait};
 use std::thread::Threads;
 
 mod closing;
+mod waiting;
 
 /// A line with more bytes than this is put once no other such line is being answered.
 const LARGE_LINE: usize = 64 * 1024;
@@ -87,6 +88,28 @@ impl<B: Opening> Desk<B> {
             → (receipt : ReceiptState) × IsDeskReceipt self.now.opening self.now.kept receipt
             × IsForeignReceipt self.now.kept line.now (option_copied seen.entry) receipt }
     {
+        self.answer_watched(rt, alloc, seen, line, gate, &Unwatched)
+    }
+
+    /// The same, and of the rounds that this caller runs is learned.
+    pub(crate) fn answer_watched<R: Threads + Wait + Sync, G: Gate + Sync, W: RoundWatch<R>>(
+        &self,
+        rt: &R,
+        alloc: Global,
+        seen: Option<&Receipt>,
+        line: &[u8],
+        gate: &G,
+        watch: &W,
+    ) -> Result<Receipt, DeskFault>
+        requires { length line.now ≤ LINE_LIMIT }
+        ensures line { IfOk result (λ receipt. receipt.line ≡ line.now) }
+        ensures allowed { IfOk result (IsAllowed (unweighed self.now.opening.rows)) }
+        ensures follows { IfOk result (ComesAfter self.now.kept (option_copied seen.entry)) }
+        ensures unnumbered { IfOk result (λ receipt. self.now.kept ≡ false → receipt.number ≡ 0) }
+        ensures foreign { result ≡ Err DeskFault.Foreign
+            → (receipt : ReceiptState) × IsDeskReceipt self.now.opening self.now.kept receipt
+            × IsForeignReceipt self.now.kept line.now (option_copied seen.entry) receipt }
+    {
         let _turn = if line.len() > LARGE_LINE {
             Some(self.large.lock(rt))
         } else {
@@ -95,7 +118,7 @@ impl<B: Opening> Desk<B> {
         let mut taken = Vec::with_capacity(alloc, MOST_LINES)?;
         let copy = Line::new(alloc, line)?;
         let ticket = self.put(rt, copy)?;
-        let receipt = self.attend(rt, alloc, ticket, &mut taken, gate)?;
+        let receipt = self.attend(rt, alloc, ticket, &mut taken, gate, watch)?;
         if receipt.is_of(line) && receipt.follows(seen, self.kept) {
             Ok(receipt)
         } else {
@@ -147,13 +170,14 @@ impl<B: Opening> Desk<B> {
 
     /// Waits for what the line of this ticket was answered; whenever it finds the store there, answers the first lines
     /// that wait itself, outside the lock, and puts back the store and what they were answered.
-    fn attend<R: Threads + Wait + Sync, G: Gate + Sync>(
+    fn attend<R: Threads + Wait + Sync, G: Gate + Sync, W: RoundWatch<R>>(
         &self,
         rt: &R,
         alloc: Global,
         ticket: u64,
         taken: &mut Vec<Asked>,
         gate: &G,
+        watch: &W,
     ) -> Result<Receipt, NoMemory>
         requires { (taken.old.items ≡ []) × (vec_capacity taken.old ≡ 16) }
         ensures { IfOk result (IsDeskReceipt B.store B.kept) }
@@ -168,7 +192,11 @@ impl<B: Opening> Desk<B> {
                     let room = board.room();
                     drop(board);
                     self.bells.let_in(room);
+                    let began = watch.begin(rt);
                     let answered = ledger.answer(rt, alloc, taken, gate);
+                    if let Ok(receipts) = &answered {
+                        watch.end(rt, began, receipts);
+                    }
                     self.put_back(rt, ledger, taken, answered);
                 }
                 None => {

@@ -60,6 +60,11 @@ impl<B: Opening> Ledger<B> {
         (store, journal)
     }
 
+    /// How many rounds the store has run.
+    pub(crate) fn rounds(&self) -> u64 {
+        self.store.rounds()
+    }
+
     /// A copy of the store.
     pub(crate) fn store_copy(&self, alloc: Global) -> Result<Store, NoMemory>
         ensures { IfOk result (Led B.store) }

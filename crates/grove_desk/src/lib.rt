@@ -2,6 +2,7 @@
 //! has a receipt.
 #![tactic(auto)]
 
+pub use awaited::Awaited;
 pub use desk::{Closed, Desk};
 pub use fault::DeskFault;
 pub use journal::JournalEntry;
@@ -9,8 +10,10 @@ pub use opening::Opening;
 pub use receipt::Receipt;
 pub use told::Told;
 pub use visit::{Visit, desk_session};
+pub use watch::{RoundWatch, Unwatched};
 
 mod answering;
+mod awaited;
 mod bells;
 mod board;
 mod desk;
@@ -24,3 +27,4 @@ mod slot;
 mod standing;
 mod told;
 mod visit;
+mod watch;

@@ -6,7 +6,7 @@ ghost use Rattle.grove_tree.specs.Weights.{unweighed};
 ghost use Rattle.grove_desk.specs.Desks.{VisitState, IsShared};
 
 use crate::fault::answer_fault;
-use crate::{Desk, Opening, Receipt, Told};
+use crate::{Desk, Opening, Receipt, RoundWatch, Told, Unwatched};
 use grove_session::{AnswerFault, Answers, SessionFault, Sink, Source, session};
 use grove_tree::OpenGate;
 use std::alloc::AllocGlobal;
@@ -16,14 +16,16 @@ use std::thread::Threads;
 
 /// A visitor of a desk, whose lines are answered there one after the other.
 #[derive(Drop)]
-pub struct Visit<'a, B: Opening> {
+pub struct Visit<'a, B: Opening, W = Unwatched> {
     desk: &'a Desk<B>,
+    /// What learns of the rounds that the visitor runs.
+    watch: &'a W,
     /// What the last line was answered.
     seen: Option<Receipt>,
     told: Told,
 }
 
-impl<'a, B: Opening> Model for Visit<'a, B> {
+impl<'a, B: Opening, W> Model for Visit<'a, B, W> {
     ghost use Rattle.grove_tree.specs.Weights.{unweighed};
     ghost use Rattle.grove_desk.specs.Desks.{VisitState, rounds_seen};
 
@@ -41,8 +43,18 @@ impl<'a, B: Opening> Visit<'a, B> {
     pub fn new(desk: &'a Desk<B>) -> Self
         ensures { result ≡ record { names = unweighed desk.entry.now.opening.rows; rounds = 0; told = Told.Nothing } }
     {
+        Visit::watched(desk, &Unwatched)
+    }
+}
+
+impl<'a, B: Opening, W> Visit<'a, B, W> {
+    /// A visitor who has seen nothing yet, and of whose rounds is learned.
+    pub fn watched(desk: &'a Desk<B>, watch: &'a W) -> Self
+        ensures { result ≡ record { names = unweighed desk.entry.now.opening.rows; rounds = 0; told = Told.Nothing } }
+    {
         Visit {
             desk,
+            watch,
             seen: None,
             told: Told::Nothing,
         }
@@ -56,7 +68,8 @@ impl<'a, B: Opening> Visit<'a, B> {
     }
 }
 
-impl<'a, B: Opening, R: Threads + Wait + Sync + AllocGlobal> Answers<R> for Visit<'a, B> {
+impl<'a, B: Opening, R: Threads + Wait + Sync + AllocGlobal, W: RoundWatch<R>> Answers<R>
+    for Visit<'a, B, W> {
     ghost use Rattle.std.specs.Prelude.{true};
     ghost use Rattle.std.specs.Thread.{IsSync};
     ghost use Rattle.grove_desk.specs.Desks.{IsShared};
@@ -71,7 +84,7 @@ impl<'a, B: Opening, R: Threads + Wait + Sync + AllocGlobal> Answers<R> for Visi
         let alloc = rt.alloc();
         match self
             .desk
-            .answer(rt, alloc, self.seen.as_ref(), line, &OpenGate)
+            .answer_watched(rt, alloc, self.seen.as_ref(), line, &OpenGate, self.watch)
         {
             Ok(
                 Receipt {

@@ -1,0 +1,51 @@
+ghost use Rattle.std.specs.Prelude.{IfOk};
+ghost use Rattle.grove_desk.specs.Desks.{TellsLater};
+
+use crate::{Awaited, Desk, Opening};
+use grove_tree::NoMemory;
+use std::alloc::Global;
+use std::sync::Wait;
+use std::time::{Clock, Duration};
+
+impl<B: Opening> Desk<B> {
+    /// A copy of the store once a round later than this one is done, or as it stands if none is done for so long. It
+    /// takes no line's turn meanwhile, and is woken only for such a round. As `snapshot` it may wait for a round that
+    /// runs.
+    pub fn snapshot_after<R: Wait + Clock>(
+        &self,
+        rt: &R,
+        alloc: Global,
+        after: u64,
+        longest: Duration,
+    ) -> Result<Awaited, NoMemory>
+        ensures { IfOk result (TellsLater self.now.opening after) }
+    {
+        self.await_round(rt, after, longest)?;
+        let store = self.snapshot(rt, alloc)?;
+        if store.rounds() > after {
+            Ok(Awaited::Later(store))
+        } else {
+            Ok(Awaited::Unchanged(store))
+        }
+    }
+
+    /// Waits until a round later than this one is done, but no longer than this.
+    fn await_round<R: Wait + Clock>(
+        &self,
+        rt: &R,
+        after: u64,
+        longest: Duration,
+    ) -> Result<(), NoMemory> {
+        let mut board = self.board.lock(rt);
+        board.await_round(after)?;
+        let bell = self.bells.of_round(after);
+        let (mut board, _) = bell.wait_timeout_while(
+            rt,
+            board,
+            longest,
+            |board| !board.is_past(after),
+        );
+        board.leave_round(after);
+        Ok(())
+    }
+}
