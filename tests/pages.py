@@ -4,8 +4,12 @@ import json
 import re
 from ipaddress import ip_address
 from pathlib import Path
+from urllib.parse import parse_qsl
 
-from store import compact
+from exposition import KIND as METRICS
+from exposition import families_in
+from hints import HINT, split_reply
+from store import MOST_LINE, compact
 from web import HOST, HTML, JSON, values_of
 
 PAGE = Path(__file__).resolve().parents[1] / "crates/grove_page/page/page.html"
@@ -14,7 +18,7 @@ MOST_BODY, MOST_LINES = 4_194_304, 16_384
 MOST_KEPT = 65_536
 # The methods of each path, as `allow` lists them.
 LOOKS = {b"GET", b"HEAD"}
-ALLOWED = {"/": {*LOOKS, b"POST"}, "/document": LOOKS, "/nodes": LOOKS, "/health": LOOKS}
+ALLOWED = {"/": {*LOOKS, b"POST"}, "/document": LOOKS, "/nodes": LOOKS, "/health": LOOKS, "/metrics": LOOKS}
 HEALTHY = b'{"status":"ok"}\n'
 # What each response of the server says against being framed, or taken for another type.
 GUARDS = {b"x-content-type-options": b"nosniff", b"x-frame-options": b"DENY"}
@@ -26,11 +30,32 @@ def lines_in(body):
     return lines if lines[-1] else lines[:-1]
 
 
-def nodes_text(store, waits=None):
-    """What `GET /nodes` has to answer."""
+def nodes_text(store, waits=None, below="/"):
+    """What `GET /nodes` has to answer, of the nodes at and below a path."""
     names = ("path", "record", "waits", "weight")
     each = zip(store.tree.paths, store.records, waits or [0] * len(store.records), store.tree.weights)
-    return compact({"nodes": [dict(zip(names, node)) for node in each]}) + b"\n"
+    told = [dict(zip(names, node)) for node in each if is_below(node[0], below)]
+    return compact({"nodes": told, "round": store.rounds}) + b"\n"
+
+
+def is_below(path, top):
+    return path == top or path.startswith(top.rstrip("/") + "/")
+
+
+def uncounted(text):
+    """The same without the count of rounds."""
+    return re.sub(rb',"round":[0-9]+}\n\Z', b"}\n", text)
+
+
+def asked_in(query):
+    """After which round and below which path a query asks for nodes, or `None` for one that asks nothing."""
+    pairs = parse_qsl(query, keep_blank_values=True, encoding="utf-8", errors="replace")
+    after, below = ([value for name, value in pairs if name == wanted] for wanted in ("after", "below"))
+    if len(after) > 1 or len(below) > 1:
+        return None
+    if after and not (re.fullmatch("[0-9]+", after[0]) and int(after[0]) < 2**64):
+        return None
+    return (int(after[0]) if after else None), (below[0] if below else "/")
 
 
 def document_text(store):
@@ -67,7 +92,8 @@ def is_known(host):
 def fault_of_response(store, row, response):
     """What is wrong with the response to a request of this method, path and body, and these fields; `None` if it is
     right. The store is then what that leaves."""
-    method, path, body, *fields = row
+    method, target, body, *fields = row
+    path, _, query = target.partition("?")
     if response is None:
         return "there is no response"
     hosts = values_of(fields, "host")
@@ -82,8 +108,28 @@ def fault_of_response(store, row, response):
     if method == "POST" and not is_from_here(fields):
         return fault_of_plain(response, 403, {b'{"error":"origin"}\n'})
     if method == "POST":
-        return fault_of_replies(store, body, response)
+        return fault_of_replies(store, body, response, query == "hints")
+    if path == "/nodes":
+        return fault_of_nodes(store, query, response, method)
+    if path == "/metrics":
+        return fault_of_metrics(response, method)
     return fault_of_look(response, text_at(store, path), HTML if path == "/" else JSON, method)
+
+
+def fault_of_metrics(response, method):
+    """What is counted depends on what was asked before: its form is looked at here."""
+    fault = fault_of_plain(response, 200, {response.body}, METRICS)
+    if fault or method == "HEAD":
+        return fault or (f"a body: {response}" if response.body else None)
+    return None if families_in(response.body.decode()) else "there is nothing"
+
+
+def fault_of_nodes(store, query, response, method):
+    asked = asked_in(query)
+    if asked and asked[1] in store.tree.paths:
+        return fault_of_look(response, nodes_text(store, below=asked[1]), JSON, method)
+    wanted = b'{"error":"no-path"}\n' if asked else b'{"error":"query"}\n'
+    return fault_of_plain(response, 400, {b"" if method == "HEAD" else wanted})
 
 
 def text_at(store, path):
@@ -112,7 +158,8 @@ def fault_of_plain(response, status, bodies, kind=JSON):
     return None if told == kind or not response.body else f"wanted {kind!r}; came {told!r}"
 
 
-def fault_of_replies(store, body, response):
+def fault_of_replies(store, body, response, has_hints=False):
+    """What is wrong with the replies to the lines of a body, in whose refusals hints are asked for or not."""
     if len(body) > MOST_BODY:
         return None if response.status == 413 else f"wanted 413; came {response}"
     told = response.fields.get(b"connection")
@@ -124,8 +171,10 @@ def fault_of_replies(store, body, response):
     if len(replies) != len(lines) + 1 or replies[-1]:
         return f"{len(lines)} lines have the replies {response}"
     for number, (line, reply) in enumerate(zip(lines, replies)):
-        fault = store.fault_of(line, reply)
-        if fault:
-            return f"line {number}: {fault}"
-    is_refused = len(lines) == 1 and json.loads(replies[0]).keys() == {"error"}
+        plain, hint = split_reply(reply) if has_hints else (reply, b"")
+        is_hinted = bool(HINT.fullmatch(hint))
+        fault = store.fault_of(line, plain)
+        if fault or is_hinted != (has_hints and plain.startswith(b'{"error":') and len(line) <= MOST_LINE):
+            return f"line {number}: {fault or f'a hint is missing, or too many: {reply[:200]!r}'}"
+    is_refused = len(lines) == 1 and "error" in json.loads(replies[0])
     return fault_of_plain(response, 400 if is_refused else 200, {response.body})

@@ -12,7 +12,7 @@ import threading
 from functools import partial
 
 from server import HOST, Serving, free_port
-from store import Store
+from store import Store, compact
 
 from sweeps.connections import ADD, REPLIES, TEXT, TREE, WEIGHTS
 from sweeps.program import DEVICE, Ran, Tally, Try, because, run
@@ -21,6 +21,8 @@ from sweeps.talks import lines_of, look, note_replies
 TRIED = "runs of the client, and lines that they asked"
 BAD = b'{"batch":3}\n'
 OK, REFUSED = 0, 1
+# So many hints of one run are printed.
+MOST_HINTS = 100
 SECONDS = 60.0
 
 
@@ -29,6 +31,7 @@ def tries(program: str, room: str) -> list[Try]:
         Try("ten lines", partial(ten_lines, program)),
         Try("lines as words", partial(as_words, program)),
         Try("statuses", partial(statuses, program)),
+        Try("hints", partial(hints, program)),
         Try("many lines", partial(many, program)),
         Try("no server", partial(nobody, program)),
         Try("servers that are lost", partial(lost, program)),
@@ -72,6 +75,33 @@ def statuses(program: str, tally: Tally) -> None:
             note_replies(store, text, ran.out, f"{text!r}", tally)
             status = REFUSED if has_error(ran.out) else OK
             tally.note(f"status of {text!r}", None if (ran.status, ran.err) == (status, b"") else f"{ran}")
+
+
+def hints(program: str, tally: Tally) -> None:
+    """Of a server with `--hints`: standard error gets the hint of each refused line, with the line's number if several
+    are asked, and standard output the replies as they came. Without it standard error gets nothing."""
+    found = "batch is 3, but has to be an array of lists"
+    refusal, reply = compact({"error": "shape", "hint": found}), b'{"places":[],"replies":[],"round":1}'
+    lines = [BAD.decode().rstrip(), '{"batch":[]}', BAD.decode().rstrip()]
+    told = b"".join(b"hint: line %d: %s\n" % (number, found.encode()) for number in (1, 3))
+    with Serving(program, TREE, further=("--hints",)) as server:
+        ran = ask(program, server.port, lines[0])
+        tally.compare("a line", ran, Ran(REFUSED, refusal + b"\n", b""))
+        tally.note("its hint", None if ran.hint == b"hint: %s\n" % found.encode() else f"came {ran.hint!r}")
+        ran = ask(program, server.port, *lines)
+        wanted = b"".join(text + b"\n" for text in (refusal, reply, refusal))
+        tally.compare("three lines", ran, Ran(REFUSED, wanted, told))
+        ran = ask(program, server.port, text=200 * BAD)
+        told = b"".join(b"hint: line %d: %s\n" % (number + 1, found.encode()) for number in range(MOST_HINTS))
+        tally.compare("many hints", ran, Ran(REFUSED, 200 * (refusal + b"\n"), told))
+    with Serving(program, TREE) as server:
+        ran = ask(program, server.port, lines[0])
+        tally.compare("without hints", ran, Ran(REFUSED, b'{"error":"shape"}\n', b""))
+        tally.note("no hint", None if ran.hint == b"" else f"came {ran.hint!r}")
+    with Canned(b'{"error":"a\\u001b[31m","hint":"b\\u001b[31m\\u000ac"}\n') as canned:
+        ran = ask(program, canned.port, lines[0])
+        is_plain = ran.hint.startswith(b"hint: b") and b"\x1b" not in ran.hint
+        tally.note("a hint that a terminal would act upon", None if is_plain else f"came {ran!r} {ran.hint!r}")
 
 
 def many(program: str, tally: Tally) -> None:

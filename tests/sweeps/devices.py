@@ -227,7 +227,7 @@ def endless(program: str, tally: Tally) -> None:
 def terminal(program: str, tally: Tally) -> None:
     """At a terminal it is said what is awaited there, unless the document has a name."""
     for asked in (it for it in examples() if it.status == 0 and len(it.text) < TERMINAL_HOLDS):
-        awaited = b'hint: "%s" awaits a JSON document with ' % asked.words[0].encode()
+        awaited = b'hint: "%s" reads a JSON document with ' % asked.words[0].encode()
         ran = typed(program, asked.words, asked.text)
         is_well = ran == Ran(0, asked.output, b"") and ran.hint.startswith(awaited)
         tally.note(asked.name, None if is_well else f"wanted {asked.output!r} and a line {awaited!r}..; came {ran}")

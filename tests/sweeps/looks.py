@@ -17,7 +17,7 @@ from random import Random
 from typing import NamedTuple
 
 from batches import MOST_LISTS, deep
-from pages import text_at
+from pages import text_at, uncounted
 from server import BadServer, Serving
 from store import Store, compact
 from web import Client, Response, post, request
@@ -116,7 +116,8 @@ def look_once(store: Store, clients: list[Client], line: bytes, lasts: float, wh
     tally.note(f"{where}, the line", None if came == wanted else f"wanted {wanted}; came {response}")
     for client, path, earlier in zip(look, asked, before):
         response = client.next()
-        is_well = response and response.status == 200 and response.body in (earlier, text_at(store, path))
+        texts = [uncounted(text) for text in (earlier, text_at(store, path))]
+        is_well = response and response.status == 200 and uncounted(response.body) in texts
         tally.note(f"{where}, {path}", None if is_well else f"came {response}")
     response = runs.next()
     tally.note(f"{where}, the round", None if response and response.status == 200 else f"came {response}")
@@ -194,7 +195,7 @@ def look_beside_held(
     tally.note(f"{where}, the round", None if response and response.status == 200 else f"came {response}")
     for client, path in zip(looking, asked):
         response, wanted = client.next(), text_at(store, path)
-        is_well = response and response.body == wanted
+        is_well = response and uncounted(response.body) == uncounted(wanted)
         tally.note(f"{where}, {path}", None if is_well else f"wanted {short(wanted)}; came {response}")
     added = sorted(reply_in(client.next()) for client in waiting)
     wanted_replies = [store.reply(["add", "/n0", 1]) for _ in waiting]

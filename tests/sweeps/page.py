@@ -5,6 +5,7 @@ from __future__ import annotations
 
 import json
 import re
+import signal
 import socket
 import struct
 import time
@@ -12,6 +13,7 @@ from concurrent.futures import ThreadPoolExecutor
 from contextlib import ExitStack
 from functools import partial
 from random import Random
+from urllib.parse import quote
 
 from history import fault_of_history
 from hostile import hostile
@@ -45,6 +47,8 @@ MOST_REPLIES, SOME_NODES = 16_777_216, 401
 LONG = 30.0
 # How long sixteen clients ask; each goes on until it has had a batch and a look.
 SECONDS = 3.0
+# For how long a round is waited for, how many are waited for in turn, and how many clients hang up each time.
+LONGEST_WAIT, ROUNDS, HANGING = 30.0, 4, 3
 STATUSES = {100, 200, 400, 403, 404, 405, 413, 414, 421, 431, 501}
 PORT = 0
 REFUSED = b'{"batch":[[["get","/c"]]]}'
@@ -74,12 +78,26 @@ ELSEWHERE = ["elsewhere.example", "localhost.", "localhost.example", "a.localhos
 ELSEWHERE += ["1.2.3.256"]
 ELSEWHERE += ["01.2.3.4", "0x7f.0.0.1", "2130706433", "127.0.0.1.", "local", "localhost_", ""]
 HOSTS = [(f"host: {name}",) for name in HERE + ELSEWHERE]
+# Queries of nodes that nothing is waited for: read, ignored, refused, and with a path at which there is no node.
+QUERIES = ["", "x=1&x=2", "after=0", "below=/", "below=/a", "below=%2Fb&x", "after=0&below=/a", "below=/a&after=0"]
+QUERIES += ["&&after=0&", "after=%30", "af%74er=0&b%65low=/b", "after=000", "AFTER=x", "=0&after=0"]
+QUERIES += ["after=", "after", "after=-1", "after=%2B0", "after=+0", "after=0x0", "after=0.0", "after=%D9%A0", "after=0="]
+QUERIES += ["after=18446744073709551616", "after=99999999999999999999999", "after=0&after=0", "after=0&x=1&after=1"]
+QUERIES += ["below=/a&below=/a", "below=/a&below=/c", "after=x&below=/c", "after=0&below=/c&below=/c"]
+QUERIES += ["below=", "below", "below=a", "below=/a/", "below=//", "below=/c", "below=/A", "below=%ff", "below=/%61%"]
+QUERIES += ["after=18446744073709551615&below=/c", "after=0&below=/c"]
 ROWS = [
     ("GET", "/", None),
     ("HEAD", "/", None),
     LOOK,
     ("POST", "/", TEXT),
     LOOK,
+    *[("GET", f"/nodes?{query}", None) for query in QUERIES],
+    ("HEAD", "/nodes?after=0&below=/a", None),
+    ("HEAD", "/nodes?after=x", None),
+    ("POST", "/nodes?after=0", ADD),
+    ("GET", "/document?after=x", None),
+    ("GET", "/?after=x", None),
     ("HEAD", "/nodes", None),
     ("GET", "/document", None),
     ("HEAD", "/document", None),
@@ -90,6 +108,13 @@ ROWS = [
     ("POST", "/", b"\n"),
     ("POST", "/", b"\n\n"),
     ("POST", "/", ADD + REFUSED),
+    ("POST", "/?hints", REFUSED),
+    ("POST", "/?hints", ADD + REFUSED + b"\xff\n" + b"\n" + WEIGHTS),
+    ("POST", "/?hints", ADD),
+    ("POST", "/?hints=1", REFUSED),
+    ("POST", "/?Hints", REFUSED),
+    ("GET", "/?hints", None),
+    ("POST", "/none?hints", REFUSED),
     ("POST", "/", b"\xff\n" + ADD + b"\n" + WEIGHTS),
     ("POST", "/", b'{"reweigh":null}'),
     ("GET", "/document", None),
@@ -107,6 +132,9 @@ ROWS = [
     ("GET", "/health", None),
     ("HEAD", "/health", None),
     ("POST", "/health", ADD),
+    ("GET", "/metrics", None),
+    ("HEAD", "/metrics", None),
+    ("POST", "/metrics", ADD),
     *[(*row, *fields) for row in (LOOK, ("POST", "/", ADD), ("GET", "/health", None)) for fields in HOSTS],
     ("HEAD", "/", None, "host: elsewhere.example"),
     ("POST", "/none", ADD, "host: elsewhere.example", "origin: http://elsewhere.example"),
@@ -131,6 +159,10 @@ def tries(program: str, room: str) -> list[Try]:
         Try("as many nodes as there may be", partial(many_nodes, program)),
         Try("as many replies as a response may have", partial(most_replies, program)),
         Try("what the page asks", partial(what_the_page_asks, program)),
+        Try("nodes below each", partial(below_each, program)),
+        Try("waiting for a round", partial(waiting, program)),
+        Try("waiting in vain", partial(waiting_in_vain, program)),
+        Try("a server that is stopped", partial(stopped, program)),
         Try("connections", partial(connections, program)),
         Try("sixteen at once", partial(sixteen_at_once, program, SECONDS)),
         Try("seventeen at once", partial(seventeen_at_once, program)),
@@ -314,7 +346,7 @@ def what_the_page_asks(program: str, tally: Tally) -> None:
     script = PAGE.read_text()
     lines = {name: line for line, name in re.findall(r"""[`'](\{"([a-z]+)":[^`']*)[`']""", script)}
     tally.note("the lines", None if lines.keys() == {"plan", "batch", "reweigh", "check"} else f"they are {lines}")
-    paths = re.findall(r'(?:answerOf\(|href=)"(/[a-z]*)"', script)
+    paths = re.findall(r'(?:answerOf\(|href=)"(/[a-z]*)(?:\?hints)?"', script)
     queries = set(re.findall(r"\?[a-z]+=[^`]*", script))
     tally.note("the queries", None if queries == {"?after=${rounds}"} else f"they are {queries}")
     tally.note("the paths", None if {*paths} == {"/", "/nodes", "/document"} else f"they are {paths}")
@@ -353,6 +385,79 @@ def connections(program: str, tally: Tally) -> None:
                     tally.blame(repr(text), None if client.next() is None else "the connection stays")
                 else:
                     note_rows(client, store, [("POST", "/", ADD)], repr(text), tally)
+
+
+# ---- looks that wait, and at a part
+
+
+def below_each(program: str, tally: Tally) -> None:
+    """Of a seeded tree, and of one as deep as there may be: each path as it is and encoded, and others that are near."""
+    deepest = [{"parent": number - 1 if number else None, "name": "a" if number else "", "weight": 1} for number in range(33)]
+    for document in (seeded(0), json.dumps({"nodes": deepest}).encode()):
+        store = Store(json.loads(document))
+        with serving(program, document) as server, Client(server.port) as client:
+            for path in store.tree.paths:
+                for told in (path, quote(path, safe=""), f"{path}a", f"{path}/", path[1:], path.upper()):
+                    note_rows(client, store, [("GET", f"/nodes?below={told}", None)], "below", tally)
+
+
+def waiting(program: str, tally: Tally) -> None:
+    """Clients wait for the next round, which one more client brings; some hang up meanwhile, and one waits for a round
+    that doesn't come."""
+    store, never = Store(json.loads(TREE)), 2**64 - 1
+    with serving(program, TREE, 2) as server, ExitStack() as room:
+        asks, far, *waits = (room.enter_context(Client(server.port)) for _ in range(SEATS))
+        far.send(request("GET", f"/nodes?after={never}&below=/a"))
+        for number in range(ROUNDS):
+            asked = [f"/nodes?after={store.rounds}{below}" for below in ("", "&below=/b", "&below=/") for _ in waits]
+            for client, target in zip(waits, asked):
+                client.send(request("GET", target))
+            for client in waits[:HANGING]:
+                client.close()
+            tally.blame("all that wait", None if is_silent(waits[-1].connection) else "one is answered at once")
+            started = time.monotonic()
+            note_rows(asks, store, [("POST", "/", ADD)], f"round {number}", tally)
+            for client, target in list(zip(waits, asked))[HANGING:]:
+                note_row(store, ("GET", target, None), client.next(), f"round {number}, a look that waits", tally)
+            taken = time.monotonic() - started
+            tally.note("the time", None if taken < LONG else f"they waited {taken:.1f} s")
+            for client in waits[:HANGING]:
+                client.open()
+        # What is no round ends no wait.
+        waits[-1].send(request("GET", f"/nodes?after={store.rounds}"))
+        note_rows(asks, store, [("POST", "/", b'{"reweigh":null}'), ("POST", "/", WEIGHTS), LOOK], "no round", tally)
+        for client in (waits[-1], far):
+            tally.note("no later round", None if is_silent(client.connection) else "a look is answered")
+
+
+def waiting_in_vain(program: str, tally: Tally) -> None:
+    """Looks that wait as long as one may, and then show what there is."""
+    store, clients = Store(json.loads(TREE)), 3
+    with serving(program, TREE) as server, ExitStack() as room:
+        asks, *waits = (room.enter_context(Client(server.port)) for _ in range(1 + clients))
+        asked = ["/nodes?after=0", "/nodes?after=1&below=/a", f"/nodes?after={2**64 - 1}"]
+        started = time.monotonic()
+        for client, target in zip(waits, asked):
+            client.send(request("GET", target))
+        note_rows(asks, store, [("POST", "/", b'{"reweigh":null}')], "meanwhile", tally)
+        for client, target in zip(waits, asked):
+            note_row(store, ("GET", target, None), client.next(), "in vain", tally)
+            taken = time.monotonic() - started
+            is_well = LONGEST_WAIT - 1 < taken < LONGEST_WAIT + LONG
+            tally.note("the time", None if is_well else f"it waited {taken:.1f} s")
+
+
+def stopped(program: str, tally: Tally) -> None:
+    """A look that waits doesn't keep a server from being stopped."""
+    for number in (signal.SIGTERM, signal.SIGINT):
+        with serving(program, TREE) as server, Client(server.port) as client:
+            client.send(request("GET", "/nodes?after=0"))
+            tally.note("the look", None if is_silent(client.connection) else "it is answered")
+            started = time.monotonic()
+            server.started.send_signal(number)
+            server.started.wait(LONGEST_WAIT)
+            taken = time.monotonic() - started
+            tally.note(number.name, None if taken < LONGEST_WAIT / 2 else f"it ended after {taken:.1f} s")
 
 
 # ---- a store that is kept

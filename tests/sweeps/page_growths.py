@@ -33,6 +33,8 @@ ROWS = [
     ("POST", "/", b"hello"),
     ("POST", "/", TEXT),
     ("GET", "/none", None),
+    # A round has been done, whichever allocation fails, so this waits for none.
+    ("GET", "/nodes?after=0&below=%2Fa", None),
     ("POST", "/", b'{"reweigh":null}\n' + ADD),
     ("DELETE", "/", None),
 ]

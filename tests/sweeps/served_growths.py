@@ -16,7 +16,7 @@ from sweeps.connections import REPLIES, TEXT, TREE
 from sweeps.growths import is_told, library_in, refusing
 from sweeps.program import MEMORY, Ran, Tally, Try
 from sweeps.talks import lines_of, note_replies
-from sweeps.verbose import LINES, Telling, arrival, ended, fits, refusals
+from sweeps.verbose import LINES, Telling, arrival, ended, fits, refusals, threadless_line
 
 TRIED = "growths of a server refused, each alone, and the lines asked after it"
 # No server here takes more growths for ten lines.
@@ -88,9 +88,9 @@ def session_told(server: Telling, store: Store, where: str, tally: Tally) -> str
     count = len(lines_of(came))
     note_replies(store, b"".join(LINES[:count]), came, where, tally)
     is_cut = count < len(LINES)
-    wanted = [comes, *refusals(number, came), ended(number, count, "no memory" if is_cut else "its input ended")]
+    wanted = [comes, *refusals(number, came), ended(number, count, "memory" if is_cut else "input-ended")]
     told = server.told_of(before + len(wanted), LONGEST)[before:]
-    if count == 0 and told == [comes, f"connection {number} cannot be served: no thread"]:
+    if count == 0 and told == [comes, threadless_line(number)]:
         return "thread"
     hintless = [is_hintless(want, line) for want, line in zip(wanted, told)]
     fitting = [fits(want, line) or less for want, line, less in zip(wanted, told, hintless)]

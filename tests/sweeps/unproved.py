@@ -137,7 +137,7 @@ def serve(trial: Trial, tally: Tally) -> None:
 
 
 def served(started: subprocess.Popen, port: int, tally: Tally) -> tuple[Ran, bytes]:
-    """How a server ended, with the port of its client left out, and what it replied."""
+    """How a server ended, with times and the port of its client left out, and what it replied."""
     watch = threading.Timer(COMPILES, started.terminate)
     watch.start()
     listening = started.stdout.readline()
@@ -146,7 +146,7 @@ def served(started: subprocess.Popen, port: int, tally: Tally) -> tuple[Ran, byt
     try:
         replies = talk(port, TEXT) if listening else b""
         # It tells of its client a moment later, and the script passes that on in another.
-        told = told_up_to(started, b" ended after ") if listening else b""
+        told = told_up_to(started, b" event=ended ") if listening else b""
     finally:
         started.send_signal(signal.SIGTERM)
     try:
@@ -155,7 +155,7 @@ def served(started: subprocess.Popen, port: int, tally: Tally) -> tuple[Ran, byt
         tally.blame("SIGTERM", f"not ended after {ENDS:g} s")
         started.kill()
         out, err = started.communicate()
-    client = re.compile(rb"\b%s:\d+" % HOST.encode())
+    client = re.compile(rb"time=\S+|\b%s:\d+" % HOST.encode())
     return Ran(started.returncode, listening + out, client.sub(b"CLIENT", told + err)), replies
 
 

@@ -32,7 +32,12 @@ from sweeps.talks import lines_of, note_replies
 
 TRIED = "lines on standard error, and replies beside them"
 VERBOSE = ("--verbose",)
-HINT = re.compile(r"hint: [ -~]{1,400}")
+HINT = re.compile(r'hint=(?:[A-Za-z0-9-]+|"(?:[ !#-\[\]-~]|\\["\\]){1,400}")')
+TIME = re.compile(r"[0-9]{4}-[0-9]{2}-[0-9]{2}T[0-9]{2}:[0-9]{2}:[0-9]{2}\.[0-9]{3}Z")
+WORD = re.compile(r"[A-Za-z0-9-]+")
+ROUND_TIMES = re.compile(r" round_median_seconds=[0-9]+\.[0-9]{6} round_p99_seconds=[0-9]+\.[0-9]{6}")
+# How many lines are written in a second, and how long it takes for another to begin.
+MOST_LINES, NEXT_SECOND = 100, 1.2
 SEATS = 16
 TOP = Path(__file__).parents[2]
 # Lines that are refused, each by one name.
@@ -48,12 +53,12 @@ MINUTE, LATE = 60.0, 30.0
 # How many times as fast a clock may go, and what is logged of minutes by it: the lines of each, and what they come to.
 CLOCK_TIMES = 30
 MINUTES = (
-    (ADD + SHAPE + GET, "3 lines, 1 refused, 2 rounds, 0 waits"),
-    (ADD + NO_PATH, "2 lines, 1 refused, 1 rounds, 0 waits"),
-    (GET + WEIGHTS, "2 lines, 0 refused, 1 rounds, 0 waits"),
+    (ADD + SHAPE + GET, "lines=3 refused=1 connections=0 rounds=2 waits=0"),
+    (ADD + NO_PATH, "lines=2 refused=1 connections=0 rounds=1 waits=0"),
+    (GET + WEIGHTS, "lines=2 refused=0 connections=0 rounds=1 waits=0"),
 )
 # What is told where there is no descriptor, and with how many there is none for a connection.
-WANTS_DESCRIPTOR = "no descriptor is left for the next connection"
+WANTS_DESCRIPTOR = "level=error event=no-descriptor"
 NO_MORE_DESCRIPTORS = 4
 # Ends a connection by a reset.
 RESET = struct.pack("ii", 1, 0)
@@ -62,7 +67,9 @@ RESET = struct.pack("ii", 1, 0)
 def tries(program: str, room: str) -> list[Try]:
     accepts, threads, clock = accept_library_in(room), thread_library_in(room), clock_library_in(room)
     return [
-        Try("one connection after the other", partial(in_turn, program)),
+        Try("one connection after the other", partial(in_turn, program, ())),
+        Try("the same as objects", partial(in_turn, program, ("--log", "json"))),
+        Try("too many events", partial(too_many, program)),
         Try("many connections at once", partial(at_once, program)),
         Try("a line that is too long", partial(long_line, program)),
         Try("a line that no hint looks into", partial(line_not_looked_into, program)),
@@ -107,7 +114,10 @@ class Telling(Serving):
         self.errors.close()
 
     def told(self) -> list[str]:
-        """The lines that are told by now."""
+        """The events that are told by now, each in the form of text and without its time."""
+        return [untimed(line) for line in self.lines()]
+
+    def lines(self) -> list[str]:
         return [line.decode() for line in lines_of(Path(self.errors.name).read_bytes())]
 
     def told_of(self, count: int, seconds: float = LONGEST) -> list[str]:
@@ -118,8 +128,25 @@ class Telling(Serving):
         return self.told()
 
 
+def untimed(line: str) -> str:
+    """The fields of a line behind its time, which has to be one; an object's in the form of text. A line that is no
+    event as it is."""
+    if line.startswith("{"):
+        fields = json.loads(line)
+        line = " ".join(f"{name}={shown(name, value)}" for name, value in fields.items())
+    time_of, _, rest = line.partition(" ")
+    return rest if TIME.fullmatch(time_of.removeprefix("time=")) else line
+
+
+def shown(name: str, value: str | int | float) -> str:
+    """The value of a field in the form of text."""
+    if not isinstance(value, str):
+        return f"{value:.6f}" if name.endswith("_seconds") and isinstance(value, float) else str(value)
+    return value if WORD.fullmatch(value) or name in ("time", "address") else json.dumps(value)
+
+
 def compare(wanted: list[str], told: list[str], tally: Tally) -> None:
-    """Whether these lines came, in this order. A line with `; hint` at its end has a hint there."""
+    """Whether these events came, in this order. One with `; hint` at its end has a hint there."""
     for number, (want, came) in enumerate(zip(wanted, told)):
         tally.note(f"line {number}", None if fits(want, came) else f"wanted {want!r}; came {came!r}")
     tally.note("the lines", None if len(wanted) == len(told) else f"wanted {len(wanted)}; came {short('|'.join(told).encode())}")
@@ -128,20 +155,25 @@ def compare(wanted: list[str], told: list[str], tally: Tally) -> None:
 def fits(want: str, came: str) -> bool:
     if not want.endswith("; hint"):
         return want == came
-    name, _, hint = came.partition("; ")
-    return name + "; hint" == want and HINT.fullmatch(hint) is not None
+    begins = want.removesuffix("; hint") + " "
+    return came.startswith(begins) and HINT.fullmatch(came[len(begins) :]) is not None
 
 
 def arrival(number: int, client: socket.socket) -> str:
-    return f"connection {number} from {HOST}:{client.getsockname()[1]}"
+    return f"level=info event=accepted connection={number} address={HOST}:{client.getsockname()[1]}"
 
 
 def ended(number: int, lines: int, why: str) -> str:
-    return f"connection {number} ended after {lines} {'line' if lines == 1 else 'lines'}: {why}"
+    level = {"read": "warn", "write": "warn", "read-or-write": "warn", "memory": "error"}.get(why, "info")
+    return f"level={level} event=ended connection={number} lines={lines} why={why}"
 
 
 def refusal(number: int, line: int, name: str) -> str:
-    return f"connection {number}, line {line}: {name}; hint"
+    return f"level=warn event=refused connection={number} line={line} error={name}; hint"
+
+
+def turned_away(number: int) -> str:
+    return f"level=warn event=turned-away connection={number}"
 
 
 def refusals(number: int, replies: bytes, before: int = 0) -> list[str]:
@@ -161,20 +193,55 @@ def ask(client: socket.socket, text: bytes) -> bytes:
 # ---- sessions
 
 
-def in_turn(program: str, tally: Tally) -> None:
+def in_turn(program: str, further: tuple[str, ...], tally: Tally) -> None:
     """Connections with seeded lines, the next of which comes once the end of the one before is told."""
     random, store, wanted = Random("verbose"), Store(json.loads(TREE)), []
-    with Telling(program) as server:
+    with Telling(program, further) as server:
         for number in range(1, 41):
+            if number % 12 == 0:
+                time.sleep(NEXT_SECOND)
             text = b"".join(random.choice(LINES) for _ in range(random.randrange(6)))
             text = text if random.randrange(4) else text + ADD[:-1]
             with connected(server.port) as client:
                 came = ask(client, text)
                 wanted.append(arrival(number, client))
             note_replies(store, text, came, f"connection {number}", tally)
-            wanted += [*refusals(number, came), ended(number, len(lines_of(text)), "its input ended")]
+            wanted += [*refusals(number, came), ended(number, len(lines_of(text)), "input-ended")]
             server.told_of(len(wanted))
         compare(wanted, server.told_of(len(wanted)), tally)
+        is_formed = [line.startswith("{") == bool(further) for line in server.lines()]
+        tally.note("the form", None if all(is_formed) else "lines of both forms came")
+
+
+def too_many(program: str, tally: Tally) -> None:
+    """Of a second with too many events so many are told, and then how many others there were. It is tried until a
+    machine with other work refuses so many lines in a second."""
+    until_well(partial(some_left_out, program, tally), "what is left out", tally)
+
+
+def some_left_out(program: str, tally: Tally) -> str | None:
+    """Whether nothing was left out of what a client's refused lines bring."""
+    count = 10 * MOST_LINES
+    with Telling(program) as server:
+        with connected(server.port) as client:
+            came = ask(client, SHAPE * count)
+            wanted = count + 2
+        tally.note("the replies", None if len(lines_of(came)) == count else f"{len(lines_of(came))} came")
+        ends = time.monotonic() + LONGEST
+        while events_in(server.told()) < wanted and time.monotonic() < ends:
+            time.sleep(0.1)
+        told, lines = server.told(), server.lines()
+    tally.note("the events", None if events_in(told) == wanted else f"wanted {wanted}; came {events_in(told)}")
+    seconds = [line.split(".")[0] for line in lines]
+    most = max(seconds.count(second) for second in seconds)
+    tally.note("a second", None if most <= MOST_LINES else f"it has {most} lines")
+    return None if any("event=left-out" in line for line in told) else "nothing is"
+
+
+def events_in(told: list[str]) -> int:
+    """How many events the lines tell of."""
+    left_out = [re.fullmatch(r"level=warn event=left-out events=([0-9]+)", line) for line in told]
+    return sum(int(found[1]) if found else 1 for found in left_out)
 
 
 def at_once(program: str, tally: Tally) -> None:
@@ -185,7 +252,9 @@ def at_once(program: str, tally: Tally) -> None:
         for _ in range(5):
             with ExitStack() as room:
                 clients = [room.enter_context(connected(server.port)) for _ in range(SEATS)]
-                texts = [b"".join(random.choice(LINES) for _ in range(20)) for _ in clients]
+                # (So that no second has too many events.)
+                texts = [b"".join(random.choice(LINES) for _ in range(4)) for _ in clients]
+                time.sleep(NEXT_SECOND)
                 for client, text in zip(clients, texts):
                     client.sendall(text)
                 for client, text in zip(clients, texts):
@@ -194,9 +263,10 @@ def at_once(program: str, tally: Tally) -> None:
         told = server.told()
         for port, (lines, came) in wanted.items():
             number = number_of(port, told)
-            ends = ended(number, lines, "its input ended")
-            own = [line for line in told if re.match(rf"connection {number}\b", line)]
-            compare([f"connection {number} from {HOST}:{port}", *refusals(number, came), ends], own, tally)
+            ends = ended(number, lines, "input-ended")
+            own = [line for line in told if re.search(rf" connection={number}\b", line)]
+            comes = f"level=info event=accepted connection={number} address={HOST}:{port}"
+            compare([comes, *refusals(number, came), ends], own, tally)
         numbers = sorted(number_of(port, told) for port in wanted)
         tally.note("the numbers", None if numbers == list(range(1, len(wanted) + 1)) else f"came {numbers}")
 
@@ -204,7 +274,7 @@ def at_once(program: str, tally: Tally) -> None:
 def number_of(port: int, told: list[str]) -> int:
     """The number of the connection from this port. (No two of them had the same one.)"""
     for line in told:
-        found = re.fullmatch(rf"connection ([0-9]+) from {HOST}:{port}", line)
+        found = re.fullmatch(rf"level=info event=accepted connection=([0-9]+) address={HOST}:{port}", line)
         if found:
             return int(found[1])
     raise AssertionError(f"no connection is from {port}")
@@ -215,7 +285,7 @@ def long_line(program: str, tally: Tally) -> None:
     text = ADD + b"x" * (MOST_LINE + 1) + b"\n" + SHAPE
     with Telling(program) as server, connected(server.port) as client:
         came = ask(client, text)
-        wanted = [arrival(1, client), *refusals(1, came), ended(1, 3, "its input ended")]
+        wanted = [arrival(1, client), *refusals(1, came), ended(1, 3, "input-ended")]
         tally.note("the names", None if came.count(b"long-line") == 1 else f"came {came!r}")
         compare(wanted, server.told_of(len(wanted)), tally)
 
@@ -224,10 +294,11 @@ def line_not_looked_into(program: str, tally: Tally) -> None:
     """A hint looks into a line of so many bytes, and of a line of one more it says that it doesn't."""
     frame = len(b'{"batch":[[[""]]]}')
     texts = [b'{"batch":[[["' + b"x" * (MOST_HINTED + more - frame) + b'"]]]}\n' for more in (0, 1)]
-    unread = f"connection 1, line 2: shape; hint: the line has more than the {MOST_HINTED} bytes that a hint looks into"
+    why = f"the line has more than the {MOST_HINTED} bytes that a hint looks into"
+    unread = f'level=warn event=refused connection=1 line=2 error=shape hint="{why}"'
     with Telling(program) as server, connected(server.port) as client:
         came = ask(client, b"".join(texts))
-        wanted = [arrival(1, client), refusal(1, 1, "shape"), unread, ended(1, 2, "its input ended")]
+        wanted = [arrival(1, client), refusal(1, 1, "shape"), unread, ended(1, 2, "input-ended")]
         compare(wanted, server.told_of(len(wanted)), tally)
         told = server.told()[1]
     tally.note("the replies", None if came.count(b'{"error":"shape"}') == 2 else f"came {came!r}")
@@ -240,13 +311,13 @@ def broken_off(program: str, further: tuple[str, ...], tally: Tally) -> None:
         with connected(server.port) as client, client.makefile("rb") as replies:
             client.sendall(ADD + SHAPE)
             came = replies.readline() + replies.readline()
-            wanted = [arrival(1, client), *refusals(1, came), ended(1, 2, "it could not be read")]
+            wanted = [arrival(1, client), *refusals(1, came), ended(1, 2, "read")]
             client.setsockopt(socket.SOL_SOCKET, socket.SO_LINGER, RESET)
         compare(wanted, server.told_of(len(wanted)), tally)
         with connected(server.port) as client:
             flood(client, 1.0)
         last = server.told_of(len(wanted) + 2)[-1]
-        is_well = re.fullmatch(r"connection 2 ended after [0-9]+ lines: it could not be written", last)
+        is_well = re.fullmatch(r"level=warn event=ended connection=2 lines=[0-9]+ why=write", last)
         tally.note("the flood", None if is_well else f"came {last!r}")
 
 
@@ -255,14 +326,14 @@ def idle(program: str, tally: Tally) -> None:
     with Telling(program, ("--idle", "1")) as server:
         with connected(server.port) as client:
             client.recv(1)
-            wanted = [arrival(1, client), ended(1, 0, "it idled for 1 second")]
+            wanted = [arrival(1, client), ended(1, 0, "idle idle_seconds=1")]
         compare(wanted, server.told_of(2), tally)
     # (A machine with other work may take a second to send the line.)
     with Telling(program, ("--idle", "10")) as server:
         with connected(server.port) as client, client.makefile("rb") as replies:
             client.sendall(ADD + SHAPE[:5])
             came = replies.read()
-            wanted = [arrival(1, client), ended(1, 1, "it idled for 10 seconds")]
+            wanted = [arrival(1, client), ended(1, 1, "idle idle_seconds=10")]
         tally.note("the reply", None if len(lines_of(came)) == 1 else f"came {came!r}")
         compare(wanted, server.told_of(2), tally)
 
@@ -270,7 +341,7 @@ def idle(program: str, tally: Tally) -> None:
 def endless(program: str, tally: Tally) -> None:
     """A connection that goes on sending, and never a line feed, idles too."""
     with Telling(program, ("--idle", "1")) as server, connected(server.port) as client:
-        wanted = [arrival(1, client), ended(1, 0, "it idled for 1 second")]
+        wanted = [arrival(1, client), ended(1, 0, "idle idle_seconds=1")]
         ends = time.monotonic() + LONGEST
         try:
             while time.monotonic() < ends:
@@ -292,10 +363,10 @@ def busy(program: str, tally: Tally) -> None:
         for number in (SEATS + 1, SEATS + 2):
             with connected(server.port) as late:
                 late.recv(100)
-                wanted += [arrival(number, late), f"connection {number} was told busy"]
+                wanted += [arrival(number, late), turned_away(number)]
         server.told_of(len(wanted))
         clients[0].close()
-        wanted.append(ended(1, 0, "its input ended"))
+        wanted.append(ended(1, 0, "input-ended"))
         compare(wanted, server.told_of(len(wanted)), tally)
         admitted(server, SEATS + 3, wanted)
         compare(wanted, server.told_of(len(wanted)), tally)
@@ -308,9 +379,9 @@ def admitted(server: Telling, number: int, wanted: list[str]) -> None:
         with connected(server.port) as client:
             wanted.append(arrival(number, client))
             if not is_busy(client):
-                wanted.append(ended(number, 1, "its input ended"))
+                wanted.append(ended(number, 1, "input-ended"))
                 return
-        wanted.append(f"connection {number} was told busy")
+        wanted.append(turned_away(number))
         number += 1
         time.sleep(0.05)
 
@@ -330,7 +401,7 @@ def threadless(program: str, library: str, tally: Tally) -> None:
     with Telling(program, env=surroundings) as server:
         for number in range(1, 6):
             is_refused = 2 <= number <= 4
-            why = f"connection {number} cannot be served: no thread" if is_refused else ended(number, 1, "its input ended")
+            why = threadless_line(number) if is_refused else ended(number, 1, "input-ended")
             with connected(server.port) as client:
                 came = b"" if is_refused and client.recv(1) == b"" else ask(client, ADD)
                 tally.note(f"connection {number}", None if bool(came) != is_refused else f"came {came!r}")
@@ -339,11 +410,15 @@ def threadless(program: str, library: str, tally: Tally) -> None:
         compare(wanted, server.told_of(len(wanted)), tally)
 
 
+def threadless_line(number: int) -> str:
+    return f"level=error event=no-thread connection={number}"
+
+
 def no_descriptor(program: str, library: str, tally: Tally) -> None:
     """No connection can be accepted for a while, for lack of a descriptor: this is logged once."""
     with Telling(program, env=failing(library, 5, errno.EMFILE)) as server, connected(server.port) as client:
         came = ask(client, ADD)
-        wanted = [WANTS_DESCRIPTOR, arrival(1, client), ended(1, 1, "its input ended")]
+        wanted = [WANTS_DESCRIPTOR, arrival(1, client), ended(1, 1, "input-ended")]
         tally.note("the reply", None if len(lines_of(came)) == 1 else f"came {came!r}")
         compare(wanted, server.told_of(3), tally)
 
@@ -387,7 +462,7 @@ def at_another_address(program: str, tally: Tally) -> None:
         with Telling(program, ("--bind", "::1")) as server, connected(server.port, "::1") as client:
             ask(client, ADD)
             port = client.getsockname()[1]
-            wanted = [f"connection 1 from [::1]:{port}", ended(1, 1, "its input ended")]
+            wanted = [f"level=info event=accepted connection=1 address=[::1]:{port}", ended(1, 1, "input-ended")]
             compare(wanted, server.told_of(2), tally)
     except NotListening as error:
         tally.note("the server", None if error.ended[0] == 3 else str(error))
@@ -397,18 +472,30 @@ def at_another_address(program: str, tally: Tally) -> None:
 
 
 def hints(program: str, tally: Tally) -> None:
-    """Each line of `line_hints.json` is refused by its name, with its hint, word for word."""
+    """Each line of `line_hints.json` is refused by its name, with its hint in the log, word for word. With `--hints` it
+    is in the reply too, and else not."""
     rows = json.loads((TOP / "tests/line_hints.json").read_text())
+    plain = [compact({"error": row["error"]}) for row in rows]
+    hinted = [compact({"error": row["error"], "hint": row["hint"].removeprefix("hint: ")}) for row in rows]
+    for words, wanted in (((), plain), (("--hints",), hinted)):
+        note_hints(program, rows, words, wanted, tally)
+
+
+def note_hints(program: str, rows: list[dict], words: tuple[str, ...], replies: list[bytes], tally: Tally) -> None:
     text = "".join(row["line"] + "\n" for row in rows).encode()
-    with Telling(program, document=(TOP / "examples/two-leaves.json").read_bytes()) as server:
+    with Telling(program, words, document=(TOP / "examples/two-leaves.json").read_bytes()) as server:
         with connected(server.port) as client:
             wanted = [arrival(1, client)]
-            replies = ask(client, text)
-        wanted += [f"connection 1, line {at}: {row['error']}; {row['hint']}" for at, row in enumerate(rows, 1)]
-        wanted.append(ended(1, len(rows), "its input ended"))
+            came = ask(client, text)
+        wanted += [refused_row(at, row) for at, row in enumerate(rows, 1)]
+        wanted.append(ended(1, len(rows), "input-ended"))
         compare(wanted, server.told_of(len(wanted)), tally)
-    names = [json.loads(reply)["error"] for reply in lines_of(replies)]
-    tally.note("the replies", None if names == [row["error"] for row in rows] else f"came {names}")
+    tally.note(f"the replies {words}", None if lines_of(came) == replies else f"came {came[:2000]!r}")
+
+
+def refused_row(at: int, row: dict) -> str:
+    hint = shown("hint", row["hint"].removeprefix("hint: "))
+    return f"level=warn event=refused connection=1 line={at} error={row['error']} hint={hint}"
 
 
 # ---- pages
@@ -425,7 +512,7 @@ def pages(program: str, tally: Tally) -> None:
                 response = client.post(text)
                 wanted += refusals(1, response.body, lines) if text else []
                 lines += len(lines_of(text)) if text else 0
-        wanted.append(ended(1, lines, "its requests ended"))
+        wanted.append(ended(1, lines, "requests-ended"))
         compare(wanted, server.told_of(len(wanted)), tally)
 
 
@@ -434,14 +521,14 @@ def pages_broken_off(program: str, tally: Tally) -> None:
     with Telling(program, ("--idle", "60"), command="page") as server:
         with Client(server.port) as client:
             client.post(ADD)
-            wanted = [arrival(1, client.connection), ended(1, 1, "it could not be read or written")]
+            wanted = [arrival(1, client.connection), ended(1, 1, "read-or-write")]
             # (A part of a request, so that the connection may not end here.)
             client.send(post(ADD)[:9])
             client.connection.setsockopt(socket.SOL_SOCKET, socket.SO_LINGER, RESET)
         compare(wanted, server.told_of(2), tally)
     with Telling(program, ("--idle", "1"), command="page") as server, connected(server.port) as client:
         client.recv(1)
-        compare([arrival(1, client), ended(1, 0, "it idled for 1 second")], server.told_of(2), tally)
+        compare([arrival(1, client), ended(1, 0, "idle idle_seconds=1")], server.told_of(2), tally)
 
 
 # ---- minutes
@@ -457,8 +544,16 @@ def minutes(program: str, tally: Tally) -> None:
         before = server.told_of(4)
         told = server.told_of(5, MINUTE + LATE)
         after = time.monotonic() - started
-        compare([*before, "1 minute: 5 lines, 2 refused, 2 rounds, 0 waits"], told, tally)
+        wanted = "lines=5 refused=2 connections=0 rounds=2 waits=0"
+        compare(before, told[:-1], tally)
+        tally.note("the event", None if is_minute(told[-1], wanted) else f"wanted {wanted!r}; came {told[-1]!r}")
         tally.note("the minute", None if MINUTE - 2 < after < MINUTE + LATE else f"it took {after:.1f} s")
+
+
+def is_minute(told: str, wanted: str) -> bool:
+    """Is this a minute's event with this data, and with how long its turns at the store took?"""
+    begins = f"level=info event=minute {wanted}"
+    return told.startswith(begins) and ROUND_TIMES.fullmatch(told[len(begins) :]) is not None
 
 
 def minutes_on_end(program: str, library: str, tally: Tally) -> None:
@@ -480,7 +575,7 @@ def some_minutes(program: str, surroundings: dict[str, str], tally: Tally) -> st
                 came = ask(client, text)
             count += 3 + came.count(b'{"error"')
             told = server.told_of(count)
-            if len(told) != count or told[-1] != f"1 minute: {wanted}":
+            if len(told) != count or not is_minute(told[-1], wanted):
                 return f"wanted {wanted!r}; came {told[-2:]}"
             tally.note(wanted, None)
             time.sleep(1.5 * MINUTE / CLOCK_TIMES)
@@ -499,9 +594,9 @@ def some_waits(program: str, surroundings: dict[str, str], tally: Tally) -> str 
         with connected(server.port) as client:
             came = ask(client, compact({"batch": batch["lists"]}) + b"\n" + WEIGHTS)
         waits = json.loads(lines_of(came)[-1])["waits"]
-        wanted = f"1 minute: 2 lines, 0 refused, 1 rounds, {sum(waits)} waits"
+        wanted = f"lines=2 refused=0 connections=0 rounds=1 waits={sum(waits)}"
         told = server.told_of(3)
-    if len(told) != 3 or told[-1] != wanted:
+    if len(told) != 3 or not is_minute(told[-1], wanted):
         return f"wanted {wanted!r}; came {told[-1]!r}"
     tally.note("the minute", None)
     return None if sum(count > 0 for count in waits) > 1 else f"the waits are {waits}"

@@ -60,8 +60,19 @@ class Clients(unittest.TestCase):
             with self.assertRaises(Refused) as caught:
                 client.plan([Access.get("/c")])
             self.assertEqual((caught.exception.name, caught.exception.place), ("no-path", ""))
+            self.assertIsNone(caught.exception.hint)
         self.assertEqual(seen[0], b'{"batch":[[["get","/a",1],["set","/a",1,1]],[["take","/b",9,2]]]}\n')
         self.assertEqual(seen[3:5], [b'{"weights":null}\n', b'{"reweigh":null}\n'])
+
+    def test_a_refusal_has_the_hint_of_its_reply(self) -> None:
+        seen: List[bytes] = []
+        reply = b'{"error":"no-path","hint":"plan 0: no node has the path \\"/c\\""}'
+        with served(replying(reply, seen=seen)) as client:
+            with self.assertRaises(Refused) as caught:
+                client.plan([Access.get("/c")])
+        why = caught.exception
+        self.assertEqual((why.name, why.hint), ("no-path", 'plan 0: no node has the path "/c"'))
+        self.assertEqual(str(why), 'no-path; hint: plan 0: no node has the path "/c"')
 
     def test_lines_are_sent_ahead(self) -> None:
         """So many that a server whose replies nobody read would stop reading."""

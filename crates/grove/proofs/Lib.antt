@@ -4,3 +4,4 @@ pub mod Printing
 pub mod Saying
 pub mod Texts
 pub mod Levels
+pub mod Hinted

@@ -33,7 +33,7 @@ module _ (words : List (List ℕ)) (before after : Streams)
     };
     stops = goes_on words before after 0 (omega arith);
     spares = record {
-      hinted = λ few. same_hint before.errors after.errors before.errors_failed after.errors_failed errors fails;
+      hinted = λ few. inl (same_hint before.errors after.errors before.errors_failed after.errors_failed errors fails);
       quiet_errors = λ shown few. kept before.errors after.errors errors;
       sound_input = λ few. same;
       sound_output = λ few. out;

@@ -1,6 +1,6 @@
 -- What comes of the order that was found is what the words ask for.
 use Rattle.std.proofs.Common.{◌≡◌, ◌≢◌, ◌≤◌, ◌∙◌, ℕ, Bool, ap, refl, sym, subst, true, false, ◌||◌, List, [], Option}
-use Rattle.std.proofs.Common.{Some, None, IfSome, IfOk, IfErr, OnOk, Result, Ok, Err, inl, inr, ◌⊎◌, arith, ◌++◌}
+use Rattle.std.proofs.Common.{Some, None, IfSome, IfOk, IfErr, OnErr, OnOk, Result, Ok, Err, inl, inr, ◌⊎◌, arith, ◌++◌}
 use Rattle.std.proofs.Common.{take}
 use Rattle.std.specs.Io.KnownBytes.{Appends, Keeps}
 use Rattle.grove_words.specs.declared.order.Command.{Command}
@@ -20,7 +20,8 @@ use Rattle.grove.specs.declared.answer.Stop.{Stop}
 use Rattle.grove.specs.declared.answer.Stop.TheVariants as stop
 use Rattle.grove.specs.Answers.{serving_of, HasFile, IsAsGoodAs, IsAsked, IsCommandDone, IsGivenUp, IsLost, IsObeyed}
 use Rattle.grove.specs.Answers.{IsSaved, IsStopped, IsUnsaved}
-use Rattle.grove.specs.Endings.{stop_line, Blames, MayHint, NamesPlace, SaysListening, SaysRefusal, SaysStop, SaysWhy}
+use Rattle.grove.specs.Endings.{stop_line, Blames, MayHint, MayHintEach, NamesPlace, SaysListening, SaysRefusal}
+use Rattle.grove.specs.Endings.{SaysStop, SaysWhy}
 use Rattle.grove.specs.Outcomes.{document_for, outcome_status, outcome_text, IsOutcome, IsOutcomeFor, MaySay, Prints}
 use Rattle.grove.specs.Runs.{streams, Answers, AskToAsk, Does, DoesAt, Invites, Spares, Stops, Streams, Tells}
 use Rattle.grove.proofs.Printing.{all_written, no_hint}
@@ -172,7 +173,7 @@ module _ (words : List (List ℕ)) (it : Command) (document : Document)
             tells = tells_nothing words (verb_for it) (name_in document) before after status asked (λ two. omega arith);
             stops = goes_on words before after status (omega arith);
             spares = record {
-              hinted = λ few. done.hinted;
+              hinted = λ few. inl done.hinted;
               quiet_errors = λ shown few. absurd (not_shown words (verb_for it) (name_in document) asked shown);
               sound_input = λ few. done.sound.0;
               sound_output = λ few. done.sound.1;
@@ -329,8 +330,8 @@ module _ (words : List (List ℕ)) (name : Option (List ℕ)) (client : Verb) (i
         tells = tells_nothing words client name before after status asked (λ two. omega arith);
         stops = goes_on words before after status (omega arith);
         spares = record {
-          hinted = λ few. same_hint before.errors after.errors before.errors_failed after.errors_failed is.errors.0
-              is.errors.1;
+          hinted = λ few. inl (same_hint before.errors after.errors before.errors_failed after.errors_failed
+              is.errors.0 is.errors.1);
           quiet_errors = λ shown few. absurd (not_shown words client name asked shown);
           sound_input = λ few. is.sound.0;
           sound_output = λ few. is.sound.1;
@@ -376,8 +377,7 @@ module _ (words : List (List ℕ)) (name : Option (List ℕ)) (asked : AskFor wo
         tells = tells_nothing words Ask name before after status asked (λ two. omega arith);
         stops = goes_on words before after status (omega arith);
         spares = record {
-          hinted = λ few. same_hint before.errors after.errors before.errors_failed after.errors_failed is.errors.0
-              is.errors.1;
+          hinted = λ few. inr ((name, asked), is.hinted);
           quiet_errors = λ shown few. absurd (not_shown words Ask name asked shown);
           sound_input = λ few. is.sound.0;
           sound_output = λ few. is.sound.1;
@@ -435,16 +435,25 @@ given_up_does words (order.Save server file) before middle errors fails why expl
 -- what asking a server gives
 pub is_asked : (before after : Streams) (result : Result ℕ Stop) → IfOk result (λ status. status ≤ 1)
     → OnOk result ((after.input_failed ≡ before.input_failed) × (after.output_failed ≡ before.output_failed))
-    → (after.errors ≡ before.errors) × (after.errors_failed ≡ before.errors_failed) → IfOk result (IsAsked before after)
-is_asked before after (Ok status) few sound errors = record { status = few; sound = sound; errors = errors }
-is_asked before after (Err why) few sound errors = tt
+    → OnOk result (MayHintEach before.errors_failed after.errors_failed before.errors after.errors)
+    → IfOk result (IsAsked before after)
+is_asked before after (Ok status) few sound hinted = record { status = few; sound = sound; hinted = hinted }
+is_asked before after (Err why) few sound hinted = tt
 
 pub is_lost : (before after : Streams) (result : Result ℕ Stop)
     → IfErr result (Blames (Unit {0})
     ((after.input_failed ≡ before.input_failed) × (after.output_failed ≡ before.output_failed)))
-    → (after.errors ≡ before.errors) × (after.errors_failed ≡ before.errors_failed) → IfErr result (IsLost before after)
+    → OnErr result ((after.errors ≡ before.errors) × (after.errors_failed ≡ before.errors_failed))
+    → IfErr result (IsLost before after)
 is_lost before after (Ok status) blamed errors = tt
 is_lost before after (Err why) blamed errors = record { blamed = blamed; errors = errors }
+
+-- an output that stays as it was has what it had
+pub same_streams : {E A B : Type 0} (contents : E → Option (List ℕ)) (failed : E → Bool) (old new : E)
+    (result : Result A B) → OnErr result (new ≡ old)
+    → OnErr result ((contents new ≡ contents old) × (failed new ≡ failed old))
+same_streams contents failed old new (Ok value) same = tt
+same_streams contents failed old new (Err why) same = (ap contents same, ap failed same)
 
 -- what saving gives
 pub is_saved : (before after : Streams) (result : Result ℕ Stop)

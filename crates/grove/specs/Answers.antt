@@ -24,7 +24,8 @@ use Rattle.grove.specs.declared.answer.Answer.{Answer}
 use Rattle.grove.specs.declared.answer.Answer.TheVariants.{Done, Refused, Listen}
 use Rattle.grove.specs.declared.answer.Stop.{Stop}
 use Rattle.grove.specs.declared.answer.Stop.TheVariants as stop
-use Rattle.grove.specs.Endings.{refusal_line, stop_line, Blames, MayHint, NamesPlace, SaysRefusal, SaysSomething}
+use Rattle.grove.specs.Endings.{refusal_line, stop_line, Blames, MayHint, MayHintEach, NamesPlace, SaysRefusal}
+use Rattle.grove.specs.Endings.{SaysSomething}
 use Rattle.grove.specs.Outcomes.{document_for, outcome_status, outcome_text, IsOutcome, MaySay}
 use Rattle.grove.specs.Runs.{Streams}
 
@@ -120,7 +121,7 @@ pub record IsStopped (command : Command) (name : Option (List ℕ)) (before afte
 pub record IsAsked (before after : Streams) (ended : ℕ) : Type 0 where
   pub status : ended ≤ 1
   pub sound : (after.input_failed ≡ before.input_failed) × (after.output_failed ≡ before.output_failed)
-  pub errors : (after.errors ≡ before.errors) × (after.errors_failed ≡ before.errors_failed)
+  pub hinted : MayHintEach before.errors_failed after.errors_failed before.errors after.errors
 
 -- that was stopped
 pub record IsLost (before after : Streams) (why : Stop) : Type 0 where

@@ -1,6 +1,7 @@
 -- What the program says where it has no answer, and the lines of refusals and of ports.
 use Rattle.std.specs.Prelude.{◌≡◌, ◌≢◌, ◌≤◌, ◌⊎◌, ℕ, Bool, true, codes, decimal, List, [], ◌∷◌, ◌++◌, take, Option}
-use Rattle.std.specs.Prelude.{None, Some}
+use Rattle.std.specs.Prelude.{None, Some, All}
+use Rattle.std.specs.List.{flat_map}
 use Rattle.std.specs.Io.KnownBytes.{Appends, Keeps}
 use Rattle.std.specs.Net.Addr.{ipv4_octets, ipv6_segments}
 use Rattle.std.specs.Net.Text.{ipv4_text, ipv6_text}
@@ -91,3 +92,12 @@ abbrev pub MayHint : Bool → Bool → Option (List ℕ) → Option (List ℕ) �
 MayHint failed fails old new = ((fails ≡ failed)
     × (Keeps old new ⊎ ((line : List ℕ) × IsHintLine line × Appends old new line)))
     ⊎ ((fails ≡ true) × (line : List ℕ) × IsHintLine line × (count : ℕ) × Appends old new (take count line))
+
+-- the lines of hints, one after the other
+abbrev pub AreHintLines : List ℕ → Type 0
+AreHintLines text = (hints : List (List ℕ)) × All IsHint hints × (text ≡ flat_map (λ hint. hint ++ 10 ∷ []) hints)
+
+-- standard error got such lines, or none, or it failed, and got only the first bytes of such lines
+abbrev pub MayHintEach : Bool → Bool → Option (List ℕ) → Option (List ℕ) → Type 0
+MayHintEach failed fails old new = ((fails ≡ failed) × (text : List ℕ) × AreHintLines text × Appends old new text)
+    ⊎ ((fails ≡ true) × (text : List ℕ) × AreHintLines text × (count : ℕ) × Appends old new (take count text))

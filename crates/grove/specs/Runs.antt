@@ -3,7 +3,7 @@ use Rattle.std.specs.Prelude.{◌≡◌, ◌≢◌, ◌≤◌, ◌⊎◌, ℕ, B
 use Rattle.std.specs.Io.KnownBytes.{Keeps}
 use Rattle.grove_words.specs.CommandLines.{calls, serves, Verb, Ask, AreWrong, AskFor, AskToExplain, AskToServe}
 use Rattle.grove_words.specs.CommandLines.{AskToShow, NameDevice}
-use Rattle.grove.specs.Endings.{MayHint, SaysListening, SaysRefusal, SaysSomething, SaysWhy}
+use Rattle.grove.specs.Endings.{MayHint, MayHintEach, SaysListening, SaysRefusal, SaysSomething, SaysWhy}
 use Rattle.grove.specs.Outcomes.{IsOutcomeFor, Prints}
 
 -- what is left of standard input, and what is on standard output and standard error, as far as it is known; and which
@@ -66,6 +66,7 @@ pub record Stops (words : List (List ℕ)) (before after : Streams) (ended : ℕ
 -- what it spares where it doesn't stop
 pub record Spares (words : List (List ℕ)) (before after : Streams) (status : ℕ) : Type 0 where
   pub hinted : status ≤ 1 → MayHint before.errors_failed after.errors_failed before.errors after.errors
+      ⊎ (AskToAsk words × MayHintEach before.errors_failed after.errors_failed before.errors after.errors)
   pub quiet_errors : AskToShow words → status ≤ 1 → Keeps before.errors after.errors
   pub sound_input : status ≤ 2 → after.input_failed ≡ before.input_failed
   pub sound_output : status ≤ 2 → after.output_failed ≡ before.output_failed

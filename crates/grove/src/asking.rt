@@ -1,8 +1,9 @@
-ghost use Rattle.std.specs.Prelude.{◌≡◌, ◌≤◌, ⊤, IfOk, IfErr, OnOk};
-ghost use Rattle.grove.specs.Endings.{Blames};
+ghost use Rattle.std.specs.Prelude.{◌≡◌, ◌≤◌, ⊤, IfOk, IfErr, OnErr, OnOk};
+ghost use Rattle.grove.specs.Endings.{Blames, MayHintEach};
 
 use crate::answer::Stop;
 use crate::failure::Failure;
+use crate::output::add_lines;
 use crate::server::Server;
 use grove_serve::Host;
 use grove_session::{BytesSource, SessionFault, Sink, Source, session};
@@ -12,20 +13,24 @@ use std::net::{Net, SocketAddr, TcpListener, TcpStream};
 /// Sources that were read as often aren't read for a session.
 const MOST_READS: u64 = 1 << 63;
 
-/// Asks the server at the address the lines, or those of the input if there are none, and prints its replies. Gives the
-/// status of the process: 0, or 1 where a reply was an error.
-pub fn ask<R: Host + Net<Listener = TcpListener, Stream = TcpStream>, I: Source, O: Sink>(
+/// Asks the server at the address the lines, or those of the input if there are none, and prints its replies, and then
+/// the hints in them on standard error. Gives the status of the process: 0, or 1 if a reply was an error.
+pub fn ask<R: Host + Net<Listener = TcpListener, Stream = TcpStream>, I: Source, O: Sink, E: Sink>(
     rt: &R,
     address: SocketAddr,
     lines: &[&str],
     input: &mut I,
     out: &mut O,
+    err: &mut E,
 ) -> Result<u8, Stop>
     ensures status { IfOk result (λ status. status ≤ 1) }
     ensures sound { OnOk result
         ((I.has_failed input.new ≡ I.has_failed input.old) × (O.has_failed out.new ≡ O.has_failed out.old)) }
     ensures blamed { IfErr result
         (Blames ⊤ ((I.has_failed input.new ≡ I.has_failed input.old) × (O.has_failed out.new ≡ O.has_failed out.old))) }
+    ensures hinted { OnOk result
+        (MayHintEach (E.has_failed err.old) (E.has_failed err.new) (E.contents err.old) (E.contents err.new)) }
+    ensures quiet { OnErr result (err.new ≡ err.old) }
 {
     let text = text_of(rt.alloc(), lines)?;
     let stream = match TcpStream::connect(rt, address) {
@@ -34,17 +39,14 @@ pub fn ask<R: Host + Net<Listener = TcpListener, Stream = TcpStream>, I: Source,
     };
     // No line is to wait until the reply before it has arrived.
     let _at_once = stream.set_nodelay(true);
-    if text.is_empty() {
-        ask_lines(rt, &stream, address, input, out)
+    let mut server = Server::new(rt.alloc(), &stream, address, lines.len() != 1);
+    let status = if text.is_empty() {
+        ask_lines(rt, &mut server, input, out)?
     } else {
-        ask_lines(
-            rt,
-            &stream,
-            address,
-            &mut BytesSource::new(text.as_bytes()),
-            out,
-        )
-    }
+        ask_lines(rt, &mut server, &mut BytesSource::new(text.as_bytes()), out)?
+    };
+    add_lines(server.hints().as_str(), err);
+    Ok(status)
 }
 
 /// The lines, each with a line feed.
@@ -57,12 +59,11 @@ fn text_of(alloc: Global, lines: &[&str]) -> Result<String, Stop> {
     Ok(text)
 }
 
-/// Asks the server at the other end of the stream the lines of the source, and writes its replies. Where the source or
-/// the sink fails, it says itself why.
+/// Asks the server the lines of the source, and writes its replies. If the source or the sink fails, it says itself
+/// why.
 fn ask_lines<R: AllocGlobal, I: Source, O: Sink>(
     rt: &R,
-    stream: &TcpStream,
-    address: SocketAddr,
+    server: &mut Server<'_>,
     source: &mut I,
     sink: &mut O,
 ) -> Result<u8, Stop>
@@ -76,8 +77,7 @@ fn ask_lines<R: AllocGlobal, I: Source, O: Sink>(
     if source.failed() || sink.failed() || source.reads() >= MOST_READS {
         return Err(Stop::Device(None));
     }
-    let mut server = Server::new(stream, address);
-    match session(rt, &mut server, source, sink) {
+    match session(rt, server, source, sink) {
         Ok(_) if server.has_refused() => Ok(1),
         Ok(_) => Ok(0),
         Err(SessionFault::Memory) => Err(Stop::Memory),

@@ -61,7 +61,7 @@ pub fn awaited_by(alloc: Global, command: &Command<'_>) -> Option<Hint> {
     let awaited = match command {
         Command::Tree { .. } => Hint::new(
             alloc,
-            "\"tree\" awaits lines of path,weight,value on standard input, up to their end (Ctrl-D)",
+            "\"tree\" reads lines of path,weight,value from standard input, up to their end (Ctrl-D)",
         ),
         command => awaited(alloc, asked_by(command)),
     };

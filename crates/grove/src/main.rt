@@ -22,6 +22,7 @@ mod explained;
 mod failure;
 mod file_sink;
 mod file_source;
+mod hint_lines;
 mod hinting;
 mod output;
 mod replacing;

@@ -1,7 +1,7 @@
 ghost use Rattle.std.specs.Prelude.{◌≡◌, ◌++◌, ℕ, true, false, take, IfOk, IfErr, OnOk, None};
 ghost use Rattle.std.specs.Io.KnownBytes.{Appends};
 ghost use Rattle.grove.specs.Answers.{printed, HasStatus, IsCutOff, IsDevice};
-ghost use Rattle.grove.specs.Endings.{stop_line, IsHintLine, MayHint, SaysStop};
+ghost use Rattle.grove.specs.Endings.{stop_line, AreHintLines, IsHintLine, MayHint, MayHintEach, SaysStop};
 
 use crate::answer::{Answer, Stop};
 use crate::failure::{StreamErrors, reason_for};
@@ -69,6 +69,14 @@ fn write_hint<E: Sink>(line: &str, err: &mut E)
     ensures { MayHint (E.has_failed err.old) (E.has_failed err.new) (E.contents err.old) (E.contents err.new) }
 {
     let _printed = write_whole(err, line.as_bytes());
+}
+
+/// Prints the lines of hints on standard error. If they can't be printed, the answers stand.
+pub fn add_lines<E: Sink>(lines: &str, err: &mut E)
+    requires { AreHintLines lines.now }
+    ensures { MayHintEach (E.has_failed err.old) (E.has_failed err.new) (E.contents err.old) (E.contents err.new) }
+{
+    let _printed = write_whole(err, lines.as_bytes());
 }
 
 /// Says on standard error why there is no answer, after the system's reason where that is asked for and known.

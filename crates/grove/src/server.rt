@@ -3,6 +3,7 @@ ghost use Rattle.std.specs.Prelude.{◌≡◌, false};
 use crate::explained::Explained;
 use crate::failure::Failure;
 use crate::file_source::FileSource;
+use crate::hint_lines::{HintLines, hint_in};
 use grove_session::{AnswerFault, Answers, Source, WriterSink, write_whole};
 use std::alloc::{AllocGlobal, Global};
 use std::io;
@@ -35,6 +36,10 @@ pub struct Server<'a> {
     address: SocketAddr,
     /// Whether a reply was an error.
     has_refused: bool,
+    /// The hints that came in such replies.
+    hints: HintLines,
+    /// How many lines have their reply, if they are counted.
+    replied: Option<u64>,
     /// Why the latest line got no reply.
     loss: Option<Loss>,
 }
@@ -48,14 +53,46 @@ impl<'a> Model for Server<'a> {
 }
 
 impl<'a> Server<'a> {
-    pub fn new(stream: &'a TcpStream, address: SocketAddr) -> Server<'a>
+    /// A server that has replied nothing yet. If its lines are counted, hints have their numbers.
+    pub fn new(
+        alloc: Global,
+        stream: &'a TcpStream,
+        address: SocketAddr,
+        counts_lines: bool,
+    ) -> Server<'a>
         ensures { result ≡ false }
     {
         Server {
             stream,
             address,
             has_refused: false,
+            hints: HintLines::new(alloc),
+            replied: if counts_lines { Some(0) } else { None },
             loss: None,
+        }
+    }
+
+    /// The lines of the hints in its replies.
+    pub fn hints(&self) -> &HintLines {
+        &self.hints
+    }
+
+    /// Keeps the hint in the next reply, which is an error, if it has one.
+    fn keep_hint(&mut self, alloc: Global, reply: &[u8])
+        ensures { self.new ≡ self.old }
+    {
+        let number = self.replied.map(|count| count.saturating_add(1));
+        if let Some(hint) = hint_in(alloc, reply, number) {
+            self.hints.add(alloc, &hint);
+        }
+    }
+
+    /// Counts a reply.
+    fn count_reply(&mut self)
+        ensures { self.new ≡ self.old }
+    {
+        if let Some(count) = self.replied {
+            self.replied = Some(count.saturating_add(1));
         }
     }
 
@@ -87,11 +124,14 @@ impl<'a, R: AllocGlobal> Answers<R> for Server<'a> {
     ghost asks = { ⊤ };
 
     fn answer(&mut self, rt: &R, line: &[u8]) -> Result<Vec<u8>, AnswerFault> {
-        match asked(rt.alloc(), self.stream, line) {
+        let alloc = rt.alloc();
+        match asked(alloc, self.stream, line) {
             Ok(reply) => {
                 if reply.starts_with(ERROR_BEGINS) {
                     self.has_refused = true;
+                    self.keep_hint(alloc, &reply);
                 }
+                self.count_reply();
                 Ok(reply)
             }
             Err(NoReply::Lost(loss)) => {

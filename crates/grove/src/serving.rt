@@ -64,6 +64,7 @@ fn manner_of(alloc: Global, serving: &Serving<'_>) -> Result<Manner, AllocError>
         },
         log: serving.log.map(form_of_log),
         hosts,
+        hints: serving.hints,
     })
 }
 

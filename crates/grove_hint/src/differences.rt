@@ -18,7 +18,7 @@ pub(crate) fn difference(alloc: Global, form: Form, spot: Spot, value: &Value) -
 
 fn unfit<P: Display + Drop>(alloc: Global, place: P, value: &Value, form: Form) -> Told {
     let (found, wanted) = (Described(value), form.wanted());
-    format!(in alloc; "{place} is {found}, but {wanted} is asked for")
+    format!(in alloc; "{place} is {found}, but has to be {wanted}")
 }
 
 /// The first difference in an array, whose first item has to be a word of its form.

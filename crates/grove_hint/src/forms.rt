@@ -100,13 +100,13 @@ impl Form {
         }
     }
 
-    /// What is asked for.
+    /// What it has to be.
     pub(crate) fn wanted(self) -> &'static str {
         match self {
             Form::Version => "1 or 2",
             Form::Parent => "null or the number of an earlier row",
-            Form::Text => "a text",
-            Form::Path => r#"a text, as "/a","#,
+            Form::Text => "a string",
+            Form::Path => r#"a string, as "/a""#,
             Form::Short => "a whole number from 0 to 4294967295",
             Form::Signed => "a whole number of 64 bits",
             Form::Amount => "a whole number of 64 bits, 0 or more",
@@ -114,15 +114,15 @@ impl Form {
             Form::Reply => r#"a whole number, "ok", "range" or "short""#,
             Form::Array => "an array",
             Form::Lists => "an array of lists",
-            Form::Access => r#"an access, as ["get","/a"] or ["add","/a",1],"#,
-            Form::Step => r#"a step, as ["lock","/a"], ["access",0] or ["unlock","/a"],"#,
-            Form::Event => r#"an event, as ["take",0] or ["mark",0],"#,
-            Form::Document => r#"an object, as {"nodes":[..],"list":[..]},"#,
-            Form::Check => r#"an object, as {"list":[..],"plan":[..],"flow":[..]},"#,
-            Form::Row => r#"a row, as {"parent":0,"name":"a","weight":1},"#,
+            Form::Access => r#"an access, as ["get","/a"] or ["add","/a",1]"#,
+            Form::Step => r#"a step, as ["lock","/a"], ["access",0] or ["unlock","/a"]"#,
+            Form::Event => r#"an event, as ["take",0] or ["mark",0]"#,
+            Form::Document => r#"an object, as {"nodes":[..],"list":[..]}"#,
+            Form::Check => r#"an object, as {"list":[..],"plan":[..],"flow":[..]}"#,
+            Form::Row => r#"a row, as {"parent":0,"name":"a","weight":1}"#,
             Form::FlowRow => "an object with a node and its five amounts",
-            Form::Job => r#"a job, as {"list":[],"plan":[]},"#,
-            Form::Standing => r#"an object, as {"records":[],"replies":[]},"#,
+            Form::Job => r#"a job, as {"list":[],"plan":[]}"#,
+            Form::Standing => r#"an object, as {"records":[],"replies":[]}"#,
         }
     }
 }

@@ -2,10 +2,10 @@ use crate::asked::Asked;
 use crate::forms::length_of;
 use crate::likeness::stray_member;
 use crate::places::{Subject, Whole};
-use crate::rules::{event_amiss, flow_amiss, plan_amiss, standing_amiss};
+use crate::rules::{event_hint, flow_hint, plan_hint, standing_hint};
 use crate::shown::{Listed, Told};
-use crate::syntax::syntax_amiss;
-use crate::trees::{no_path, tree_amiss};
+use crate::syntax::syntax_hint;
+use crate::trees::{no_path, tree_hint};
 use grove_access::MOST_ACCESSES;
 use grove_base::{Hint, NoMemory};
 use grove_core::ReplayFault;
@@ -38,11 +38,11 @@ pub fn hint(
                 "the document has more than the {most} bytes that \"{command}\" takes"
             )?
         }
-        (fault, Some(document)) => document_amiss(alloc, asked, document, fault)?,
+        (fault, Some(document)) => document_hint(alloc, asked, document, fault)?,
         (fault, None) => match Value::from_slice(alloc, bytes) {
-            Ok(document) => document_amiss(alloc, asked, &document, fault)?,
+            Ok(document) => document_hint(alloc, asked, &document, fault)?,
             Err(error) if error.is_memory() => return Err(NoMemory),
-            Err(error) => syntax_amiss(alloc, "the document", bytes, &error)?,
+            Err(error) => syntax_hint(alloc, "the document", bytes, &error)?,
         },
     };
     Hint::new(alloc, &told)
@@ -60,15 +60,19 @@ pub fn awaited(alloc: Global, asked: Asked) -> Result<Hint, NoMemory> {
     let (command, members, _) = asked.reads();
     let members = Listed(members);
     let awaited = format!(in alloc;
-        "\"{command}\" awaits a JSON document with {members} on standard input, up to its end (Ctrl-D)"
+        "\"{command}\" reads a JSON document with {members} from standard input, up to its end (Ctrl-D)"
     )?;
     Hint::new(alloc, &awaited)
 }
 
-/// What is amiss with a document. A member that nothing uses may be why something else is refused.
-fn document_amiss(alloc: Global, asked: Asked, value: &Value, fault: Fault) -> Told {
-    let whole = Whole::Document(asked);
-    let told = amiss(alloc, Subject { whole, value }, fault)?;
+/// What is wrong with a document. A member that nothing uses may be why something else is refused.
+fn document_hint(alloc: Global, asked: Asked, value: &Value, fault: Fault) -> Told {
+    let subject = Subject {
+        whole: Whole::Document(asked),
+        value,
+        tree: None,
+    };
+    let told = fault_hint(alloc, subject, fault)?;
     let stray = match fault {
         Fault::Wire(WireFault::Shape(_)) => None,
         _ => stray_member(alloc, asked, value)?,
@@ -79,33 +83,33 @@ fn document_amiss(alloc: Global, asked: Asked, value: &Value, fault: Fault) -> T
     }
 }
 
-/// What is amiss with what is refused, by the fault and its place.
-pub(crate) fn amiss(alloc: Global, subject: Subject<'_>, fault: Fault) -> Told {
+/// What is wrong with what is refused, by the fault and its place.
+pub(crate) fn fault_hint(alloc: Global, subject: Subject<'_>, fault: Fault) -> Told {
     match fault {
         Fault::Wire(fault) => unread(alloc, subject, fault),
         Fault::Plan(fault) | Fault::Proof(ProofFault::Plan(fault)) => {
-            plan_amiss(alloc, subject, None, fault)
+            plan_hint(alloc, subject, None, fault)
         }
-        Fault::Proof(fault) => flow_amiss(alloc, fault),
+        Fault::Proof(fault) => flow_hint(alloc, fault),
         Fault::Replay(ReplayFault::BadPlan(job, fault)) => {
-            plan_amiss(alloc, subject, Some(job), fault)
+            plan_hint(alloc, subject, Some(job), fault)
         }
         Fault::Replay(ReplayFault::BadEvent(event, fault)) => {
-            event_amiss(alloc, subject, event, fault)
+            event_hint(alloc, subject, event, fault)
         }
         Fault::Replay(ReplayFault::Unfinished(job)) => {
             format!(in alloc; "job {job} has steps left after the last event")
         }
-        Fault::Standing(fault) => standing_amiss(alloc, subject, fault),
-        Fault::Run(_) | Fault::Replay(ReplayFault::Memory) => nothing_amiss(alloc),
+        Fault::Standing(fault) => standing_hint(alloc, subject, fault),
+        Fault::Run(_) | Fault::Replay(ReplayFault::Memory) => no_known_fault(alloc),
     }
 }
 
-/// What is told where nothing that was asked is amiss.
-pub(crate) fn nothing_amiss(alloc: Global) -> Told {
+/// What is said if nothing that was asked is wrong.
+pub(crate) fn no_known_fault(alloc: Global) -> Told {
     String::from_str(
         alloc,
-        "it failed, though nothing is known to be wrong with what was asked",
+        "it failed, though nothing is known to be wrong with the input",
     )
 }
 
@@ -121,8 +125,8 @@ fn unread(alloc: Global, subject: Subject<'_>, fault: WireFault) -> Told {
             format!(in alloc; "{spot} is {slots} slots long, but an access has 1 to 1000")
         }
         WireFault::Limit(place) => beyond(alloc, subject, place),
-        WireFault::Tree(fault) => tree_amiss(alloc, subject.items(Part::Nodes, None), fault),
-        WireFault::BadJson | WireFault::Memory => nothing_amiss(alloc),
+        WireFault::Tree(fault) => tree_hint(alloc, subject.items(Part::Nodes, None), fault),
+        WireFault::BadJson | WireFault::Memory => no_known_fault(alloc),
     }
 }
 
@@ -137,5 +141,5 @@ fn beyond(alloc: Global, subject: Subject<'_>, place: Place) -> Told {
     };
     let count = subject.value_at(place).map_or(0, length_of);
     let spot = subject.spot(place);
-    format!(in alloc; "{spot} has {count} {items}, but at most {most} are taken")
+    format!(in alloc; "{spot} has {count} {items}, but at most {most} are allowed")
 }

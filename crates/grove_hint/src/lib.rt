@@ -1,4 +1,4 @@
-//! What a person is told beside the refusal of a document or of a session's line: one line on what is amiss, and where.
+//! What a person is told beside the refusal of a document or of a session's line: one line on what is wrong, and where.
 #![tactic(auto)]
 
 pub use asked::Asked;

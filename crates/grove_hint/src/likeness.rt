@@ -59,8 +59,12 @@ pub(crate) fn stray_member(alloc: Global, asked: Asked, document: &Value) -> Fou
             )?));
         }
     }
-    let (whole, value) = (Whole::Document(asked), document);
-    let rows = Subject { whole, value }.items(Part::Nodes, None);
+    let subject = Subject {
+        whole: Whole::Document(asked),
+        value: document,
+        tree: None,
+    };
+    let rows = subject.items(Part::Nodes, None);
     for (at, row) in rows.iter().enumerate() {
         if let Some(near) = near_member(alloc, Form::Row, row, "value")? {
             return Ok(Some(format!(in alloc;

@@ -3,6 +3,7 @@ use crate::asked::Asked;
 use crate::differences::{difference, missing};
 use crate::forms::Form;
 use crate::shown::{Listed, Told};
+use grove_tree::Tree;
 use grove_wire::{Part, Place};
 use serde_json::Value;
 use std::alloc::Global;
@@ -22,6 +23,8 @@ pub(crate) enum Whole {
 pub(crate) struct Subject<'v> {
     pub whole: Whole,
     pub value: &'v Value,
+    /// The tree of the store that a line is for, if it is known; a document has its own.
+    pub tree: Option<&'v Tree>,
 }
 
 /// A place of what is refused, in words.
@@ -94,7 +97,7 @@ impl<'v> Subject<'v> {
             _ => "document",
         };
         format!(in alloc;
-            "{spot} tells a length, which is read only where the {whole} has \"version\":2"
+            "{spot} has a length, which is read only if the {whole} has \"version\":2"
         )
     }
 

@@ -1,5 +1,5 @@
 //! The rules that a plan, its flow or a history breaks.
-use crate::hinting::nothing_amiss;
+use crate::hinting::no_known_fault;
 use crate::places::{Spot, Subject, member_name};
 use crate::shown::{Quoted, Told};
 use crate::trees::{name_at, path_in};
@@ -11,7 +11,7 @@ use serde_json::Value;
 use std::alloc::Global;
 
 /// The rule that a plan breaks, and where; it is a job's, or the only one of what is refused.
-pub(crate) fn plan_amiss(
+pub(crate) fn plan_hint(
     alloc: Global,
     subject: Subject<'_>,
     job: Option<u32>,
@@ -33,7 +33,7 @@ pub(crate) fn plan_amiss(
         | PlanFault::AccessNotHeld(step) => {
             let (at, item) = (job.or(Some(step)), job.and(Some(step)));
             let spot = subject.spot(Place { part, at, item });
-            step_amiss(alloc, spot, steps, list, step as usize, fault)
+            step_hint(alloc, spot, steps, list, step as usize, fault)
         }
         PlanFault::AccessMissing(access) => {
             let path = path_at(list, access as usize);
@@ -48,12 +48,12 @@ pub(crate) fn plan_amiss(
                 "the {plan} ends while {path} is held; what is locked has to be unlocked"
             )
         }
-        PlanFault::Memory => nothing_amiss(alloc),
+        PlanFault::Memory => no_known_fault(alloc),
     }
 }
 
 /// The rule that the step at the place breaks.
-fn step_amiss(
+fn step_hint(
     alloc: Global,
     spot: Spot,
     steps: &[Value],
@@ -114,7 +114,7 @@ fn is_word(step: &Value, word: &str) -> bool {
 }
 
 /// Why a flow doesn't show that its plan is least.
-pub(crate) fn flow_amiss(alloc: Global, fault: ProofFault) -> Told {
+pub(crate) fn flow_hint(alloc: Global, fault: ProofFault) -> Told {
     let (row, broken) = match fault {
         ProofFault::Rows(row) => (
             row,
@@ -142,13 +142,13 @@ pub(crate) fn flow_amiss(alloc: Global, fault: ProofFault) -> Told {
                 "the plan costs {cost}, but the flow shows only that no plan costs less than {bound}"
             );
         }
-        ProofFault::Plan(_) | ProofFault::Memory => return nothing_amiss(alloc),
+        ProofFault::Plan(_) | ProofFault::Memory => return no_known_fault(alloc),
     };
     format!(in alloc; "flow {row} {broken}")
 }
 
 /// Why an event may not happen.
-pub(crate) fn event_amiss(alloc: Global, subject: Subject<'_>, at: u32, fault: StepFault) -> Told {
+pub(crate) fn event_hint(alloc: Global, subject: Subject<'_>, at: u32, fault: StepFault) -> Told {
     let event = subject.items(Part::Events, None).get(at as usize);
     let job = event.and_then(|event| event.get(1)?.as_u64()).unwrap_or(0);
     let count = subject.items(Part::Jobs, None).len();
@@ -172,7 +172,7 @@ pub(crate) fn event_amiss(alloc: Global, subject: Subject<'_>, at: u32, fault: S
 }
 
 /// What is said to stand isn't what the events leave.
-pub(crate) fn standing_amiss(alloc: Global, subject: Subject<'_>, fault: StandingFault) -> Told {
+pub(crate) fn standing_hint(alloc: Global, subject: Subject<'_>, fault: StandingFault) -> Told {
     let (part, at, of) = match fault {
         StandingFault::Record(node) => (Part::StandingRecords, node, Part::Nodes),
         StandingFault::Replies(job) => (Part::StandingReplies, job, Part::Jobs),

@@ -1,10 +1,11 @@
-//! What is amiss with a line of a session.
-use crate::hinting::amiss;
+//! What is wrong with a line of a session.
+use crate::hinting::fault_hint;
 use crate::likeness::near_word;
 use crate::places::{Subject, Whole};
 use crate::shown::{Described, Listed, Quoted, Told};
-use crate::syntax::syntax_amiss;
+use crate::syntax::syntax_hint;
 use grove_base::{Hint, NoMemory};
+use grove_tree::Tree;
 use grove_wire::Fault;
 use serde_json::Value;
 use std::alloc::{AllocError, Global};
@@ -12,29 +13,35 @@ use std::alloc::{AllocError, Global};
 /// The greatest number of bytes of a line that is looked into, so that a hint takes little memory.
 const MOST_READ: usize = 65_536;
 
-/// What a person is told of a session's line that is refused for this fault.
-pub fn hint_of_request(alloc: Global, line: &[u8], fault: Fault) -> Result<Hint, NoMemory> {
+/// What a person is told of a session's line that is refused for this fault, by the names of the store's tree if it is
+/// known.
+pub fn hint_of_request(
+    alloc: Global,
+    tree: Option<&Tree>,
+    line: &[u8],
+    fault: Fault,
+) -> Result<Hint, NoMemory> {
     let told = if line.len() > MOST_READ {
         format!(in alloc; "the line has more than the {MOST_READ} bytes that a hint looks into")?
     } else {
-        line_amiss(alloc, line, fault)?
+        line_hint(alloc, tree, line, fault)?
     };
     Hint::new(alloc, &told)
 }
 
-fn line_amiss(alloc: Global, line: &[u8], fault: Fault) -> Told {
+fn line_hint(alloc: Global, tree: Option<&Tree>, line: &[u8], fault: Fault) -> Told {
     match Value::from_slice(alloc, line) {
-        Ok(value) => request_amiss(alloc, &value, fault),
+        Ok(value) => request_hint(alloc, tree, &value, fault),
         Err(error) if error.is_memory() => Err(AllocError),
-        Err(error) => syntax_amiss(alloc, "the line", line, &error),
+        Err(error) => syntax_hint(alloc, "the line", line, &error),
     }
 }
 
-fn request_amiss(alloc: Global, line: &Value, fault: Fault) -> Told {
+fn request_hint(alloc: Global, tree: Option<&Tree>, line: &Value, fault: Fault) -> Told {
     let Value::Object(members) = line else {
         let (found, form) = (Described(line), r#"{"plan":[..]}"#);
         return format!(in alloc;
-            "the line is {found}, but an object with one member, as {form}, is asked for"
+            "the line is {found}, but has to be an object with one member, as {form}"
         );
     };
     let (1, Some((name, value))) = (members.len(), members.first_key_value()) else {
@@ -54,5 +61,5 @@ fn request_amiss(alloc: Global, line: &Value, fault: Fault) -> Told {
             return format!(in alloc; "{shown} is no request{near}; the five are {five}");
         }
     };
-    amiss(alloc, Subject { whole, value }, fault)
+    fault_hint(alloc, Subject { whole, value, tree }, fault)
 }

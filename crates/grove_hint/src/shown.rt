@@ -57,11 +57,11 @@ pub(crate) struct Described<'v>(pub &'v Value);
 impl fmt::Display for Described<'_> {
     fn fmt<W: fmt::Write>(&self, f: &mut fmt::Formatter<W>) -> fmt::Result {
         match self.0 {
-            Value::String(text) => write!(f, "the text {}", Quoted(text)),
+            Value::String(text) => write!(f, "the string {}", Quoted(text)),
             Value::Array(items) => write!(f, "an array of length {}", items.len()),
             Value::Object(_) => f.write_str("an object"),
             value if value.is_f64() => {
-                f.write_str("a number with a point or an exponent, or beyond 64 bits")
+                f.write_str("a number with a fraction or an exponent, or beyond 64 bits")
             }
             value => write!(f, "{value}"),
         }

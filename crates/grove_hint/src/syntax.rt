@@ -23,7 +23,7 @@ static NEXT: [(&str, &str); 6] = [
 ];
 
 /// Why bytes are no JSON, for which there is this error: those of the document or of the line, as they are named.
-pub(crate) fn syntax_amiss(alloc: Global, named: &str, bytes: &[u8], error: &Error) -> Told {
+pub(crate) fn syntax_hint(alloc: Global, named: &str, bytes: &[u8], error: &Error) -> Told {
     if bytes.starts_with(b"\xef\xbb\xbf") {
         return format!(in alloc;
             "{named} begins with a byte-order mark, which JSON has none of; save it as UTF-8 without one"
@@ -59,28 +59,28 @@ fn stopped(alloc: Global, named: &str, front: &str, rest: &str, is_cut: bool) ->
     let (takes_value, takes_name) = (awaited.contains(&VALUE), awaited.contains(&NAME));
     let awaited = awaited.join(alloc, " or ")?;
     let end = match named {
-        "the line" => "; a request stands on one line",
+        "the line" => "; a request is one line",
         _ => "",
     };
     match rest.chars().next() {
-        _ if awaited.is_empty() => format!(in alloc; "{named} has ended there, but more comes"),
-        None => format!(in alloc; "{named} ends, but {awaited} has to come{end}"),
-        Some('"') if is_cut => format!(in alloc; "the text that begins there isn't closed{end}"),
+        _ if awaited.is_empty() => format!(in alloc; "expected the end of {named}"),
+        None => format!(in alloc; "{named} ends early: expected {awaited}{end}"),
+        Some('"') if is_cut => format!(in alloc; "the string that begins there isn't closed{end}"),
         Some('"') if takes_value || takes_name => broken_text(alloc, rest),
         Some('[' | '{') if takes_value => format!(in alloc; "values nest 128 deep there"),
         Some(']' | '}') if front.trim_ascii_end().ends_with(',') => {
-            format!(in alloc; "no comma may stand before a closing bracket")
+            format!(in alloc; "no comma is allowed before a closing bracket")
         }
-        Some('\'') => format!(in alloc; "texts and names stand in double quotes"),
+        Some('\'') => format!(in alloc; "strings and names are in double quotes"),
         Some('/' | '#') => format!(in alloc; "JSON has no comments"),
         Some('\u{80}'..) => format!(in alloc;
-            "a character that isn't ASCII stands outside of a text; quotes are \""
+            "a character that isn't ASCII is outside of a string; quotes are \""
         ),
         Some('a'..='z' | 'A'..='Z' | '0'..='9' | '+' | '-' | '.') if takes_value => {
             no_value(alloc, word_of(rest))
         }
-        Some(it @ '!'..='~') => format!(in alloc; "{awaited} has to come, but {it} is there"),
-        Some(_) => format!(in alloc; "{awaited} has to come"),
+        Some(it @ '!'..='~') => format!(in alloc; "expected {awaited}, but found {it}"),
+        Some(_) => format!(in alloc; "expected {awaited}"),
     }
 }
 
@@ -90,7 +90,7 @@ fn no_value(alloc: Global, word: &str) -> Told {
     match word.chars().next() {
         _ if is_too_large(word) => format!(in alloc; "the number {shown} is too large"),
         Some('a'..='z' | 'A'..='Z') => format!(in alloc;
-            "{shown} is no value: texts stand in double quotes, and the words are null, true and false"
+            "{shown} is no value: strings are in double quotes, and the literals are null, true and false"
         ),
         _ => format!(in alloc;
             "{shown} is no number of JSON: no + before it, no 0 before another digit, \
@@ -103,10 +103,10 @@ fn no_value(alloc: Global, word: &str) -> Told {
 fn broken_text(alloc: Global, text: &str) -> Told {
     let line = text.split('\n').next().unwrap_or(text);
     if line.matches('"').count() < 2 {
-        return format!(in alloc; "the text that begins there isn't closed on its line");
+        return format!(in alloc; "the string that begins there isn't closed on its line");
     }
     format!(in alloc;
-        "the text that begins there has a tab or another control character in it, or a \\ \
+        "the string that begins there has a tab or another control character in it, or a \\ \
          that isn't followed by one of \" \\ / b f n r t, or by u and four digits of a character"
     )
 }

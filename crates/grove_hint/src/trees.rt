@@ -1,17 +1,19 @@
 //! Why rows are no tree, and why a path is that of no node of one.
+ghost use Rattle.std.specs.Prelude.{◌<◌, length};
+
 use crate::likeness::resembles;
 use crate::places::{Subject, Whole};
 use crate::shown::{Quoted, Told};
-use grove_tree::TreeFault;
+use grove_tree::{NoMemory, Node, Tree, TreeFault};
 use grove_wire::{Part, Place};
 use serde_json::Value;
-use std::alloc::Global;
+use std::alloc::{AllocError, Global};
 
 /// What names are made of.
 const NAMES: &str = "names are 1 to 32 of a to z, 0 to 9, _ and -";
 
 /// What makes the rows no tree.
-pub(crate) fn tree_amiss(alloc: Global, rows: &[Value], fault: TreeFault) -> Told {
+pub(crate) fn tree_hint(alloc: Global, rows: &[Value], fault: TreeFault) -> Told {
     match fault {
         TreeFault::Empty => {
             let first = r#"{"parent":null,"name":"","weight":1}"#;
@@ -21,7 +23,7 @@ pub(crate) fn tree_amiss(alloc: Global, rows: &[Value], fault: TreeFault) -> Tol
             let count = rows.len();
             format!(in alloc; "\"nodes\" has {count} rows, but a tree has at most 4096")
         }
-        TreeFault::BadParent(at) => parent_amiss(alloc, rows, at),
+        TreeFault::BadParent(at) => parent_hint(alloc, rows, at),
         TreeFault::TooDeep(at) => format!(in alloc; "nodes {at} has more than 32 rows above it"),
         TreeFault::BadName(at) => {
             let names = match at {
@@ -46,7 +48,7 @@ pub(crate) fn tree_amiss(alloc: Global, rows: &[Value], fault: TreeFault) -> Tol
     }
 }
 
-fn parent_amiss(alloc: Global, rows: &[Value], at: u32) -> Told {
+fn parent_hint(alloc: Global, rows: &[Value], at: u32) -> Told {
     match number_at(rows, at, "parent") {
         Some(parent) if at == 0 => format!(in alloc;
             "nodes 0 has the parent {parent}, but the first row is the root, whose parent is null"
@@ -82,7 +84,13 @@ pub(crate) fn no_path(alloc: Global, subject: Subject<'_>, place: Place) -> Told
             let name = Quoted(name);
             format!(in alloc; "the path {shown} of {spot} has the name {name}, but {NAMES}")
         }
-        (_, None) => format!(in alloc; "{spot}: no node has the path {shown}"),
+        (_, None) => match subject.tree {
+            Some(tree) => {
+                let lost = lost_in(alloc, tree, path)?;
+                format!(in alloc; "{spot}: no node has the path {shown}; {lost}")
+            }
+            None => format!(in alloc; "{spot}: no node has the path {shown}"),
+        },
     }
 }
 
@@ -114,20 +122,81 @@ fn lost_below(alloc: Global, rows: &[Value], path: &str) -> Told {
 }
 
 fn no_child(alloc: Global, rows: &[Value], parent: u64, above: &str, missing: &str) -> Told {
-    let (above, shown) = (
-        Quoted(if above.is_empty() { "/" } else { above }),
-        Quoted(missing),
-    );
+    let above = if above.is_empty() { "/" } else { above };
     for row in rows.iter().filter(|row| is_child(row, parent)) {
         let name = name_of(row);
         if resembles(alloc, missing, name)? {
-            let near = Quoted(name);
-            return format!(in alloc;
-                "{above} has no child {shown}, but {near}, which resembles it"
-            );
+            return without_child(alloc, above, missing, Some(name));
         }
     }
-    format!(in alloc; "{above} has no child {shown}")
+    without_child(alloc, above, missing, None)
+}
+
+/// That no child has the name, and the name of one that resembles it, if there is one.
+fn without_child(alloc: Global, above: &str, missing: &str, near: Option<&str>) -> Told {
+    let (above, shown) = (Quoted(above), Quoted(missing));
+    match near {
+        Some(near) => {
+            let near = Quoted(near);
+            format!(in alloc; "{above} has no child {shown}, but {near}, which resembles it")
+        }
+        None => format!(in alloc; "{above} has no child {shown}"),
+    }
+}
+
+/// The same of a tree: the deepest node on the way down a path, and the name that no child of it has.
+fn lost_in(alloc: Global, tree: &Tree, path: &str) -> Told {
+    let mut end = 0usize;
+    for name in path.split('/').skip(1) {
+        let above = end;
+        end = end.saturating_add(1).saturating_add(name.len());
+        if tree.find(front_of(path, end)).is_none() {
+            let above = node_or_root(tree, front_of(path, above));
+            return childless(alloc, tree, above, name);
+        }
+    }
+    String::from_str(alloc, path)
+}
+
+/// So many bytes of the path.
+fn front_of(path: &str, bytes: usize) -> &str {
+    path.get(..bytes).unwrap_or(path)
+}
+
+/// The node with the path; before the first name of one stands nothing, and that is the root.
+fn node_or_root(tree: &Tree, path: &str) -> Node
+    ensures { result < length tree.now }
+{
+    match tree.find(path) {
+        Some(node) => node,
+        None => tree.root(),
+    }
+}
+
+fn childless(alloc: Global, tree: &Tree, above: Node, missing: &str) -> Told
+    requires { above < length tree.now }
+{
+    let shown = path_in_tree(alloc, tree, above)?;
+    for number in 0..tree.len() {
+        let node = Node::new(number);
+        if tree.parent(node) == Some(above) {
+            let path = path_in_tree(alloc, tree, node)?;
+            let name = path.rsplit('/').next().unwrap_or("");
+            if resembles(alloc, missing, name)? {
+                return without_child(alloc, &shown, missing, Some(name));
+            }
+        }
+    }
+    without_child(alloc, &shown, missing, None)
+}
+
+fn path_in_tree(alloc: Global, tree: &Tree, node: Node) -> Told
+    requires { node < length tree.now }
+{
+    match tree.path_of(alloc, node) {
+        Ok(path) => Ok(path),
+        Err(NoMemory) => Err(AllocError),
+    }
 }
 
 /// The first row below the parent that has the name.

@@ -1,5 +1,5 @@
 pub mod Mapped
-pub mod Nodes
+pub mod NodeTexts
 pub mod Refused
 pub mod Replied
 pub mod Ending

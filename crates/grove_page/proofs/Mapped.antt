@@ -1,5 +1,5 @@
 -- A test of the items that a list is mapped to.
-use Rattle.std.proofs.Common.{◌≡◌, ℕ, List, [], ◌∷◌, map, Bool, ◌||◌, ap, refl}
+use Rattle.std.proofs.Common.{◌≡◌, List, [], ◌∷◌, map, Bool, ◌||◌, ap, refl}
 use Rattle.std.specs.List.{list_any}
 
 pub any_of_them : {A B : Type 0} (f : A → B) (test : B → Bool) (xs : List A)

@@ -4,16 +4,16 @@ use Rattle.http_server.specs.declared.response.Response.{Response}
 use Rattle.http_server.specs.Response.{IsResponse}
 use Rattle.grove_session.specs.declared.session_fault.SessionFault.TheVariants.{Memory}
 use Rattle.grove_session.specs.Sessions.{is_write}
-use Rattle.grove_store.specs.StoreStates.{StoreState}
-use Rattle.grove_page.specs.Pages.{json, error_line, visitor, AnswersBody}
+use Rattle.grove_page.specs.Hints.{CallerState}
+use Rattle.grove_page.specs.Pages.{json, error_line, AnswersBody}
 
-pub no_line_is_read : (opening : StoreState) (body : List ℕ) (r : Response)
-    → IsResponse 503 json (error_line (codes "memory")) r → AnswersBody opening body r
-no_line_is_read opening body r said = (
+pub no_line_is_read : (before : CallerState) (body : List ℕ) (r : Response)
+    → IsResponse 503 json (error_line (codes "memory")) r → AnswersBody before body r
+no_line_is_read before body r said = (
   Err Memory,
   [],
   (
-    visitor opening,
+    before,
     record {
       input = [];
       left = body;

@@ -1,5 +1,5 @@
 -- Which hosts a request may name: addresses, and names that nobody else can have resolved to this server.
-use Rattle.std.specs.Prelude.{◌≡◌, ◌==◌, ◌⊎◌, ℕ, List, [], ◌∷◌, Bool, not, codes, take, option_map, option_to_list}
+use Rattle.std.specs.Prelude.{◌==◌, ◌⊎◌, ℕ, List, [], ◌∷◌, Bool, not, codes, take, option_map, option_to_list}
 use Rattle.std.specs.Prelude.{IsTrue}
 use Rattle.std.specs.List.{list_any, prefix_len}
 use Rattle.std.specs.Net.Grammar.{IsIpv4Text}

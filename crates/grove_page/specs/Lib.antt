@@ -1,3 +1,7 @@
 pub mod Routes
 pub mod Hosts
+pub mod Hints
+pub mod Queries
+pub mod NodeLines
+pub mod NodeTokens
 pub mod Pages

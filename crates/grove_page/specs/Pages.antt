@@ -1,37 +1,40 @@
 -- What is replied to a request: a page, the replies to lines, or what a store holds.
-use Rattle.std.specs.Prelude.{◌≡◌, ℕ, ◌==◌, ◌&&◌, ◌⊎◌, nat_lt, Bool, true, false, not, count_by, List, [], ◌∷◌, ◌++◌}
-use Rattle.std.specs.Prelude.{length, Some, Result, Ok, Err, codes, if◌then◌else◌, All}
+use Rattle.std.specs.Prelude.{◌≡◌, ℕ, ◌==◌, ◌&&◌, ◌||◌, ◌⊎◌, nat_lt, Bool, true, false, not, count_by, List, [], ◌∷◌}
+use Rattle.std.specs.Prelude.{◌++◌, length, Option, Some, None, unwrap_or, Result, Ok, Err, codes, if◌then◌else◌, All}
 use Rattle.http.specs.declared.request.Request.{Request}
 use Rattle.http.specs.Request.{head_of, body_of}
-use Rattle.http_uri.specs.Uri.{uri_path}
+use Rattle.http_uri.specs.Uri.{uri_path, uri_query}
 use Rattle.http1.specs.Fields.{Header}
 use Rattle.http_server.specs.declared.response.Response.{Response}
 use Rattle.http_server.specs.declared.state.Config.{Config}
 use Rattle.http_server.specs.Response.{IsResponse, fields_of}
 use Rattle.http_server.specs.History.{History, IsServed}
-use Rattle.serde_json.specs.Written.{compact_text}
 use Rattle.grove_session.specs.declared.session_fault.SessionFault.{SessionFault}
 use Rattle.grove_session.specs.declared.session_fault.SessionFault.TheVariants.{Read, Write, Memory, Turns, Foreign}
 use Rattle.grove_session.specs.Sessions.{Lawful, SessionEnds}
-use Rattle.grove_tree.specs.Weights.{unweighed}
-use Rattle.grove_wire.specs.Documents.{document_text, nodes_data}
+use Rattle.grove_wire.specs.Documents.{document_text}
 use Rattle.grove_store.specs.StoreStates.{StoreState}
 use Rattle.grove_store.specs.Refusals.{is_refusal}
 use Rattle.grove_desk.specs.declared.told.Told.{Told}
-use Rattle.grove_desk.specs.declared.told.Told.TheVariants.{Nothing}
 use Rattle.grove_desk.specs.Histories.{Led}
-use Rattle.grove_desk.specs.Desks.{VisitState, IsShared, is_accepted}
+use Rattle.grove_desk.specs.Desks.{is_accepted}
 use Rattle.grove_page.specs.declared.route.Route.{Route}
-use Rattle.grove_page.specs.declared.route.Route.TheVariants.{Page, Lines, Document, Nodes, Health}
+use Rattle.grove_page.specs.declared.route.Route.TheVariants.{Page, Lines, Document, Nodes, Health, Metrics}
 use Rattle.grove_page.specs.declared.route.Route.TheVariants.{OnlyLook, LookOrSend, ForeignPage, Nowhere}
+use Rattle.grove_page.specs.Hints.{caller, CallerState, IsCallerReply}
+use Rattle.grove_page.specs.declared.nodes.Part.{Part}
 use Rattle.grove_page.specs.Hosts.{IsForHere}
-use Rattle.grove_page.specs.Routes.{route_of}
+use Rattle.grove_page.specs.Queries.{NodesQuery, IsRead}
+use Rattle.grove_page.specs.NodeLines.{line_of_nodes, part_of}
+use Rattle.grove_page.specs.Routes.{asks_for_hints, route_of}
 
--- a page's text, the names that requests may have for its host, and the store that its desk was opened with
+-- a page's text, the names that requests may have for its host, the store that its desk was opened with, and whether
+-- each refusal has a hint
 pub record PageState : Type 0 where
   pub page : List ℕ
   pub hosts : List (List ℕ)
   pub opening : StoreState
+  pub hints : Bool
 
 -- ---- the parts of a reply
 
@@ -48,6 +51,10 @@ html =
 abbrev pub json : List Header
 json = (codes "content-type", codes "application/json; charset=utf-8") ∷ guards
 
+-- its content is what is counted of a server
+abbrev pub metrics_fields : List Header
+metrics_fields = (codes "content-type", codes "text/plain; version=0.0.4; charset=utf-8") ∷ guards
+
 -- the methods that there are, and lines of JSON
 abbrev pub json_for : List ℕ → List Header
 json_for methods = (codes "allow", methods) ∷ json
@@ -57,10 +64,6 @@ abbrev pub error_line : List ℕ → List ℕ
 error_line name = codes "{\"error\":\"" ++ (name ++ codes "\"}\n")
 
 -- ---- lines
-
--- a caller who has seen nothing yet
-abbrev pub visitor : StoreState → VisitState
-visitor opening = record { names = unweighed opening.rows; rounds = 0; told = Nothing }
 
 -- the replies are a single one, and it is a refusal
 abbrev pub is_refused : Result ℕ SessionFault → List ℕ → Bool
@@ -93,23 +96,23 @@ pub record Visits {S : Type 0} (shared : Bool) (lawful : Lawful S) (old : S) (bo
   -- a reply that doesn't go out whole is one that these bytes end in
   pub cut : (written : ℕ) → result ≡ Err (Write written) → written ≡ 16777216
 
--- by a visitor who has seen nothing yet
-abbrev pub VisitsDesk : StoreState → List ℕ → Result ℕ SessionFault → List ℕ → Type 0
-VisitsDesk opening body result out = (new : VisitState) × Visits true IsShared (visitor opening) body result out new
+-- by a caller of a desk
+abbrev pub VisitsDesk : CallerState → List ℕ → Result ℕ SessionFault → List ℕ → Type 0
+VisitsDesk before body result out = (new : CallerState) × Visits true IsCallerReply before body result out new
 
 -- the reply tells of a session over the body
-abbrev pub AnswersBody : StoreState → List ℕ → Response → Type 0
-AnswersBody opening body r =
-    (result : Result ℕ SessionFault) × (out : List ℕ) × VisitsDesk opening body result out × TellsSession result out r
+abbrev pub AnswersBody : CallerState → List ℕ → Response → Type 0
+AnswersBody before body r =
+    (result : Result ℕ SessionFault) × (out : List ℕ) × VisitsDesk before body result out × TellsSession result out r
 
 -- more line feeds than a body may have
 abbrev pub has_many_lines : List ℕ → Bool
 has_many_lines body = nat_lt 16384 (count_by (λ byte. byte == 10) body)
 
 -- of a body with more of them no line is answered
-abbrev pub TakesLines : Bool → StoreState → List ℕ → Response → Type 0
-TakesLines true opening body r = IsResponse 413 json (error_line (codes "lines")) r
-TakesLines false opening body r = AnswersBody opening body r
+abbrev pub TakesLines : Bool → CallerState → List ℕ → Response → Type 0
+TakesLines true before body r = IsResponse 413 json (error_line (codes "lines")) r
+TakesLines false before body r = AnswersBody before body r
 
 -- a body after which the connection ends
 abbrev pub is_long_body : List ℕ → Bool
@@ -121,10 +124,10 @@ pub record EndsWith (reply r : Response) : Type 0 where
   pub fields : fields_of r ≡ fields_of reply ++ (codes "connection", codes "close") ∷ []
   pub body : r.body ≡ reply.body
 
-abbrev pub TakesBody : Bool → StoreState → List ℕ → Response → Type 0
-TakesBody false opening body r = TakesLines (has_many_lines body) opening body r
-TakesBody true opening body r =
-    (reply : Response) × TakesLines (has_many_lines body) opening body reply × EndsWith reply r
+abbrev pub TakesBody : Bool → CallerState → List ℕ → Response → Type 0
+TakesBody false before body r = TakesLines (has_many_lines body) before body r
+TakesBody true before body r =
+    (reply : Response) × TakesLines (has_many_lines body) before body reply × EndsWith reply r
 
 -- ---- stores
 
@@ -132,9 +135,9 @@ TakesBody true opening body r =
 abbrev pub document_line : StoreState → List ℕ
 document_line store = document_text store.rows store.records ++ 10 ∷ []
 
--- where each node is, its record, its waits and its weight
-abbrev pub nodes_line : StoreState → List ℕ
-nodes_line store = compact_text (nodes_data store.rows store.records store.waits) ++ 10 ∷ []
+-- where each node of a part is, its record, its waits and its weight
+abbrev pub nodes_line : StoreState → Part → List ℕ
+nodes_line store part = line_of_nodes store.rows store.records store.waits store.rounds part
 
 -- the reply tells of a store to which lawful rounds lead from the opening one, or that there is no memory for it
 abbrev pub TellsStore : (StoreState → List ℕ) → StoreState → Response → Type 0
@@ -142,24 +145,54 @@ TellsStore line_of opening r =
     ((store : StoreState) × Led opening store × IsResponse 200 json (line_of store) r)
     ⊎ IsResponse 503 json (error_line (codes "memory")) r
 
+-- what is counted of a server, of which no clause says more, or that there is no memory for it
+abbrev pub TellsMetrics : Response → Type 0
+TellsMetrics r =
+    ((text : List ℕ) × IsResponse 200 metrics_fields text r) ⊎ IsResponse 503 json (error_line (codes "memory")) r
+
+-- ---- nodes
+
+abbrev pub LacksMemory : Response → Type 0
+LacksMemory r = IsResponse 503 json (error_line (codes "memory")) r
+
+-- the reply tells of the part of a store, or that there is no such node
+abbrev pub TellsPart : StoreState → Option Part → Response → Type 0
+TellsPart store None r = IsResponse 400 json (error_line (codes "no-path")) r
+TellsPart store (Some part) r = IsResponse 200 json (nodes_line store part) r
+
+-- of a store to which lawful rounds lead from the opening one
+abbrev pub TellsBelow : Option (List ℕ) → StoreState → Response → Type 0
+TellsBelow path opening r =
+    (store : StoreState) × Led opening store × TellsPart store (part_of store.rows path) r
+
+-- what the query asks is told, or that it asks nothing, or that there is no memory for it
+abbrev pub AnswersQuery : List ℕ → StoreState → Response → Type 0
+AnswersQuery query opening r =
+    ((asked : NodesQuery) × IsRead query asked × TellsBelow asked.below opening r)
+    ⊎ ((((asked : NodesQuery) → IsRead query asked → ⊥) × IsResponse 400 json (error_line (codes "query")) r)
+    ⊎ LacksMemory r)
+
 -- ---- requests
 
-abbrev pub IsReplyTo : PageState → List ℕ → Route → Response → Type 0
-IsReplyTo state body Page r = IsResponse 200 html state.page r
-IsReplyTo state body Lines r = TakesBody (is_long_body body) state.opening body r
-IsReplyTo state body Document r = TellsStore document_line state.opening r
-IsReplyTo state body Nodes r = TellsStore nodes_line state.opening r
-IsReplyTo state body Health r = IsResponse 200 json (codes "{\"status\":\"ok\"}\n") r
-IsReplyTo state body OnlyLook r = IsResponse 405 (json_for (codes "GET, HEAD")) (error_line (codes "method")) r
-IsReplyTo state body LookOrSend r = IsResponse 405 (json_for (codes "GET, HEAD, POST")) (error_line (codes "method")) r
-IsReplyTo state body ForeignPage r = IsResponse 403 json (error_line (codes "origin")) r
-IsReplyTo state body Nowhere r = IsResponse 404 json (error_line (codes "not-found")) r
+abbrev pub IsReplyTo : PageState → Option (List ℕ) → List ℕ → Route → Response → Type 0
+IsReplyTo state query body Page r = IsResponse 200 html state.page r
+IsReplyTo state query body Lines r =
+    TakesBody (is_long_body body) (caller (state.hints || asks_for_hints query) state.opening) body r
+IsReplyTo state query body Document r = TellsStore document_line state.opening r
+IsReplyTo state query body Nodes r = AnswersQuery (unwrap_or query []) state.opening r
+IsReplyTo state query body Health r = IsResponse 200 json (codes "{\"status\":\"ok\"}\n") r
+IsReplyTo state query body Metrics r = TellsMetrics r
+IsReplyTo state query body OnlyLook r = IsResponse 405 (json_for (codes "GET, HEAD")) (error_line (codes "method")) r
+IsReplyTo state query body LookOrSend r =
+    IsResponse 405 (json_for (codes "GET, HEAD, POST")) (error_line (codes "method")) r
+IsReplyTo state query body ForeignPage r = IsResponse 403 json (error_line (codes "origin")) r
+IsReplyTo state query body Nowhere r = IsResponse 404 json (error_line (codes "not-found")) r
 
 -- the reply to a request for this server
 abbrev pub IsHereReply : PageState → Request (List ℕ) → Response → Type 0
 IsHereReply state request r =
     let head = head_of request in
-    IsReplyTo state (body_of request) (route_of head.method (uri_path head.uri) head.headers) r
+    IsReplyTo state (uri_query head.uri) (body_of request) (route_of head.method (uri_path head.uri) head.headers) r
 
 -- what is replied to a request: nothing but a refusal, where it names another host
 pub record IsPageReply (state : PageState) (request : Request (List ℕ)) (r : Response) : Type 0 where

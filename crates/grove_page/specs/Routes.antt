@@ -1,14 +1,20 @@
 -- What a request asks for, by its method, its path and the fields that tell which page sends it.
 use Rattle.std.specs.Prelude.{ℕ, List, [], ◌∷◌, ◌++◌, map, Bool, true, false, codes, bytes_eq, ◌||◌, if◌then◌else◌}
+use Rattle.std.specs.Prelude.{Option, Some, None}
 use Rattle.http_header.specs.FieldValue.{FieldValue}
 use Rattle.http_header.specs.HeaderMap.{Entries, get_all}
 use Rattle.grove_page.specs.declared.route.Route.{Route}
-use Rattle.grove_page.specs.declared.route.Route.TheVariants.{Page, Lines, Document, Nodes, Health}
+use Rattle.grove_page.specs.declared.route.Route.TheVariants.{Page, Lines, Document, Nodes, Health, Metrics}
 use Rattle.grove_page.specs.declared.route.Route.TheVariants.{OnlyLook, LookOrSend, ForeignPage, Nowhere}
 
 -- the values of the fields of this name
 abbrev pub values_of : Entries FieldValue → List ℕ → List (List ℕ)
 values_of fields name = map (λ value. value.bytes) (get_all fields name)
+
+-- the query asks for hints
+abbrev pub asks_for_hints : Option (List ℕ) → Bool
+asks_for_hints (Some query) = bytes_eq query (codes "hints")
+asks_for_hints None = false
 
 -- no page is told of, or a single one, whose origin is the one host, by http
 abbrev pub is_of_host : List (List ℕ) → List (List ℕ) → Bool
@@ -37,4 +43,5 @@ route_of method path fields =
     else if bytes_eq path (codes "/document") then look_of method Document
     else if bytes_eq path (codes "/nodes") then look_of method Nodes
     else if bytes_eq path (codes "/health") then look_of method Health
+    else if bytes_eq path (codes "/metrics") then look_of method Metrics
     else Nowhere

@@ -1,25 +1,39 @@
-use crate::{Front, RepliesSink, Visited, visit};
-use grove_desk::{Desk, Opening, Visit};
+use crate::{Front, HintedVisit, RepliesSink, Visited, visit};
+use grove_desk::{Awaited, Desk, Opening};
 use grove_store::Store;
 use grove_tree::NoMemory;
 use std::alloc::AllocGlobal;
 use std::sync::Wait;
 use std::thread::Threads;
+use std::time::{Clock, Duration};
 
-impl<B: Opening, R: Threads + Wait + Sync + AllocGlobal> Front<R> for Desk<B> {
+/// For so many seconds a round is waited for.
+const LONGEST_WAIT: u64 = 30;
+
+impl<B: Opening, R: Threads + Wait + Clock + Sync + AllocGlobal> Front<R> for Desk<B> {
     ghost use Rattle.std.specs.Thread.{IsSync};
 
     ghost opening = { λ desk. desk.opening };
 
     ghost asks = { IsSync R.row };
 
-    fn answer(&self, rt: &R, lines: &[u8], sink: &mut RepliesSink) -> Visited {
-        let mut visitor = Visit::new(self);
+    fn answer(&self, rt: &R, lines: &[u8], hints: bool, sink: &mut RepliesSink) -> Visited {
+        let mut visitor = HintedVisit::new(self, hints, None);
         let ended = visit(rt, &mut visitor, lines, sink);
         Visited::new(ended, visitor.told())
     }
 
     fn snapshot(&self, rt: &R) -> Result<Store, NoMemory> {
         Desk::snapshot(self, rt, rt.alloc())
+    }
+
+    /// Of a desk alone nothing is counted.
+    fn metrics(&self, rt: &R, _by_node: bool) -> Result<String, NoMemory> {
+        Ok(String::new(rt.alloc()))
+    }
+
+    fn snapshot_after(&self, rt: &R, after: u64) -> Result<Awaited, NoMemory> {
+        let longest = Duration::from_secs(LONGEST_WAIT);
+        Desk::snapshot_after(self, rt, rt.alloc(), after, longest)
     }
 }

@@ -2,6 +2,8 @@
 #![tactic(auto)]
 
 pub use front::{Front, Visited};
+pub use hinted_visit::HintedVisit;
+pub use hints::hint_of_refusal;
 pub use page::PAGE;
 pub use replies_sink::{MOST_REPLIES, RepliesSink};
 pub use route::{Route, route_for};
@@ -11,10 +13,14 @@ pub use visiting::visit;
 
 mod desk_front;
 mod front;
+mod hinted_visit;
+mod hints;
 mod hosts;
 mod lines;
+mod nodes;
 mod origin;
 mod page;
+mod query;
 mod replies;
 mod replies_sink;
 mod route;

@@ -231,9 +231,9 @@ async function answerOf(path, how) {
   throw new Refused(`The server answered ${response.status}${told && `: ${told}`}`);
 }
 
-/** The reply to each line, as a value. */
+/** The reply to each line, as a value; a refusal has a hint. */
 async function repliesTo(lines) {
-  const text = await answerOf("/", { method: "POST", body: lines.join("\n") + "\n" });
+  const text = await answerOf("/?hints", { method: "POST", body: lines.join("\n") + "\n" });
   return text.split("\n").slice(0, -1).map(parsed);
 }
 

@@ -1,7 +1,7 @@
 ghost use Rattle.std.specs.Prelude.{◌≡◌, ◌++◌, OnOk, codes, IsTrue};
 ghost use Rattle.http_header.specs.FieldValue.{is_visible_text};
 ghost use Rattle.http_server.specs.Response.{IsBlank, IsResponse, fields_of};
-ghost use Rattle.grove_page.specs.Pages.{guards, html, json, json_for, error_line};
+ghost use Rattle.grove_page.specs.Pages.{guards, html, json, json_for, metrics_fields, error_line};
 
 use bytes::{BufMut, Bytes};
 use http::{HeaderValue, StatusCode, header};
@@ -46,6 +46,17 @@ pub(crate) fn fill_json(
     response.add_header(header::CONTENT_TYPE, kind)?;
     add_guards(response)?;
     response.body.put_slice(lines)
+}
+
+/// What is counted of a server.
+pub(crate) fn fill_metrics(response: &mut Response, text: &str) -> Result<(), AllocError>
+    requires { IsBlank response.old }
+    ensures { OnOk result (IsResponse 200 metrics_fields text.now response.new) }
+{
+    let kind = HeaderValue::from_static("text/plain; version=0.0.4; charset=utf-8");
+    response.add_header(header::CONTENT_TYPE, kind)?;
+    add_guards(response)?;
+    response.body.put_slice(text.as_bytes())
 }
 
 /// That there are only these methods.

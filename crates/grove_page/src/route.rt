@@ -1,8 +1,9 @@
 ghost use Rattle.std.specs.Prelude.{◌≡◌};
-ghost use Rattle.grove_page.specs.Routes.{route_of, look_of, look_or_send_of};
+ghost use Rattle.http_uri.specs.Uri.{uri_query};
+ghost use Rattle.grove_page.specs.Routes.{asks_for_hints, route_of, look_of, look_or_send_of};
 
 use crate::origin::is_from_here;
-use http::{HeaderMap, HeaderValue};
+use http::{HeaderMap, HeaderValue, Uri};
 
 /// What a request asks for.
 #[derive(Clone, Copy, Debug, PartialEq, Eq)]
@@ -17,6 +18,8 @@ pub enum Route {
     Nodes,
     /// Whether it is served.
     Health,
+    /// What is counted of the server.
+    Metrics,
     /// Something that is there, but by another method: it can only be looked at.
     OnlyLook,
     /// Something that is there, but by another method: it can be looked at, and lines can be sent to it.
@@ -36,8 +39,16 @@ pub fn route_for(method: &str, path: &str, fields: &HeaderMap<HeaderValue>) -> R
         "/document" => look(method, Route::Document),
         "/nodes" => look(method, Route::Nodes),
         "/health" => look(method, Route::Health),
+        "/metrics" => look(method, Route::Metrics),
         _ => Route::Nowhere,
     }
+}
+
+/// Are hints asked for, as by `/?hints`?
+pub(crate) fn asks_for_hints(uri: &Uri) -> bool
+    ensures { result ≡ asks_for_hints (uri_query uri.now) }
+{
+    matches!(uri.query(), Some("hints"))
 }
 
 /// Where lines can be sent, too.

@@ -1,16 +1,25 @@
-ghost use Rattle.std.specs.Prelude.{◌≡◌, ◌==◌, ◌++◌, count_by, OnOk, OnErr, IfOk, codes, string_bytes};
+ghost use Rattle.std.specs.Prelude.{◌≡◌, ◌==◌, ◌++◌, ◌⊎◌, ℕ, count_by, OnOk, OnErr, IfOk, codes};
 ghost use Rattle.http_server.specs.Response.{IsBlank, IsResponse};
-ghost use Rattle.grove_page.specs.Pages.{json, error_line, document_line, nodes_line, has_many_lines, is_long_body};
+ghost use Rattle.grove_page.specs.Pages.{json, error_line, document_line, has_many_lines, is_long_body};
 ghost use Rattle.grove_page.specs.Pages.{IsHereReply, AnswersBody, TakesLines, TakesBody, TellsStore, TellsSession};
-ghost use Rattle.grove_page.specs.Pages.{is_refused};
+ghost use Rattle.grove_page.specs.Pages.{is_refused, AnswersQuery, TellsBelow, TellsPart, LacksMemory, TellsMetrics};
+ghost use Rattle.grove_page.specs.NodeLines.{part_of};
+ghost use Rattle.grove_store.specs.StoreStates.{StoreState};
+ghost use Rattle.grove_desk.specs.Desks.{TellsLater};
+ghost use Rattle.grove_desk.specs.Histories.{Led};
+ghost use Rattle.grove_page.specs.Hints.{caller};
 
 use crate::hosts::is_for_here;
 use crate::lines::{document_line, nodes_line};
-use crate::replies::{fill_allowed, fill_json, fill_page};
-use crate::route::{Route, route_for};
+use crate::nodes::part_for;
+use crate::query::{NodesQuery, QueryFault, read_query};
+use crate::replies::{fill_allowed, fill_json, fill_metrics, fill_page};
+use crate::route::{Route, asks_for_hints, route_for};
 use crate::{Front, RepliesSink, Visited};
 use bytes::{BufMut, Bytes};
+use grove_desk::Awaited;
 use grove_session::SessionFault;
+use grove_store::Store;
 use grove_tree::NoMemory;
 use http::{HeaderValue, Request, StatusCode, header};
 use http_server::{Response, Service};
@@ -35,6 +44,10 @@ const FOREIGN: &[u8] = b"{\"error\":\"foreign\"}\n";
 
 const DEVICE: &[u8] = b"{\"error\":\"device\"}\n";
 
+const BAD_QUERY: &[u8] = b"{\"error\":\"query\"}\n";
+
+const NO_PATH: &[u8] = b"{\"error\":\"no-path\"}\n";
+
 const ORIGIN: &[u8] = b"{\"error\":\"origin\"}\n";
 
 const HOST: &[u8] = b"{\"error\":\"host\"}\n";
@@ -50,6 +63,7 @@ pub(crate) struct PageService<'a, R, F: Front<R>> {
     pub(crate) front: &'a F,
     pub(crate) page: &'static str,
     pub(crate) hosts: &'a [String],
+    pub(crate) hints: bool,
 }
 
 impl<'a, R, F: Front<R>> Model for PageService<'a, R, F> {
@@ -62,6 +76,7 @@ impl<'a, R, F: Front<R>> Model for PageService<'a, R, F> {
       page = service.page.now;
       hosts = map string_bytes service.hosts.now;
       opening = F.opening service.front.now;
+      hints = service.hints;
     } };
 
     ghost invariant = { λ service. F.asks };
@@ -96,10 +111,14 @@ impl<'a, R: AllocGlobal, F: Front<R>> PageService<'a, R, F> {
         let path = request.uri().path();
         match route_for(request.method().as_str(), path, request.headers()) {
             Route::Page => fill_page(response, self.page),
-            Route::Lines => self.take_body(request.body().as_slice(), response),
+            Route::Lines => {
+                let hints = self.hints || asks_for_hints(request.uri());
+                self.take_body(request.body().as_slice(), hints, response)
+            }
             Route::Document => self.tell_document(response),
-            Route::Nodes => self.tell_nodes(response),
+            Route::Nodes => self.tell_nodes(request.uri().query().unwrap_or(""), response),
             Route::Health => fill_json(response, StatusCode::OK, HEALTHY),
+            Route::Metrics => self.tell_metrics(asks_for_nodes(request.uri().query()), response),
             Route::OnlyLook => fill_allowed(response, "GET, HEAD"),
             Route::LookOrSend => fill_allowed(response, "GET, HEAD, POST"),
             Route::ForeignPage => fill_json(response, StatusCode::FORBIDDEN, ORIGIN),
@@ -108,11 +127,17 @@ impl<'a, R: AllocGlobal, F: Front<R>> PageService<'a, R, F> {
     }
 
     /// The replies to the lines of a body. A long one is the connection's last.
-    fn take_body(&self, lines: &[u8], response: &mut Response) -> Result<(), AllocError>
+    fn take_body(
+        &self,
+        lines: &[u8],
+        hints: bool,
+        response: &mut Response,
+    ) -> Result<(), AllocError>
         requires { IsBlank response.old }
-        ensures { OnOk result (TakesBody (is_long_body lines.now) self.now.opening lines.now response.new) }
+        ensures { OnOk result (TakesBody (is_long_body lines.now) (caller hints self.now.opening) lines.now
+            response.new) }
     {
-        self.take_lines(lines, response)?;
+        self.take_lines(lines, hints, response)?;
         if lines.len() > MOST_KEPT {
             return response.add_header(header::CONNECTION, HeaderValue::from_static("close"));
         }
@@ -120,25 +145,36 @@ impl<'a, R: AllocGlobal, F: Front<R>> PageService<'a, R, F> {
     }
 
     /// The replies to the lines of a body, if they are few enough.
-    fn take_lines(&self, lines: &[u8], response: &mut Response) -> Result<(), AllocError>
+    fn take_lines(
+        &self,
+        lines: &[u8],
+        hints: bool,
+        response: &mut Response,
+    ) -> Result<(), AllocError>
         requires { IsBlank response.old }
-        ensures { OnOk result (TakesLines (has_many_lines lines.now) self.now.opening lines.now response.new) }
+        ensures { OnOk result (TakesLines (has_many_lines lines.now) (caller hints self.now.opening) lines.now
+            response.new) }
     {
         if has_many_lines(lines) {
             return fill_json(response, StatusCode::PAYLOAD_TOO_LARGE, TOO_MANY_LINES);
         }
-        self.answer_lines(lines, response)
+        self.answer_lines(lines, hints, response)
     }
 
     /// The replies to the lines of a body.
     #[tactic(auto, using(crate::proofs::Unread::no_line_is_read))]
-    fn answer_lines(&self, lines: &[u8], response: &mut Response) -> Result<(), AllocError>
+    fn answer_lines(
+        &self,
+        lines: &[u8],
+        hints: bool,
+        response: &mut Response,
+    ) -> Result<(), AllocError>
         requires { IsBlank response.old }
-        ensures { OnOk result (AnswersBody self.now.opening lines.now response.new) }
+        ensures { OnOk result (AnswersBody (caller hints self.now.opening) lines.now response.new) }
     {
         match RepliesSink::new(self.rt.alloc()) {
             Ok(mut sink) => {
-                let visited = self.front.answer(self.rt, lines, &mut sink);
+                let visited = self.front.answer(self.rt, lines, hints, &mut sink);
                 fill_replies(response, visited, sink.bytes())
             }
             Err(NoMemory) => fill_json(response, StatusCode::SERVICE_UNAVAILABLE, NO_MEMORY),
@@ -156,16 +192,101 @@ impl<'a, R: AllocGlobal, F: Front<R>> PageService<'a, R, F> {
         }
     }
 
-    /// What there is of each node.
-    fn tell_nodes(&self, response: &mut Response) -> Result<(), AllocError>
+    /// What the query asks of the nodes, once the round is done that it waits for.
+    fn tell_nodes(&self, query: &str, response: &mut Response) -> Result<(), AllocError>
         requires { IsBlank response.old }
-        ensures { OnOk result (TellsStore nodes_line self.now.opening response.new) }
+        ensures { OnOk result (AnswersQuery query.now self.now.opening response.new) }
     {
-        match self.front.snapshot(self.rt) {
-            Ok(store) => fill_line(response, nodes_line(self.rt.alloc(), &store)),
+        match read_query(self.rt.alloc(), query.as_bytes()) {
+            Ok(asked) => self.tell_asked(&asked, response),
+            Err(QueryFault::Bad) => fill_json(response, StatusCode::BAD_REQUEST, BAD_QUERY),
+            Err(QueryFault::Memory) => {
+                fill_json(response, StatusCode::SERVICE_UNAVAILABLE, NO_MEMORY)
+            }
+        }
+    }
+
+    /// What is asked of the nodes.
+    fn tell_asked(&self, asked: &NodesQuery, response: &mut Response) -> Result<(), AllocError>
+        requires { IsBlank response.old }
+        ensures { OnOk result (TellsBelow asked.now.below self.now.opening response.new ⊎ LacksMemory response.new) }
+    {
+        match self.store_for(asked) {
+            Ok(store) => self.tell_part(&store, asked, response),
             Err(NoMemory) => fill_json(response, StatusCode::SERVICE_UNAVAILABLE, NO_MEMORY),
         }
     }
+
+    /// The store, once the round is done that is waited for.
+    fn store_for(&self, asked: &NodesQuery) -> Result<Store, NoMemory>
+        ensures { IfOk result (Led self.now.opening) }
+    {
+        match (asked.after, &asked.below) {
+            (Some(after), Some(path)) => self.store_with(after, path),
+            (Some(after), None) => self.store_after(after),
+            (None, _) => self.front.snapshot(self.rt),
+        }
+    }
+
+    /// The store once a later round is done. If no node has the path, nothing is waited for.
+    fn store_with(&self, after: u64, path: &str) -> Result<Store, NoMemory>
+        ensures { IfOk result (Led self.now.opening) }
+    {
+        let store = self.front.snapshot(self.rt)?;
+        if store.rounds() > after || store.tree().find(path).is_none() {
+            return Ok(store);
+        }
+        self.store_after(after)
+    }
+
+    /// The store once a later round is done, or as it stands if that takes too long.
+    fn store_after(&self, after: u64) -> Result<Store, NoMemory>
+        ensures { IfOk result (Led self.now.opening) }
+    {
+        Ok(store_of(self.front.snapshot_after(self.rt, after)?))
+    }
+
+    /// What there is of the nodes that are asked for.
+    fn tell_part(
+        &self,
+        store: &Store,
+        asked: &NodesQuery,
+        response: &mut Response,
+    ) -> Result<(), AllocError>
+        requires { IsBlank response.old }
+        ensures { OnOk result (TellsPart store.now (part_of store.now.rows asked.now.below) response.new
+            ⊎ LacksMemory response.new) }
+    {
+        match part_for(store.tree(), asked) {
+            Some(part) => fill_line(response, nodes_line(self.rt.alloc(), store, &part)),
+            None => fill_json(response, StatusCode::BAD_REQUEST, NO_PATH),
+        }
+    }
+
+    /// What is counted of the server.
+    fn tell_metrics(&self, by_node: bool, response: &mut Response) -> Result<(), AllocError>
+        requires { IsBlank response.old }
+        ensures { OnOk result (TellsMetrics response.new) }
+    {
+        match self.front.metrics(self.rt, by_node) {
+            Ok(text) => fill_metrics(response, &text),
+            Err(NoMemory) => fill_json(response, StatusCode::SERVICE_UNAVAILABLE, NO_MEMORY),
+        }
+    }
+}
+
+/// The store that was waited for, whether it is a later one or not.
+fn store_of(awaited: Awaited) -> Store
+    ensures { (opening : StoreState) → (after : ℕ) → TellsLater opening after awaited → Led opening result }
+{
+    match awaited {
+        Awaited::Later(store) | Awaited::Unchanged(store) => store,
+    }
+}
+
+/// Does the query ask for what is counted of each node?
+fn asks_for_nodes(query: Option<&str>) -> bool {
+    matches!(query, Some("nodes=1"))
 }
 
 /// Are there more line feeds than a body may have?
@@ -182,13 +303,13 @@ fn count_feeds(lines: &[u8]) -> usize
 }
 
 /// A line that tells of a store, or that there is no memory for it.
-fn fill_line(response: &mut Response, line: Result<String, NoMemory>) -> Result<(), AllocError>
+fn fill_line(response: &mut Response, line: Result<Vec<u8>, NoMemory>) -> Result<(), AllocError>
     requires { IsBlank response.old }
-    ensures told { OnOk result (IfOk line (λ line. IsResponse 200 json (string_bytes line) response.new)) }
+    ensures told { OnOk result (IfOk line (λ line. IsResponse 200 json line.items response.new)) }
     ensures refused { OnOk result (OnErr line (IsResponse 503 json (error_line (codes "memory")) response.new)) }
 {
     match line {
-        Ok(line) => fill_json(response, StatusCode::OK, line.as_bytes()),
+        Ok(line) => fill_json(response, StatusCode::OK, &line),
         Err(NoMemory) => fill_json(response, StatusCode::SERVICE_UNAVAILABLE, NO_MEMORY),
     }
 }

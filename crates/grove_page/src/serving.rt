@@ -21,6 +21,8 @@ pub struct Site<'a> {
     pub page: &'static str,
     /// Names that a request may have for its host, beside addresses and `localhost`.
     pub hosts: &'a [String],
+    /// Whether each refusal of a line has a hint; else only that of a request that asks for hints.
+    pub hints: bool,
 }
 
 /// Serves a connection: reads its requests, and writes what is replied to them, until it is done.
@@ -38,6 +40,7 @@ pub fn serve_page<R: AllocGlobal, F: Front<R>, I: Read, O: Write>(
           page = site.entry.page.now;
           hosts = map string_bytes site.entry.hosts.now;
           opening = F.opening front.now;
+          hints = site.entry.hints;
         }) config history
         × Consumes (I.remaining reader.old) (I.remaining reader.new) history.received
         × Appends (O.contents writer.old) (O.contents writer.new) history.sent
@@ -46,12 +49,13 @@ pub fn serve_page<R: AllocGlobal, F: Front<R>, I: Read, O: Write>(
     let mut config = Config::default();
     config.max_body_len = MOST_BODY;
     let mut connection = Connection::new(rt.alloc(), keys, config);
-    let Site { page, hosts } = site;
+    let Site { page, hosts, hints } = site;
     let mut service = PageService {
         rt,
         front,
         page,
         hosts,
+        hints,
     };
     serve(&mut connection, &mut service, reader, writer)
 }

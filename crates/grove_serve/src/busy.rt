@@ -1,9 +1,13 @@
+use crate::event::Event;
+use crate::seats::Seats;
 use crate::service::Talk;
 use grove_session::{WriterSink, write_whole};
 use std::io::Read;
 use std::net::{Shutdown, TcpStream};
+use std::sync::Wait;
+use std::time::Clock;
 
-/// What a connection is told that there is no seat for.
+/// What a connection is told for which there is no slot.
 const LINE: &[u8] = b"{\"error\":\"busy\"}\n";
 
 /// The same over HTTP.
@@ -19,20 +23,36 @@ const RESPONSE: &[u8] = b"HTTP/1.1 503 Service Unavailable\r\n\
 /// So many pieces of what has come are read, so that the connection isn't reset before the response has arrived.
 const MOST_PIECES: usize = 16;
 
-/// Says that there is no seat. Nobody waits for a client that takes nothing.
-pub fn tell_busy(stream: &TcpStream, talk: Talk) {
+/// Says that there is no slot, and counts and logs it.
+pub fn turn_away<R: Wait + Clock + Eprint>(
+    rt: &R,
+    seats: &Seats,
+    stream: &TcpStream,
+    talk: Talk,
+    connection: u64,
+) {
+    tell_busy(stream, talk);
+    seats.metrics().traffic(talk).turned_away.count_one();
+    if let Some(log) = seats.log() {
+        log.write(rt, Event::TurnedAway { connection });
+    }
+}
+
+/// Says that there is no slot. Nobody waits for a client that takes nothing.
+fn tell_busy(stream: &TcpStream, talk: Talk) {
     let told = match talk {
         Talk::Lines => LINE,
         Talk::Requests => RESPONSE,
     };
     let _at_once = stream.set_nonblocking(true);
     let _told = write_whole(&mut WriterSink::new(stream), told);
-    let _ended = stream.shutdown(Shutdown::Write);
-    pass_over(stream);
+    end_gently(stream);
 }
 
-/// Reads what has come.
-fn pass_over(stream: &TcpStream) {
+/// Ends the connection behind what was written, and reads what has come, so that nothing of it is lost by a reset.
+pub fn end_gently(stream: &TcpStream) {
+    let _at_once = stream.set_nonblocking(true);
+    let _ended = stream.shutdown(Shutdown::Write);
     let mut reader = stream;
     let mut piece = [0u8; 4096];
     for _ in 0..MOST_PIECES {

@@ -1,12 +1,16 @@
 ghost use Rattle.std.specs.Prelude.{◌≡◌, false};
 
-use crate::busy::tell_busy;
+use crate::busy::turn_away;
+use crate::event::Event;
 use crate::host::Host;
-use crate::minutes::tell_minutes;
+use crate::minutes::log_minutes;
 use crate::seats::Seats;
-use crate::service::{Door, Service};
+use crate::service::{Door, Service, Talk};
 use crate::talking::{Caller, serve_caller};
 use grove_desk::{Desk, Opening};
+use grove_store::Store;
+use grove_tree::{NoMemory, Tree};
+use std::alloc::Global;
 use std::marker::Brand;
 use std::net::SocketAddr;
 use std::{io, thread};
@@ -16,7 +20,7 @@ const NO_DESCRIPTOR_HERE: i32 = 24;
 
 const NO_DESCRIPTOR_AT_ALL: i32 = 23;
 
-/// Serves connections, as many at once as there are seats, until none can be accepted any more and the others have
+/// Serves connections, as many at once as there are slots, until none can be accepted any more and the others have
 /// ended. A connection that there is no descriptor for waits for one; one that no thread can be started for is closed.
 pub fn serve<R: Host>(rt: &R, service: Service) {
     serve_as::<Brand, R>(rt, service);
@@ -33,12 +37,21 @@ fn serve_as<B: Opening + Send + Sync, R: Host>(rt: &R, service: Service)
         http,
         manner,
     } = service;
+    let tree = tree_of(rt.alloc(), &store);
     let desk = Desk::<B>::open(rt.alloc(), store, false);
-    let seats = Seats::new(&door, http.as_ref(), manner);
+    let seats = Seats::new(rt, rt.alloc(), &door, http.as_ref(), manner, tree);
     serve_at(rt, &desk, &seats, &door, http.as_ref());
 }
 
-/// Serves the connections of the doors at the desk, and tells of each minute meanwhile.
+/// A copy of the store's tree, if there is memory for it: its names stay the same.
+fn tree_of(alloc: Global, store: &Store) -> Option<Tree> {
+    match store.tree().copy(alloc) {
+        Ok(tree) => Some(tree),
+        Err(NoMemory) => None,
+    }
+}
+
+/// Serves the connections of the doors at the desk, and logs each minute meanwhile.
 fn serve_at<B: Opening + Send + Sync, R: Host>(
     rt: &R,
     desk: &Desk<B>,
@@ -48,7 +61,7 @@ fn serve_at<B: Opening + Send + Sync, R: Host>(
 ) {
     thread::scope(thread::scope_env(), rt, |scope| {
         if seats.log().is_some() {
-            let _told = scope.spawn(move || tell_minutes(rt, desk, seats));
+            let _told = scope.spawn(move || log_minutes(rt, desk, seats));
         }
         open(rt, desk, seats, door, http);
         if let Some(log) = seats.log() {
@@ -69,24 +82,24 @@ fn open<B: Opening + Send + Sync, R: Host>(
         if let Some(http) = http {
             let served = scope.spawn(move || welcome(rt, desk, seats, http));
             if served.is_err() {
-                tell_unserved(rt, seats);
+                log_event(rt, seats, Event::NoHttp);
             }
         }
         welcome(rt, desk, seats, door);
     });
 }
 
-/// Serves a door's connections, each in its seat.
+/// Serves a door's connections, each in its place.
 fn welcome<B: Opening + Send + Sync, R: Host>(rt: &R, desk: &Desk<B>, seats: &Seats, door: &Door) {
     thread::scope(thread::scope_env(), rt, |scope| {
         for _ in rt.forever() {
-            match next_seated(rt, seats, door) {
+            match next_caller(rt, seats, door) {
                 Ok(Some(caller)) => {
-                    let number = caller.number;
+                    let (connection, place) = (caller.number, caller.place);
                     let spawned = scope.spawn(move || serve_caller(rt, desk, seats, caller));
                     if spawned.is_err() {
-                        tell_threadless(rt, seats, number);
-                        seats.pool(door.talk).leave(rt);
+                        log_event(rt, seats, Event::NoThread { connection });
+                        seats.pool(door.talk).leave(rt, place);
                     }
                 }
                 Ok(None) => {}
@@ -96,35 +109,38 @@ fn welcome<B: Opening + Send + Sync, R: Host>(rt: &R, desk: &Desk<B>, seats: &Se
     });
 }
 
-/// The next connection, in a seat; nobody, where there was no seat or no descriptor for it, which is waited for then. A
-/// connection that isn't told of seats isn't accepted until it has one.
-fn next_seated<R: Host>(rt: &R, seats: &Seats, door: &Door) -> io::Result<Option<Caller>> {
-    let tells_busy = seats.patience().tells_busy;
+/// The next connection, in a place of the pool; nobody, if there was no place or no descriptor for it, which is waited
+/// for then. A connection that isn't told so isn't accepted until there is a place for it.
+fn next_caller<R: Host>(rt: &R, seats: &Seats, door: &Door) -> io::Result<Option<Caller>> {
     let pool = seats.pool(door.talk);
-    if !tells_busy {
-        pool.take(rt);
-    }
+    let place = if seats.patience().tells_busy {
+        None
+    } else {
+        Some(pool.take(rt))
+    };
     match door.listener.accept() {
         Ok((stream, address)) => {
-            let number = tell_arrival(rt, seats, address);
+            let number = note_arrival(rt, seats, door.talk, address);
             let talk = door.talk;
-            Ok(seated(
-                rt,
-                seats,
-                Caller {
+            match place.or_else(|| pool.take_free(rt)) {
+                Some(place) => Ok(Some(Caller {
                     stream,
                     number,
                     talk,
-                },
-                tells_busy,
-            ))
-        }
-        Err(error) if wants_descriptor(&error) => {
-            if let Some(log) = seats.log() {
-                log.want_descriptor(rt);
+                    place,
+                })),
+                None => {
+                    turn_away(rt, seats, &stream, talk, number);
+                    Ok(None)
+                }
             }
-            if !tells_busy {
-                pool.leave(rt);
+        }
+        Err(error) if lacks_descriptor(&error) => {
+            if let Some(log) = seats.log() {
+                log.lack_descriptor(rt);
+            }
+            if let Some(place) = place {
+                pool.leave(rt, place);
             }
             pool.wait(rt);
             Ok(None)
@@ -133,49 +149,30 @@ fn next_seated<R: Host>(rt: &R, seats: &Seats, door: &Door) -> io::Result<Option
     }
 }
 
-/// The caller, in a seat that it has or takes. Where there is none for it, it is told so.
-fn seated<R: Host>(rt: &R, seats: &Seats, caller: Caller, tells_busy: bool) -> Option<Caller> {
-    if !tells_busy || seats.pool(caller.talk).take_free(rt) {
-        return Some(caller);
-    }
-    tell_busy(&caller.stream, caller.talk);
-    if let Some(log) = seats.log() {
-        let number = caller.number;
-        log.tell(rt, format_args!("connection {number} was told busy"));
-    }
-    None
-}
-
-/// Tells that a connection was taken, and gives its number.
-fn tell_arrival<R: Host>(rt: &R, seats: &Seats, address: SocketAddr) -> u64 {
+/// Counts and logs that a connection was accepted, and gives its number.
+fn note_arrival<R: Host>(rt: &R, seats: &Seats, talk: Talk, address: SocketAddr) -> u64 {
+    seats.metrics().traffic(talk).accepted.count_one();
     let Some(log) = seats.log() else {
         return 0;
     };
     log.have_descriptor();
-    let number = log.next_number();
-    log.tell(rt, format_args!("connection {number} from {address}"));
-    number
+    let connection = log.next_number();
+    let accepted = Event::Accepted {
+        connection,
+        address,
+    };
+    log.write(rt, accepted);
+    connection
 }
 
-/// Tells that there was no thread for the connection.
-fn tell_threadless<R: Host>(rt: &R, seats: &Seats, number: u64) {
+fn log_event<R: Host>(rt: &R, seats: &Seats, event: Event<'_>) {
     if let Some(log) = seats.log() {
-        log.tell(
-            rt,
-            format_args!("connection {number} cannot be served: no thread"),
-        );
+        log.write(rt, event);
     }
 }
 
-/// Tells that there was no thread to accept the connections of the second port.
-fn tell_unserved<R: Host>(rt: &R, seats: &Seats) {
-    if let Some(log) = seats.log() {
-        log.tell(rt, "requests over HTTP cannot be served: no thread");
-    }
-}
-
-/// Whether a descriptor is all that was wanting.
-fn wants_descriptor(error: &io::Error) -> bool {
+/// Whether a descriptor is all that is lacking.
+fn lacks_descriptor(error: &io::Error) -> bool {
     matches!(
         error.raw_os_error(),
         Some(NO_DESCRIPTOR_HERE | NO_DESCRIPTOR_AT_ALL)

@@ -1,5 +1,5 @@
+use crate::event::Level;
 use grove_session::SessionFault;
-use std::fmt;
 use std::io::{self, ErrorKind};
 
 /// Why nothing more is talked over a connection.
@@ -53,21 +53,39 @@ impl Ending {
     }
 }
 
-impl fmt::Display for Ending {
-    fn fmt<W: fmt::Write>(&self, f: &mut fmt::Formatter<W>) -> fmt::Result {
+impl Ending {
+    /// Its name in the log.
+    pub fn name(self) -> &'static str {
         match self {
-            Ending::InputEnded => f.write_str("its input ended"),
-            Ending::RequestsEnded => f.write_str("its requests ended"),
-            Ending::Idle(1) => f.write_str("it idled for 1 second"),
-            Ending::Idle(seconds) => write!(f, "it idled for {seconds} seconds"),
-            Ending::Unread => f.write_str("it could not be read"),
-            Ending::Unwritten => f.write_str("it could not be written"),
-            Ending::Broken => f.write_str("it could not be read or written"),
-            Ending::Memory => f.write_str("no memory"),
-            Ending::Turns => f.write_str("it was read as often as may be"),
-            Ending::Foreign => f.write_str("a line of it was lost"),
-            Ending::Untimed => f.write_str("its time could not be limited"),
-            Ending::Unkeyed => f.write_str("no random numbers"),
+            Ending::InputEnded => "input-ended",
+            Ending::RequestsEnded => "requests-ended",
+            Ending::Idle(_) => "idle",
+            Ending::Unread => "read",
+            Ending::Unwritten => "write",
+            Ending::Broken => "read-or-write",
+            Ending::Memory => "memory",
+            Ending::Turns => "turns",
+            Ending::Foreign => "foreign",
+            Ending::Untimed => "no-time-limit",
+            Ending::Unkeyed => "no-random-numbers",
+        }
+    }
+
+    /// How many seconds it idled, if that is why.
+    pub fn idle(self) -> Option<u32> {
+        match self {
+            Ending::Idle(seconds) => Some(seconds),
+            _ => None,
+        }
+    }
+
+    /// How much it matters in the log.
+    pub fn level(self) -> Level {
+        match self {
+            Ending::InputEnded | Ending::RequestsEnded | Ending::Idle(_) => Level::Info,
+            Ending::Unread | Ending::Unwritten | Ending::Broken => Level::Warn,
+            Ending::Turns | Ending::Foreign => Level::Warn,
+            Ending::Memory | Ending::Untimed | Ending::Unkeyed => Level::Error,
         }
     }
 }

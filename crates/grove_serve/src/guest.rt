@@ -1,104 +1,135 @@
+use crate::counted_stream::CountedStream;
 use crate::ending::Ending;
+use crate::event::Event;
 use crate::log::Log;
-use grove_base::NoMemory;
-use grove_hint::hint_of_request;
-use grove_store::Refusal;
-use grove_wire::Fault;
+use crate::seats::Seats;
+use crate::service::Talk;
+use grove_base::Hint;
 use std::alloc::AllocGlobal;
 use std::cell::Cell;
-use std::fmt::Display;
+use std::net::TcpStream;
 use std::sync::Wait;
 use std::time::Clock;
 
-/// What is told beside a refusal that is about no part of its line.
+/// What is logged beside a refusal that is about no part of its line.
 const LONG_LINE: &str =
-    "hint: the line has more than the 1048576 bytes that are taken, and wasn't looked into";
+    "the line has more than the 1048576 bytes that are taken, and wasn't looked into";
 
-const NO_MORE_ROUNDS: &str =
-    "hint: the store has counted 18446744073709551615 rounds, and takes no more batches";
-
-/// A connection, as the log tells of it.
+/// A connection, as it is counted and as the log has it.
 #[derive(Drop)]
 pub struct Guest<'a> {
-    log: &'a Log,
+    seats: &'a Seats,
+    talk: Talk,
     number: u64,
     /// How many of its lines are answered.
     lines: Cell<u64>,
+    /// Set once a request has come.
+    has_come: Cell<bool>,
 }
 
 impl<'a> Guest<'a> {
     /// A connection of which no line is answered.
-    pub fn new(log: &'a Log, number: u64) -> Guest<'a> {
+    pub fn new(seats: &'a Seats, talk: Talk, number: u64) -> Guest<'a> {
         Guest {
-            log,
+            seats,
+            talk,
             number,
             lines: Cell::new(0),
+            has_come: Cell::new(false),
         }
+    }
+
+    pub fn seats(&self) -> &'a Seats {
+        self.seats
+    }
+
+    pub fn talk(&self) -> Talk {
+        self.talk
+    }
+
+    /// Notes that a request has come whole.
+    pub fn note_request(&self) {
+        self.has_come.set(true);
+    }
+
+    /// Whether a request has come since this was last reset.
+    pub fn has_come(&self) -> &Cell<bool> {
+        &self.has_come
+    }
+
+    /// What the stream gives, counted.
+    pub fn reader<'s>(&'s self, stream: &'s TcpStream) -> CountedStream<'s> {
+        let traffic = self.seats.metrics().traffic(self.talk);
+        CountedStream::new(stream, &traffic.bytes_received)
+    }
+
+    /// What the stream takes, counted.
+    pub fn writer<'s>(&'s self, stream: &'s TcpStream) -> CountedStream<'s> {
+        let traffic = self.seats.metrics().traffic(self.talk);
+        CountedStream::new(stream, &traffic.bytes_sent)
     }
 
     /// Counts a line that was answered.
     pub fn count_line(&self) {
         self.lines.set(self.lines.get().saturating_add(1));
-        self.log.count_line();
+        self.seats.metrics().lines.count_one();
     }
 
-    /// Tells that the line after those which are answered is refused, and why, with a hint if there is memory for it.
-    pub fn tell_refusal<R: Wait + Clock + Eprint + AllocGlobal>(
+    /// Counts and logs that the line after those which are answered is refused by this name, with its hint if there is
+    /// one.
+    pub fn note_refusal<R: Wait + Clock + Eprint + AllocGlobal>(
         &self,
         rt: &R,
-        line: &[u8],
-        refusal: Refusal,
+        name: &'static str,
+        hint: Option<&Hint>,
     ) {
-        let name = refusal.name();
-        match &refusal {
-            Refusal::Fault(fault) => self.tell_fault(rt, line, name, *fault),
-            Refusal::Rounds => self.tell_line(rt, format_args!("{name}; {NO_MORE_ROUNDS}")),
+        self.seats.metrics().count_refusal(rt, name);
+        if let Some(log) = self.seats.log() {
+            self.log_refusal(rt, log, name, hint.map(|hint| unlabelled(hint.as_str())));
         }
     }
 
-    /// Tells that the line is refused for the fault of this name.
-    fn tell_fault<R: Wait + Clock + Eprint + AllocGlobal>(
+    /// Counts and logs that the line after those which are answered is too long.
+    pub fn note_long_line<R: Wait + Clock + Eprint + AllocGlobal>(&self, rt: &R) {
+        self.seats.metrics().count_refusal(rt, "long-line");
+        if let Some(log) = self.seats.log() {
+            self.log_refusal(rt, log, "long-line", Some(LONG_LINE));
+        }
+    }
+
+    fn log_refusal<R: Wait + Clock + Eprint>(
         &self,
         rt: &R,
-        line: &[u8],
+        log: &Log,
         name: &str,
-        fault: Fault,
+        hint: Option<&str>,
     ) {
-        match hint_of_request(rt.alloc(), line, fault) {
-            Ok(hint) => {
-                let hint = hint.as_str();
-                self.tell_line(rt, format_args!("{name}; {hint}"));
-            }
-            Err(NoMemory) => self.tell_line(rt, name),
+        let event = Event::Refused {
+            connection: self.number,
+            line: self.lines.get().saturating_add(1),
+            name,
+            hint,
+        };
+        log.write(rt, event);
+    }
+
+    /// Counts and logs that the connection has ended, and why.
+    pub fn note_end<R: Wait + Clock + Eprint>(&self, rt: &R, ending: Ending) {
+        if ending.idle().is_some() {
+            self.seats.metrics().traffic(self.talk).idled.count_one();
+        }
+        if let Some(log) = self.seats.log() {
+            let event = Event::Ended {
+                connection: self.number,
+                lines: self.lines.get(),
+                ending,
+            };
+            log.write(rt, event);
         }
     }
+}
 
-    /// Tells that the line after those which are answered is too long.
-    pub fn tell_long_line<R: Wait + Clock + Eprint + AllocGlobal>(&self, rt: &R) {
-        self.tell_line(rt, format_args!("long-line; {LONG_LINE}"));
-    }
-
-    /// Tells this of the line after those which are answered, which is refused.
-    fn tell_line<R: Wait + Clock + Eprint + AllocGlobal, D: Display + Drop>(
-        &self,
-        rt: &R,
-        told: D,
-    ) {
-        self.log.count_refusal();
-        let number = self.number;
-        let place = self.lines.get().saturating_add(1);
-        self.log.tell(
-            rt,
-            format_args!("connection {number}, line {place}: {told}"),
-        );
-    }
-
-    /// Tells that the connection has ended, and why.
-    pub fn tell_end<R: Wait + Clock + Eprint + AllocGlobal>(&self, rt: &R, ending: Ending) {
-        let number = self.number;
-        let lines = self.lines.get();
-        let noun = if lines == 1 { "line" } else { "lines" };
-        let told = format_args!("connection {number} ended after {lines} {noun}: {ending}");
-        self.log.tell(rt, told);
-    }
+/// The hint without what it begins with beside a refused document.
+fn unlabelled(hint: &str) -> &str {
+    hint.strip_prefix("hint: ").unwrap_or(hint)
 }

@@ -1,4 +1,5 @@
-//! The connections of a store's server: who has a seat, what is talked there and for how long, and what is told of it.
+//! The connections of a store's server: who has a slot, what is talked there and for how long, and what is counted and
+//! logged of it.
 #![tactic(auto)]
 
 pub use connections::serve;
@@ -7,13 +8,26 @@ pub use service::{Door, LogForm, Manner, Patience, Service, Talk};
 
 mod busy;
 mod connections;
+mod counted_stream;
+mod counter;
 mod ending;
+mod event;
+mod event_line;
+mod exposition;
+mod fields;
 mod guest;
+mod histogram;
 mod host;
 mod log;
+mod metrics;
+mod metrics_text;
 mod minutes;
 mod pool;
+mod quantile;
+mod room;
+mod scale;
 mod seats;
+mod seconds;
 mod service;
 mod talking;
 mod timed_stream;

@@ -1,56 +1,96 @@
+use crate::event::Event;
+use crate::event_line::EventLine;
 use crate::service::LogForm;
-use serde_json::Value;
-use std::alloc::{AllocError, AllocGlobal};
-use std::fmt::Display;
+use jiff::Timestamp;
 use std::sync::atomic::{AtomicBool, AtomicU64, Ordering};
 use std::sync::{Condvar, Mutex, Wait};
-use std::time::{Clock, Duration, SystemTime, UNIX_EPOCH};
+use std::time::{Clock, Duration};
 
-/// What standard error is told of a server's connections, a line at a time, and what is counted of them for each
-/// minute. Where standard error fails, nothing else does.
+/// So many lines are written in one second.
+const MOST_LINES: u32 = 100;
+
+/// What standard error is told of a server, an event a line. If standard error fails, nothing else does.
 #[derive(Drop)]
 pub struct Log {
     form: LogForm,
     /// Whoever writes a line has it meanwhile.
-    pen: Mutex<()>,
+    pen: Mutex<Pen>,
     connections: AtomicU64,
-    lines: AtomicU64,
-    refused: AtomicU64,
-    /// It was told that no descriptor is left, and no connection was taken since.
+    /// It was told that no descriptor is left, and no connection was accepted since.
     is_wanting: AtomicBool,
-    /// No more connections are taken.
+    /// No more connections are accepted.
     is_closed: Mutex<bool>,
     closed: Condvar,
+}
+
+/// How much was written in a second.
+#[derive(Drop)]
+struct Pen {
+    /// The second, since 1970.
+    second: i64,
+    lines: u32,
+    /// How many events were too many.
+    left_out: u64,
 }
 
 impl Log {
     /// A log whose lines have this form.
     pub fn new(form: LogForm) -> Log {
+        let pen = Pen {
+            second: 0,
+            lines: 0,
+            left_out: 0,
+        };
         Log {
             form,
-            pen: Mutex::new(()),
+            pen: Mutex::new(pen),
             connections: AtomicU64::new(0),
-            lines: AtomicU64::new(0),
-            refused: AtomicU64::new(0),
             is_wanting: AtomicBool::new(false),
             is_closed: Mutex::new(false),
             closed: Condvar::new(),
         }
     }
 
-    /// Tells a line. As an object it is left out if there is no memory for it.
-    pub fn tell<R: Wait + Clock + Eprint + AllocGlobal, D: Display + Drop>(&self, rt: &R, line: D) {
-        let _pen = self.pen.lock(rt);
-        match self.form {
-            LogForm::Text => {
-                let _told = rt.eprintln(line);
-            }
-            LogForm::Json => {
-                if let Ok(object) = object_of(rt, line) {
-                    let _told = rt.eprintln(object);
-                }
+    /// Writes a line for the event, or counts it if its second has too many.
+    pub fn write<R: Wait + Clock + Eprint>(&self, rt: &R, event: Event<'_>) {
+        let mut pen = self.pen.lock(rt);
+        let time = self.turn_to_now(rt, &mut pen);
+        if pen.lines < MOST_LINES {
+            self.write_line(rt, &mut pen, time, event);
+        } else {
+            pen.left_out = pen.left_out.saturating_add(1);
+        }
+    }
+
+    /// Writes how many events of an earlier second were left out, if any were.
+    pub fn catch_up<R: Wait + Clock + Eprint>(&self, rt: &R) {
+        let mut pen = self.pen.lock(rt);
+        self.turn_to_now(rt, &mut pen);
+    }
+
+    /// The time, for whose second the pen is made ready.
+    fn turn_to_now<R: Clock + Eprint>(&self, rt: &R, pen: &mut Pen) -> Timestamp {
+        let time = Timestamp::now(rt).unwrap_or(Timestamp::UNIX_EPOCH);
+        let second = time.as_second();
+        if pen.second != second {
+            let events = pen.left_out;
+            *pen = Pen {
+                second,
+                lines: 0,
+                left_out: 0,
+            };
+            if events > 0 {
+                self.write_line(rt, pen, time, Event::LeftOut { events });
             }
         }
+        time
+    }
+
+    fn write_line<R: Eprint>(&self, rt: &R, pen: &mut Pen, time: Timestamp, event: Event<'_>) {
+        pen.lines = pen.lines.saturating_add(1);
+        let form = self.form;
+        let line = EventLine { form, time, event };
+        let _written = rt.eprintln(format_args!("{line}"));
     }
 
     /// The number of the next connection, from 1.
@@ -60,71 +100,30 @@ impl Log {
             .wrapping_add(1)
     }
 
-    /// Counts a line that was answered.
-    pub fn count_line(&self) {
-        self.lines.fetch_add(1, Ordering::SeqCst);
-    }
-
-    /// Counts a line that was refused.
-    pub fn count_refusal(&self) {
-        self.refused.fetch_add(1, Ordering::SeqCst);
-    }
-
-    /// How many lines were answered since this was last asked.
-    pub fn take_lines(&self) -> u64 {
-        self.lines.swap(0, Ordering::SeqCst)
-    }
-
-    /// How many lines were refused since this was last asked.
-    pub fn take_refused(&self) -> u64 {
-        self.refused.swap(0, Ordering::SeqCst)
-    }
-
-    /// Tells that no descriptor is left for the next connection, once until one is taken.
-    pub fn want_descriptor<R: Wait + Clock + Eprint + AllocGlobal>(&self, rt: &R) {
+    /// Writes that no descriptor is left for the next connection, once until one is accepted.
+    pub fn lack_descriptor<R: Wait + Clock + Eprint>(&self, rt: &R) {
         if !self.is_wanting.swap(true, Ordering::SeqCst) {
-            self.tell(rt, "no descriptor is left for the next connection");
+            self.write(rt, Event::NoDescriptor);
         }
     }
 
-    /// A connection was taken.
+    /// A connection was accepted.
     pub fn have_descriptor(&self) {
         self.is_wanting.store(false, Ordering::SeqCst);
     }
 
-    /// No more connections are taken.
+    /// No more connections are accepted.
     pub fn close<R: Wait>(&self, rt: &R) {
         *self.is_closed.lock(rt) = true;
         self.closed.notify_all();
     }
 
-    /// Waits so long, but no longer than connections are taken, and gives whether they are no more.
+    /// Waits so long, but no longer than connections are accepted, and gives whether they are no more.
     pub fn closes_within<R: Wait + Clock>(&self, rt: &R, longest: Duration) -> bool {
         let is_closed = self.is_closed.lock(rt);
         let (is_closed, _) = self
             .closed
             .wait_timeout_while(rt, is_closed, longest, |is_closed| !*is_closed);
         *is_closed
-    }
-}
-
-/// The line as an object of JSON, with the time in seconds since 1970, which is 0 if the clock gives none.
-fn object_of<R: Wait + Clock + Eprint + AllocGlobal, D: Display + Drop>(
-    rt: &R,
-    line: D,
-) -> Result<String, AllocError> {
-    let alloc = rt.alloc();
-    let event = Value::String(format!(in alloc; "{line}")?).to_string(alloc)?;
-    let time = seconds_now(rt);
-    format!(in alloc; "{{\"event\":{event},\"time\":{time}}}")
-}
-
-fn seconds_now<R: Clock>(rt: &R) -> u64 {
-    let Ok(now) = SystemTime::now(rt) else {
-        return 0;
-    };
-    match now.duration_since(UNIX_EPOCH) {
-        Ok(since) => since.as_secs(),
-        Err(_) => 0,
     }
 }

@@ -1,61 +1,109 @@
+use crate::event::{Event, Minute, RoundTimes};
+use crate::histogram::MOST_BUCKETS;
 use crate::host::Host;
 use crate::log::Log;
+use crate::metrics::Metrics;
+use crate::quantile::time_within;
 use crate::seats::Seats;
+use crate::service::Talk;
 use grove_base::NoMemory;
 use grove_desk::{Desk, Opening};
 use grove_store::Store;
 use std::time::Duration;
 
 /// How many seconds a minute has.
-const MINUTE: u64 = 60;
+const MINUTE: u32 = 60;
 
-/// Tells of each minute in which lines were answered, until no more connections are taken.
-pub fn tell_minutes<B: Opening, R: Host>(rt: &R, desk: &Desk<B>, seats: &Seats) {
+/// What was counted before a minute.
+#[derive(Drop)]
+struct Before {
+    lines: u64,
+    refused: u64,
+    rounds: u64,
+    times: [u64; MOST_BUCKETS],
+}
+
+/// Logs each minute in which lines were answered, and each second what the one before left out, until no more
+/// connections are accepted.
+pub fn log_minutes<B: Opening, R: Host>(rt: &R, desk: &Desk<B>, seats: &Seats) {
     let Some(log) = seats.log() else {
         return;
     };
-    let mut rounds = 0;
+    let mut before = Before::now(seats.metrics());
+    let mut seconds = 0u32;
     for _ in rt.forever() {
-        if log.closes_within(rt, Duration::from_secs(MINUTE)) {
+        if log.closes_within(rt, Duration::from_secs(1)) {
             break;
         }
-        let lines = log.take_lines();
-        if lines > 0 {
-            rounds = tell_minute(rt, desk, log, lines, rounds);
+        log.catch_up(rt);
+        seconds = seconds.saturating_add(1);
+        if seconds >= MINUTE {
+            seconds = 0;
+            before = log_minute(rt, desk, seats, log, before);
         }
     }
 }
 
-/// Tells of a minute with so many lines, where so many rounds were run before it, and gives how many have been since.
-fn tell_minute<B: Opening, R: Host>(
+/// Logs the minute that is over, if lines were answered in it, and gives what is counted before the next one.
+fn log_minute<B: Opening, R: Host>(
     rt: &R,
     desk: &Desk<B>,
+    seats: &Seats,
     log: &Log,
-    lines: u64,
-    before: u64,
-) -> u64 {
-    let refused = log.take_refused();
-    match desk.snapshot(rt, rt.alloc()) {
-        Ok(store) => {
-            let rounds = store.rounds().saturating_sub(before);
-            let waits = waits_of(&store);
-            let told = format_args!(
-                "1 minute: {lines} lines, {refused} refused, {rounds} rounds, {waits} waits"
-            );
-            log.tell(rt, told);
-            store.rounds()
-        }
-        Err(NoMemory) => {
-            log.tell(
-                rt,
-                format_args!("1 minute: {lines} lines, {refused} refused"),
-            );
-            before
+    before: Before,
+) -> Before {
+    let now = Before::now(seats.metrics());
+    if now.lines == before.lines {
+        return before;
+    }
+    let tcp = seats.metrics().traffic(Talk::Lines).in_use();
+    let http = seats.metrics().traffic(Talk::Requests).in_use();
+    let minute = Minute {
+        lines: now.lines.wrapping_sub(before.lines),
+        refused: now.refused.wrapping_sub(before.refused),
+        connections: tcp.saturating_add(http),
+        rounds: now.rounds.saturating_sub(before.rounds),
+        waits: waits_at(rt, desk),
+        times: times_since(seats.metrics(), &before, &now),
+    };
+    log.write(rt, Event::Minute(minute));
+    now
+}
+
+impl Before {
+    /// What is counted by now.
+    fn now(metrics: &Metrics) -> Before {
+        Before {
+            lines: metrics.lines.get(),
+            refused: metrics.refused(),
+            rounds: metrics.rounds.get(),
+            times: metrics.times_of_rounds.counts(),
         }
     }
 }
 
-/// The waits of all nodes.
+/// How long rounds took between two times, if there were any.
+fn times_since(metrics: &Metrics, before: &Before, now: &Before) -> Option<RoundTimes> {
+    let mut counts = [0u64; MOST_BUCKETS];
+    for place in 0..MOST_BUCKETS {
+        counts[place] = now.times[place].wrapping_sub(before.times[place]);
+    }
+    let bounds = metrics.times_of_rounds.bounds();
+    Some(RoundTimes {
+        median: time_within(bounds, &counts, 50)?,
+        slowest: time_within(bounds, &counts, 99)?,
+    })
+}
+
+/// The waits of all nodes, if there is memory to look.
+fn waits_at<B: Opening, R: Host>(rt: &R, desk: &Desk<B>) -> Option<u64> {
+    match desk.snapshot(rt, rt.alloc()) {
+        Ok(store) => Some(waits_of(&store)),
+        Err(NoMemory) => None,
+    }
+}
+
+/// The waits of all nodes of a store.
 fn waits_of(store: &Store) -> u64 {
     let mut waits = 0u64;
     for wait in store.waits() {

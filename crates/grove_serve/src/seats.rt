@@ -1,10 +1,20 @@
+ghost use Rattle.std.specs.Prelude.{◌≡◌};
+
 use crate::log::Log;
+use crate::metrics::Metrics;
 use crate::pool::Pool;
 use crate::service::{Door, Manner, Patience, Talk};
 use grove_page::MOST_KEPT;
+use grove_tree::Tree;
+use std::alloc::Global;
 use std::sync::{Mutex, MutexGuard, Wait};
+use std::time::Clock;
 
-/// The seats of connections, those of each port apart, and how whoever has one is served.
+/// So many connections over HTTP that have no slot are accepted nevertheless, so that requests for the state of the
+/// server are answered.
+const ROOM: u32 = 8;
+
+/// The slots of connections, those of each port apart, how whoever has one is served, and what is counted of them.
 #[derive(Drop)]
 pub struct Seats {
     /// Of those that talk lines.
@@ -15,12 +25,23 @@ pub struct Seats {
     long_body: Mutex<()>,
     patience: Patience,
     hosts: Vec<String>,
+    metrics: Metrics,
+    hints: bool,
+    /// A tree with the names of the store's, by which hints go, if there was memory for it.
+    tree: Option<Tree>,
     log: Option<Log>,
 }
 
 impl Seats {
-    /// All seats of the doors, free.
-    pub fn new(door: &Door, http: Option<&Door>, manner: Manner) -> Seats {
+    /// All slots of the doors, free.
+    pub fn new<R: Clock>(
+        rt: &R,
+        alloc: Global,
+        door: &Door,
+        http: Option<&Door>,
+        manner: Manner,
+        tree: Option<Tree>,
+    ) -> Seats {
         let (lines, requests) = match (door.talk, http) {
             (Talk::Requests, _) => (0, door.seats),
             (Talk::Lines, Some(http)) => (door.seats, http.seats),
@@ -30,18 +51,22 @@ impl Seats {
             patience,
             log,
             hosts,
+            hints,
         } = manner;
         Seats {
-            lines: Pool::new(lines),
-            requests: Pool::new(requests),
+            lines: Pool::new(lines, 0),
+            requests: Pool::new(requests, ROOM),
             long_body: Mutex::new(()),
             patience,
             hosts,
+            metrics: Metrics::new(rt, alloc),
+            hints,
+            tree,
             log: log.map(|form| Log::new(form)),
         }
     }
 
-    /// The seats of connections that talk so.
+    /// The slots of connections that talk so.
     pub fn pool(&self, talk: Talk) -> &Pool {
         match talk {
             Talk::Lines => &self.lines,
@@ -49,7 +74,7 @@ impl Seats {
         }
     }
 
-    /// How long a connection may idle, and whether one without a seat is told.
+    /// How long a connection may idle, and whether one without a slot is told.
     pub fn patience(&self) -> Patience {
         self.patience
     }
@@ -59,7 +84,24 @@ impl Seats {
         &self.hosts
     }
 
-    /// Where it is told who comes and goes, if anywhere.
+    /// What is counted of the server.
+    pub fn metrics(&self) -> &Metrics {
+        &self.metrics
+    }
+
+    /// Whether each refusal of a line has a hint.
+    pub fn hints(&self) -> bool
+        ensures { result ≡ self.now.hints }
+    {
+        self.hints
+    }
+
+    /// A tree with the names of the store's, by which hints go, if it is known.
+    pub fn tree(&self) -> Option<&Tree> {
+        self.tree.as_ref()
+    }
+
+    /// Where it is logged who comes and goes, if anywhere.
     pub fn log(&self) -> Option<&Log> {
         self.log.as_ref()
     }

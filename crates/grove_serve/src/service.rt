@@ -28,6 +28,8 @@ pub struct Manner {
     pub log: Option<LogForm>,
     /// Names that requests may have for their host, beside addresses and `localhost`.
     pub hosts: Vec<String>,
+    /// Whether each refusal of a line has a hint.
+    pub hints: bool,
 }
 
 /// The form of a log's lines.
@@ -48,11 +50,11 @@ pub enum Talk {
     Requests,
 }
 
-/// What is done with connections that idle, and with those that find no seat.
+/// What is done with connections that idle, and with those that find no slot.
 #[derive(Clone, Copy)]
 pub struct Patience {
     /// After how many seconds without a whole line, or a whole request, a connection is ended; without it, never.
     pub idle: Option<u32>,
-    /// Whether a connection that finds no seat is told so and closed; else it waits.
+    /// Whether a connection that finds no slot is told so and closed; else it waits.
     pub tells_busy: bool,
 }

@@ -1,6 +1,9 @@
+use crate::busy::{end_gently, turn_away};
 use crate::ending::Ending;
 use crate::guest::Guest;
 use crate::host::Host;
+use crate::pool::Place;
+use crate::room::state_request;
 use crate::seats::Seats;
 use crate::service::Talk;
 use crate::timed_stream::{Awaited, TimedStream};
@@ -14,49 +17,95 @@ use std::io::{self, Read};
 use std::net::TcpStream;
 use std::time::Duration;
 
-/// A connection that was taken.
+/// How many seconds a client without a slot may take to read a part of its response.
+const LONGEST_WRITE: u64 = 1;
+
+/// A connection that was accepted.
 #[derive(Drop)]
 pub struct Caller {
     pub stream: TcpStream,
     /// Its number in the log, if there is one.
     pub number: u64,
     pub talk: Talk,
+    /// What it has of its port's pool.
+    pub place: Place,
 }
 
-/// A session, or requests, over the connection, which is closed then and leaves its seat. What ends it ends it alone,
-/// and nobody is left there to be told of it.
+/// A session, or requests, over the connection, which is closed then and leaves its place. What ends it ends it alone,
+/// and nobody is left there to be told of it. One that has no slot waits for it, unless it asks for the server's state.
 pub fn serve_caller<B: Opening, R: Host>(rt: &R, desk: &Desk<B>, seats: &Seats, caller: Caller) {
     let Caller {
         stream,
         number,
         talk,
+        place,
     } = caller;
+    let guest = Guest::new(seats, talk, number);
+    let pool = seats.pool(talk);
+    match place {
+        Place::Slot => talk_in_slot(rt, desk, &guest, stream),
+        Place::Room => match state_request(rt, &stream) {
+            Some(length) => {
+                answer_state(rt, desk, &guest, &stream, length);
+                drop(stream);
+                pool.leave(rt, Place::Room);
+            }
+            None if seats.patience().tells_busy => {
+                turn_away(rt, seats, &stream, talk, number);
+                drop(stream);
+                pool.leave(rt, Place::Room);
+            }
+            None => {
+                pool.enter(rt);
+                talk_in_slot(rt, desk, &guest, stream);
+            }
+        },
+    }
+}
+
+/// A session, or requests, over a connection that has a slot, which it leaves then.
+fn talk_in_slot<'a, B: Opening, R: Host>(
+    rt: &R,
+    desk: &'a Desk<B>,
+    guest: &'a Guest<'a>,
+    stream: TcpStream,
+) {
+    let seats = guest.seats();
+    let traffic = seats.metrics().traffic(guest.talk());
+    traffic.begun.count_one();
     // No reply is to wait until the one before it has arrived.
     let _at_once = stream.set_nodelay(true);
-    let guest = seats.log().map(|log| Guest::new(log, number));
-    let ending = match (talk, seats.patience().idle) {
-        (Talk::Lines, None) => {
-            let mut source = ReaderSource::new(&stream);
-            let mut sink = WriterSink::new(&stream);
-            Ending::of_session(session_at(rt, desk, guest.as_ref(), &mut source, &mut sink))
-        }
-        (Talk::Lines, Some(idle)) => answer_in_time(rt, desk, &stream, guest.as_ref(), idle),
-        (Talk::Requests, idle) => answer_requests(rt, desk, seats, &stream, guest.as_ref(), idle),
+    let ending = match (guest.talk(), seats.patience().idle) {
+        (Talk::Lines, None) => answer_lines(rt, desk, guest, &stream),
+        (Talk::Lines, Some(idle)) => answer_in_time(rt, desk, guest, &stream, idle),
+        (Talk::Requests, idle) => answer_requests(rt, desk, guest, &stream, idle),
     };
-    if let Some(guest) = &guest {
-        guest.tell_end(rt, ending);
-    }
-    // Whoever waits for the seat may wait for the descriptor.
+    guest.note_end(rt, ending);
+    traffic.left.count_one();
+    // Whoever waits for the slot may wait for the descriptor.
     drop(stream);
-    seats.pool(talk).leave(rt);
+    seats.pool(guest.talk()).leave(rt, Place::Slot);
+}
+
+/// A session over the stream.
+fn answer_lines<'a, B: Opening, R: Host>(
+    rt: &R,
+    desk: &'a Desk<B>,
+    guest: &'a Guest<'a>,
+    stream: &TcpStream,
+) -> Ending {
+    let mut source = ReaderSource::new(guest.reader(stream));
+    let mut sink = WriterSink::new(guest.writer(stream));
+    let hints = guest.seats().hints();
+    Ending::of_session(session_at(rt, desk, guest, hints, &mut source, &mut sink))
 }
 
 /// A session over the stream, which may idle for so many seconds. A client that takes nothing of its replies idles too.
-fn answer_in_time<B: Opening, R: Host>(
+fn answer_in_time<'a, B: Opening, R: Host>(
     rt: &R,
-    desk: &Desk<B>,
+    desk: &'a Desk<B>,
+    guest: &'a Guest<'a>,
     stream: &TcpStream,
-    guest: Option<&Guest<'_>>,
     seconds: u32,
 ) -> Ending {
     let longest = Duration::from_secs(u64::from(seconds));
@@ -64,65 +113,82 @@ fn answer_in_time<B: Opening, R: Host>(
         return Ending::Untimed;
     }
     let is_late = Cell::new(false);
-    let mut source = ReaderSource::new(TimedStream::new(
-        rt,
-        stream,
-        Awaited::Line,
-        longest,
-        &is_late,
-    ));
-    let mut sink = WriterSink::new(stream);
-    match session_at(rt, desk, guest, &mut source, &mut sink) {
+    let reader = guest.reader(stream);
+    let timed = TimedStream::new(rt, reader, Awaited::Line, longest, &is_late);
+    let mut source = ReaderSource::new(timed);
+    let mut sink = WriterSink::new(guest.writer(stream));
+    let hints = guest.seats().hints();
+    match session_at(rt, desk, guest, hints, &mut source, &mut sink) {
         Err(SessionFault::Read) if is_late.get() => Ending::Idle(seconds),
         ended => Ending::of_session(ended),
     }
 }
 
 /// Requests of HTTP over the stream, each of which may take so many seconds to come, or for ever.
-fn answer_requests<B: Opening, R: Host>(
+fn answer_requests<'a, B: Opening, R: Host>(
     rt: &R,
-    desk: &Desk<B>,
-    seats: &Seats,
+    desk: &'a Desk<B>,
+    guest: &'a Guest<'a>,
     stream: &TcpStream,
-    guest: Option<&Guest<'_>>,
     idle: Option<u32>,
 ) -> Ending {
-    let Ok(keys) = RandomState::new(rt) else {
-        return Ending::Unkeyed;
-    };
     let longest = idle.map(|seconds| Duration::from_secs(u64::from(seconds)));
     if stream.set_read_timeout(longest).is_err() || stream.set_write_timeout(longest).is_err() {
         return Ending::Untimed;
     }
-    let (has_come, was_late) = (Cell::new(false), Cell::new(false));
-    let front = SeatedDesk::new(desk, seats, guest, &has_come);
+    let was_late = Cell::new(false);
+    let front = SeatedDesk::new(desk, guest);
+    let mut reader = guest.reader(stream);
     let ended = match longest {
         Some(longest) => {
-            let awaited = Awaited::Request(&has_come);
-            let mut reader = TimedStream::new(rt, stream, awaited, longest, &was_late);
-            serve_site(rt, &front, seats, keys, &mut reader, stream)
+            let awaited = Awaited::Request(guest.has_come());
+            let mut reader = TimedStream::new(rt, reader, awaited, longest, &was_late);
+            serve_site(rt, &front, guest, &mut reader, stream)
         }
-        None => {
-            let mut reader = stream;
-            serve_site(rt, &front, seats, keys, &mut reader, stream)
-        }
+        None => serve_site(rt, &front, guest, &mut reader, stream),
     };
-    Ending::of_requests(ended, idle, was_late.get())
+    match ended {
+        Ok(ended) => Ending::of_requests(ended, idle, was_late.get()),
+        Err(ending) => ending,
+    }
 }
 
-/// Requests that the reader gives, under the names of the server, with the responses over the stream.
+/// The request of so many bytes that has come over the stream, from a connection without a slot.
+fn answer_state<'a, B: Opening, R: Host>(
+    rt: &R,
+    desk: &'a Desk<B>,
+    guest: &'a Guest<'a>,
+    stream: &TcpStream,
+    length: u64,
+) {
+    let front = SeatedDesk::new(desk, guest);
+    let mut reader = guest.reader(stream).take(length);
+    let _limited = stream.set_write_timeout(Some(Duration::from_secs(LONGEST_WRITE)));
+    let ending = match serve_site(rt, &front, guest, &mut reader, stream) {
+        Ok(ended) => Ending::of_requests(ended, None, false),
+        Err(ending) => ending,
+    };
+    end_gently(stream);
+    guest.note_end(rt, ending);
+}
+
+/// Requests that the reader gives, under the names of the server, with the responses over the stream; or why none is
+/// answered.
 fn serve_site<B: Opening, R: Host, I: Read>(
     rt: &R,
     front: &SeatedDesk<'_, B>,
-    seats: &Seats,
-    keys: RandomState,
+    guest: &Guest<'_>,
     reader: &mut I,
     stream: &TcpStream,
-) -> io::Result<()> {
+) -> Result<io::Result<()>, Ending> {
+    let Ok(keys) = RandomState::new(rt) else {
+        return Err(Ending::Unkeyed);
+    };
     let site = Site {
         page: PAGE,
-        hosts: seats.hosts(),
+        hosts: guest.seats().hosts(),
+        hints: guest.seats().hints(),
     };
-    let mut writer = stream;
-    serve_page(rt, front, site, keys, reader, &mut writer)
+    let mut writer = guest.writer(stream);
+    Ok(serve_page(rt, front, site, keys, reader, &mut writer))
 }

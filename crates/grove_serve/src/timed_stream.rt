@@ -5,19 +5,12 @@ ghost use Rattle.std.specs.Io.KnownBytes.{ReadConsumes};
 use crate::ending::is_late;
 use std::cell::Cell;
 use std::io::{self, Read};
-use std::net::TcpStream;
 use std::time::{Clock, Duration, Instant};
 
 /// A reader whose next read can be limited in time.
 pub trait LimitedRead: Read {
     /// Lets a read wait so long; nothing stands for ever.
     fn limit_read(&self, longest: Option<Duration>) -> io::Result<()>;
-}
-
-impl LimitedRead for &TcpStream {
-    fn limit_read(&self, longest: Option<Duration>) -> io::Result<()> {
-        self.set_read_timeout(longest)
-    }
 }
 
 /// What is waited for over a connection.

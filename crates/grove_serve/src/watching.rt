@@ -1,60 +1,91 @@
-//! Visits of a guest whose lines are counted, and told of where they are refused.
-ghost use Rattle.std.specs.Prelude.{◌≡◌, ◌<◌, ◌^◌, false};
-ghost use Rattle.grove_tree.specs.Weights.{unweighed};
+//! Visits of a guest whose lines are counted, and logged if they are refused.
+ghost use Rattle.std.specs.Prelude.{◌≡◌, ◌<◌, ◌^◌, true, false, List, ℕ};
+ghost use Rattle.std.specs.Io.KnownBytes.{Appends, Consumes};
+ghost use Rattle.grove_session.specs.Sessions.{SessionEnds};
+ghost use Rattle.grove_page.specs.Hints.{caller, CallerState, IsCallerReply};
 
 use crate::guest::Guest;
 use crate::host::Host;
-use crate::seats::Seats;
-use grove_desk::{Desk, Opening, Told, Visit};
-use grove_page::{Front, RepliesSink, Visited, visit};
+use crate::metrics::Metrics;
+use crate::metrics_text::metrics_text;
+use grove_base::{Hint, NoMemory};
+use grove_desk::{Awaited, Desk, Opening, Told};
+use grove_page::{Front, HintedVisit, RepliesSink, Visited, hint_of_refusal, visit};
 use grove_session::{AnswerFault, Answers, SessionFault, Sink, Source, session};
-use grove_store::Store;
-use grove_tree::NoMemory;
-use std::alloc::AllocGlobal;
-use std::cell::Cell;
+use grove_store::{Refusal, Store};
+use std::alloc::{AllocGlobal, Global};
 use std::marker::Model;
+use std::sync::Wait;
+use std::time::Clock;
 
-/// A visitor of a desk who is told of.
+/// A visitor of a desk whose lines are counted.
 #[derive(Drop)]
 pub struct WatchedVisit<'a, B: Opening> {
-    visit: Visit<'a, B>,
+    visit: HintedVisit<'a, B, Metrics>,
     guest: &'a Guest<'a>,
 }
 
 impl<'a, B: Opening> Model for WatchedVisit<'a, B> {
-    ghost use Rattle.grove_desk.specs.Desks.{VisitState};
+    ghost use Rattle.grove_page.specs.Hints.{CallerState};
 
-    ghost Value = { VisitState };
+    ghost Value = { CallerState };
 
     ghost view = { λ watched. watched.visit };
 }
 
 impl<'a, B: Opening> WatchedVisit<'a, B> {
-    /// A visitor who has seen nothing yet.
-    fn new(desk: &'a Desk<B>, guest: &'a Guest<'a>) -> Self
-        ensures { result
-            ≡ record { names = unweighed desk.entry.now.opening.rows; rounds = 0; told = Told.Nothing } }
+    /// A visitor who has seen nothing yet, with hints in refusals if these are asked for.
+    fn new(desk: &'a Desk<B>, guest: &'a Guest<'a>, hints: bool) -> Self
+        ensures { result ≡ caller hints desk.entry.now.opening }
     {
+        let seats = guest.seats();
         WatchedVisit {
-            visit: Visit::new(desk),
+            visit: HintedVisit::watched(desk, seats.metrics(), hints, seats.tree()),
             guest,
         }
     }
 
     /// What the visitor was told last.
     fn told(&self) -> Told
-        ensures { result ≡ self.now.told }
+        ensures { result ≡ self.now.visit.told }
     {
         self.visit.told()
+    }
+
+    /// Counts and logs the line, which is refused, with the hint in its reply, or else with one for the log alone.
+    fn note_refusal<R: Wait + Clock + Eprint + AllocGlobal>(
+        &self,
+        rt: &R,
+        line: &[u8],
+        refusal: Refusal,
+    ) {
+        let name = refusal.name();
+        match self.visit.hint() {
+            Some(hint) => self.guest.note_refusal(rt, name, Some(hint)),
+            None => {
+                let hint = self.logged_hint(rt.alloc(), line, &refusal);
+                self.guest.note_refusal(rt, name, hint.as_ref());
+            }
+        }
+    }
+
+    /// The hint for a refused line, if there is a log, and memory for the hint.
+    fn logged_hint(&self, alloc: Global, line: &[u8], refusal: &Refusal) -> Option<Hint> {
+        let seats = self.guest.seats();
+        let _log = seats.log()?;
+        match hint_of_refusal(alloc, seats.tree(), line, refusal) {
+            Ok(hint) => Some(hint),
+            Err(NoMemory) => None,
+        }
     }
 }
 
 impl<'a, B: Opening, R: Host> Answers<R> for WatchedVisit<'a, B> {
     ghost use Rattle.std.specs.Prelude.{true};
     ghost use Rattle.std.specs.Thread.{IsSync};
-    ghost use Rattle.grove_desk.specs.Desks.{IsShared};
+    ghost use Rattle.grove_page.specs.Hints.{IsCallerReply};
 
-    ghost lawful = { λ old line reply new. IsShared old line reply new };
+    ghost lawful = { λ old line reply new. IsCallerReply old line reply new };
 
     ghost is_shared = { true };
 
@@ -63,7 +94,7 @@ impl<'a, B: Opening, R: Host> Answers<R> for WatchedVisit<'a, B> {
     fn answer(&mut self, rt: &R, line: &[u8]) -> Result<Vec<u8>, AnswerFault> {
         let reply = self.visit.answer(rt, line)?;
         if let Told::Refused(refusal) = self.visit.told() {
-            self.guest.tell_refusal(rt, line, refusal);
+            self.note_refusal(rt, line, refusal);
         }
         self.guest.count_line();
         Ok(reply)
@@ -74,38 +105,39 @@ impl<'a, B: Opening, R: Host> Answers<R> for WatchedVisit<'a, B> {
     }
 
     fn pass_over(&self, rt: &R) {
-        self.guest.tell_long_line(rt);
+        self.guest.note_long_line(rt);
         self.guest.count_line();
     }
 }
 
-/// Answers the lines of the source at the desk, one after the other, and tells of them where there is a guest.
-pub fn session_at<B: Opening, R: Host, I: Source, O: Sink>(
+/// Answers the lines of the guest's source at the desk, one after the other, with hints in refusals if these are asked
+/// for.
+pub fn session_at<'a, B: Opening, R: Host, I: Source, O: Sink>(
     rt: &R,
-    desk: &Desk<B>,
-    guest: Option<&Guest<'_>>,
+    desk: &'a Desk<B>,
+    guest: &'a Guest<'a>,
+    hints: bool,
     source: &mut I,
     sink: &mut O,
 ) -> Result<u64, SessionFault>
     requires sound_source { I.has_failed source.old ≡ false }
     requires sound_sink { O.has_failed sink.old ≡ false }
     requires reads { I.read_count source.old < 2 ^ 63 }
+    ensures { (input out : List ℕ) × (new : CallerState)
+        × Consumes (I.remaining source.old) (I.remaining source.new) input
+        × Appends (O.contents sink.old) (O.contents sink.new) out
+        × SessionEnds true IsCallerReply (caller hints desk.now.opening) result (I.remaining source.new)
+        input out new }
 {
-    match guest {
-        Some(guest) => session(rt, &mut WatchedVisit::new(desk, guest), source, sink),
-        None => session(rt, &mut Visit::new(desk), source, sink),
-    }
+    session(rt, &mut WatchedVisit::new(desk, guest, hints), source, sink)
 }
 
-/// A desk to which the requests of a caller go who has a seat, and who is told of if it is a guest. Of all callers'
-/// long bodies one at a time is answered: so only that one's lines are copied.
+/// A desk to which the requests of a guest go. Of all guests' long bodies one at a time is answered: so only that one's
+/// lines are copied.
 #[derive(Drop)]
 pub struct SeatedDesk<'a, B: Opening> {
     desk: &'a Desk<B>,
-    seats: &'a Seats,
-    guest: Option<&'a Guest<'a>>,
-    /// Set once a request has come.
-    has_come: &'a Cell<bool>,
+    guest: &'a Guest<'a>,
 }
 
 impl<'a, B: Opening> Model for SeatedDesk<'a, B> {
@@ -117,18 +149,8 @@ impl<'a, B: Opening> Model for SeatedDesk<'a, B> {
 }
 
 impl<'a, B: Opening> SeatedDesk<'a, B> {
-    pub fn new(
-        desk: &'a Desk<B>,
-        seats: &'a Seats,
-        guest: Option<&'a Guest<'a>>,
-        has_come: &'a Cell<bool>,
-    ) -> Self {
-        SeatedDesk {
-            desk,
-            seats,
-            guest,
-            has_come,
-        }
+    pub fn new(desk: &'a Desk<B>, guest: &'a Guest<'a>) -> Self {
+        SeatedDesk { desk, guest }
     }
 }
 
@@ -139,23 +161,32 @@ impl<'a, B: Opening, R: Host> Front<R> for SeatedDesk<'a, B> {
 
     ghost asks = { IsSync R.row };
 
-    fn answer(&self, rt: &R, lines: &[u8], sink: &mut RepliesSink) -> Visited {
-        let _turn = self.seats.turn_of_body(rt, lines.len());
-        match self.guest {
-            Some(guest) => {
-                let mut visitor = WatchedVisit::new(self.desk, guest);
-                let ended = visit(rt, &mut visitor, lines, sink);
-                Visited::new(ended, visitor.told())
-            }
-            None => Front::answer(self.desk, rt, lines, sink),
-        }
+    fn answer(&self, rt: &R, lines: &[u8], hints: bool, sink: &mut RepliesSink) -> Visited {
+        let _turn = self.guest.seats().turn_of_body(rt, lines.len());
+        let mut visitor = WatchedVisit::new(self.desk, self.guest, hints);
+        let ended = visit(rt, &mut visitor, lines, sink);
+        Visited::new(ended, visitor.told())
     }
 
     fn snapshot(&self, rt: &R) -> Result<Store, NoMemory> {
         Desk::snapshot(self.desk, rt, rt.alloc())
     }
 
+    fn metrics(&self, rt: &R, by_node: bool) -> Result<String, NoMemory> {
+        let alloc = rt.alloc();
+        let store = if by_node {
+            Some(Desk::snapshot(self.desk, rt, alloc)?)
+        } else {
+            None
+        };
+        metrics_text(rt, alloc, self.guest.seats(), store.as_ref())
+    }
+
+    fn snapshot_after(&self, rt: &R, after: u64) -> Result<Awaited, NoMemory> {
+        Front::snapshot_after(self.desk, rt, after)
+    }
+
     fn note_request(&self) {
-        self.has_come.set(true);
+        self.guest.note_request();
     }
 }

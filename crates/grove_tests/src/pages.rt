@@ -9,6 +9,7 @@ use grove_store::Store;
 use std::hash::RandomState;
 use std::marker::Brand;
 use std::random::RandomSource;
+use std::time::Clock;
 use std::{io, str};
 
 /// A line that is done, one that is refused, and a look at what they leave.
@@ -39,7 +40,7 @@ fn a_page_tells_what_its_lines_leave(rt: HostRuntime) {
     add_and_look::<Brand, HostRuntime>(&rt, store);
 }
 
-fn add_and_look<B: Opening, R: Host>(rt: &R, store: Store)
+fn add_and_look<B: Opening, R: Host + Clock>(rt: &R, store: Store)
     requires store { store ≡ B.store }
     requires kept { B.kept ≡ false }
 {
@@ -51,6 +52,7 @@ fn add_and_look<B: Opening, R: Host>(rt: &R, store: Store)
     let site = Site {
         page: PAGE,
         hosts: &[],
+        hints: false,
     };
     let served = serve_page(rt, &desk, site, keys, &mut reader, &mut writer);
     assert!(rt; served.is_ok());

@@ -56,8 +56,8 @@ serving =
     record (valued (codes "DOC") (codes "tree")) { required = true } ∷ port_option ∷ flag (codes "any-port")
     ∷ address_option (codes "bind") ∷ flag (codes "explain") ∷ workers_option
     ∷ numbered (codes "idle") 1 86400 ∷ flag (codes "busy") ∷ flag (codes "verbose")
-    ∷ valued (codes "log") (codes "log") ∷ record (valued (codes "host") (codes "host")) { action = Some Append }
-    ∷ []
+    ∷ valued (codes "log") (codes "log") ∷ flag (codes "hints")
+    ∷ record (valued (codes "host") (codes "host")) { action = Some Append } ∷ []
 
 -- what it takes besides where it can serve over HTTP too: a port for that, and how many connections at once
 abbrev pub serving_http : List Rule

@@ -40,6 +40,7 @@ pub record SaysServing (texts : List ℕ → Option (List ℕ)) (lists : List �
   pub http_seats : AreSeats (texts (codes "http-seats")) serving.http_seats
   pub seats_within : (1 ≤ serving.http_seats) × (serving.http_seats ≤ 1024)
   pub hosts : map (λ host. host.now) serving.hosts.items ≡ lists (codes "host")
+  pub hints : Chooses true false (texts (codes "hints")) serving.hints
 
 -- and so is a command
 abbrev pub SaysCommand : (List ℕ → Option (List ℕ)) → (List ℕ → List (List ℕ)) → Command → Type 0

@@ -166,5 +166,6 @@ fn serving_in<'a>(alloc: Global, given: &ArgMatches<'a>) -> Result<Serving<'a>, 
         log: log_in(given),
         http_seats: http_seats_in(given),
         hosts: texts_of(alloc, given, "host")?,
+        hints: is_set(given, "hints"),
     })
 }

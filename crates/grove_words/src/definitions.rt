@@ -19,12 +19,12 @@ pub fn command_line<'a>(alloc: Global) -> Result<clap::Command<'a>, AllocError>
 {
     let about = "Judge a plan: its cost, and the replies and records of its list";
     let judges = add(program(alloc), reading(alloc, "judge", about));
-    let about = "Check a plan by its flow: its cost, below which no legal plan for the list is";
+    let about = "Check a plan and its flow: its cost, if no legal plan for the list costs less";
     let checks = add(judges, reading(alloc, "check", about));
     let plans = add(checks, plan(alloc));
     let draws = add(plans, draw(alloc));
     let runs = add(draws, run(alloc));
-    let about = "Audit a history: what the run of its events gives, if they are a finished run";
+    let about = "Audit a history: what its events give, if they are a finished run";
     let audits = add(runs, reading(alloc, "audit", about));
     let trees = add(audits, tree(alloc));
     let serves = add(trees, serve(alloc));
@@ -53,7 +53,7 @@ fn program<'a>(alloc: Global) -> Result<clap::Command<'a>, AllocError>
     let named = clap::Command::new(alloc, "grove").bin_name("grove")?;
     Ok(
         named.version(VERSION).no_binary_name(true).about(
-            "Records at the nodes of a tree, and lock plans over it. With no command: judge",
+            "Records at the nodes of a tree, and lock plans for it. Without a command: judge",
         ),
     )
 }
@@ -69,7 +69,7 @@ fn plan<'a>(alloc: Global) -> Result<clap::Command<'a>, AllocError>
 fn draw<'a>(alloc: Global) -> Result<clap::Command<'a>, AllocError>
     ensures { IfOk result (HasShape (shape_for Draw)) }
 {
-    let about = "Draw a list's cheapest plan, and the document's own above it where it has one";
+    let about = "Draw a list's cheapest plan, and above it the document's own, if it has one";
     let help = "Print lines for a terminal instead of SVG";
     reading(alloc, "draw", about)?.arg(flag(alloc, "text", help))
 }
@@ -77,8 +77,7 @@ fn draw<'a>(alloc: Global) -> Result<clap::Command<'a>, AllocError>
 fn run<'a>(alloc: Global) -> Result<clap::Command<'a>, AllocError>
     ensures { IfOk result (HasShape (shape_for Run)) }
 {
-    let about =
-        "Run a batch of lists at once: their serial order, the replies, the records and the waits";
+    let about = "Run a batch of lists at once: their serial order, replies, records and waits";
     reading(alloc, "run", about)?.arg(workers(alloc))
 }
 
@@ -90,9 +89,7 @@ fn reading<'a>(
 ) -> Result<clap::Command<'a>, AllocError>
     ensures { IfOk result (HasShape (command_with name.now reading)) }
 {
-    let document = Arg::new(alloc, "DOC").help(
-        "The input's file; without it, standard input is read",
-    );
+    let document = Arg::new(alloc, "DOC").help("The file to read; by default standard input");
     clap::Command::new(alloc, name)
         .about(about)
         .arg(document)?
@@ -103,7 +100,7 @@ fn reading<'a>(
 fn tree<'a>(alloc: Global) -> Result<clap::Command<'a>, AllocError>
     ensures { IfOk result (HasShape (shape_for Tree)) }
 {
-    let about = "Make a document of CSV lines 'path,weight,value', or such lines of a document";
+    let about = "Make a document from CSV lines 'path,weight,value', or such lines from a document";
     let csv = "Read a document, and print its tree as CSV";
     let parents = "Add each parent that has no line, with weight 1 and value 0";
     reading(alloc, "tree", about)?
@@ -129,9 +126,10 @@ fn serving<'a>(
 ) -> Result<clap::Command<'a>, AllocError>
     ensures { IfOk result (HasShape (command_with name.now serving)) }
 {
-    let any_port = "Listen on any free port, in place of --port";
-    let busy = "If all connections are taken, tell a new one so and close it; by default it waits";
+    let any_port = "Listen on any free port, instead of --port";
+    let busy = "If all connection slots are taken, refuse a new connection; by default it waits";
     let verbose = "Log each connection on standard error, and each minute what was done";
+    let hints = "Add a hint to the reply to each refused line: what is wrong, and where";
     clap::Command::new(alloc, name)
         .about(about)
         .arg(document(alloc))?
@@ -144,6 +142,7 @@ fn serving<'a>(
         .arg(flag(alloc, "busy", busy))?
         .arg(flag(alloc, "verbose", verbose))?
         .arg(log(alloc))?
+        .arg(flag(alloc, "hints", hints))?
         .arg(host(alloc))
 }
 
@@ -151,8 +150,8 @@ fn serving<'a>(
 fn ask<'a>(alloc: Global) -> Result<clap::Command<'a>, AllocError>
     ensures { IfOk result (HasShape (shape_for Ask)) }
 {
-    let about = "Ask a server: send it lines, and print its replies";
-    let help = "The lines to send; without them, they are read from standard input";
+    let about = "Send lines to a server, and print its replies";
+    let help = "The lines to send; by default those of standard input";
     let lines = Arg::new(alloc, "LINE").action(ArgAction::Append).help(help);
     calling(alloc, "ask", about)?.arg(lines)
 }
@@ -162,7 +161,7 @@ fn save<'a>(alloc: Global) -> Result<clap::Command<'a>, AllocError>
     ensures { IfOk result (HasShape (shape_for Save)) }
 {
     let about = "Save a server's tree and records in a file, over HTTP";
-    let help = "The file to write; if it is there, it is replaced in one step";
+    let help = "The file to write; an existing one is replaced in one step";
     let file = Arg::new(alloc, "FILE").help(help).required(true);
     calling(alloc, "save", about)?.arg(file)
 }
@@ -199,7 +198,7 @@ fn explain<'a>(alloc: Global) -> Arg<'a>
 fn workers<'a>(alloc: Global) -> Arg<'a>
     ensures { HasRule workers_option result }
 {
-    let help = "How many threads run the lists at once";
+    let help = "How many threads run lists at once";
     valued(alloc, "workers", "workers", "N", help)
         .value_parser(value_parser!(u32).range(1..=16))
         .default_value("4")
@@ -237,14 +236,14 @@ fn http_seats<'a>(alloc: Global) -> Arg<'a>
 fn log<'a>(alloc: Global) -> Arg<'a>
     ensures { HasRule (valued (codes "log") (codes "log")) result }
 {
-    let help = "The form of the log of --verbose: text, or json; by default text";
+    let help = "The form of the log of --verbose: text or json; by default text";
     valued(alloc, "log", "log", "FORM", help)
 }
 
 fn host<'a>(alloc: Global) -> Arg<'a>
     ensures { HasRule (record (valued (codes "host") (codes "host")) { action = Some Append }) result }
 {
-    let help = "A name by which requests over HTTP may call this host; may be repeated";
+    let help = "A name that requests over HTTP may use for this host; may be repeated";
     valued(alloc, "host", "host", "NAME", help).action(ArgAction::Append)
 }
 

@@ -69,6 +69,8 @@ pub struct Serving<'a> {
     pub http_seats: u32,
     /// The names by which requests over HTTP may call the host.
     pub hosts: Vec<&'a str>,
+    /// Whether the reply to each refused line has a hint.
+    pub hints: bool,
 }
 
 /// How a log is written.

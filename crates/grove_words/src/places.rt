@@ -32,7 +32,7 @@ pub fn server_in(alloc: Global, given: &ArgMatches<'_>) -> Result<SocketAddr, Er
     let address = address_in(alloc, given)?;
     match named_port(given) {
         Some(port) => Ok(SocketAddr::new(address, port)),
-        None => Err(wrong(alloc, "the value of '<P>' is no port")?),
+        None => Err(wrong(alloc, "the value of '<P>' is not a port")?),
     }
 }
 
@@ -42,7 +42,7 @@ fn address_in(alloc: Global, given: &ArgMatches<'_>) -> Result<IpAddr, Error>
 {
     match given.get_one::<IpAddr>("address") {
         Some(address) => Ok(address),
-        None => Err(wrong(alloc, "the value of '<ADDRESS>' is no IP address")?),
+        None => Err(wrong(alloc, "the value of '<ADDRESS>' is not an IP address")?),
     }
 }
 
@@ -55,8 +55,8 @@ fn port_in(alloc: Global, given: &ArgMatches<'_>) -> Result<Port, Error>
     match (named_port(given), takes_flag(given, "any-port")) {
         (Some(port), false) => Ok(Port::Named(port)),
         (None, true) => Ok(Port::Any),
-        (Some(_), true) => Err(wrong(alloc, "'--any-port' stands in place of '--port <P>'")?),
-        (None, false) => Err(wrong(alloc, "'--port <P>' or '--any-port' has to be provided")?),
+        (Some(_), true) => Err(wrong(alloc, "'--any-port' cannot be used with '--port <P>'")?),
+        (None, false) => Err(wrong(alloc, "'--port <P>' or '--any-port' is required")?),
     }
 }
 

@@ -1,5 +1,5 @@
 use Rattle.std.proofs.Common.{refl, rules}
-use Rattle.grove.proofs.Orders.{is_asked, is_lost, is_saved, is_unsaved}
+use Rattle.grove.proofs.Orders.{is_asked, is_lost, is_saved, is_unsaved, same_streams}
 use Rattle.grove.proofs.command.obey.Goals as goal
 
 pub returns-in-Do-clause-obeyed : goal.returns-in-Do-clause-obeyed
@@ -10,10 +10,12 @@ returns-in-Do-clause-given_up g c = rw c.in-Do.is c.do_command.ensures.stopped
 
 pub returns-in-Ask-clause-obeyed : goal.returns-in-Ask-clause-obeyed
 returns-in-Ask-clause-obeyed g c =
-    rw c.in-Ask.is (is_asked _ _ c.ask.result c.ask.ensures.status c.ask.ensures.sound (refl, refl))
+    rw c.in-Ask.is (is_asked _ _ c.ask.result c.ask.ensures.status c.ask.ensures.sound c.ask.ensures.hinted)
 
 pub returns-in-Ask-clause-given_up : goal.returns-in-Ask-clause-given_up
-returns-in-Ask-clause-given_up g c = rw c.in-Ask.is (is_lost _ _ c.ask.result c.ask.ensures.blamed (refl, refl))
+returns-in-Ask-clause-given_up g c =
+    rw c.in-Ask.is (is_lost _ _ c.ask.result c.ask.ensures.blamed
+    (same_streams g.E.Sink.contents g.E.Sink.has_failed _ _ c.ask.result c.ask.ensures.quiet))
 
 pub returns-in-Save-clause-obeyed : goal.returns-in-Save-clause-obeyed
 returns-in-Save-clause-obeyed g c =

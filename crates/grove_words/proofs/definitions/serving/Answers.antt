@@ -18,4 +18,5 @@ returns c =
     let with_busy = one_more c.in_ok-arg-8.ensures with_idle c.flag-2.ensures in
     let with_verbose = one_more c.in_ok-arg-9.ensures with_busy c.flag-3.ensures in
     let with_log = one_more c.in_ok-arg-10.ensures with_verbose c.log.ensures in
-    IfOk-weaker c.arg-11.result _ _ (λ command adds. one_more adds with_log c.host.ensures) c.arg-11.ensures
+    let with_hints = one_more c.in_ok-arg-11.ensures with_log c.flag-4.ensures in
+    IfOk-weaker c.arg-12.result _ _ (λ command adds. one_more adds with_hints c.host.ensures) c.arg-12.ensures

@@ -1,5 +1,4 @@
 use Rattle.std.proofs.Common.{subst}
-use Rattle.std.specs.Prelude.{string_bytes}
 use Rattle.grove_desk.specs.Histories.{Led}
 use Rattle.grove_page.specs.Pages.{PageState, document_line}
 use Rattle.grove_page.proofs.Told.{tells_store}
@@ -8,4 +7,6 @@ use Rattle.grove_page.proofs.service.PageService.tell_document.Goals as goal
 pub returns-in-Ok : goal.returns-in-Ok
 returns-in-Ok g c =
     let led = subst (λ (state : PageState). Led state.opening c.in-Ok.store) c.self.view_is c.in-Ok.ensures in
-    tells_store string_bytes document_line c.args.self.now.opening c.in-Ok.store c.fill_line.result c.document_line.result c.fill_line.new.response led c.document_line.ensures c.fill_line.ensures.told c.fill_line.ensures.refused
+    tells_store (λ line. line.items) document_line c.args.self.now.opening c.in-Ok.store c.fill_line.result
+    c.document_line.result c.fill_line.new.response led c.document_line.ensures c.fill_line.ensures.told
+    c.fill_line.ensures.refused

@@ -1,20 +1,21 @@
 use Rattle.std.proofs.Common.{◌≡◌, true, subst}
-use Rattle.grove_desk.specs.Desks.{DeskState, VisitState, IsShared}
+use Rattle.grove_desk.specs.Desks.{DeskState}
 use Rattle.grove_desk.specs.declared.told.Told.{Told}
+use Rattle.grove_page.specs.Hints.{caller, CallerState, IsCallerReply}
 use Rattle.grove_page.specs.Pages.{ends_refused, is_refused, Visits, VisitsDesk}
 use Rattle.grove_page.proofs.Refused.{answered}
 use Rattle.grove_serve.proofs.watching.SeatedDeskFront.answer.Goals as goal
 
-pub returns-in-Some : goal.returns-in-Some
-returns-in-Some g c =
+pub returns : goal.returns
+returns g c =
     let (out, holds, visits) = c.visit-ended.ensures in
-    let Begins : VisitState → Type 0 = λ before.
-    Visits true IsShared before c.args.lines.now c.visit-ended.result out c.visit-ended.new.answers in
+    let Begins : CallerState → Type 0 = λ before.
+    Visits true IsCallerReply before c.args.lines.now c.visit-ended.result out c.visit-ended.new.answers in
     let Tells : Told → Type 0 = λ told. c.new.result.is_refused ≡ ends_refused c.visit-ended.result told in
     let Answers : DeskState → Type 0 = λ desk.
-    VisitsDesk desk.opening c.args.lines.now c.new.result.ended out
+    VisitsDesk (caller c.args.hints desk.opening) c.args.lines.now c.new.result.ended out
     × (c.new.result.is_refused ≡ is_refused c.new.result.ended out) in
     let both : Answers c.args.self.now = subst Answers c.self.view_is
-    (answered c.self.inside.desk.now.opening c.args.lines.now c.visit-ended.result out c.visit-ended.new.answers
-    c.new.result c.new.ensures.ended (subst Tells c.told.ensures c.new.ensures.refused)
+    (answered c.args.hints c.self.inside.desk.now.opening c.args.lines.now c.visit-ended.result out
+    c.visit-ended.new.answers c.new.result c.new.ensures.ended (subst Tells c.told.ensures c.new.ensures.refused)
     (subst Begins c.new-visitor.ensures visits)) in (out, holds, both.0, both.1)

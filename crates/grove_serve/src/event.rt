@@ -1,0 +1,109 @@
+use crate::ending::Ending;
+use crate::seconds::Seconds;
+use std::net::SocketAddr;
+
+/// What a log says of a server.
+#[derive(Clone, Copy)]
+pub enum Event<'a> {
+    /// A connection was accepted.
+    Accepted {
+        connection: u64,
+        address: SocketAddr,
+    },
+    /// A line of it is refused by this name.
+    Refused {
+        connection: u64,
+        line: u64,
+        name: &'a str,
+        hint: Option<&'a str>,
+    },
+    /// It is closed, and so many of its lines were answered.
+    Ended {
+        connection: u64,
+        lines: u64,
+        ending: Ending,
+    },
+    /// There was no slot for it.
+    TurnedAway {
+        connection: u64,
+    },
+    /// No thread could be started for it.
+    NoThread {
+        connection: u64,
+    },
+    /// No thread could be started that accepts at the port for HTTP.
+    NoHttp,
+    /// No descriptor is left for the next connection.
+    NoDescriptor,
+    /// A minute is over.
+    Minute(Minute),
+    /// So many events of a second were too many.
+    LeftOut {
+        events: u64,
+    },
+}
+
+/// What a minute brought.
+#[derive(Clone, Copy)]
+pub struct Minute {
+    pub lines: u64,
+    pub refused: u64,
+    /// How many connections there are now.
+    pub connections: u64,
+    pub rounds: u64,
+    /// The waits of all nodes; nothing, if there was no memory to look.
+    pub waits: Option<u64>,
+    /// A time that half of the rounds took at most, and one that 99 of 100 did, if there were rounds.
+    pub times: Option<RoundTimes>,
+}
+
+#[derive(Clone, Copy)]
+pub struct RoundTimes {
+    pub median: Seconds,
+    pub slowest: Seconds,
+}
+
+/// How much an event matters.
+#[derive(Clone, Copy)]
+pub enum Level {
+    Info,
+    /// Something was refused or lost.
+    Warn,
+    /// The system lacks something that the server needs.
+    Error,
+}
+
+impl Event<'_> {
+    pub fn name(&self) -> &'static str {
+        match self {
+            Event::Accepted { .. } => "accepted",
+            Event::Refused { .. } => "refused",
+            Event::Ended { .. } => "ended",
+            Event::TurnedAway { .. } => "turned-away",
+            Event::NoThread { .. } => "no-thread",
+            Event::NoHttp => "no-http",
+            Event::NoDescriptor => "no-descriptor",
+            Event::Minute(_) => "minute",
+            Event::LeftOut { .. } => "left-out",
+        }
+    }
+
+    pub fn level(&self) -> Level {
+        match self {
+            Event::Accepted { .. } | Event::Minute(_) => Level::Info,
+            Event::Ended { ending, .. } => ending.level(),
+            Event::Refused { .. } | Event::TurnedAway { .. } | Event::LeftOut { .. } => Level::Warn,
+            Event::NoThread { .. } | Event::NoHttp | Event::NoDescriptor => Level::Error,
+        }
+    }
+}
+
+impl Level {
+    pub fn name(self) -> &'static str {
+        match self {
+            Level::Info => "info",
+            Level::Warn => "warn",
+            Level::Error => "error",
+        }
+    }
+}

@@ -1,0 +1,85 @@
+use crate::event::{Event, Minute};
+use crate::fields::Fields;
+use crate::service::LogForm;
+use jiff::Timestamp;
+use std::fmt;
+
+/// An event as a line of the log: its time, its level, its name and its data, in this order.
+#[derive(Clone, Copy)]
+pub struct EventLine<'a> {
+    pub form: LogForm,
+    pub time: Timestamp,
+    pub event: Event<'a>,
+}
+
+impl fmt::Display for EventLine<'_> {
+    fn fmt<W: fmt::Write>(&self, f: &mut fmt::Formatter<W>) -> fmt::Result {
+        let mut fields = Fields::begin(f, self.form)?;
+        fields.time("time", self.time)?;
+        fields.text("level", self.event.level().name())?;
+        fields.text("event", self.event.name())?;
+        write_data(&mut fields, &self.event)?;
+        fields.end()
+    }
+}
+
+/// The data of the event.
+fn write_data<W: fmt::Write>(fields: &mut Fields<'_, W>, event: &Event<'_>) -> fmt::Result {
+    match event {
+        Event::Accepted {
+            connection,
+            address,
+        } => {
+            fields.number("connection", *connection)?;
+            fields.address("address", *address)
+        }
+        Event::Refused {
+            connection,
+            line,
+            name,
+            hint,
+        } => {
+            fields.number("connection", *connection)?;
+            fields.number("line", *line)?;
+            fields.text("error", name)?;
+            match hint {
+                Some(hint) => fields.text("hint", hint),
+                None => Ok(()),
+            }
+        }
+        Event::Ended {
+            connection,
+            lines,
+            ending,
+        } => {
+            fields.number("connection", *connection)?;
+            fields.number("lines", *lines)?;
+            fields.text("why", ending.name())?;
+            match ending.idle() {
+                Some(seconds) => fields.number("idle_seconds", u64::from(seconds)),
+                None => Ok(()),
+            }
+        }
+        Event::TurnedAway { connection } | Event::NoThread { connection } => {
+            fields.number("connection", *connection)
+        }
+        Event::NoHttp | Event::NoDescriptor => Ok(()),
+        Event::Minute(minute) => write_minute(fields, minute),
+        Event::LeftOut { events } => fields.number("events", *events),
+    }
+}
+
+fn write_minute<W: fmt::Write>(fields: &mut Fields<'_, W>, minute: &Minute) -> fmt::Result {
+    fields.number("lines", minute.lines)?;
+    fields.number("refused", minute.refused)?;
+    fields.number("connections", minute.connections)?;
+    fields.number("rounds", minute.rounds)?;
+    if let Some(waits) = minute.waits {
+        fields.number("waits", waits)?;
+    }
+    if let Some(times) = minute.times {
+        fields.seconds("round_median_seconds", times.median)?;
+        fields.seconds("round_p99_seconds", times.slowest)?;
+    }
+    Ok(())
+}

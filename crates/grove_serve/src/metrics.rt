@@ -1,0 +1,144 @@
+use crate::counter::Counter;
+use crate::histogram::Histogram;
+use crate::scale::Scale;
+use crate::service::Talk;
+use grove_desk::{Receipt, RoundWatch};
+use jiff::Timestamp;
+use std::alloc::Global;
+use std::sync::{Mutex, MutexGuard, Wait};
+use std::time::{Clock, Duration, Instant};
+
+/// What is counted of a server since it was started.
+#[derive(Drop)]
+pub struct Metrics {
+    /// When it was started; nothing, if the clock didn't say.
+    pub started: Option<Timestamp>,
+    /// Lines that were answered.
+    pub lines: Counter,
+    /// Rounds that the store has counted.
+    pub rounds: Counter,
+    /// How many lines each turn at the store answered.
+    pub lines_of_rounds: Histogram,
+    /// How long each took, in microseconds.
+    pub times_of_rounds: Histogram,
+    alloc: Global,
+    refusals: Mutex<Vec<RefusalCount>>,
+    refused: Counter,
+    sessions: Traffic,
+    requests: Traffic,
+}
+
+/// How many lines were refused by a name.
+#[derive(Drop)]
+pub struct RefusalCount {
+    pub name: String,
+    pub lines: u64,
+}
+
+/// What is counted of the connections of a port.
+#[derive(Drop)]
+pub struct Traffic {
+    pub accepted: Counter,
+    /// Connections that have or had a slot, and of these the ones that left it.
+    pub begun: Counter,
+    pub left: Counter,
+    /// Connections for which there was no slot, and that were told so.
+    pub turned_away: Counter,
+    /// Connections that were ended because they idled.
+    pub idled: Counter,
+    pub bytes_received: Counter,
+    pub bytes_sent: Counter,
+}
+
+impl Metrics {
+    /// Of a server that is started now.
+    pub fn new<R: Clock>(rt: &R, alloc: Global) -> Metrics {
+        Metrics {
+            started: Timestamp::now(rt).ok(),
+            lines: Counter::new(),
+            rounds: Counter::new(),
+            lines_of_rounds: Histogram::new(Scale::Lines),
+            times_of_rounds: Histogram::new(Scale::Times),
+            alloc,
+            refusals: Mutex::new(Vec::new(alloc)),
+            refused: Counter::new(),
+            sessions: Traffic::new(),
+            requests: Traffic::new(),
+        }
+    }
+
+    /// What is counted of connections that talk so.
+    pub fn traffic(&self, talk: Talk) -> &Traffic {
+        match talk {
+            Talk::Lines => &self.sessions,
+            Talk::Requests => &self.requests,
+        }
+    }
+
+    /// Counts a line that was refused by this name. Without memory for a further name it is counted by none.
+    pub fn count_refusal<R: Wait>(&self, rt: &R, name: &str) {
+        self.refused.count_one();
+        let mut refusals = self.refusals.lock(rt);
+        for refusal in refusals.iter_mut() {
+            if refusal.name.as_str() == name {
+                refusal.lines = refusal.lines.saturating_add(1);
+                return;
+            }
+        }
+        if let Ok(name) = String::from_str(self.alloc, name) {
+            let _counted = refusals.push(RefusalCount { name, lines: 1 });
+        }
+    }
+
+    /// How many lines were refused.
+    pub fn refused(&self) -> u64 {
+        self.refused.get()
+    }
+
+    /// How many lines were refused by each name. None is refused meanwhile.
+    pub fn refusals<R: Wait>(&self, rt: &R) -> MutexGuard<'_, Vec<RefusalCount>> {
+        self.refusals.lock(rt)
+    }
+}
+
+impl Traffic {
+    /// How many connections have a slot.
+    pub fn in_use(&self) -> u64 {
+        let left = self.left.get();
+        self.begun.get().saturating_sub(left)
+    }
+
+    fn new() -> Traffic {
+        Traffic {
+            accepted: Counter::new(),
+            begun: Counter::new(),
+            left: Counter::new(),
+            turned_away: Counter::new(),
+            idled: Counter::new(),
+            bytes_received: Counter::new(),
+            bytes_sent: Counter::new(),
+        }
+    }
+}
+
+impl<R: Clock> RoundWatch<R> for Metrics {
+    fn begin(&self, rt: &R) -> Option<Instant> {
+        Instant::now(rt).ok()
+    }
+
+    fn end(&self, rt: &R, began: Option<Instant>, receipts: &[Receipt]) {
+        self.lines_of_rounds.note(receipts.len() as u64);
+        if let Some(last) = receipts.last() {
+            self.rounds.raise_to(last.rounds);
+        }
+        if let (Some(began), Ok(now)) = (began, Instant::now(rt)) {
+            let time = micros(now.saturating_duration_since(began));
+            self.times_of_rounds.note(time);
+        }
+    }
+}
+
+/// So many microseconds, or the most that a number can say.
+fn micros(time: Duration) -> u64 {
+    u64::try_from(time.as_micros()).unwrap_or(u64::MAX)
+}

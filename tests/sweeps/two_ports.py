@@ -1,0 +1,231 @@
+"""Servers with `--http`: the same store at both ports, connection slots of each by itself, names by `--host`, a log of
+both, and `/health` while all slots are taken by clients that are slow."""
+
+from __future__ import annotations
+
+import json
+import socket
+import time
+from contextlib import ExitStack
+from functools import partial
+
+from server import HOST, Serving, connected
+from store import Store
+from web import Client, request
+
+from sweeps.connections import ADD, GET, TREE
+from sweeps.metrics import Both, metrics_at
+from sweeps.program import Tally, Try, until_well
+from sweeps.talks import note_replies
+from sweeps.verbose import Telling, compare
+
+TRIED = "replies and responses at two ports"
+SLOTS, HTTP_SLOTS = 16, 64
+# How many connections over HTTP without a slot are accepted nevertheless.
+ROOM = 8
+# How long the state of a server may take, and how often it is asked for.
+SOON, LOOKS = 0.1, 20
+LONGEST = 60.0
+HEALTHY = b'{"status":"ok"}\n'
+# The most nodes of a tree.
+NODES = 4096
+
+
+def tries(program: str, room: str) -> list[Try]:
+    return [
+        Try("one store", partial(one_store, program)),
+        Try("the lines that are printed", partial(printed, program)),
+        Try("slots of each port", partial(slots_of_each, program)),
+        Try("as many slots as are asked for", partial(slots_asked_for, program)),
+        Try("names", partial(names, program)),
+        Try("a port that is taken", partial(taken, program)),
+        Try("a log of both", partial(log_of_both, program)),
+        Try("the state beside slow clients", partial(state_beside_slow, program, ())),
+        Try("the same with --busy", partial(state_beside_slow, program, ("--busy",))),
+        Try("the same at a page", partial(state_beside_slow_pages, program)),
+        Try("who waits without a slot", partial(waits_without_slot, program)),
+        Try("who is turned away without a slot", partial(turned_away, program)),
+    ]
+
+
+def one_store(program: str, tally: Tally) -> None:
+    """Lines at both ports in turn: each sees what the lines before have done."""
+    store = Store(json.loads(TREE))
+    with Both(program) as server, Client(server.http) as client:
+        for turn in range(20):
+            note_replies(store, ADD + GET, server.talk(ADD + GET), f"turn {turn}, a session", tally)
+            note_replies(store, GET + ADD, client.post(GET + ADD).body, f"turn {turn}, a body", tally)
+
+
+def printed(program: str, tally: Tally) -> None:
+    with Both(program) as server:
+        wanted = f"listening {HOST}:{server.http} over http\n".encode()
+        tally.note("the second line", None if server.second == wanted else f"came {server.second!r}")
+
+
+def is_answered(port: int) -> bool:
+    """Is a session answered before long?"""
+    with connected(port) as client:
+        client.settimeout(LONGEST)
+        client.sendall(GET)
+        return client.recv(1) == b"{"
+
+
+def slots_of_each(program: str, tally: Tally) -> None:
+    """Neither port takes slots of the other."""
+    with Both(program) as server, ExitStack() as room:
+        sessions = [room.enter_context(connected(server.port)) for _ in range(SLOTS)]
+        for client in sessions:
+            client.sendall(GET)
+            tally.note("a session", None if client.recv(1) == b"{" else "it isn't answered")
+        with Client(server.http) as client:
+            response = client.post(GET)
+        tally.note("beside the sessions", None if response.status == 200 else f"came {response}")
+        sessions.pop().close()
+        for _ in range(HTTP_SLOTS):
+            room.enter_context(Client(server.http)).post(GET)
+        tally.note("beside the requests", None if is_answered(server.port) else "no answer")
+
+
+def slots_asked_for(program: str, tally: Tally) -> None:
+    """With `--http-seats N` so many connections have a slot, which the metrics say too."""
+    for count in (1, 2, 100):
+        with Both(program, "--http-seats", str(count), "--busy") as server, ExitStack() as room:
+            slots = metrics_at(server.http)['grove_connection_slots{protocol="http"}']
+            tally.note(f"{count} slots", None if slots == count else f"there are {slots}")
+            time.sleep(0.2)
+            came = [room.enter_context(Client(server.http)).post(GET).status for _ in range(count)]
+            tally.note(f"{count} connections", None if came == [200] * count else f"came {came}")
+            with Client(server.http) as late:
+                response = late.post(GET)
+            tally.note(f"one beyond {count}", None if response.status == 503 else f"came {response}")
+
+
+def names(program: str, tally: Tally) -> None:
+    """Requests may name a host that `--host` gives, in any case, and no other."""
+    given = ("--host", "grove.example", "--host", "Other.Example")
+    wanted = {"grove.example": 200, "GROVE.example:80": 200, "other.example": 200, "localhost": 200, HOST: 200}
+    wanted |= {"elsewhere.example": 421, "grove.example.": 421, "a.grove.example": 421}
+    with Both(program, *given) as server, Client(server.http) as client:
+        for host, status in wanted.items():
+            response = client.ask("GET", "/health", None, f"host: {host}")
+            tally.note(f"the host {host}", None if response.status == status else f"came {response}")
+
+
+def taken(program: str, tally: Tally) -> None:
+    """A server that can't have its second port has served nobody, and ends."""
+    with socket.socket() as other:
+        other.bind((HOST, 0))
+        other.listen()
+        server = Serving(program, TREE, further=("--http", str(other.getsockname()[1])))
+        out, err = server.started.communicate(timeout=LONGEST)
+        server.room.cleanup()
+        came = server.started.returncode, out, err
+        tally.note("the port", None if came == (3, b"", b"device\n") else f"came {came}")
+
+
+def log_of_both(program: str, tally: Tally) -> None:
+    """Connections are numbered over both ports; each line is an object with its fields in their order."""
+    with Both(program) as unused:
+        http = unused.http
+    with Telling(program, ("--http", str(http), "--log", "json")) as server:
+        server.started.stdout.readline()
+        wanted = []
+        for number in range(1, 11):
+            port = http if number % 2 else server.port
+            with connected(port) as client:
+                wanted.append(f"level=info event=accepted connection={number} address={HOST}:{client.getsockname()[1]}")
+                client.sendall(request("GET", "/health") if number % 2 else GET)
+                client.shutdown(socket.SHUT_WR)
+                with client.makefile("rb") as replies:
+                    replies.read()
+            why, lines = ("requests-ended", 0) if number % 2 else ("input-ended", 1)
+            wanted.append(f"level=info event=ended connection={number} lines={lines} why={why}")
+            server.told_of(len(wanted))
+        compare(wanted, server.told_of(len(wanted)), tally)
+
+
+# ---- slow clients
+
+
+def take_slots(stack: ExitStack, port: int, count: int, begun: bytes) -> list[socket.socket]:
+    """Connections that have sent the beginning of something, and no more."""
+    clients = [stack.enter_context(connected(port)) for _ in range(count)]
+    for client in clients:
+        client.sendall(begun)
+    return clients
+
+
+def state_beside_slow(program: str, further: tuple[str, ...], tally: Tally) -> None:
+    """Slow clients have all sixteen slots of the one port and all 64 of the other."""
+    with Both(program, *further) as server, ExitStack() as stack:
+        take_slots(stack, server.port, SLOTS, b'{"batch":[[["add","/a"')
+        take_slots(stack, server.http, HTTP_SLOTS, b"POST / HTTP/1.1\r\nhost: 127.0.0.1\r\ncontent-le")
+        note_state(server.http, HTTP_SLOTS, tally)
+
+
+def state_beside_slow_pages(program: str, tally: Tally) -> None:
+    """The same at `grove page`, and all samples of as many nodes as a tree may have."""
+    rows = [{"name": f"n{number}" if number else "", "parent": 0 if number else None} for number in range(NODES)]
+    document = json.dumps({"nodes": [{**row, "weight": 1000} for row in rows]}).encode()
+    with Serving(program, document, command="page") as server, ExitStack() as stack:
+        take_slots(stack, server.port, SLOTS, b"POST / HTTP/1.1\r\nhost: 127.0.0.1\r\ncontent-le")
+        note_state(server.port, SLOTS, tally)
+        weights = [key for key in metrics_at(server.port, "?nodes=1") if key.startswith("grove_node_weight")]
+        tally.note("the nodes", None if len(weights) == NODES else f"there are {len(weights)}")
+
+
+def note_state(port: int, slots: int, tally: Tally) -> None:
+    """Health and metrics are answered, and soon, though no slot is free."""
+    until_well(lambda: late_state(port, tally), "how soon", tally)
+    samples = metrics_at(port)
+    used = samples['grove_connections{protocol="http"}']
+    tally.note("the slots", None if used == slots else f"{used} are in use")
+
+
+def late_state(port: int, tally: Tally) -> str | None:
+    """How late the latest of some looks was answered, if it was late."""
+    latest = 0.0
+    for turn in range(LOOKS):
+        path = ("/health", "/metrics", "/health?x")[turn % 3]
+        began = time.monotonic()
+        with Client(port) as client:
+            response = client.get(path)
+        latest = max(latest, time.monotonic() - began)
+        is_well = response.status == 200 and (turn % 3 == 1 or response.body == HEALTHY)
+        tally.note(path, None if is_well else f"came {response}")
+    return f"the latest took {latest:.3f} s" if latest > SOON else None
+
+
+def waits_without_slot(program: str, tally: Tally) -> None:
+    """Requests of another kind wait for a slot, each in turn, and get one once others leave."""
+    with Both(program, "--http-seats", "2") as server, ExitStack() as stack:
+        slow = take_slots(stack, server.http, 2, b"POST / HTTP/1.1\r\n")
+        late = [stack.enter_context(Client(server.http)) for _ in range(ROOM + 4)]
+        for client in late:
+            client.send(request("POST", "/", GET, "connection: close"))
+        late[0].connection.settimeout(1.5)
+        try:
+            came = late[0].connection.recv(1)
+            tally.note("without a slot", f"came {came!r}")
+        except TimeoutError:
+            tally.note("without a slot", None)
+        late[0].connection.settimeout(LONGEST)
+        slow[0].close()
+        for number, client in enumerate(late):
+            response = client.next()
+            tally.note(f"late {number}", None if response and response.status == 200 else f"came {response}")
+
+
+def turned_away(program: str, tally: Tally) -> None:
+    """With `--busy` whoever has no slot and asks for anything else is turned away, and so is whoever says nothing."""
+    with Both(program, "--http-seats", "1", "--busy") as server, ExitStack() as stack:
+        take_slots(stack, server.http, 1, b"POST / HTTP/1.1\r\n")
+        time.sleep(0.2)
+        for text in (request("POST", "/", GET), request("GET", "/nodes"), request("GET", "/healthy"), b"GET /hea", b""):
+            with connected(server.http) as late:
+                late.sendall(text)
+                came = b"".join(iter(partial(late.recv, 1000), b""))
+            tally.note(f"{text[:20]!r}", None if came.startswith(b"HTTP/1.1 503 ") else f"came {came!r}")
+        with Client(server.http) as client:
+            tally.note("health", None if client.get("/health").status == 200 else "it isn't answered")
