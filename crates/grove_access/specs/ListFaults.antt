@@ -25,7 +25,7 @@ abbrev pub first_bad_length : ℕ → List ℕ → Option ℕ
 first_bad_length place [] = None
 first_bad_length place (slots ∷ lengths) = if is_length slots then first_bad_length (suc place) lengths else Some place
 
--- why accesses are no list over a tree, want of memory aside: a node beyond the tree comes before a bad length
+-- why accesses are no list over a tree, out of memory aside: a node beyond the tree comes before a bad length
 abbrev pub list_fault_of : Rows → List Access → Option ListFault
 list_fault_of rows accesses =
     if nat_lt most_accesses (length accesses) then Some TooLong

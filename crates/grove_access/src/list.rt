@@ -37,7 +37,7 @@ impl Model for AccessList {
 
 impl AccessList {
     /// The accesses as a list over the tree. It is refused where they are too many; else for the first access that
-    /// names no node; else for the first of a bad length; and last for want of memory.
+    /// names no node; else for the first of a bad length; and last for running out of memory.
     pub fn new(alloc: Global, tree: &Tree, accesses: &[Access]) -> Result<AccessList, ListFault>
         ensures accesses { IfOk result (λ list. list ≡ accesses.now) }
         ensures faultless { IfOk result (λ list. list_fault_of tree.now accesses.now ≡ None) }

@@ -30,7 +30,7 @@ abbrev pub SettledOnce : Type 0
 SettledOnce = (rows : Rows) (nodes lengths : List ℕ) (plan other : List Step) → IsSettled rows nodes lengths plan
     → IsSettled rows nodes lengths other → plan ≡ other
 
--- the checker refuses a settled plan with a certificate of its cost for want of memory alone
+-- the checker refuses a settled plan with a certificate of its cost only when out of memory
 abbrev pub SettledIsAccepted : Type 0
 SettledIsAccepted = (rows : Rows) (nodes lengths : List ℕ) (plan : List Step) (flow : List FlowRow) (fault : ProofFault)
     → IsSettled rows nodes lengths plan

@@ -14,7 +14,7 @@ use std::alloc::Global;
 use std::thread::{Threads, join};
 
 /// What the planner answers for each list, in the lists' order. Lists with the same targets are planned once. The only
-/// refusal is for want of memory. Up to `workers` threads plan at once. The gate is called with k, and 0, just before
+/// error is running out of memory. Up to `workers` threads plan at once. The gate is called with k, and 0, just before
 /// the k-th of the distinct lists is planned, counted from 0 in the order in which they first occur.
 pub fn plan_batch<R: Threads + Sync, G: Gate + Sync>(
     rt: &R,

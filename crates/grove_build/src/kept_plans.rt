@@ -63,8 +63,8 @@ impl KeptPlans {
         self.plans.len()
     }
 
-    /// What the planner answers for the list, which is planned only where nothing is kept for it. The only refusal is
-    /// for want of memory.
+    /// What the planner answers for the list, which is planned only where nothing is kept for it. The only error is
+    /// running out of memory.
     pub fn plan(
         &mut self,
         alloc: Global,

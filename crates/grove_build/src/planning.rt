@@ -31,7 +31,7 @@ pub struct Planned {
     pub flow: Flow,
 }
 
-/// The settled plan of the list. The only refusal is for want of memory.
+/// The settled plan of the list. The only error is running out of memory.
 pub fn plan(alloc: Global, tree: &Tree, list: &AccessList) -> Result<Planned, NoMemory>
     requires fits { AreNodes tree.now (nodes_of list.now) }
     ensures settled { IfOk result

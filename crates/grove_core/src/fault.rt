@@ -67,7 +67,7 @@ pub enum StepFault {
     Marked,
 }
 
-/// Why a history is no finished run of the jobs: the first reason in this order, want of memory aside.
+/// Why a history is no finished run of the jobs: the first reason in this order, out of memory aside.
 #[derive(Clone, Copy, Debug, PartialEq, Eq, Error)]
 pub enum ReplayFault {
     /// The plan of this job has this fault, and no plan of a lower job has one.

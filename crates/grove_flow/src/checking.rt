@@ -11,7 +11,7 @@ use std::alloc::Global;
 /// Whether amounts and places are a solution of a network, as `solve` gives one. They may be any numbers. It takes one
 /// pass over the arcs.
 ///
-/// The only refusal is for want of memory: a table keeps what enters and what leaves each variable.
+/// The only error is running out of memory: a table keeps what enters and what leaves each variable.
 pub fn is_solution(
     alloc: Global,
     network: &Network,

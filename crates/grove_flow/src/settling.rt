@@ -13,7 +13,7 @@ use std::alloc::Global;
 /// The latest places that meet every arc, are tight on every arc with an amount, and are nowhere above `top`.
 /// The base stays at 0.
 ///
-/// The only refusal is for want of memory.
+/// The only error is running out of memory.
 pub fn latest(
     alloc: Global,
     network: &Network,

@@ -15,7 +15,7 @@ use std::alloc::Global;
 /// This is the primal-dual method by successive shortest paths: the places are the potentials, and an arc's slack is
 /// its reduced cost.
 ///
-/// The only refusal is for want of memory.
+/// The only error is running out of memory.
 pub fn solve(alloc: Global, network: &Network, start: &[i64]) -> Result<Solution, NoMemory>
     requires network { IsNetwork network.now.needs.items network.now.arcs.items }
     requires start { IsStart network.now.needs.items network.now.arcs.items start.now }

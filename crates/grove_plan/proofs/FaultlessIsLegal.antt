@@ -204,7 +204,7 @@ pub illegal_of : (rows : Rows) (nodes : List ℕ) (plan : List Step) (answer : R
 illegal_of rows nodes plan (Ok sum) is = is
 illegal_of rows nodes plan (Err fault) is = λ other legal. none-some fault (sym (legal_faultless rows nodes plan legal) ∙ is)
 
--- What is amiss at the end, as a tally tells it
+-- What is wrong at the end, as a tally tells it
 
 -- the table tells the lowest node that is held
 first_same : {lengths : List ℕ} (rows : Rows) (plan : List Step) (position : ℕ) (tally : Tally) → IsTally rows lengths plan position tally

@@ -56,7 +56,7 @@ steps_fault rows nodes plan zero = None
 steps_fault rows nodes plan (suc n) = option_or (steps_fault rows nodes plan n)
     (step_fault rows nodes plan n (slice_get plan n))
 
--- what is amiss at the end: the first access that no step does, else the lowest node that is still held
+-- what is wrong at the end: the first access that no step does, else the lowest node that is still held
 abbrev pub end_fault : Rows → List ℕ → List Step → Option PlanFault
 end_fault rows nodes plan =
     if nat_lt (accesses_before plan (length plan)) (length nodes) then Some
@@ -65,6 +65,6 @@ end_fault rows nodes plan =
     (StillHeld (least_below (length rows) (λ node. held plan node (length plan))))
     else None
 
--- the first fault of a plan, want of memory aside
+-- the first fault of a plan, out of memory aside
 abbrev pub plan_fault_of : Rows → List ℕ → List Step → Option PlanFault
 plan_fault_of rows nodes plan = option_or (steps_fault rows nodes plan (length plan)) (end_fault rows nodes plan)

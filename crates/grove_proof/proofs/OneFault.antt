@@ -113,7 +113,7 @@ refuted rows nodes lengths plan flow e ne legal certificate is =
     fault_refutes rows nodes lengths plan flow e
     (λ f same also. plan_refutes rows nodes plan f (subst (λ (x : ProofFault). IsFault rows nodes lengths plan flow x) same is) also) ne is legal certificate
 
--- a fault of a legal plan with a certificate is want of memory
+-- a fault of a legal plan with a certificate is out of memory
 pub certified_is_faultless : CertifiedIsFaultless
 certified_is_faultless rows nodes lengths plan flow (fault.Plan x) legal certificate is = absurd (refuted rows nodes lengths plan flow (fault.Plan x) (λ e. absurd (cc)) legal certificate is)
 certified_is_faultless rows nodes lengths plan flow (fault.Rows x) legal certificate is = absurd (refuted rows nodes lengths plan flow (fault.Rows x) (λ e. absurd (cc)) legal certificate is)

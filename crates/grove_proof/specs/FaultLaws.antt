@@ -15,7 +15,7 @@ FaultIsOne = (rows : Rows) (nodes lengths : List ℕ) (plan : List Step) (flow :
     → one ≢ Memory → other ≢ Memory
     → IsFault rows nodes lengths plan flow one → IsFault rows nodes lengths plan flow other → one ≡ other
 
--- a legal plan with a certificate of its cost has no fault, and want of memory alone can keep it from being accepted
+-- a legal plan with a certificate of its cost has no fault, and is accepted unless memory runs out
 abbrev pub CertifiedIsFaultless : Type 0
 CertifiedIsFaultless = (rows : Rows) (nodes lengths : List ℕ) (plan : List Step) (flow : List FlowRow)
     (fault : ProofFault) → IsLegal rows nodes plan

@@ -49,7 +49,7 @@ PassesLocks rows nodes plan flow = PassesSizes rows nodes plan flow × AllRows (
 abbrev pub PassesReleases : Rows → List ℕ → List Step → List FlowRow → Type 0
 PassesReleases rows nodes plan flow = PassesLocks rows nodes plan flow × AllRows (is_release_balanced rows flow) flow
 
--- the first fault of a plan with a flow, want of memory aside
+-- the first fault of a plan with a flow, out of memory aside
 abbrev pub IsFault : Rows → List ℕ → List ℕ → List Step → List FlowRow → ProofFault → Type 0
 IsFault rows nodes lengths plan flow (fault.Plan f) = plan_fault_of rows nodes plan ≡ Some f
 IsFault rows nodes lengths plan flow (fault.Rows i) = IsLegal rows nodes plan × IsFirstStranger rows nodes flow i

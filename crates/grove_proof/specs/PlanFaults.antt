@@ -4,7 +4,7 @@ use Rattle.grove_plan.specs.declared.fault.PlanFault.TheVariants as plan
 use Rattle.grove_proof.specs.declared.fault.ProofFault.{ProofFault}
 use Rattle.grove_proof.specs.declared.fault.ProofFault.TheVariants as fault
 
--- a plan's fault as the checker's: want of memory is the outer one
+-- a plan's fault as the checker's: out of memory is the outer one
 abbrev pub as_proof_fault : PlanFault → ProofFault
 as_proof_fault (plan.Strange s) = fault.Plan (plan.Strange s)
 as_proof_fault (plan.Relock s) = fault.Plan (plan.Relock s)

@@ -5,7 +5,7 @@ use thiserror::Error;
 /// Why a plan with a flow isn't accepted. The number is that of the first row at fault, counted from 0.
 #[derive(Clone, Copy, Debug, PartialEq, Eq, Error)]
 pub enum ProofFault {
-    /// The plan isn't legal; never the plan's want of memory.
+    /// The plan isn't legal; never that the plan ran out of memory.
     #[error("{0}")]
     Plan(PlanFault),
     /// The rows' nodes aren't the forced nodes in ascending order; here is the first place where the two lists differ.

@@ -223,7 +223,7 @@ tree_faultless rows (tree, limits) =
 pub faulty_refused : (rows : Rows) (fault : TreeFault) → tree_fault_of rows ≡ Some fault → ¬ AreTreeRows rows
 faulty_refused rows fault found = λ fit. none-some fault (sym (tree_faultless rows fit) ∙ found)
 
--- Want of memory is no fault of rows.
+-- Out of memory is no fault of rows.
 
 no_rule_is_memory : (a b c d e : Bool) (row : ℕ)
     → (if not a then Some (BadParent row) else if b then Some (TooDeep row) else if not c then Some (BadName row) else if d then Some (TwiceNamed row)
@@ -249,6 +249,6 @@ no_tree_is_memory false false o other h = other h
 no_tree_is_memory false true o other h = absurd (cc)
 no_tree_is_memory true b o other h = absurd (cc)
 
--- no fault of rows is want of memory
+-- no fault of rows is out of memory
 pub fault_not_memory : (rows : Rows) → tree_fault_of rows ≢ Some Memory
 fault_not_memory rows = no_tree_is_memory (length rows == 0) (nat_lt 4096 (length rows)) (rows_fault rows (length rows)) (no_row_is_memory rows (length rows))

@@ -73,7 +73,7 @@ abbrev pub rows_fault : Rows → ℕ → Option TreeFault
 rows_fault rows zero = None
 rows_fault rows (suc n) = option_or (rows_fault rows n) (row_fault rows n)
 
--- the first fault of rows, want of memory aside
+-- the first fault of rows, out of memory aside
 abbrev pub tree_fault_of : Rows → Option TreeFault
 tree_fault_of rows =
     if length rows == 0 then Some Empty

@@ -42,7 +42,7 @@ impl Tree {
     /// Builds the tree of the rows, which stand in preorder: each after its parent's, children in the order given.
     /// Where several rules are broken, the fault is that of the first row at fault, and of that row the first in the
     /// order of
-    /// `TreeFault`; want of memory comes last.
+    /// `TreeFault`; running out of memory comes last.
     pub fn build(alloc: Global, rows: &[Row]) -> Result<Tree, TreeFault>
         ensures rows { IfOk result (λ tree. tree ≡ rows_of rows.now) }
         ensures faultless { IfOk result (λ tree. tree_fault_of (rows_of rows.now) ≡ None) }

@@ -22,8 +22,8 @@ use std::thread::Threads;
 impl KeptPlans {
     /// The settled plan of each list, in the lists' order. Up to `workers` threads plan those for which nothing is
     /// kept, and lists with the same targets are planned once. The gate is called with k, and 0, just before the k-th
-    /// of these is planned, counted from 0 in the order in which they first occur. The only refusal is for want of
-    /// memory.
+    /// of these is planned, counted from 0 in the order in which they first occur. The only error is running out
+    /// of memory.
     pub fn plan_all<R: Threads + Sync, G: Gate + Sync>(
         &mut self,
         rt: &R,
