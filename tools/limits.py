@@ -126,7 +126,7 @@ LIMITS = [
     ("crates/grove_words/src/options.rt", "LONGEST_IDLE", [("docs/SESSIONS.md", "`--idle SECONDS`, from 1 to {},")]),
     (
         "crates/grove/src/serving.rt",
-        "SEATS",
+        "SLOTS",
         [
             ("README.md", "| server | {} connections at once,"),
             ("docs/COMMANDS.md", "on up to {} connections at once"),

@@ -19,7 +19,7 @@ from sweeps.talks import note_replies
 
 TRIED = "connections, and lines beside them"
 BUSY = b'{"error":"busy"}\n'
-SEATS = 16
+SLOTS = 16
 # How many come too late.
 LATE = 40
 # How long a connection slot that was left may take to be free.
@@ -51,7 +51,7 @@ def told(port: int, text: bytes) -> bytes:
 def full(program: str, command: str, further: tuple[str, ...], tally: Tally) -> None:
     store = Store(json.loads(TREE))
     with Serving(program, TREE, further=("--busy", *further), command=command) as server, ExitStack() as stack:
-        clients = [stack.enter_context(connected(server.port)) for _ in range(SEATS)]
+        clients = [stack.enter_context(connected(server.port)) for _ in range(SLOTS)]
         streams = [stack.enter_context(client.makefile("rb")) for client in clients]
         everybody = partial(note_everybody, store, command, clients, streams)
         everybody("at first", tally)

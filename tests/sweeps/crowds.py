@@ -30,7 +30,7 @@ GOOD = 8
 ADDING = 8
 BATCHES = 50
 # How many connections are served at once, and how long it is seen that a further one isn't.
-SEATS = 16
+SLOTS = 16
 UNSEATED = 0.5
 # How many lines each good client sends; every fourth is a plan or broken.
 LINES = 48
@@ -75,10 +75,10 @@ def share_rounds(program: str, tally: Tally) -> None:
 
 def share(program: str, tally: Tally) -> str | None:
     """What is wrong if no two of the batches share a round."""
-    asked = [[request_of(number % GOOD, 0)] * LINES for number in range(SEATS)]
-    with Serving(program, document(), 4) as server, ThreadPoolExecutor(SEATS) as pool:
-        came = list(pool.map(good, [server.port] * SEATS, asked, range(SEATS)))
-    batches = [pair for number in range(SEATS) for pair in note_client(number, asked[number], came[number], tally)]
+    asked = [[request_of(number % GOOD, 0)] * LINES for number in range(SLOTS)]
+    with Serving(program, document(), 4) as server, ThreadPoolExecutor(SLOTS) as pool:
+        came = list(pool.map(good, [server.port] * SLOTS, asked, range(SLOTS)))
+    batches = [pair for number in range(SLOTS) for pair in note_client(number, asked[number], came[number], tally)]
     tally.blame("all batches", fault_of_history(json.loads(document()), batches))
     rounds = max(reply["round"] for _, reply in batches)
     return None if rounds < len(batches) else f"{rounds} rounds of {len(batches)} batches"
@@ -115,14 +115,14 @@ def wait_for_a_seat(program: str, tally: Tally) -> None:
     """Sixteen clients stay. What a 17th one asks has no reply until one of them has left."""
     store = Store(json.loads(TREE))
     with Serving(program, TREE) as server, ExitStack() as room:
-        seated = [room.enter_context(connected(server.port)) for _ in range(SEATS)]
-        for number, client in enumerate(seated):
+        served = [room.enter_context(connected(server.port)) for _ in range(SLOTS)]
+        for number, client in enumerate(served):
             client.sendall(WEIGHTS)
             note_replies(store, WEIGHTS, client.makefile("rb").readline(), f"client {number}", tally)
         late = room.enter_context(connected(server.port))
         late.sendall(WEIGHTS)
         tally.note("the 17th while all stay", None if is_silent(late) else "it has a reply")
-        seated[SEATS // 2].close()
+        served[SLOTS // 2].close()
         note_replies(store, WEIGHTS, late.makefile("rb").readline(), "the 17th once one has left", tally)
 
 

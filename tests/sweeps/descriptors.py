@@ -16,7 +16,7 @@ from pathlib import Path
 from server import HOST, Serving, connected, free_port
 from store import Store
 
-from sweeps.busy import BUSY, SEATS, told
+from sweeps.busy import BUSY, SLOTS, told
 from sweeps.connections import TREE, WEIGHTS
 from sweeps.crowds import is_silent
 from sweeps.documents import EXAMPLES
@@ -114,7 +114,7 @@ def serve_busy(program: str, library: str, tally: Tally) -> None:
     store = Store(json.loads(TREE))
     surroundings = failing(library, FAILURES, errno.EMFILE)
     with Serving(program, TREE, further=("--busy",), env=surroundings) as server, ExitStack() as room:
-        for number in range(SEATS):
+        for number in range(SLOTS):
             client = room.enter_context(connected(server.port))
             client.sendall(WEIGHTS)
             note_replies(store, WEIGHTS, client.makefile("rb").readline(), f"client {number}", tally)

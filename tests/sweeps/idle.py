@@ -33,7 +33,7 @@ LONG_IDLE = ("--idle", "60")
 LONGEST = 60.0
 # So much sooner a connection may seem to be closed by the clock here, and no sooner.
 SOONEST = 0.9
-SEATS = 16
+SLOTS = 16
 # How often a byte is sent, and the time to idle.
 DRIPS = ((0.1, 1), (1.0, 3))
 # What is sent so, each byte behind the last one.
@@ -125,7 +125,7 @@ def silent(program: str, command: str, tally: Tally) -> None:
     store = Store(json.loads(TREE))
     with serving(program, command) as server, ExitStack() as room:
         started = time.monotonic()
-        clients = [room.enter_context(connected(server.port)) for _ in range(SEATS)]
+        clients = [room.enter_context(connected(server.port)) for _ in range(SLOTS)]
         for client in clients[::2]:
             client.sendall(sent(command, ADD)[:7])
         note_asked(store, command, server.port, "the 17th", tally)
@@ -137,10 +137,10 @@ def silent(program: str, command: str, tally: Tally) -> None:
 def dripping(program: str, command: str, pace: float, idle: int, tally: Tally) -> None:
     """Sixteen take all slots and send a byte so often, and never a whole line or request; the 17th is served."""
     store = Store(json.loads(TREE))
-    with ThreadPoolExecutor(SEATS) as pool, ExitStack() as room:
+    with ThreadPoolExecutor(SLOTS) as pool, ExitStack() as room:
         server = room.enter_context(serving(program, command, ("--idle", str(idle))))
         started = time.monotonic()
-        clients = [room.enter_context(connected(server.port)) for _ in range(SEATS)]
+        clients = [room.enter_context(connected(server.port)) for _ in range(SLOTS)]
         drips = [pool.submit(drip, client, DRIPPED[command], pace, started) for client in clients]
         note_asked(store, command, server.port, "the 17th", tally)
         for number, dripped in enumerate(drips):
@@ -168,7 +168,7 @@ def taking_nothing(program: str, command: str, tally: Tally) -> None:
     store = Store(json.loads(tree))
     with serving(program, command, document=tree) as server, ExitStack() as room:
         before = sockets_of(server.started.pid)
-        clients = [room.enter_context(narrow(server.port)) for _ in range(SEATS)]
+        clients = [room.enter_context(narrow(server.port)) for _ in range(SLOTS)]
         for client in clients:
             client.sendall(UNTAKEN[command])
         note_asked(store, command, server.port, "the 17th", tally)
@@ -242,7 +242,7 @@ def go_on(program: str, command: str, tally: Tally) -> str | None:
         waited_for = time.monotonic()
         client = room.enter_context(connected(server.port))
         stream = room.enter_context(client.makefile("rb"))
-        for _ in range(SEATS - 1):
+        for _ in range(SLOTS - 1):
             room.enter_context(connected(server.port))
         for number in range(6):
             came, last = b"", time.monotonic()

@@ -24,7 +24,7 @@ from store import MOST_LINE, Store, compact
 from web import BadResponse, Client, chunked, post, request, responses_in
 
 from sweeps.connections import ADD, GET, TEXT, TREE, WEIGHTS
-from sweeps.crowds import SEATS, is_silent
+from sweeps.crowds import SLOTS, is_silent
 from sweeps.documents import seeded
 from sweeps.hostile_lines import note_memory, taken
 from sweeps.program import Tally, Try
@@ -406,7 +406,7 @@ def waiting(program: str, tally: Tally) -> None:
     that doesn't come."""
     store, never = Store(json.loads(TREE)), 2**64 - 1
     with serving(program, TREE, 2) as server, ExitStack() as room:
-        asks, far, *waits = (room.enter_context(Client(server.port)) for _ in range(SEATS))
+        asks, far, *waits = (room.enter_context(Client(server.port)) for _ in range(SLOTS))
         far.send(request("GET", f"/nodes?after={never}&below=/a"))
         for number in range(ROUNDS):
             asked = [f"/nodes?after={store.rounds}{below}" for below in ("", "&below=/b", "&below=/") for _ in waits]
@@ -498,9 +498,9 @@ def market() -> bytes:
 
 def sixteen_at_once(program: str, seconds: float, tally: Tally) -> None:
     """Clients that move numbers, and look at the whole meanwhile: no look finds a move half done."""
-    with serving(program, market(), 2) as server, ThreadPoolExecutor(SEATS) as pool:
+    with serving(program, market(), 2) as server, ThreadPoolExecutor(SLOTS) as pool:
         ends = time.monotonic() + seconds
-        came = list(pool.map(lambda number: browse(server.port, number, ends), range(SEATS)))
+        came = list(pool.map(lambda number: browse(server.port, number, ends), range(SLOTS)))
         with Client(server.port) as client:
             left = json.loads(client.get("/nodes").body)["nodes"]
     batches = [pair for pairs, _, _ in came for pair in pairs]
@@ -549,13 +549,13 @@ def seventeen_at_once(program: str, tally: Tally) -> None:
     """Sixteen clients stay. What a 17th one asks has no response until one of them has left."""
     store = Store(json.loads(TREE))
     with serving(program, TREE) as server, ExitStack() as room:
-        seated = [room.enter_context(Client(server.port)) for _ in range(SEATS)]
-        for number, client in enumerate(seated):
+        served = [room.enter_context(Client(server.port)) for _ in range(SLOTS)]
+        for number, client in enumerate(served):
             note_rows(client, store, [LOOK], f"client {number}", tally)
         late = room.enter_context(Client(server.port))
         late.send(request(*LOOK))
         tally.note("the 17th while all stay", None if is_silent(late.connection) else "it has a response")
-        seated[SEATS // 2].close()
+        served[SLOTS // 2].close()
         note_row(store, LOOK, late.next(), "the 17th once one has left", tally)
 
 
@@ -574,7 +574,7 @@ def hostile_requests(program: str, seed: object, tally: Tally, each: int = HOSTI
                 honest_client(server, store, f"after number {number}", tally)
         tally.blame("at the end", None if server.is_running() else "the server has ended")
         with ExitStack() as room:
-            for _ in range(SEATS):
+            for _ in range(SLOTS):
                 note_rows(room.enter_context(Client(server.port)), store, [LOOK], "at the end", tally)
 
 

@@ -38,7 +38,7 @@ WORD = re.compile(r"[A-Za-z0-9-]+")
 ROUND_TIMES = re.compile(r" round_median_seconds=[0-9]+\.[0-9]{6} round_p99_seconds=[0-9]+\.[0-9]{6}")
 # How many lines are written in a second, and how long it takes for another to begin.
 MOST_LINES, NEXT_SECOND = 100, 1.2
-SEATS = 16
+SLOTS = 16
 TOP = Path(__file__).parents[2]
 # Lines that are refused, each by one name.
 SHAPE, NO_PATH, BAD_JSON = b'{"get":"/a"}\n', b'{"plan":[["get","/c"]]}\n', b"\n"
@@ -251,7 +251,7 @@ def at_once(program: str, tally: Tally) -> None:
         wanted = {}
         for _ in range(5):
             with ExitStack() as room:
-                clients = [room.enter_context(connected(server.port)) for _ in range(SEATS)]
+                clients = [room.enter_context(connected(server.port)) for _ in range(SLOTS)]
                 # (So that no second has too many events.)
                 texts = [b"".join(random.choice(LINES) for _ in range(4)) for _ in clients]
                 time.sleep(NEXT_SECOND)
@@ -356,11 +356,11 @@ def busy(program: str, tally: Tally) -> None:
     wanted = []
     with Telling(program, ("--busy",)) as server, ExitStack() as room:
         clients = []
-        for number in range(1, SEATS + 1):
+        for number in range(1, SLOTS + 1):
             clients.append(room.enter_context(connected(server.port)))
             wanted.append(arrival(number, clients[-1]))
             server.told_of(number)
-        for number in (SEATS + 1, SEATS + 2):
+        for number in (SLOTS + 1, SLOTS + 2):
             with connected(server.port) as late:
                 late.recv(100)
                 wanted += [arrival(number, late), turned_away(number)]
@@ -368,7 +368,7 @@ def busy(program: str, tally: Tally) -> None:
         clients[0].close()
         wanted.append(ended(1, 0, "input-ended"))
         compare(wanted, server.told_of(len(wanted)), tally)
-        admitted(server, SEATS + 3, wanted)
+        admitted(server, SLOTS + 3, wanted)
         compare(wanted, server.told_of(len(wanted)), tally)
 
 
@@ -622,7 +622,7 @@ def answered(program: str, where: str, tally: Tally, **how) -> None:
     store = Store(json.loads(TREE))
     text = b"".join(LINES)
     with Serving(program, TREE, further=VERBOSE, **how) as server:
-        for number in range(SEATS + 4):
+        for number in range(SLOTS + 4):
             note_replies(store, text, server.talk(text), f"{where}, connection {number}", tally)
 
 

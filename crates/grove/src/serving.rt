@@ -22,7 +22,7 @@ use std::alloc::{AllocError, Global};
 use std::net::{IpAddr, Net, TcpListener, TcpStream};
 
 /// How many connections to a store are served at once at the port of its command.
-const SEATS: u32 = 16;
+const SLOTS: u32 = 16;
 
 /// A service with the document's tree and records, which listens already, or why there is none.
 pub fn serve_document<R: Host + Net<Listener = TcpListener, Stream = TcpStream>>(
@@ -114,7 +114,7 @@ fn open_doors<R: Host + Net<Listener = TcpListener, Stream = TcpStream>>(
     let door = Door {
         listener,
         talk,
-        seats: SEATS,
+        slots: SLOTS,
     };
     Ok(Doors { door, http, line })
 }
@@ -149,7 +149,7 @@ fn http_door<R: Host + Net<Listener = TcpListener, Stream = TcpStream>>(
     Ok(Some(Door {
         listener,
         talk: Talk::Requests,
-        seats: serving.http_seats,
+        slots: serving.http_seats,
     }))
 }
 

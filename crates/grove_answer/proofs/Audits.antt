@@ -36,7 +36,7 @@ finished_history rows records jobs events standing tree legal run finished =
     let serial = runs_are_serial rows tree jobs legal records (reverse events) run finished in
     (legal, record { run = run; finished = finished; once = serial.0; serial = serial.1 })
 
--- a refusal tells what is amiss with what is said to stand
+-- a refusal tells what is wrong with what is said to stand
 pub says_misstated : (history : History) (fault : StandingFault) (why : Refusal) → IsFinishedHistory history
     → IsMisstated history.standing (run_records history.jobs history.records (past_in history))
     (replies_of history.jobs history.records (past_in history)) (standing_text fault)

@@ -761,12 +761,12 @@ function planExample() {
 function accessOf(line, number) {
   const [operation, path, ...numbers] = line.split(/\s+/);
   const wanted = { get: 0, set: 1, add: 1, take: 1 }[operation];
-  const amiss = (text) => new Refused(`Line ${number}: ${text}`);
-  if (wanted === undefined) throw amiss(`${operation} is no operation; there are get, set, add and take`);
-  if (path === undefined) throw amiss(`a path has to come after ${operation}, as in ${operation} /a`);
-  if (!numbers.every((text) => NUMBER.test(text))) throw amiss("after the path only whole numbers may come");
-  if (numbers.length < wanted) throw amiss(`a number has to come after the path, as in ${operation} ${path} 1`);
-  if (numbers.length > wanted + 1) throw amiss("there are too many numbers after the path");
+  const wrong = (text) => new Refused(`Line ${number}: ${text}`);
+  if (wanted === undefined) throw wrong(`${operation} is no operation; there are get, set, add and take`);
+  if (path === undefined) throw wrong(`a path has to come after ${operation}, as in ${operation} /a`);
+  if (!numbers.every((text) => NUMBER.test(text))) throw wrong("after the path only whole numbers may come");
+  if (numbers.length < wanted) throw wrong(`a number has to come after the path, as in ${operation} ${path} 1`);
+  if (numbers.length > wanted + 1) throw wrong("there are too many numbers after the path");
   const json = `[${[JSON.stringify(operation), JSON.stringify(path), ...numbers].join(",")}]`;
   return { operation, path, length: Number(numbers[wanted] ?? 1), text: line, json };
 }

@@ -26,7 +26,7 @@ use http_server::{Response, Service};
 use std::alloc::{AllocError, AllocGlobal};
 use std::marker::Model;
 
-/// So many line feeds may a body have, so that no body keeps its seat for long.
+/// So many line feeds may a body have, so that no body keeps its slot for long.
 pub const MOST_LINES: usize = 16_384;
 
 /// After a body of more bytes the connection ends, since what it took of memory for the body stays with it.

@@ -8,7 +8,7 @@ use crate::alone::do_alone;
 use crate::bells::Bells;
 use crate::carries::carries_for;
 use crate::register::{Batch, Register};
-use crate::sleepers::SEATS;
+use crate::sleepers::SLOTS;
 use crate::working::work_all;
 use crate::worth::are_worth_a_thread;
 use crate::{Book, Finished, RunFault};
@@ -82,7 +82,7 @@ fn do_together<'a, B: Batch + Send + Sync, R: Threads + Wait + Sync, G: Gate + S
     ensures core { IfOk result (IsCoreOf B.tree B.jobs B.opening) }
     ensures fault { IfErr result IsLegalRunFault }
 {
-    let workers = workers.min(jobs.len()).clamp(1, SEATS);
+    let workers = workers.min(jobs.len()).clamp(1, SLOTS);
     let carries = carries_for(alloc, jobs, workers)?;
     let register = Mutex::new(Register::<B>::new(Book::open(core), carries));
     let bells = Bells::new();

@@ -1,12 +1,12 @@
-use crate::sleepers::{SEATS, Woken};
+use crate::sleepers::{SLOTS, Woken};
 use std::array;
 use std::sync::Wait;
 use std::thread::Parker;
 
-/// Where workers sleep: each seat has a bell.
+/// Where workers sleep: each slot has a bell.
 #[derive(Drop)]
 pub struct Bells {
-    bells: [Parker; SEATS],
+    bells: [Parker; SLOTS],
 }
 
 impl Bells {
@@ -16,16 +16,16 @@ impl Bells {
         }
     }
 
-    /// Sleeps at a seat until its bell is rung. Where it was rung already, nobody sleeps.
-    pub fn wait<R: Wait>(&self, rt: &R, seat: usize) {
-        self.bells[seat % SEATS].park(rt);
+    /// Sleeps at a slot until its bell is rung. Where it was rung already, nobody sleeps.
+    pub fn wait<R: Wait>(&self, rt: &R, slot: usize) {
+        self.bells[slot % SLOTS].park(rt);
     }
 
-    /// Wakes the workers of these seats.
+    /// Wakes the workers of these slots.
     pub fn ring(&self, woken: &Woken) {
-        for seat in 0..SEATS {
-            if woken.has(seat) {
-                self.bells[seat].unpark();
+        for slot in 0..SLOTS {
+            if woken.has(slot) {
+                self.bells[slot].unpark();
             }
         }
     }
@@ -40,7 +40,7 @@ impl Bells {
 
 /// A worker's place at the bells.
 #[derive(Clone, Copy)]
-pub struct Seat<'b> {
+pub struct Slot<'b> {
     pub bells: &'b Bells,
     pub number: usize,
 }

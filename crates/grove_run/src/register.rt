@@ -1,6 +1,6 @@
 ghost use Rattle.grove_run.specs.Runs.{IsCoreOf};
 
-use crate::sleepers::{SEATS, Sleep, Sleepers, Woken};
+use crate::sleepers::{SLOTS, Sleep, Sleepers, Woken};
 use crate::{Book, CarryStep};
 use grove_access::Carry;
 use grove_core::{Core, Job};
@@ -67,8 +67,8 @@ impl<'a, B: Batch> Register<'a, B> {
     }
 
     /// Takes out a worker's carry.
-    pub fn take_carry(&mut self, seat: usize) -> Option<Carry> {
-        match self.carries.get_mut(seat) {
+    pub fn take_carry(&mut self, slot: usize) -> Option<Carry> {
+        match self.carries.get_mut(slot) {
             Some(carry) => carry.take(),
             None => None,
         }
@@ -89,35 +89,35 @@ impl<'a, B: Batch> Register<'a, B> {
         self.book.carry_on(carry)
     }
 
-    /// The worker of a seat falls asleep, whose carry's job is blocked at the lock of a node, at this place of its
+    /// The worker of a slot falls asleep, whose carry's job is blocked at the lock of a node, at this place of its
     /// plan. It sleeps for the last node in its way: it can let nothing go before it has that one, and isn't woken at
     /// those before.
-    pub fn fall_asleep(&mut self, seat: usize, carry: &Carry, node: Node, place: usize) {
+    pub fn fall_asleep(&mut self, slot: usize, carry: &Carry, node: Node, place: usize) {
         let last = self.book.last_in_way(carry.txn(), place);
-        self.sleep_for(seat, carry, last.unwrap_or(node), place);
+        self.sleep_for(slot, carry, last.unwrap_or(node), place);
     }
 
     /// Lets a worker that was woken sleep on, where its job holds nothing and another has come into its way. So no job
     /// keeps others from a node before it can begin.
-    pub fn sleep_on(&mut self, seat: usize, carry: &Carry, place: usize) -> bool {
+    pub fn sleep_on(&mut self, slot: usize, carry: &Carry, place: usize) -> bool {
         if self.foreign || !carry.known().is_empty() {
             return false;
         }
         let Some(last) = self.book.last_in_way(carry.txn(), place) else {
             return false;
         };
-        self.sleep_for(seat, carry, last, place);
+        self.sleep_for(slot, carry, last, place);
         true
     }
 
-    fn sleep_for(&mut self, seat: usize, carry: &Carry, node: Node, place: usize) {
+    fn sleep_for(&mut self, slot: usize, carry: &Carry, node: Node, place: usize) {
         let sleep = Sleep {
             node,
             txn: carry.txn(),
             place,
             holds_some: !carry.known().is_empty(),
         };
-        self.sleepers.enter(seat, sleep);
+        self.sleepers.enter(slot, sleep);
     }
 
     /// May somebody sleep for the node?
@@ -131,22 +131,22 @@ impl<'a, B: Batch> Register<'a, B> {
     pub fn whom_to_wake(&mut self, node: Node) -> Woken {
         let mut woken = Woken::new();
         let mut begins = false;
-        for seat in 0..SEATS {
-            let Some(sleep) = self.sleepers.leave(seat, node) else {
+        for slot in 0..SLOTS {
+            let Some(sleep) = self.sleepers.leave(slot, node) else {
                 continue;
             };
             match self.book.last_in_way(sleep.txn, sleep.place) {
                 Some(other) => self.sleepers.enter(
-                    seat,
+                    slot,
                     Sleep {
                         node: other,
                         ..sleep
                     },
                 ),
-                None if sleep.holds_some => woken.add(seat),
-                None if begins => self.sleepers.enter(seat, sleep),
+                None if sleep.holds_some => woken.add(slot),
+                None if begins => self.sleepers.enter(slot, sleep),
                 None => {
-                    woken.add(seat);
+                    woken.add(slot);
                     begins = true;
                 }
             }

@@ -1,7 +1,7 @@
 ghost use Rattle.std.specs.Thread.{IsSend, IsSync};
 
 use crate::CarryStep;
-use crate::bells::{Bells, Seat};
+use crate::bells::{Bells, Slot};
 use crate::register::{Batch, Register};
 use crate::worth::are_worth_a_thread;
 use grove_access::Carry;
@@ -24,19 +24,19 @@ pub fn work_all<'a, B: Batch + Send + Sync, R: Threads + Wait + Sync, G: Gate + 
     gate: &G,
 ) {
     let others = workers.saturating_sub(1);
-    let seat = Seat {
+    let slot = Slot {
         bells,
         number: others,
     };
     if others == 0 || !is_worth_a_thread(rt, register, gate) {
-        return work(rt, jobs, register, &seat, gate);
+        return work(rt, jobs, register, &slot, gate);
     }
     join(
         rt,
         ||
             requires { IsSend B.row × IsSync B.row × IsSync R.row × IsSync G.row }
         { work_all(rt, jobs, register, bells, others, gate) },
-        || work(rt, jobs, register, &seat, gate),
+        || work(rt, jobs, register, &slot, gate),
     );
 }
 
@@ -54,10 +54,10 @@ fn work<'a, B: Batch, R: Wait, G: Gate>(
     rt: &R,
     jobs: &'a [Job],
     register: &Mutex<Register<'a, B>>,
-    seat: &Seat,
+    slot: &Slot,
     gate: &G,
 ) {
-    let taken = register.lock(rt).take_carry(seat.number);
+    let taken = register.lock(rt).take_carry(slot.number);
     let Some(mut carry) = taken else {
         return;
     };
@@ -73,7 +73,7 @@ fn work<'a, B: Batch, R: Wait, G: Gate>(
             break;
         }
         carry.begin(txn);
-        if !do_job(rt, job, register, seat, &mut carry, gate) {
+        if !do_job(rt, job, register, slot, &mut carry, gate) {
             break;
         }
     }
@@ -85,7 +85,7 @@ fn do_job<'a, B: Batch, R: Wait, G: Gate>(
     rt: &R,
     job: &Job,
     register: &Mutex<Register<'a, B>>,
-    seat: &Seat,
+    slot: &Slot,
     carry: &mut Carry,
     gate: &G,
 ) -> bool {
@@ -98,8 +98,8 @@ fn do_job<'a, B: Batch, R: Wait, G: Gate>(
                 let _ = carry.apply(&job.list, access);
                 true
             }
-            Step::Lock(node) => take_hold(rt, register, seat, carry, node, place),
-            Step::Unlock(node) => let_go(rt, register, seat.bells, carry, node),
+            Step::Lock(node) => take_hold(rt, register, slot, carry, node, place),
+            Step::Unlock(node) => let_go(rt, register, slot.bells, carry, node),
         };
         if !done {
             return false;
@@ -135,7 +135,7 @@ fn let_go<'a, B: Batch, R: Wait>(
 fn take_hold<'a, B: Batch, R: Wait>(
     rt: &R,
     register: &Mutex<Register<'a, B>>,
-    seat: &Seat,
+    slot: &Slot,
     carry: &mut Carry,
     node: Node,
     place: usize,
@@ -146,13 +146,13 @@ fn take_hold<'a, B: Batch, R: Wait>(
             CarryStep::Stepped => return true,
             CarryStep::Blocked if guard.is_foreign() => return false,
             CarryStep::Blocked => {
-                guard.fall_asleep(seat.number, carry, node, place);
+                guard.fall_asleep(slot.number, carry, node, place);
                 drop(guard);
-                sleep(rt, register, seat, carry, place);
+                sleep(rt, register, slot, carry, place);
             }
             CarryStep::Ended | CarryStep::Foreign => {
                 guard.set_foreign();
-                seat.bells.ring_all();
+                slot.bells.ring_all();
                 return false;
             }
         }
@@ -164,13 +164,13 @@ fn take_hold<'a, B: Batch, R: Wait>(
 fn sleep<'a, B: Batch, R: Wait>(
     rt: &R,
     register: &Mutex<Register<'a, B>>,
-    seat: &Seat,
+    slot: &Slot,
     carry: &Carry,
     place: usize,
 ) {
     for _ in rt.forever() {
-        seat.bells.wait(rt, seat.number);
-        if !register.lock(rt).sleep_on(seat.number, carry, place) {
+        slot.bells.wait(rt, slot.number);
+        if !register.lock(rt).sleep_on(slot.number, carry, place) {
             break;
         }
     }

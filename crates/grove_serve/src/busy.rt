@@ -1,6 +1,6 @@
 use crate::event::Event;
-use crate::seats::Seats;
 use crate::service::Talk;
+use crate::slots::Slots;
 use grove_session::{WriterSink, write_whole};
 use std::io::Read;
 use std::net::{Shutdown, TcpStream};
@@ -26,14 +26,14 @@ const MOST_PIECES: usize = 16;
 /// Says that there is no slot, and counts and logs it.
 pub fn turn_away<R: Wait + Clock + Eprint>(
     rt: &R,
-    seats: &Seats,
+    slots: &Slots,
     stream: &TcpStream,
     talk: Talk,
     connection: u64,
 ) {
     tell_busy(stream, talk);
-    seats.metrics().traffic(talk).turned_away.count_one();
-    if let Some(log) = seats.log() {
+    slots.metrics().traffic(talk).turned_away.count_one();
+    if let Some(log) = slots.log() {
         log.write(rt, Event::TurnedAway { connection });
     }
 }

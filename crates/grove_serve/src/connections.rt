@@ -4,8 +4,8 @@ use crate::busy::turn_away;
 use crate::event::Event;
 use crate::host::Host;
 use crate::minutes::log_minutes;
-use crate::seats::Seats;
 use crate::service::{Door, Service, Talk};
+use crate::slots::Slots;
 use crate::talking::{Caller, serve_caller};
 use grove_desk::{Desk, Opening};
 use grove_store::Store;
@@ -39,8 +39,8 @@ fn serve_as<B: Opening + Send + Sync, R: Host>(rt: &R, service: Service)
     } = service;
     let tree = tree_of(rt.alloc(), &store);
     let desk = Desk::<B>::open(rt.alloc(), store, false);
-    let seats = Seats::new(rt, rt.alloc(), &door, http.as_ref(), manner, tree);
-    serve_at(rt, &desk, &seats, &door, http.as_ref());
+    let slots = Slots::new(rt, rt.alloc(), &door, http.as_ref(), manner, tree);
+    serve_at(rt, &desk, &slots, &door, http.as_ref());
 }
 
 /// A copy of the store's tree, if there is memory for it: its names stay the same.
@@ -55,16 +55,16 @@ fn tree_of(alloc: Global, store: &Store) -> Option<Tree> {
 fn serve_at<B: Opening + Send + Sync, R: Host>(
     rt: &R,
     desk: &Desk<B>,
-    seats: &Seats,
+    slots: &Slots,
     door: &Door,
     http: Option<&Door>,
 ) {
     thread::scope(thread::scope_env(), rt, |scope| {
-        if seats.log().is_some() {
-            let _told = scope.spawn(move || log_minutes(rt, desk, seats));
+        if slots.log().is_some() {
+            let _told = scope.spawn(move || log_minutes(rt, desk, slots));
         }
-        open(rt, desk, seats, door, http);
-        if let Some(log) = seats.log() {
+        open(rt, desk, slots, door, http);
+        if let Some(log) = slots.log() {
             log.close(rt);
         }
     });
@@ -74,32 +74,32 @@ fn serve_at<B: Opening + Send + Sync, R: Host>(
 fn open<B: Opening + Send + Sync, R: Host>(
     rt: &R,
     desk: &Desk<B>,
-    seats: &Seats,
+    slots: &Slots,
     door: &Door,
     http: Option<&Door>,
 ) {
     thread::scope(thread::scope_env(), rt, |scope| {
         if let Some(http) = http {
-            let served = scope.spawn(move || welcome(rt, desk, seats, http));
+            let served = scope.spawn(move || welcome(rt, desk, slots, http));
             if served.is_err() {
-                log_event(rt, seats, Event::NoHttp);
+                log_event(rt, slots, Event::NoHttp);
             }
         }
-        welcome(rt, desk, seats, door);
+        welcome(rt, desk, slots, door);
     });
 }
 
 /// Serves a door's connections, each in its place.
-fn welcome<B: Opening + Send + Sync, R: Host>(rt: &R, desk: &Desk<B>, seats: &Seats, door: &Door) {
+fn welcome<B: Opening + Send + Sync, R: Host>(rt: &R, desk: &Desk<B>, slots: &Slots, door: &Door) {
     thread::scope(thread::scope_env(), rt, |scope| {
         for _ in rt.forever() {
-            match next_caller(rt, seats, door) {
+            match next_caller(rt, slots, door) {
                 Ok(Some(caller)) => {
                     let (connection, place) = (caller.number, caller.place);
-                    let spawned = scope.spawn(move || serve_caller(rt, desk, seats, caller));
+                    let spawned = scope.spawn(move || serve_caller(rt, desk, slots, caller));
                     if spawned.is_err() {
-                        log_event(rt, seats, Event::NoThread { connection });
-                        seats.pool(door.talk).leave(rt, place);
+                        log_event(rt, slots, Event::NoThread { connection });
+                        slots.pool(door.talk).leave(rt, place);
                     }
                 }
                 Ok(None) => {}
@@ -111,16 +111,16 @@ fn welcome<B: Opening + Send + Sync, R: Host>(rt: &R, desk: &Desk<B>, seats: &Se
 
 /// The next connection, in a place of the pool; nobody, if there was no place or no descriptor for it, which is waited
 /// for then. A connection that isn't told so isn't accepted until there is a place for it.
-fn next_caller<R: Host>(rt: &R, seats: &Seats, door: &Door) -> io::Result<Option<Caller>> {
-    let pool = seats.pool(door.talk);
-    let place = if seats.patience().tells_busy {
+fn next_caller<R: Host>(rt: &R, slots: &Slots, door: &Door) -> io::Result<Option<Caller>> {
+    let pool = slots.pool(door.talk);
+    let place = if slots.patience().tells_busy {
         None
     } else {
         Some(pool.take(rt))
     };
     match door.listener.accept() {
         Ok((stream, address)) => {
-            let number = note_arrival(rt, seats, door.talk, address);
+            let number = note_arrival(rt, slots, door.talk, address);
             let talk = door.talk;
             match place.or_else(|| pool.take_free(rt)) {
                 Some(place) => Ok(Some(Caller {
@@ -130,13 +130,13 @@ fn next_caller<R: Host>(rt: &R, seats: &Seats, door: &Door) -> io::Result<Option
                     place,
                 })),
                 None => {
-                    turn_away(rt, seats, &stream, talk, number);
+                    turn_away(rt, slots, &stream, talk, number);
                     Ok(None)
                 }
             }
         }
         Err(error) if lacks_descriptor(&error) => {
-            if let Some(log) = seats.log() {
+            if let Some(log) = slots.log() {
                 log.lack_descriptor(rt);
             }
             if let Some(place) = place {
@@ -150,9 +150,9 @@ fn next_caller<R: Host>(rt: &R, seats: &Seats, door: &Door) -> io::Result<Option
 }
 
 /// Counts and logs that a connection was accepted, and gives its number.
-fn note_arrival<R: Host>(rt: &R, seats: &Seats, talk: Talk, address: SocketAddr) -> u64 {
-    seats.metrics().traffic(talk).accepted.count_one();
-    let Some(log) = seats.log() else {
+fn note_arrival<R: Host>(rt: &R, slots: &Slots, talk: Talk, address: SocketAddr) -> u64 {
+    slots.metrics().traffic(talk).accepted.count_one();
+    let Some(log) = slots.log() else {
         return 0;
     };
     log.have_descriptor();
@@ -165,8 +165,8 @@ fn note_arrival<R: Host>(rt: &R, seats: &Seats, talk: Talk, address: SocketAddr)
     connection
 }
 
-fn log_event<R: Host>(rt: &R, seats: &Seats, event: Event<'_>) {
-    if let Some(log) = seats.log() {
+fn log_event<R: Host>(rt: &R, slots: &Slots, event: Event<'_>) {
+    if let Some(log) = slots.log() {
         log.write(rt, event);
     }
 }

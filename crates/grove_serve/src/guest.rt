@@ -2,8 +2,8 @@ use crate::counted_stream::CountedStream;
 use crate::ending::Ending;
 use crate::event::Event;
 use crate::log::Log;
-use crate::seats::Seats;
 use crate::service::Talk;
+use crate::slots::Slots;
 use grove_base::Hint;
 use std::alloc::AllocGlobal;
 use std::cell::Cell;
@@ -18,7 +18,7 @@ const LONG_LINE: &str =
 /// A connection, as it is counted and as the log has it.
 #[derive(Drop)]
 pub struct Guest<'a> {
-    seats: &'a Seats,
+    slots: &'a Slots,
     talk: Talk,
     number: u64,
     /// How many of its lines are answered.
@@ -29,9 +29,9 @@ pub struct Guest<'a> {
 
 impl<'a> Guest<'a> {
     /// A connection of which no line is answered.
-    pub fn new(seats: &'a Seats, talk: Talk, number: u64) -> Guest<'a> {
+    pub fn new(slots: &'a Slots, talk: Talk, number: u64) -> Guest<'a> {
         Guest {
-            seats,
+            slots,
             talk,
             number,
             lines: Cell::new(0),
@@ -39,8 +39,8 @@ impl<'a> Guest<'a> {
         }
     }
 
-    pub fn seats(&self) -> &'a Seats {
-        self.seats
+    pub fn slots(&self) -> &'a Slots {
+        self.slots
     }
 
     pub fn talk(&self) -> Talk {
@@ -59,20 +59,20 @@ impl<'a> Guest<'a> {
 
     /// What the stream gives, counted.
     pub fn reader<'s>(&'s self, stream: &'s TcpStream) -> CountedStream<'s> {
-        let traffic = self.seats.metrics().traffic(self.talk);
+        let traffic = self.slots.metrics().traffic(self.talk);
         CountedStream::new(stream, &traffic.bytes_received)
     }
 
     /// What the stream takes, counted.
     pub fn writer<'s>(&'s self, stream: &'s TcpStream) -> CountedStream<'s> {
-        let traffic = self.seats.metrics().traffic(self.talk);
+        let traffic = self.slots.metrics().traffic(self.talk);
         CountedStream::new(stream, &traffic.bytes_sent)
     }
 
     /// Counts a line that was answered.
     pub fn count_line(&self) {
         self.lines.set(self.lines.get().saturating_add(1));
-        self.seats.metrics().lines.count_one();
+        self.slots.metrics().lines.count_one();
     }
 
     /// Counts and logs that the line after those which are answered is refused by this name, with its hint if there is
@@ -83,16 +83,16 @@ impl<'a> Guest<'a> {
         name: &'static str,
         hint: Option<&Hint>,
     ) {
-        self.seats.metrics().count_refusal(rt, name);
-        if let Some(log) = self.seats.log() {
+        self.slots.metrics().count_refusal(rt, name);
+        if let Some(log) = self.slots.log() {
             self.log_refusal(rt, log, name, hint.map(|hint| unlabelled(hint.as_str())));
         }
     }
 
     /// Counts and logs that the line after those which are answered is too long.
     pub fn note_long_line<R: Wait + Clock + Eprint + AllocGlobal>(&self, rt: &R) {
-        self.seats.metrics().count_refusal(rt, "long-line");
-        if let Some(log) = self.seats.log() {
+        self.slots.metrics().count_refusal(rt, "long-line");
+        if let Some(log) = self.slots.log() {
             self.log_refusal(rt, log, "long-line", Some(LONG_LINE));
         }
     }
@@ -116,9 +116,9 @@ impl<'a> Guest<'a> {
     /// Counts and logs that the connection has ended, and why.
     pub fn note_end<R: Wait + Clock + Eprint>(&self, rt: &R, ending: Ending) {
         if ending.idle().is_some() {
-            self.seats.metrics().traffic(self.talk).idled.count_one();
+            self.slots.metrics().traffic(self.talk).idled.count_one();
         }
-        if let Some(log) = self.seats.log() {
+        if let Some(log) = self.slots.log() {
             let event = Event::Ended {
                 connection: self.number,
                 lines: self.lines.get(),

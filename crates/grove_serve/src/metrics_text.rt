@@ -4,9 +4,9 @@ ghost use Rattle.std.specs.Prelude.{◌<◌, length};
 use crate::counter::Counter;
 use crate::exposition::{Exposition, Family, Kind, Label};
 use crate::metrics::Metrics;
-use crate::seats::Seats;
 use crate::seconds::Seconds;
 use crate::service::Talk;
+use crate::slots::Slots;
 use grove_base::NoMemory;
 use grove_store::Store;
 use grove_tree::{Node, Tree};
@@ -107,11 +107,11 @@ const WEIGHT: Family = Family {
 pub fn metrics_text<R: Wait>(
     rt: &R,
     alloc: Global,
-    seats: &Seats,
+    slots: &Slots,
     store: Option<&Store>,
 ) -> Result<String, NoMemory> {
     let mut text = Exposition::new(alloc);
-    let metrics = seats.metrics();
+    let metrics = slots.metrics();
     if let Some(started) = metrics.started {
         text.single(STARTED, u64::try_from(started.as_second()).unwrap_or(0))?;
     }
@@ -119,7 +119,7 @@ pub fn metrics_text<R: Wait>(
     write_refusals(rt, &mut text, metrics)?;
     text.single(ROUNDS, metrics.rounds.get())?;
     write_rounds(&mut text, alloc, metrics)?;
-    write_slots(&mut text, seats)?;
+    write_slots(&mut text, slots)?;
     write_traffic(&mut text, metrics)?;
     if let Some(store) = store {
         write_nodes(&mut text, alloc, store)?;
@@ -156,15 +156,15 @@ fn write_rounds(text: &mut Exposition, alloc: Global, metrics: &Metrics) -> Resu
 }
 
 /// The connection slots of each port, and how many connections have one.
-fn write_slots(text: &mut Exposition, seats: &Seats) -> Result<(), NoMemory> {
+fn write_slots(text: &mut Exposition, slots: &Slots) -> Result<(), NoMemory> {
     let (tcp, http) = (Talk::Lines, Talk::Requests);
-    let metrics = seats.metrics();
+    let metrics = slots.metrics();
     text.begin(IN_USE)?;
     text.labelled(IN_USE, protocol("tcp"), metrics.traffic(tcp).in_use())?;
     text.labelled(IN_USE, protocol("http"), metrics.traffic(http).in_use())?;
     text.begin(SLOTS)?;
-    text.labelled(SLOTS, protocol("tcp"), u64::from(seats.pool(tcp).slots()))?;
-    text.labelled(SLOTS, protocol("http"), u64::from(seats.pool(http).slots()))
+    text.labelled(SLOTS, protocol("tcp"), u64::from(slots.pool(tcp).slots()))?;
+    text.labelled(SLOTS, protocol("http"), u64::from(slots.pool(http).slots()))
 }
 
 /// What came and went at each port.

@@ -4,8 +4,8 @@ use crate::host::Host;
 use crate::log::Log;
 use crate::metrics::Metrics;
 use crate::quantile::time_within;
-use crate::seats::Seats;
 use crate::service::Talk;
+use crate::slots::Slots;
 use grove_base::NoMemory;
 use grove_desk::{Desk, Opening};
 use grove_store::Store;
@@ -25,11 +25,11 @@ struct Before {
 
 /// Logs each minute in which lines were answered, and each second what the one before left out, until no more
 /// connections are accepted.
-pub fn log_minutes<B: Opening, R: Host>(rt: &R, desk: &Desk<B>, seats: &Seats) {
-    let Some(log) = seats.log() else {
+pub fn log_minutes<B: Opening, R: Host>(rt: &R, desk: &Desk<B>, slots: &Slots) {
+    let Some(log) = slots.log() else {
         return;
     };
-    let mut before = Before::now(seats.metrics());
+    let mut before = Before::now(slots.metrics());
     let mut seconds = 0u32;
     for _ in rt.forever() {
         if log.closes_within(rt, Duration::from_secs(1)) {
@@ -39,7 +39,7 @@ pub fn log_minutes<B: Opening, R: Host>(rt: &R, desk: &Desk<B>, seats: &Seats) {
         seconds = seconds.saturating_add(1);
         if seconds >= MINUTE {
             seconds = 0;
-            before = log_minute(rt, desk, seats, log, before);
+            before = log_minute(rt, desk, slots, log, before);
         }
     }
 }
@@ -48,23 +48,23 @@ pub fn log_minutes<B: Opening, R: Host>(rt: &R, desk: &Desk<B>, seats: &Seats) {
 fn log_minute<B: Opening, R: Host>(
     rt: &R,
     desk: &Desk<B>,
-    seats: &Seats,
+    slots: &Slots,
     log: &Log,
     before: Before,
 ) -> Before {
-    let now = Before::now(seats.metrics());
+    let now = Before::now(slots.metrics());
     if now.lines == before.lines {
         return before;
     }
-    let tcp = seats.metrics().traffic(Talk::Lines).in_use();
-    let http = seats.metrics().traffic(Talk::Requests).in_use();
+    let tcp = slots.metrics().traffic(Talk::Lines).in_use();
+    let http = slots.metrics().traffic(Talk::Requests).in_use();
     let minute = Minute {
         lines: now.lines.wrapping_sub(before.lines),
         refused: now.refused.wrapping_sub(before.refused),
         connections: tcp.saturating_add(http),
         rounds: now.rounds.saturating_sub(before.rounds),
         waits: waits_at(rt, desk),
-        times: times_since(seats.metrics(), &before, &now),
+        times: times_since(slots.metrics(), &before, &now),
     };
     log.write(rt, Event::Minute(minute));
     now

@@ -17,7 +17,7 @@ pub struct Door {
     pub listener: TcpListener,
     pub talk: Talk,
     /// How many connections are served there at once.
-    pub seats: u32,
+    pub slots: u32,
 }
 
 /// How a store is served.

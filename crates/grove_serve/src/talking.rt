@@ -4,10 +4,10 @@ use crate::guest::Guest;
 use crate::host::Host;
 use crate::pool::Place;
 use crate::room::state_request;
-use crate::seats::Seats;
 use crate::service::Talk;
+use crate::slots::Slots;
 use crate::timed_stream::{Awaited, TimedStream};
-use crate::watching::{SeatedDesk, session_at};
+use crate::watching::{ServedDesk, session_at};
 use grove_desk::{Desk, Opening};
 use grove_page::{PAGE, Site, serve_page};
 use grove_session::{ReaderSource, SessionFault, WriterSink};
@@ -33,15 +33,15 @@ pub struct Caller {
 
 /// A session, or requests, over the connection, which is closed then and leaves its place. What ends it ends it alone,
 /// and nobody is left there to be told of it. One that has no slot waits for it, unless it asks for the server's state.
-pub fn serve_caller<B: Opening, R: Host>(rt: &R, desk: &Desk<B>, seats: &Seats, caller: Caller) {
+pub fn serve_caller<B: Opening, R: Host>(rt: &R, desk: &Desk<B>, slots: &Slots, caller: Caller) {
     let Caller {
         stream,
         number,
         talk,
         place,
     } = caller;
-    let guest = Guest::new(seats, talk, number);
-    let pool = seats.pool(talk);
+    let guest = Guest::new(slots, talk, number);
+    let pool = slots.pool(talk);
     match place {
         Place::Slot => talk_in_slot(rt, desk, &guest, stream),
         Place::Room => match state_request(rt, &stream) {
@@ -50,8 +50,8 @@ pub fn serve_caller<B: Opening, R: Host>(rt: &R, desk: &Desk<B>, seats: &Seats, 
                 drop(stream);
                 pool.leave(rt, Place::Room);
             }
-            None if seats.patience().tells_busy => {
-                turn_away(rt, seats, &stream, talk, number);
+            None if slots.patience().tells_busy => {
+                turn_away(rt, slots, &stream, talk, number);
                 drop(stream);
                 pool.leave(rt, Place::Room);
             }
@@ -70,12 +70,12 @@ fn talk_in_slot<'a, B: Opening, R: Host>(
     guest: &'a Guest<'a>,
     stream: TcpStream,
 ) {
-    let seats = guest.seats();
-    let traffic = seats.metrics().traffic(guest.talk());
+    let slots = guest.slots();
+    let traffic = slots.metrics().traffic(guest.talk());
     traffic.begun.count_one();
     // No reply is to wait until the one before it has arrived.
     let _at_once = stream.set_nodelay(true);
-    let ending = match (guest.talk(), seats.patience().idle) {
+    let ending = match (guest.talk(), slots.patience().idle) {
         (Talk::Lines, None) => answer_lines(rt, desk, guest, &stream),
         (Talk::Lines, Some(idle)) => answer_in_time(rt, desk, guest, &stream, idle),
         (Talk::Requests, idle) => answer_requests(rt, desk, guest, &stream, idle),
@@ -84,7 +84,7 @@ fn talk_in_slot<'a, B: Opening, R: Host>(
     traffic.left.count_one();
     // Whoever waits for the slot may wait for the descriptor.
     drop(stream);
-    seats.pool(guest.talk()).leave(rt, Place::Slot);
+    slots.pool(guest.talk()).leave(rt, Place::Slot);
 }
 
 /// A session over the stream.
@@ -96,7 +96,7 @@ fn answer_lines<'a, B: Opening, R: Host>(
 ) -> Ending {
     let mut source = ReaderSource::new(guest.reader(stream));
     let mut sink = WriterSink::new(guest.writer(stream));
-    let hints = guest.seats().hints();
+    let hints = guest.slots().hints();
     Ending::of_session(session_at(rt, desk, guest, hints, &mut source, &mut sink))
 }
 
@@ -117,7 +117,7 @@ fn answer_in_time<'a, B: Opening, R: Host>(
     let timed = TimedStream::new(rt, reader, Awaited::Line, longest, &is_late);
     let mut source = ReaderSource::new(timed);
     let mut sink = WriterSink::new(guest.writer(stream));
-    let hints = guest.seats().hints();
+    let hints = guest.slots().hints();
     match session_at(rt, desk, guest, hints, &mut source, &mut sink) {
         Err(SessionFault::Read) if is_late.get() => Ending::Idle(seconds),
         ended => Ending::of_session(ended),
@@ -137,7 +137,7 @@ fn answer_requests<'a, B: Opening, R: Host>(
         return Ending::Untimed;
     }
     let was_late = Cell::new(false);
-    let front = SeatedDesk::new(desk, guest);
+    let front = ServedDesk::new(desk, guest);
     let mut reader = guest.reader(stream);
     let ended = match longest {
         Some(longest) => {
@@ -161,7 +161,7 @@ fn answer_state<'a, B: Opening, R: Host>(
     stream: &TcpStream,
     length: u64,
 ) {
-    let front = SeatedDesk::new(desk, guest);
+    let front = ServedDesk::new(desk, guest);
     let mut reader = guest.reader(stream).take(length);
     let _limited = stream.set_write_timeout(Some(Duration::from_secs(LONGEST_WRITE)));
     let ending = match serve_site(rt, &front, guest, &mut reader, stream) {
@@ -176,7 +176,7 @@ fn answer_state<'a, B: Opening, R: Host>(
 /// answered.
 fn serve_site<B: Opening, R: Host, I: Read>(
     rt: &R,
-    front: &SeatedDesk<'_, B>,
+    front: &ServedDesk<'_, B>,
     guest: &Guest<'_>,
     reader: &mut I,
     stream: &TcpStream,
@@ -186,8 +186,8 @@ fn serve_site<B: Opening, R: Host, I: Read>(
     };
     let site = Site {
         page: PAGE,
-        hosts: guest.seats().hosts(),
-        hints: guest.seats().hints(),
+        hosts: guest.slots().hosts(),
+        hints: guest.slots().hints(),
     };
     let mut writer = guest.writer(stream);
     Ok(serve_page(rt, front, site, keys, reader, &mut writer))

@@ -38,9 +38,9 @@ impl<'a, B: Opening> WatchedVisit<'a, B> {
     fn new(desk: &'a Desk<B>, guest: &'a Guest<'a>, hints: bool) -> Self
         ensures { result ≡ caller hints desk.entry.now.opening }
     {
-        let seats = guest.seats();
+        let slots = guest.slots();
         WatchedVisit {
-            visit: HintedVisit::watched(desk, seats.metrics(), hints, seats.tree()),
+            visit: HintedVisit::watched(desk, slots.metrics(), hints, slots.tree()),
             guest,
         }
     }
@@ -71,9 +71,9 @@ impl<'a, B: Opening> WatchedVisit<'a, B> {
 
     /// The hint for a refused line, if there is a log, and memory for the hint.
     fn logged_hint(&self, alloc: Global, line: &[u8], refusal: &Refusal) -> Option<Hint> {
-        let seats = self.guest.seats();
-        let _log = seats.log()?;
-        match hint_of_refusal(alloc, seats.tree(), line, refusal) {
+        let slots = self.guest.slots();
+        let _log = slots.log()?;
+        match hint_of_refusal(alloc, slots.tree(), line, refusal) {
             Ok(hint) => Some(hint),
             Err(NoMemory) => None,
         }
@@ -135,34 +135,34 @@ pub fn session_at<'a, B: Opening, R: Host, I: Source, O: Sink>(
 /// A desk to which the requests of a guest go. Of all guests' long bodies one at a time is answered: so only that one's
 /// lines are copied.
 #[derive(Drop)]
-pub struct SeatedDesk<'a, B: Opening> {
+pub struct ServedDesk<'a, B: Opening> {
     desk: &'a Desk<B>,
     guest: &'a Guest<'a>,
 }
 
-impl<'a, B: Opening> Model for SeatedDesk<'a, B> {
+impl<'a, B: Opening> Model for ServedDesk<'a, B> {
     ghost use Rattle.grove_desk.specs.Desks.{DeskState};
 
     ghost Value = { DeskState };
 
-    ghost view = { λ seated. seated.desk.now };
+    ghost view = { λ served. served.desk.now };
 }
 
-impl<'a, B: Opening> SeatedDesk<'a, B> {
+impl<'a, B: Opening> ServedDesk<'a, B> {
     pub fn new(desk: &'a Desk<B>, guest: &'a Guest<'a>) -> Self {
-        SeatedDesk { desk, guest }
+        ServedDesk { desk, guest }
     }
 }
 
-impl<'a, B: Opening, R: Host> Front<R> for SeatedDesk<'a, B> {
+impl<'a, B: Opening, R: Host> Front<R> for ServedDesk<'a, B> {
     ghost use Rattle.std.specs.Thread.{IsSync};
 
-    ghost opening = { λ seated. seated.opening };
+    ghost opening = { λ served. served.opening };
 
     ghost asks = { IsSync R.row };
 
     fn answer(&self, rt: &R, lines: &[u8], hints: bool, sink: &mut RepliesSink) -> Visited {
-        let _turn = self.guest.seats().turn_of_body(rt, lines.len());
+        let _turn = self.guest.slots().turn_of_body(rt, lines.len());
         let mut visitor = WatchedVisit::new(self.desk, self.guest, hints);
         let ended = visit(rt, &mut visitor, lines, sink);
         Visited::new(ended, visitor.told())
@@ -179,7 +179,7 @@ impl<'a, B: Opening, R: Host> Front<R> for SeatedDesk<'a, B> {
         } else {
             None
         };
-        metrics_text(rt, alloc, self.guest.seats(), store.as_ref())
+        metrics_text(rt, alloc, self.guest.slots(), store.as_ref())
     }
 
     fn snapshot_after(&self, rt: &R, after: u64) -> Result<Awaited, NoMemory> {

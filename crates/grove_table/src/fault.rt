@@ -23,14 +23,14 @@ pub enum TableFault {
 pub struct LineFault {
     /// The line, counted from 1.
     pub number: u64,
-    pub amiss: Amiss,
+    pub reason: Reason,
     /// What the fault is about: the field, the path, or the path of the parent.
     pub about: String,
 }
 
-/// What is amiss with a line.
+/// What is wrong with a line.
 #[derive(Clone, Copy, Debug, PartialEq, Eq)]
-pub enum Amiss {
+pub enum Reason {
     /// A header has other names than `path`, `weight` and `value`, or in another order.
     BadHeader,
     /// It has more than three fields.
@@ -55,11 +55,11 @@ pub enum Amiss {
 
 impl TableFault {
     /// A line at fault.
-    pub fn of_line(alloc: Global, number: u64, amiss: Amiss, about: &str) -> TableFault {
+    pub fn of_line(alloc: Global, number: u64, reason: Reason, about: &str) -> TableFault {
         match String::from_str(alloc, about) {
             Ok(about) => TableFault::Line(LineFault {
                 number,
-                amiss,
+                reason,
                 about,
             }),
             Err(_) => TableFault::Memory,

@@ -2,7 +2,7 @@ ghost use Rattle.std.specs.Prelude.{◌≡◌, [], true, IfSome, unwrap_or, IfOk
 ghost use Rattle.csv.specs.Records.{field_at, fields_of};
 ghost use Rattle.grove_table.specs.Tables.{IsHeader, IsLine, IsValueIn, IsWeightIn};
 
-use crate::{Amiss, Line, TableFault};
+use crate::{Line, Reason, TableFault};
 use csv::ByteRecord;
 use grove_tree::{DEEPEST, HEAVIEST};
 use std::alloc::Global;
@@ -23,7 +23,7 @@ pub fn is_header(row: &ByteRecord) -> bool
 pub fn see_header(alloc: Global, row: &ByteRecord, number: u64) -> Result<(), TableFault> {
     for place in 0..row.len() {
         if text_at(row, place) != NAMES.get(place).copied() {
-            return Err(TableFault::of_line(alloc, number, Amiss::BadHeader, ""));
+            return Err(TableFault::of_line(alloc, number, Reason::BadHeader, ""));
         }
     }
     Ok(())
@@ -33,25 +33,25 @@ pub fn see_header(alloc: Global, row: &ByteRecord, number: u64) -> Result<(), Ta
 pub fn line_of(alloc: Global, row: &ByteRecord, number: u64) -> Result<Line, TableFault>
     ensures { IfOk result (IsLine (fields_of row.now)) }
 {
-    let refused = |amiss: Amiss, about: &str| TableFault::of_line(alloc, number, amiss, about);
+    let refused = |reason: Reason, about: &str| TableFault::of_line(alloc, number, reason, about);
     if row.len() > NAMES.len() {
-        return Err(refused(Amiss::BadFields, ""));
+        return Err(refused(Reason::BadFields, ""));
     }
     let (Some(path), Some(weight), Some(value)) = (
         text_at(row, 0),
         text_at(row, 1),
         text_at(row, 2),
     ) else {
-        return Err(refused(Amiss::NotText, ""));
+        return Err(refused(Reason::NotText, ""));
     };
-    if let Some(amiss) = path_amiss(path) {
-        return Err(refused(amiss, path));
+    if let Some(reason) = fault_of_path(path) {
+        return Err(refused(reason, path));
     }
     let Some(weight_read) = weight_in(weight) else {
-        return Err(refused(Amiss::BadWeight, weight));
+        return Err(refused(Reason::BadWeight, weight));
     };
     let Some(value_read) = value_in(value) else {
-        return Err(refused(Amiss::BadValue, value));
+        return Err(refused(Reason::BadValue, value));
     };
     Ok(Line {
         path: String::from_str(alloc, path)?,
@@ -96,19 +96,19 @@ fn value_in(text: &str) -> Option<i64>
     text.parse::<i64>().ok()
 }
 
-/// What is amiss with a path, if anything is.
-fn path_amiss(path: &str) -> Option<Amiss> {
+/// What is wrong with a path, if anything is.
+fn fault_of_path(path: &str) -> Option<Reason> {
     if path == "/" {
         return None;
     }
     let Some(names) = path.strip_prefix('/') else {
-        return Some(Amiss::BadName);
+        return Some(Reason::BadName);
     };
     if names.split('/').any(|name| !is_name(name)) {
-        return Some(Amiss::BadName);
+        return Some(Reason::BadName);
     }
     if names.split('/').count() > DEEPEST as usize {
-        return Some(Amiss::TooDeep);
+        return Some(Reason::TooDeep);
     }
     None
 }

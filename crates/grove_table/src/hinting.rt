@@ -1,11 +1,11 @@
-use crate::{Amiss, LineFault, TableFault};
+use crate::{LineFault, Reason, TableFault};
 use grove_base::{Hint, NoMemory};
 use std::alloc::{AllocError, Global};
 
 /// What a person is told of a table that is refused.
 pub fn hint(alloc: Global, fault: &TableFault) -> Result<Hint, NoMemory> {
     let told = match fault {
-        TableFault::Line(at) => line_amiss(alloc, at)?,
+        TableFault::Line(at) => fault_of_line(alloc, at)?,
         TableFault::Limit => {
             String::from_str(
                 alloc,
@@ -26,34 +26,34 @@ pub fn hint(alloc: Global, fault: &TableFault) -> Result<Hint, NoMemory> {
     Hint::new(alloc, &told)
 }
 
-/// What is amiss with a line.
-fn line_amiss(alloc: Global, at: &LineFault) -> Result<String, AllocError> {
+/// What is wrong with a line.
+fn fault_of_line(alloc: Global, at: &LineFault) -> Result<String, AllocError> {
     let number = at.number;
     let about = at.about.as_str();
-    match at.amiss {
-        Amiss::BadHeader => format!(in alloc;
+    match at.reason {
+        Reason::BadHeader => format!(in alloc;
             "line {number} is a header, and is to be \"path,weight,value\", \"path,weight\" or \"path\""
         ),
-        Amiss::BadFields => format!(in alloc;
+        Reason::BadFields => format!(in alloc;
             "line {number} has more than three fields: a path, a weight and a value"
         ),
-        Amiss::NotText => format!(in alloc; "line {number} is not UTF-8"),
-        Amiss::BadName => format!(in alloc;
+        Reason::NotText => format!(in alloc; "line {number} is not UTF-8"),
+        Reason::BadName => format!(in alloc;
             "line {number}: \"{about}\" is no path; it is \"/\", or names of a to z, 0 to 9, _ and - with a slash before each"
         ),
-        Amiss::TooDeep => format!(in alloc; "line {number}: \"{about}\" has more than 32 names"),
-        Amiss::BadWeight => format!(in alloc;
+        Reason::TooDeep => format!(in alloc; "line {number}: \"{about}\" has more than 32 names"),
+        Reason::BadWeight => format!(in alloc;
             "line {number}: the weight \"{about}\" is no number from 1 to 1000"
         ),
-        Amiss::BadValue => format!(in alloc;
+        Reason::BadValue => format!(in alloc;
             "line {number}: the value \"{about}\" is no whole number of 64 bits"
         ),
-        Amiss::TwiceNamed => format!(in alloc;
+        Reason::TwiceNamed => format!(in alloc;
             "line {number}: an earlier line has the path \"{about}\""
         ),
-        Amiss::NoParent => format!(in alloc;
+        Reason::NoParent => format!(in alloc;
             "line {number}: no line has the path \"{about}\" of its parent; --parents adds such lines"
         ),
-        Amiss::TooMany => format!(in alloc; "line {number}: a tree has at most 4096 nodes"),
+        Reason::TooMany => format!(in alloc; "line {number}: a tree has at most 4096 nodes"),
     }
 }

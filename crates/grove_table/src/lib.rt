@@ -1,7 +1,7 @@
 //! Trees as tables: lines of a path, a weight and a value, read from CSV and written as it.
 #![tactic(auto)]
 
-pub use fault::{Amiss, LineFault, TableFault};
+pub use fault::{LineFault, Reason, TableFault};
 pub use hinting::hint;
 pub use line::Line;
 pub use reading::read_table;

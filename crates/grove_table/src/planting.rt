@@ -1,4 +1,4 @@
-use crate::{Amiss, Line, TableFault};
+use crate::{Line, Reason, TableFault};
 use std::alloc::Global;
 
 const MOST_NODES: usize = 4_096;
@@ -23,8 +23,8 @@ pub fn planted<'a>(alloc: Global, lines: &'a [Line]) -> Result<Vec<Sprout<'a>>, 
             return Err(TableFault::Unlike);
         };
         if sprout.line.is_some() {
-            let amiss = Amiss::TwiceNamed;
-            return Err(TableFault::of_line(alloc, line.number, amiss, &line.path));
+            let reason = Reason::TwiceNamed;
+            return Err(TableFault::of_line(alloc, line.number, reason, &line.path));
         }
         sprout.line = Some(place);
     }
@@ -65,8 +65,8 @@ fn child_of<'a>(
     }
     let next = sprouts.len();
     if next >= MOST_NODES {
-        let amiss = Amiss::TooMany;
-        return Err(TableFault::of_line(alloc, line.number, amiss, &line.path));
+        let reason = Reason::TooMany;
+        return Err(TableFault::of_line(alloc, line.number, reason, &line.path));
     }
     sprouts.push(Sprout {
         parent,

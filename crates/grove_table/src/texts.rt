@@ -1,4 +1,4 @@
-use crate::{Amiss, TableFault};
+use crate::{Reason, TableFault};
 use std::alloc::{AllocError, Global};
 
 /// The text of a fault, as a refusal has it: `line 3 bad-weight`, `limit whole`, `table empty`.
@@ -6,7 +6,7 @@ pub fn fault_text(alloc: Global, fault: &TableFault) -> Result<String, AllocErro
     match fault {
         TableFault::Line(at) => {
             let number = at.number;
-            let name = name_of(at.amiss);
+            let name = name_of(at.reason);
             format!(in alloc; "line {number} {name}")
         }
         TableFault::Limit => String::from_str(alloc, "limit whole"),
@@ -16,17 +16,17 @@ pub fn fault_text(alloc: Global, fault: &TableFault) -> Result<String, AllocErro
     }
 }
 
-fn name_of(amiss: Amiss) -> &'static str {
-    match amiss {
-        Amiss::BadHeader => "bad-header",
-        Amiss::BadFields => "bad-fields",
-        Amiss::NotText => "not-text",
-        Amiss::BadName => "bad-name",
-        Amiss::TooDeep => "too-deep",
-        Amiss::BadWeight => "bad-weight",
-        Amiss::BadValue => "bad-value",
-        Amiss::TwiceNamed => "twice-named",
-        Amiss::NoParent => "no-parent",
-        Amiss::TooMany => "too-many",
+fn name_of(reason: Reason) -> &'static str {
+    match reason {
+        Reason::BadHeader => "bad-header",
+        Reason::BadFields => "bad-fields",
+        Reason::NotText => "not-text",
+        Reason::BadName => "bad-name",
+        Reason::TooDeep => "too-deep",
+        Reason::BadWeight => "bad-weight",
+        Reason::BadValue => "bad-value",
+        Reason::TwiceNamed => "twice-named",
+        Reason::NoParent => "no-parent",
+        Reason::TooMany => "too-many",
     }
 }

@@ -3,7 +3,7 @@ ghost use Rattle.grove_table.specs.Tables.{IsTreeOf};
 
 use crate::confirming::is_tree_of;
 use crate::planting::{Sprout, planted, preorder};
-use crate::{Amiss, Line, TableFault};
+use crate::{Line, Reason, TableFault};
 use grove_access::Records;
 use grove_tree::{Row, Tree, TreeFault};
 use std::alloc::Global;
@@ -61,7 +61,7 @@ fn see_parents(alloc: Global, lines: &[Line], sprouts: &[Sprout<'_>]) -> Result<
         return Err(TableFault::Unlike);
     };
     let path = parent_path(&line.path);
-    Err(TableFault::of_line(alloc, line.number, Amiss::NoParent, path))
+    Err(TableFault::of_line(alloc, line.number, Reason::NoParent, path))
 }
 
 /// The path of the parent of what a path is of.

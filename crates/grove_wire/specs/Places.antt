@@ -1,4 +1,4 @@
--- Where in a document something is amiss.
+-- Where in a document something is wrong.
 use Rattle.std.specs.Prelude.{ℕ, codes, List, Some, None, option_map, unwrap_or}
 use Rattle.grove_wire.specs.declared.place.Part.{Part}
 use Rattle.grove_wire.specs.declared.place.Part.TheVariants as part

@@ -48,7 +48,7 @@ impl Part {
     }
 }
 
-/// Where in a document something is amiss.
+/// Where in a document something is wrong.
 #[derive(Clone, Copy, Debug, PartialEq, Eq)]
 pub struct Place {
     pub part: Part,

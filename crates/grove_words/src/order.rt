@@ -107,12 +107,12 @@ pub enum Port {
     Named(u16),
 }
 
-/// What a server does with connections that idle, and with those that find no seat.
+/// What a server does with connections that idle, and with those that find no slot.
 #[derive(Clone, Copy)]
 pub struct Patience {
     /// After how many seconds without a whole line a connection is ended; without it, never.
     pub idle: Option<u32>,
-    /// Whether a connection that finds no seat is told so and closed; else it waits.
+    /// Whether a connection that finds no slot is told so and closed; else it waits.
     pub tells_busy: bool,
 }
 

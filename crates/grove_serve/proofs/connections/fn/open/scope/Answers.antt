@@ -1,9 +1,9 @@
 use denote.Param.Send.{sendable}
 use Rattle.std.proofs.Crossing.{crosses}
 use Rattle.grove_desk.proofs.Sharing.{Desk-sync}
-use Rattle.grove_serve.proofs.Sharing.{Door-sync, Seats-sync}
+use Rattle.grove_serve.proofs.Sharing.{Door-sync, Slots-sync}
 use Rattle.grove_serve.proofs.connections.fn.open.scope.Goals as goal
 
 pub spawn-served-requires-send-F : goal.spawn-served-requires-send-F
 spawn-served-requires-send-F g c κs within =
-    search (sendable, crosses, c.requires, Desk-sync, Door-sync, Seats-sync) depth 60 fits 4000
+    search (sendable, crosses, c.requires, Desk-sync, Door-sync, Slots-sync) depth 60 fits 4000

@@ -16,7 +16,7 @@ const ROOM: u32 = 8;
 
 /// The slots of connections, those of each port apart, how whoever has one is served, and what is counted of them.
 #[derive(Drop)]
-pub struct Seats {
+pub struct Slots {
     /// Of those that talk lines.
     lines: Pool,
     /// Of those that talk HTTP: so a browser or a scraper takes none from clients.
@@ -32,7 +32,7 @@ pub struct Seats {
     log: Option<Log>,
 }
 
-impl Seats {
+impl Slots {
     /// All slots of the doors, free.
     pub fn new<R: Clock>(
         rt: &R,
@@ -41,11 +41,11 @@ impl Seats {
         http: Option<&Door>,
         manner: Manner,
         tree: Option<Tree>,
-    ) -> Seats {
+    ) -> Slots {
         let (lines, requests) = match (door.talk, http) {
-            (Talk::Requests, _) => (0, door.seats),
-            (Talk::Lines, Some(http)) => (door.seats, http.seats),
-            (Talk::Lines, None) => (door.seats, 0),
+            (Talk::Requests, _) => (0, door.slots),
+            (Talk::Lines, Some(http)) => (door.slots, http.slots),
+            (Talk::Lines, None) => (door.slots, 0),
         };
         let Manner {
             patience,
@@ -53,7 +53,7 @@ impl Seats {
             hosts,
             hints,
         } = manner;
-        Seats {
+        Slots {
             lines: Pool::new(lines, 0),
             requests: Pool::new(requests, ROOM),
             long_body: Mutex::new(()),

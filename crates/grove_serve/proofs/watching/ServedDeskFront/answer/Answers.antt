@@ -4,7 +4,7 @@ use Rattle.grove_desk.specs.declared.told.Told.{Told}
 use Rattle.grove_page.specs.Hints.{caller, CallerState, IsCallerReply}
 use Rattle.grove_page.specs.Pages.{ends_refused, is_refused, Visits, VisitsDesk}
 use Rattle.grove_page.proofs.Refused.{answered}
-use Rattle.grove_serve.proofs.watching.SeatedDeskFront.answer.Goals as goal
+use Rattle.grove_serve.proofs.watching.ServedDeskFront.answer.Goals as goal
 
 pub returns : goal.returns
 returns g c =
