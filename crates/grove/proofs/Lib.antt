@@ -1,5 +1,7 @@
 pub mod NoOrders
+pub mod AnsweredOrders
 pub mod Orders
+pub mod Invitations
 pub mod Printing
 pub mod Saying
 pub mod Texts

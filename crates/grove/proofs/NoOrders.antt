@@ -11,7 +11,8 @@ use Rattle.grove.specs.Answers.{IsToldNoOrder}
 use Rattle.grove.specs.Endings.{SaysSomething, SaysWhy}
 use Rattle.grove.specs.Outcomes.{IsOutcomeFor, Prints}
 use Rattle.grove.specs.Runs.{streams, Answers, Does, Streams}
-use Rattle.grove.proofs.Orders.{prints_part, answers_nothing, goes_on, spares_nothing, same_hint}
+use Rattle.grove.proofs.AnsweredOrders.{prints_part, answers_nothing, goes_on, spares_nothing}
+use Rattle.grove.proofs.Orders.{same_hint}
 
 kept : (old new : Option (List ℕ)) → new ≡ old → Keeps old new
 kept old new same = subst (Keeps old) (sym same) (Keeps-refl old)

@@ -1,10 +1,9 @@
 -- What comes of the order that was found is what the words ask for.
 use Rattle.std.proofs.Common.{◌≡◌, ◌≢◌, ◌≤◌, ◌∙◌, ℕ, Bool, ap, refl, sym, subst, true, false, ◌||◌, List, [], Option}
-use Rattle.std.proofs.Common.{Some, None, IfSome, IfOk, IfErr, OnErr, OnOk, Result, Ok, Err, inl, inr, ◌⊎◌, arith, ◌++◌}
+use Rattle.std.proofs.Common.{Some, None, IfSome, IfOk, IfErr, OnErr, OnOk, Result, Ok, Err, inl, inr, ◌⊎◌, arith}
 use Rattle.std.proofs.Common.{take}
 use Rattle.std.specs.Io.KnownBytes.{Appends, Keeps}
 use Rattle.grove_words.specs.declared.order.Command.{Command}
-use Rattle.grove_words.specs.declared.order.Command.TheVariants as command
 use Rattle.grove_words.specs.declared.order.Document.{Document}
 use Rattle.grove_words.specs.declared.order.Order.{Order}
 use Rattle.grove_words.specs.declared.order.Order.TheVariants as order
@@ -20,110 +19,13 @@ use Rattle.grove.specs.declared.answer.Stop.{Stop}
 use Rattle.grove.specs.declared.answer.Stop.TheVariants as stop
 use Rattle.grove.specs.Answers.{serving_of, HasFile, IsAsGoodAs, IsAsked, IsCommandDone, IsGivenUp, IsLost, IsObeyed}
 use Rattle.grove.specs.Answers.{IsSaved, IsStopped, IsUnsaved}
-use Rattle.grove.specs.Endings.{stop_line, Blames, MayHint, MayHintEach, NamesPlace, SaysListening, SaysRefusal}
-use Rattle.grove.specs.Endings.{SaysStop, SaysWhy}
+use Rattle.grove.specs.Endings.{Blames, MayHint, MayHintEach, NamesPlace, SaysListening, SaysRefusal}
+use Rattle.grove.specs.Endings.{SaysStop}
 use Rattle.grove.specs.Outcomes.{document_for, outcome_status, outcome_text, IsOutcome, IsOutcomeFor, MaySay, Prints}
-use Rattle.grove.specs.Runs.{streams, Answers, AskToAsk, Does, DoesAt, Invites, Spares, Stops, Streams, Tells}
-use Rattle.grove.proofs.Printing.{all_written, no_hint}
-
--- ---- what is printed
-
-prints_whole : (IsSaid : Outcome → Type 0) (status : ℕ) (old new : Option (List ℕ)) (outcome : Outcome) → IsSaid outcome
-    → status ≡ outcome_status outcome
-    → Appends old new (outcome_text outcome) → Prints IsSaid status old new
-prints_whole IsSaid status old new outcome may is out =
-    let part = all_written (outcome_text outcome) old new out in
-    record { whole = λ few. (outcome, may, is, out); part = inr (outcome, may, part.0, part.1) }
-
-pub prints_part : (IsSaid : Outcome → Type 0) (old new : Option (List ℕ)) → Keeps old new
-    ⊎ ((outcome : Outcome) × IsSaid outcome × (count : ℕ) × Appends old new (take count (outcome_text outcome)))
-    → Prints IsSaid 3 old new
-prints_part IsSaid old new part = record { whole = λ few. absurd (omega arith); part = part }
-
--- a status of an answer is 0 or 1
-few_statuses : (outcome : Outcome) → outcome_status outcome ≤ 1
-few_statuses (Ok lines) = omega arith
-few_statuses (Err fault) = omega arith
-
-refusal_printed : (outcome : Outcome) (status : ℕ) (old new : Option (List ℕ)) → status ≡ outcome_status outcome
-    → Appends old new (outcome_text outcome) → status ≡ 1 → SaysRefusal old new
-refusal_printed (Ok lines) status old new is out one = let none : ◌≡◌ {A = ℕ} 0 1 = sym is ∙ one in absurd (cc)
-refusal_printed (Err fault) status old new is out one = (fault, out)
-
--- a place that a command serves at is given by the words
-place_given : (words : List (List ℕ)) (it : Command) (serving : Serving)
-    → SaysCommand (text_given words) (texts_given words) it
-    → serving_of it ≡ Some serving
-    → (serves (verb_for it) ≡ true) × IsPlace (text_given words) serving.place
-place_given words (command.Serve given) serving said at = let same : given ≡ serving =
-    cc in (refl, subst (λ (s : Serving). IsPlace (text_given words) s.place) same said.place)
-place_given words (command.Page given) serving said at = let same : given ≡ serving =
-    cc in (refl, subst (λ (s : Serving). IsPlace (text_given words) s.place) same said.place)
-place_given words command.Judge serving said at = absurd (cc)
-place_given words command.Check serving said at = absurd (cc)
-place_given words (command.Plan in_document) serving said at = absurd (cc)
-place_given words (command.Draw form) serving said at = absurd (cc)
-place_given words (command.Run workers) serving said at = absurd (cc)
-place_given words command.Audit serving said at = absurd (cc)
-place_given words (command.Tree adds_parents) serving said at = absurd (cc)
-place_given words command.Table serving said at = absurd (cc)
-
--- a reason is said only where it is asked for
-says_why : (words : List (List ℕ)) (explain : Bool) (HasFailed IsSound : Type 0) (why : Stop)
-    (old middle new : Option (List ℕ)) → AskToExplain words explain → middle ≡ old
-    → SaysStop (explain ≡ true) why middle new → Blames HasFailed IsSound why
-    → SaysWhy (AskToExplain words true) HasFailed IsSound old new
-says_why words explain HasFailed IsSound why old middle new asked same (inl said) blames =
-    (why, inl (subst (λ xs. Appends xs new (stop_line why)) same said), blames)
-says_why words explain HasFailed IsSound why old middle new asked same (inr (wanted, line, is, said)) blames = (
-  why,
-  inr (
-    subst (AskToExplain words) wanted asked,
-    line,
-    is,
-    subst
-        (λ xs. Appends xs new (line ++ stop_line why)) same said,
-  ),
-  blames,
-)
-
--- ---- what is plain by the status alone
-
--- words that are an order are told nothing
-tells_nothing : (words : List (List ℕ)) (verb : Verb) (name : Option (List ℕ)) (before after : Streams) (status : ℕ)
-    → AskFor words verb name → status ≢ 2 → Tells words before after status
-tells_nothing words verb name before after status asked other = record {
-  wrong = λ wrong. absurd (wrong.no_order verb name asked);
-  shown = λ shown. absurd (not_shown words verb name asked shown);
-  complained = λ two. absurd (other two);
-  quiet_output = λ two. absurd (other two);
-  sound_errors = λ two. absurd (other two);
-}
-
--- words that are none aren't answered
-pub answers_nothing : (words : List (List ℕ)) (before after : Streams) (status : ℕ)
-    → ((verb : Verb) (name : Option (List ℕ)) → AskFor words verb name → ⊥) → status ≢ 1
-    → Answers words before after status
-answers_nothing words before after status none other = record {
-  answered = λ verb asks differs. absurd (none verb None asks);
-  read = λ verb name asks differs. absurd (none verb name asks);
-  served = λ verb name asks serving. absurd (none verb name asks);
-  refused = λ one. absurd (other one);
-  taken = λ verb name asks two. none verb name asks;
-}
-
-pub goes_on : (words : List (List ℕ)) (before after : Streams) (status : ℕ) → status ≤ 2
-    → Stops words before after status
-goes_on words before after status few =
-    record { status = omega arith; blamed = λ three. absurd (omega arith); unprinted = λ three. absurd (omega arith) }
-
-pub spares_nothing : (words : List (List ℕ)) (before after : Streams) → Spares words before after 3
-spares_nothing words before after = record {
-  hinted = λ few. absurd (omega arith);
-  quiet_errors = λ shown few. absurd (omega arith);
-  sound_input = λ few. absurd (omega arith);
-  sound_output = λ few. absurd (omega arith);
-}
+use Rattle.grove.specs.Runs.{AskToAsk, Does, Streams}
+use Rattle.grove.proofs.Printing.{no_hint}
+use Rattle.grove.proofs.AnsweredOrders.{prints_whole, prints_part, few_statuses, refusal_printed, place_given}
+use Rattle.grove.proofs.AnsweredOrders.{says_why, tells_nothing, goes_on, spares_nothing}
 
 -- ---- a command that is done with its document
 
@@ -493,28 +395,3 @@ has_file words (order.Ask place lines) verb name (called, asked) asks other name
     absurd (no_other words called Ask refl asked verb name asks other)
 has_file words (order.Save server file) verb name (called, asked) asks other named =
     absurd (no_other words called Save refl asked verb name asks other)
-
--- ---- what is awaited
-
--- a line for whoever types a document goes to standard error alone
-pub invited_by : {E : Type 0} (contents : E → Option (List ℕ)) (failed : E → Bool) (is_typed : Bool)
-    (input : Option (List ℕ)) (input_failed : Bool) (output : Option (List ℕ)) (output_failed : Bool)
-    (old new : E) → MayHint (failed old) (failed new) (contents old) (contents new) → (is_typed ≡ false → new ≡ old)
-    → Invites is_typed (streams input input_failed output output_failed (contents old) (failed old))
-    (streams input input_failed output output_failed (contents new) (failed new))
-invited_by contents failed is_typed input input_failed output output_failed old new hint quiet = record {
-  others = refl;
-  hint = hint;
-  quiet = λ plain. ap (λ err. streams input input_failed output output_failed (contents err) (failed err))
-      (quiet plain);
-}
-
-pub not_invited : (is_typed : Bool) (before : Streams) → Invites is_typed before before
-not_invited is_typed before =
-    record { others = refl; hint = no_hint before.errors_failed before.errors; quiet = λ plain. refl }
-
--- where nothing is typed, nobody is told what is awaited
-pub uninvited_does : (words : List (List ℕ)) (before after : Streams) (status : ℕ)
-    → DoesAt false words before after status → Does words before after status
-uninvited_does words before after status (invited, invites, does) =
-    subst (λ (first : Streams). Does words first after status) (invites.quiet refl) does

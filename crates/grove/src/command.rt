@@ -26,7 +26,7 @@ use std::rt::Files;
 /// 2 wrong words, found before anything is read, 3 no answer or one that couldn't be printed. A document without
 /// a name is read from `input`. Beside a refusal of the document a hint may go to `err`, and beside an answer to one
 /// that has a member which nothing uses and which resembles one that is used.
-#[tactic(auto, using(crate::proofs::Orders::uninvited_does))]
+#[tactic(auto, using(crate::proofs::Invitations::uninvited_does))]
 pub fn run_command<
     R: Host + Files + Net<Listener = TcpListener, Stream = TcpStream>,
     I: Source + Explained,

@@ -34,7 +34,7 @@ use Rattle.grove_core.proofs.NeverStalls.{steps_within}
 use Rattle.grove_core.proofs.StepTimes.{steps_new}
 use Rattle.grove_core.proofs.RunSteps.{deeds_length, plan_of_at, list_of_at, accessed_records, accessed_replies}
 use Rattle.grove_core.proofs.CoreReads.{reverse_last}
-use Rattle.grove_core.proofs.CoreSteps.{holds_same}
+use Rattle.grove_core.proofs.OwnerSteps.{holds_same}
 
 -- The tests together say that the carry is of the core
 

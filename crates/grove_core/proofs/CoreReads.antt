@@ -29,7 +29,8 @@ use Rattle.grove_core.proofs.RunSteps.{plan_of_at, deeds_length}
 use Rattle.grove_base.specs.Numbers.{count_below}
 use Rattle.grove_base.proofs.Counting.{count_hit, count_mono}
 use Rattle.grove_base.proofs.Lists.{read_at}
-use Rattle.grove_core.proofs.CoreSteps.{locked_within, holding_unlocked}
+use Rattle.grove_core.proofs.CoreSteps.{locked_within}
+use Rattle.grove_core.proofs.OwnerSteps.{holding_unlocked}
 
 -- the latest event stands first
 pub reverse_last : {A : Type 0} (xs : List A) (x : A) → reverse (xs ++ x ∷ []) ≡ x ∷ reverse xs

@@ -19,6 +19,7 @@ pub mod Replaying
 pub mod ReplayFaults
 pub mod RunBounds
 pub mod RunSteps
+pub mod OwnerSteps
 pub mod CoreSteps
 pub mod CoreReads
 pub mod CoreOpens

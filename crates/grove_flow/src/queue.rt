@@ -122,9 +122,9 @@ impl Queue {
         requires fan { IsFan fan.now.end network.now fan.now }
         requires v { v < length network.now.needs.items }
         requires within { NamesArcsAlone network.now self.old }
-        ensures kept { OnOk result ((i key : ℕ) → HasEntry self.old key i → HasEntry self.new key i) }
-        ensures added { OnOk result ((i key : ℕ) → IsLive network.now state.now tree.now i key
-            → end_of fan.now.end (arc_at network.now.arcs.items i) ≡ v → HasEntry self.new key i) }
+        ensures offered { OnOk result (((i key : ℕ) → HasEntry self.old key i → HasEntry self.new key i)
+            × ((i key : ℕ) → IsLive network.now state.now tree.now i key
+                → end_of fan.now.end (arc_at network.now.arcs.items i) ≡ v → HasEntry self.new key i)) }
         ensures within { OnOk result (NamesArcsAlone network.now self.new) }
     {
         let mut next = fan.last[v];

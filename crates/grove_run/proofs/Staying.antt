@@ -21,7 +21,7 @@ use Rattle.grove_core.specs.Kept.{CoreState, past_of}
 use Rattle.grove_core.specs.Carried.{records_of, IsOf}
 use Rattle.grove_core.proofs.CoreReads.{reverse_last}
 use Rattle.grove_core.proofs.RunSteps.{deeds_length}
-use Rattle.grove_core.proofs.CoreSteps.{holds_same}
+use Rattle.grove_core.proofs.OwnerSteps.{holds_same}
 use Rattle.grove_core.proofs.StepTimes.{steps_new}
 use Rattle.grove_run.specs.declared.steps.CarryStep.{CarryStep}
 use Rattle.grove_run.specs.declared.steps.CarryStep.TheVariants.{Stepped, Blocked, Ended, Foreign}

@@ -15,6 +15,8 @@ pub mod Stored
 pub mod DocumentTexts
 pub mod Sketching
 pub mod SketchedItems
+pub mod SketchedSteps
+pub mod SketchedMembers
 pub mod Sketches
 pub mod LeastFits
 pub mod Feedless

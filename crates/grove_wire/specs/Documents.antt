@@ -43,7 +43,3 @@ node_data rows records waits node = object
     (member (codes "record") (number_data (record_at records node))
     (member (codes "waits") (count_data (slice_index waits node))
     (member (codes "weight") (count_data (weight_of rows node)) no_members))))
-
-abbrev pub nodes_data : Rows → List ℤ → List ℕ → Data
-nodes_data rows records waits =
-    object (member (codes "nodes") (each_node rows (node_data rows records waits)) no_members)

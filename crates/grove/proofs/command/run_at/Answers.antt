@@ -1,7 +1,8 @@
 use Rattle.std.proofs.Common.{map, refl, string_bytes, subst, sym}
 use Rattle.grove.specs.Runs.{streams, Does}
 use Rattle.grove.proofs.NoOrders.{told_does}
-use Rattle.grove.proofs.Orders.{given_up_does, has_file, invited_by, not_invited, obeyed_does, obeyed_few}
+use Rattle.grove.proofs.Invitations.{invited_by, not_invited}
+use Rattle.grove.proofs.Orders.{given_up_does, has_file, obeyed_does, obeyed_few}
 use Rattle.grove.proofs.command.run_at.Goals as goal
 
 pub returns-in-Ok-obey-clause-done : goal.returns-in-Ok-obey-clause-done
