@@ -19,7 +19,7 @@ abbrev pub stop_line : Stop → List ℕ
 stop_line (Device failure) = codes "device" ++ 10 ∷ []
 stop_line Memory = codes "memory" ++ 10 ∷ []
 
--- a stop is for a device where one has failed, and for want of memory where none has newly failed
+-- a stop is for a device where one has failed, and for memory where none has newly failed
 abbrev pub Blames : Type 0 → Type 0 → Stop → Type 0
 Blames HasFailed IsSound (Device failure) = HasFailed
 Blames HasFailed IsSound Memory = IsSound

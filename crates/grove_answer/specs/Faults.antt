@@ -36,7 +36,7 @@ NamesNodes rows (Run fault) = RunFaultFits rows fault
 NamesNodes rows (Replay fault) = ReplayFaultFits rows fault
 NamesNodes rows (Standing fault) = Unit {0}
 
--- is it want of memory, which no document is refused for?
+-- is it out of memory, which no document is refused for?
 abbrev pub wants_memory : Fault → Bool
 wants_memory (Wire wire.Memory) = true
 wants_memory (Plan plan.Memory) = true

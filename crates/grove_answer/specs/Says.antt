@@ -6,7 +6,7 @@ use Rattle.grove_answer.specs.declared.refusal.Refusal.{Refusal}
 use Rattle.grove_answer.specs.declared.refusal.Refusal.TheVariants.{Fault, Memory}
 use Rattle.grove_answer.specs.Outcomes.{Outcome}
 
--- the outcome that a refusal tells; want of memory is none
+-- the outcome that a refusal tells; out of memory is none
 abbrev pub refusal_outcome : Refusal → Option Outcome
 refusal_outcome (Fault fault text) = Some (Err (string_bytes text))
 refusal_outcome Memory = None

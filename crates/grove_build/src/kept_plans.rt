@@ -8,6 +8,7 @@ ghost use Rattle.grove_build.specs.Keeping.{AreTargetsOf, AddsAtMost};
 
 use crate::planning::{Planned, plan};
 use crate::targets::{Target, targets_of};
+pub use counts::PlanCounts;
 use grove_access::AccessList;
 use grove_tree::{NoMemory, Tree};
 use indexmap::IndexMap;
@@ -15,6 +16,7 @@ use std::alloc::Global;
 use std::marker::Model;
 
 mod batches;
+mod counts;
 
 /// No more plans are kept.
 const MOST_KEPT: usize = 1024;
@@ -24,6 +26,7 @@ const MOST_KEPT: usize = 1024;
 #[derive(Debug, Drop)]
 pub struct KeptPlans {
     plans: IndexMap<Vec<Target>, Planned>,
+    counts: PlanCounts,
 }
 
 impl Model for KeptPlans {
@@ -45,6 +48,7 @@ impl KeptPlans {
     {
         KeptPlans {
             plans: IndexMap::new(alloc),
+            counts: PlanCounts::default(),
         }
     }
 
@@ -63,9 +67,33 @@ impl KeptPlans {
         self.plans.len()
     }
 
+    /// For how many lists a plan was given, and how many of these had to be planned.
+    pub fn counts(&self) -> PlanCounts {
+        self.counts
+    }
+
     /// What the planner answers for the list, which is planned only where nothing is kept for it. The only error is
     /// running out of memory.
     pub fn plan(
+        &mut self,
+        alloc: Global,
+        tree: &Tree,
+        list: &AccessList,
+    ) -> Result<Planned, NoMemory>
+        requires fits { AreNodes tree.now (nodes_of list.now) }
+        requires settled { AreSettledFor tree.now self.old }
+        ensures planned { IfOk result (IsPlanned tree.now list.now) }
+        ensures settled { AreSettledFor tree.now self.new }
+        ensures kept { OnOk result (IsKeptIn self.new list.now) }
+        ensures known { IsKeptIn self.old list.now → self.new ≡ self.old }
+    {
+        let planned = self.copy_for(alloc, tree, list)?;
+        self.note_given();
+        Ok(planned)
+    }
+
+    /// A copy of what is kept for the list, which is planned first where nothing is.
+    fn copy_for(
         &mut self,
         alloc: Global,
         tree: &Tree,
@@ -125,6 +153,21 @@ impl KeptPlans {
             self.forget();
         }
         let (place, _) = self.plans.insert_full(targets, planned)?;
+        self.counts.note_planned();
         Ok(place)
+    }
+
+    /// Counts that what is kept of one list was given.
+    pub fn note_given(&mut self)
+        ensures { self.new ≡ self.old }
+    {
+        self.counts.note_given();
+    }
+
+    /// Counts that the lists of a batch were given their plans.
+    fn note_batch(&mut self, lists: usize)
+        ensures { self.new ≡ self.old }
+    {
+        self.counts.note_batch(lists);
     }
 }

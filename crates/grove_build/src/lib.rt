@@ -3,7 +3,7 @@
 
 pub use batch::plan_batch;
 pub use jobs::{kept_jobs, kept_jobs_alone, settled_jobs};
-pub use kept_plans::KeptPlans;
+pub use kept_plans::{KeptPlans, PlanCounts};
 pub use laws::{cut_laws, settled_laws};
 pub use planning::{Planned, plan, plan_watched};
 pub use targets::{Target, targets_of};

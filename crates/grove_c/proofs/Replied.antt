@@ -1,4 +1,4 @@
--- What is told of a line that is answered, or isn't for lack of memory.
+-- What is told of a line that is answered, or isn't when memory runs out.
 use Rattle.std.proofs.Common.{◌≡◌, ℕ, List, length, refl, arith, inl, inr}
 use Rattle.std.specs.Prelude.{Ok}
 use Rattle.std.proofs.lemmas.Bool.{cases_lt}

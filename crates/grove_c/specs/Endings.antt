@@ -15,7 +15,7 @@ number_of Room = 2
 number_of Memory = 3
 number_of Closed = 4
 
--- the outcome that is said; want of memory is none
+-- the outcome that is said; out of memory is none
 abbrev pub outcome_of : {Z : Type 0} → Result (String Z) Refusal → Option Outcome
 outcome_of (Ok lines) = Some (Ok (string_bytes lines))
 outcome_of (Err why) = refusal_outcome why

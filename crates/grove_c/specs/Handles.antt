@@ -76,7 +76,7 @@ Asks TellsOf (Some kept) new before after told = (new ≡ Some kept) × TellsOf 
 
 -- ---- a store that is held answers a line
 
--- the reply is lawful, is told, and is kept with the store that it leaves; only for lack of memory all is as it was
+-- the reply is lawful, is told, and is kept with the store that it leaves; only out of memory all is as it was
 pub record Replies (line : List ℕ) (old new : KeptStore) (before after : List ℕ) (told : Told) : Type 0 where
   pub tells : Tells (λ said. (said ≡ Ok new.reply.items)
       × IsReplied IsLawfulAnswer old.store line new.reply.items new.store) before after told

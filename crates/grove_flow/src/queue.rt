@@ -124,7 +124,7 @@ impl Queue {
         requires within { NamesArcsAlone network.now self.old }
         ensures offered { OnOk result (((i key : ℕ) → HasEntry self.old key i → HasEntry self.new key i)
             × ((i key : ℕ) → IsLive network.now state.now tree.now i key
-                → end_of fan.now.end (arc_at network.now.arcs.items i) ≡ v → HasEntry self.new key i)) }
+            → end_of fan.now.end (arc_at network.now.arcs.items i) ≡ v → HasEntry self.new key i)) }
         ensures within { OnOk result (NamesArcsAlone network.now self.new) }
     {
         let mut next = fan.last[v];

@@ -94,7 +94,7 @@ first_round before after rows lines others d first lists counts replies n store 
           (subst (λ (m : ℕ). IsLawfulRound before (take m ((get_or lines 0 d).now ∷ map (λ line. line.now) (drop 1 lines))) replies after) (sym long) lawful.1),
     )
 
--- a fault that isn't want of memory is the fault of reading
+-- a fault that isn't out of memory is the fault of reading
 pub fails_so : (fault : WireFault) (read : Result Asked WireFault) → fault ≢ Memory → Fails fault read → read ≡ Err fault
 fails_so BadJson read found fails = fails
 fails_so (Shape place) read found fails = fails

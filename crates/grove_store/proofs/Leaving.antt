@@ -91,7 +91,7 @@ answered_long before batches replies after (inr (inl (room, inl refused))) = ap 
 answered_long before batches replies after (inr (inl (room, inr refused))) = ap length refused.0 ∙ length-replicate (length batches) _
 answered_long before batches replies after (inr (inr (full, refused))) = ap length refused.0 ∙ length-replicate (length batches) _
 
--- a run of legal plans fails for one of two reasons, want of memory aside
+-- a run of legal plans fails for one of two reasons, out of memory aside
 pub fails_run : (before : StoreState) (lists : List (List Access)) (counts : List ℕ) (replies : List (List ℕ)) (fault : RunFault)
     → before.rounds < 2 ^ 64 - 1 → IsLegalRunFault fault → fault ≢ Memory → replies ≡ replicate (length counts) (error_text (run_name fault)) → AnswersRound before lists counts replies before
 fails_run before lists counts replies (BadPlan t fault) room bad found is = absurd bad

@@ -58,7 +58,7 @@ impl Model for Store {
 
 impl Store {
     /// A store of this tree and these records, which plans and runs by so many workers. Nobody has waited yet, and no
-    /// round was run. The only refusal is for want of memory; it hands back the tree and the records.
+    /// round was run. The only error is running out of memory; it hands back the tree and the records.
     pub fn open(alloc: Global, tree: Tree, records: Records, workers: u32) -> Result<Store, NoStore>
         requires records { length records ≡ length tree }
         requires workers { (1 ≤ workers) × (workers ≤ 16) }

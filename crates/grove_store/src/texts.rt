@@ -105,7 +105,7 @@ pub fn check_text(
     }
 }
 
-/// The refusal by the fault of a proof, want of memory aside.
+/// The refusal by the fault of a proof, out of memory aside.
 fn proof_refusal(alloc: Global, fault: ProofFault) -> Result<LineReply, NoMemory>
     ensures { IfOk result (λ reply. (fault ≢ ProofFault.Memory) × (reply ≡ error_text (proof_name fault))) }
 {
@@ -115,7 +115,7 @@ fn proof_refusal(alloc: Global, fault: ProofFault) -> Result<LineReply, NoMemory
     }
 }
 
-/// The refusal of a line by the fault of its reading, want of memory aside.
+/// The refusal of a line by the fault of its reading, out of memory aside.
 pub fn wire_refusal(alloc: Global, fault: WireFault) -> Result<LineReply, NoMemory>
     ensures { IfOk result (λ reply. (fault ≢ WireFault.Memory) × (reply ≡ error_text (wire_name fault))) }
 {
@@ -125,7 +125,7 @@ pub fn wire_refusal(alloc: Global, fault: WireFault) -> Result<LineReply, NoMemo
     }
 }
 
-/// The refusal of each of so many lines by the fault of their run, want of memory aside.
+/// The refusal of each of so many lines by the fault of their run, out of memory aside.
 pub fn run_refusals(
     alloc: Global,
     fault: RunFault,

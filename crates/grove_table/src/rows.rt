@@ -19,7 +19,7 @@ pub fn rows_in(alloc: Global, text: &[u8]) -> Result<Vec<ByteRecord>, TableFault
     }
 }
 
-/// The same. Of records of any length, read from memory, none is refused but for want of memory.
+/// The same. Of records of any length, read from memory, none is refused unless memory runs out.
 fn records_in(alloc: Global, text: &[u8]) -> Result<Vec<ByteRecord>, Error>
     ensures { IfOk result (λ rows. AreRecords table_config st.StartRecord (strip_bom text.now)
         (map fields_of rows.items)) }

@@ -1,4 +1,4 @@
--- What a reading answers is within its limits and of the tree; and no reading is want of memory.
+-- What a reading answers is within its limits and of the tree; and no reading is out of memory.
 use Rattle.std.proofs.Common.{◌≡◌, ℕ, zero, suc, ◌<◌, ◌≤◌, Bool, true, false, cond, List, [], ◌∷◌, length, Option, Some, None, IfSome, refl, ap, subst, ◌∙◌, arith, Vec, Global, bytes_eq, codes}
 use Rattle.std.specs.Prelude.{Result, Ok, Err, IfOk, is_some, nat_lt, slice_get}
 use Rattle.std.specs.List.{All, find}
@@ -35,7 +35,7 @@ use Rattle.grove_wire.specs.Reading.{flow_row_at, flow_in}
 use Rattle.grove_wire.proofs.Turns.{access_in, nth_list, step_in, flow_row_in}
 use Rattle.grove_wire.specs.Writing.{StepFits, PlanFits, FlowFits}
 
--- a reading answers what has a property, or a fault other than want of memory
+-- a reading answers what has a property, or a fault other than out of memory
 abbrev pub Reads : {A : Type 0} → (A → Type 0) → Result A WireFault → Type 0
 Reads P (Ok x) = P x
 Reads P (Err BadJson) = Unit {0}

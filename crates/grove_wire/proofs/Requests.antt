@@ -1,4 +1,4 @@
--- What a session line asks for fits the tree and the limits, and a line is never refused for want of memory by what it says.
+-- What a session line asks for fits the tree and the limits, and a line is never out of memory by what it says.
 use Rattle.std.proofs.Common.{ℕ, ◌≤◌, List, length, subst, bytes_eq, codes}
 use Rattle.std.specs.Prelude.{Ok, Err, is_some}
 use Rattle.std.specs.List.{All}
@@ -51,7 +51,7 @@ named_asks rows name d =
     (either_reads (AskedFits rows) (bytes_eq name (codes "weights")) _ _ tt
     (either_reads (AskedFits rows) (bytes_eq name (codes "reweigh")) _ _ tt tt))))
 
--- each line asks for what fits, or is refused, but not for want of memory
+-- each line asks for what fits, or is refused, but not as out of memory
 pub line_asks : (rows : Rows) (line : List ℕ) → Reads (AskedFits rows) (request_of rows line)
 unfolding request_of
 line_asks rows line =

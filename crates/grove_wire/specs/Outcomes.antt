@@ -1,4 +1,4 @@
--- What a reader answers, want of memory aside.
+-- What a reader answers, out of memory aside.
 use Rattle.std.specs.Prelude.{◌≡◌, ℕ, suc, List, [], ◌∷◌, length, nat_lt, Option, Some, None, Result, Ok, Err}
 use Rattle.std.specs.Prelude.{if◌then◌else◌}
 use Rattle.serde_json.specs.Data.{Data}
@@ -44,7 +44,7 @@ abbrev pub few_on : {A : Type 0} → ℕ → (Place → Data → Result A WireFa
     → Result (List A) WireFault
 few_on most read place ds = if nat_lt most (length ds) then Err (Limit place) else each_on read place ds
 
--- a call fails as a definition says, or for want of memory
+-- a call fails as a definition says, or runs out of memory
 abbrev pub Fails : {A : Type 0} → WireFault → Result A WireFault → Type 0
 Fails Memory read = Unit {0}
 Fails fault read = read ≡ Err fault

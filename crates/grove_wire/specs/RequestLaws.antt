@@ -1,4 +1,4 @@
--- For the proofs alone: what is asked for fits the tree, and what a line says never is want of memory.
+-- For the proofs alone: what is asked for fits the tree, and what a line says never is out of memory.
 use Rattle.std.specs.Prelude.{◌≡◌, ◌≢◌, ℕ, ◌≤◌, length, List, Ok, Err}
 use Rattle.std.specs.List.{All}
 use Rattle.grove_tree.specs.Trees.{Rows}

@@ -47,7 +47,7 @@ pub fn read_request(alloc: Global, tree: &Tree, line: &[u8]) -> Result<Request, 
     }
 }
 
-/// What holds of every line: what it asks for fits the tree and the limits, and what it says never is want of memory.
+/// What holds of every line: what it asks for fits the tree and the limits, and what it says never is out of memory.
 pub fn request_laws()
     ensures fits { RequestsFit }
     ensures room { ReadingNeedsNoRoom }

@@ -272,7 +272,7 @@ one_kind kinds k kind one among = by_case (subst (IsAmong kind) one among)
     by_case (inl is) = is
     by_case (inr none) = absurd none
 
--- words that ask for help or the version are told it, but for want of memory
+-- words that ask for help or the version are told it, unless memory runs out
 pub shown_told : (words : List Text) (error : Error) → AskToShow words → IsToldWords words error
     → (kind_of error ≡ OutOfMemory) ⊎ ((kind_of error ≡ DisplayHelp) ⊎ (kind_of error ≡ DisplayVersion))
 shown_told words error asks (inl (inl memory)) = inl memory

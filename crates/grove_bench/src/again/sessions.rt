@@ -12,7 +12,7 @@ use std::marker::Brand;
 use std::sync::Wait;
 use std::thread::Threads;
 
-/// Ten lines in a session, whose replies go to standard output; where it ends for want of memory, once more with a
+/// Ten lines in a session, whose replies go to standard output; if it ends out of memory, once more with a
 /// fresh store.
 pub fn talk_to_store<R: AllocGlobal + Print + Threads + Wait + Sync>(rt: &R) -> Result<()> {
     let lines = match talk_to_fresh(rt)? {

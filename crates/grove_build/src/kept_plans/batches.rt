@@ -115,7 +115,7 @@ impl KeptPlans {
     }
 
     /// The settled plan of each list, in the lists' order, by the caller alone, who starts no thread. Lists for which
-    /// nothing is kept are planned. The only refusal is for lack of memory.
+    /// nothing is kept are planned. The only error is running out of memory.
     pub fn plan_each(
         &mut self,
         alloc: Global,
@@ -135,6 +135,7 @@ impl KeptPlans {
             let plan = copy_of(alloc, &self.at(place).plan)?;
             plans.push(plan)?;
         }
+        self.note_batch(lists.len());
         Ok(plans)
     }
 }

@@ -15,3 +15,6 @@ loop-list-preserved c =
           (omega arith) c.list-item.is at.invariant.plans (rw c.in_ok-plan.ensures is.settled));
       settled = c.place.ensures.settled;
     }
+
+pub returns-clause-settled : goal.returns-clause-settled
+returns-clause-settled c = rw c.note_batch.ensures c.loop-list.invariant.settled
