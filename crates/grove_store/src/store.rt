@@ -5,7 +5,7 @@ use crate::NoStore;
 use crate::kept_texts::KeptTexts;
 use crate::same::{same_records, same_trees};
 use grove_access::Records;
-use grove_build::KeptPlans;
+use grove_build::{KeptPlans, PlanCounts};
 use grove_tree::{NoMemory, Tree};
 use std::alloc::Global;
 use std::marker::Model;
@@ -107,6 +107,11 @@ impl Store {
         ensures { result ≡ self.now.rounds }
     {
         self.rounds
+    }
+
+    /// How often a plan that was kept was given, and how many lists were planned, since the store was opened or copied.
+    pub fn plan_counts(&self) -> PlanCounts {
+        self.plans.counts()
     }
 
     /// Are both stores equal?

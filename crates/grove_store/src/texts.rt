@@ -63,6 +63,7 @@ pub fn plan_text(
 {
     let targets = targets_of(alloc, list)?;
     if let Some(text) = texts.get(&targets) {
+        plans.note_given();
         return LineReply::copied(alloc, text);
     }
     let reply = planned_text(alloc, tree, plans, list)?;

@@ -31,3 +31,6 @@ returns-clause-texts c =
     let own : AreTargetsOf c.args.list.now c.in_ok-targets.targets.items = record { nodes = c.in_ok-targets.ensures.nodes; lengths = c.in_ok-targets.ensures.lengths } in
     c.keep.ensures c.args.tree.now c.requires.texts
     (replies_for _ _ _ _ own (subst (IsTextOfReply (TellsPlan c.args.tree.now c.args.list.now)) (sym (c.in_ok-text.ensures.items ∙ c.text.ensures)) c.in_ok-reply.ensures.text))
+
+pub returns-in-Some-clause-plans : goal.returns-in-Some-clause-plans
+returns-in-Some-clause-plans c = rw c.note_given.ensures c.requires.plans
