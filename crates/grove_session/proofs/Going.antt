@@ -87,6 +87,12 @@ module _ {S : Type 0} (shared : Bool) (lawful : Lawful S) where
         (two.on first (input ++ xs) (text ++ more) (one.on first input text h)));
   }
 
+  -- the same of an equal state
+  pub continues_as : (old mid same : S) (before between : Intake) (xs more : List ℕ) → same ≡ mid
+      → Continues lawful old before xs more mid between → Continues lawful old before xs more same between
+  continues_as old mid same before between xs more is one =
+      subst (λ (s : S). Continues lawful old before xs more s between) (sym is) one
+
   pub breaks_then : (old mid new : S) (before between : Intake) (xs ys more others : List ℕ) (fault : SessionFault) → Continues lawful old before xs more mid between
       → Breaks shared lawful mid between ys others fault new
       → Breaks shared lawful old before (xs ++ ys) (more ++ others) fault new

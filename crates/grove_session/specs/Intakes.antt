@@ -1,6 +1,6 @@
 -- For the proofs alone: what a session has between two reads, and how bytes that are read take it on.
 use Rattle.std.specs.Prelude.{◌≡◌, ℕ, ◌+◌, ◌<◌, Bool, List, [], ◌∷◌, ◌++◌, Option, None, Some, Result, Ok, Err}
-use Rattle.std.specs.Prelude.{length, take, slice_get, nat_lt, if◌then◌else◌}
+use Rattle.std.specs.Prelude.{true, false, length, take, slice_get, nat_lt, if◌then◌else◌, OnOk}
 use Rattle.std.specs.Io.KnownBytes.{Appends, IsAtEnd}
 use Rattle.grove_session.specs.declared.open_line.OpenLine.{OpenLine}
 use Rattle.grove_session.specs.declared.intake.Intake.{Intake}
@@ -35,6 +35,18 @@ IsApart (Err Memory) after = Unit {0}
 IsApart (Err Foreign) after = Unit {0}
 IsApart (Err Read) after = ⊥
 IsApart (Err Turns) after = ⊥
+
+-- and what is answered alone is never lost among others' lines
+abbrev pub IsOwn : {T : Type 0} → Bool → Result T SessionFault → Intake → Type 0
+IsOwn shared result after = IsApart result after × (result ≡ Err Foreign → shared ≡ true)
+
+-- no reply is held, and unless answers are shared none ever is
+abbrev pub HoldsNone : Bool → Intake → Type 0
+HoldsNone shared intake = (intake.held.items ≡ []) × (shared ≡ false → intake.most_held ≡ 0)
+
+-- unless there is a fault, what was held went out; as much as before may be held
+abbrev pub SendsHeld : {T : Type 0} → Intake → Result T SessionFault → Intake → Type 0
+SendsHeld before result after = OnOk result (after.held.items ≡ []) × (after.most_held ≡ before.most_held)
 
 -- a failed write tells how much of a text went out
 abbrev pub Tells : SessionFault → List ℕ → Type 0

@@ -46,4 +46,15 @@ pub trait Answers<R> {
 
     /// Learns that the next line was too long, which is replied so without asking for an answer.
     fn pass_over(&self, _rt: &R) {}
+
+    /// Learns that the next lines are the whole ones at the front of these bytes, each of which is asked for in turn.
+    /// They may be begun: of shared answers alone.
+    fn look_ahead(&mut self, _rt: &R, _bytes: &[u8])
+        ensures { self.new ≡ self.old }
+    {}
+
+    /// Learns that no further line is asked for.
+    fn leave(&mut self, _rt: &R)
+        ensures { self.new ≡ self.old }
+    {}
 }

@@ -30,7 +30,8 @@ pub(crate) struct Intake {
 }
 
 impl Intake {
-    ghost use Rattle.grove_session.specs.Intakes.{held_line, IsApart, Passes, AnswersNext, TakesBytes, Finishes};
+    ghost use Rattle.grove_session.specs.Intakes.{held_line, HoldsNone, IsApart, IsOwn, Passes, SendsHeld};
+    ghost use Rattle.grove_session.specs.Intakes.{AnswersNext, TakesBytes, Finishes};
 
     /// A session that has read nothing. It holds up to so many bytes of replies back, to send them together.
     pub(crate) fn new(alloc: Global, most_held: usize) -> Intake
@@ -60,17 +61,14 @@ impl Intake {
     ) -> Result<(), SessionFault>
         requires asks { A.asks }
         requires room { self.old.answered + length bytes.now < 2 ^ 63 }
-        requires none_held { self.old.held.items ≡ [] }
-        requires alone { A.is_shared ≡ false → self.old.most_held ≡ 0 }
+        requires fresh { HoldsNone A.is_shared self.old }
         ensures taken { (more : List ℕ) × Appends (O.contents sink.old) (O.contents sink.new) more
             × (self.new.written ≡ self.old.written + length more)
             × TakesBytes A.is_shared A.lawful answers.old self.old bytes.now result more answers.new self.new }
         ensures few { OnOk result (self.new.answered ≤ self.old.answered + length bytes.now) }
         ensures failed { O.has_failed sink.new ≡ (O.has_failed sink.old || is_write result) }
-        ensures foreign { result ≡ Err Foreign → A.is_shared ≡ true }
-        ensures apart { IsApart result self.new }
-        ensures none_held { OnOk result (self.new.held.items ≡ []) }
-        ensures most_held { self.new.most_held ≡ self.old.most_held }
+        ensures fault { IsOwn A.is_shared result self.new }
+        ensures held { SendsHeld self.old result self.new }
     {
         let taken = self.take_lines(rt, answers, sink, bytes);
         if !is_cut(&taken) {
@@ -79,7 +77,8 @@ impl Intake {
         taken
     }
 
-    /// Answers each line that ends in the bytes. Its reply went out, or is held.
+    /// Answers each line that ends in the bytes. Its reply went out, or is held. Lines may be begun before their turn
+    /// once none is open from before these bytes.
     fn take_lines<R, A: Answers<R>, O: Sink>(
         &mut self,
         rt: &R,
@@ -99,12 +98,23 @@ impl Intake {
     {
         let mut rest = bytes;
         while let Some(length) = memchr(b'\n', rest) {
+            self.look_ahead(rt, answers, rest);
             self.line.extend(&rest[..length])?;
             self.answer(rt, answers, sink)?;
             rest = &rest[length + 1..];
         }
         self.line.extend(rest)?;
         Ok(())
+    }
+
+    /// Lets the lines of these bytes be begun, unless a line is open from before them.
+    fn look_ahead<R, A: Answers<R>>(&self, rt: &R, answers: &mut A, bytes: &[u8])
+        ensures { answers.new ≡ answers.old }
+    {
+        if !self.line.is_empty() {
+            return;
+        }
+        answers.look_ahead(rt, bytes);
     }
 
     /// Answers a last line, where there is one, and gives the number of lines that are answered.

@@ -33,6 +33,30 @@ pub fn session<R: AllocGlobal, A: Answers<R>, I: Source, O: Sink>(
     ensures few { I.read_count source.new ≤ I.read_count source.old + 2 ^ 32 }
     ensures foreign { result ≡ Err Foreign → A.is_shared ≡ true }
 {
+    let ended = answer_lines(rt, answers, source, sink);
+    answers.leave(rt);
+    ended
+}
+
+/// The same, but that nobody learns of the end.
+fn answer_lines<R: AllocGlobal, A: Answers<R>, I: Source, O: Sink>(
+    rt: &R,
+    answers: &mut A,
+    source: &mut I,
+    sink: &mut O,
+) -> Result<u64, SessionFault>
+    requires asks { A.asks }
+    requires sound { (I.has_failed source.old ≡ false) × (I.read_count source.old < 2 ^ 63)
+        × (O.has_failed sink.old ≡ false) }
+    ensures text { (input out : List ℕ) × Consumes (I.remaining source.old) (I.remaining source.new) input
+        × Appends (O.contents sink.old) (O.contents sink.new) out
+        × SessionEnds A.is_shared A.lawful answers.old result (I.remaining source.new) input out answers.new }
+    ensures source { I.has_failed source.new ≡ is_read result }
+    ensures sink { O.has_failed sink.new ≡ is_write result }
+    ensures turns { result ≡ Err Turns → I.read_count source.new ≡ I.read_count source.old + 2 ^ 32 }
+    ensures few { I.read_count source.new ≤ I.read_count source.old + 2 ^ 32 }
+    ensures foreign { result ≡ Err Foreign → A.is_shared ≡ true }
+{
     let most_held = if answers.may_hold() && sink.has_costly_writes() {
         MOST_HELD
     } else {

@@ -9,7 +9,7 @@ returns-in_err-send_held-clause-taken g c =
     let t = c.take_lines-taken.ensures.taken in
     let sent = c.in_err-send_held.ensures in
     let both = goes_then _ _ _ _ _ _ _ _ _ t.0 [] t.1 sent.passes in
-    let is = sym (append-nil t.0) ∙ goes_all _ _ _ _ _ _ _ both c.requires.none_held in
+    let is = sym (append-nil t.0) ∙ goes_all _ _ _ _ _ _ _ both c.requires.fresh.0 in
     let p = err_from_is_err_and c.from_residual.result c.from_residual.ensures.1 in
     rw (p.1, p.2) (
       both.sent,
@@ -18,7 +18,7 @@ returns-in_err-send_held-clause-taken g c =
       takes_cut g.A.Answers.is_shared g.A.Answers.lawful _ _ c.args.self.now c.take_lines-taken.new.self _ t.0
           both.sent _ c.take_lines-taken.result _ t.2 is sent.err
           (λ alone. nothing_held _ _ c.send_held.new.self.few_held
-          (sent.kept.2 ∙ c.take_lines-taken.ensures.most_held ∙ c.requires.alone alone)),
+          (sent.kept.2 ∙ c.take_lines-taken.ensures.most_held ∙ c.requires.fresh.1 alone)),
     )
 
 pub returns-in_ok-send_held-clause-taken : goal.returns-in_ok-send_held-clause-taken
@@ -26,7 +26,7 @@ returns-in_ok-send_held-clause-taken g c =
     let t = c.take_lines-taken.ensures.taken in
     let sent = c.in_ok-send_held.ensures in
     let both = goes_then _ _ _ _ _ _ _ _ _ t.0 [] t.1 sent.passes in
-    let is = sym (append-nil t.0) ∙ goes_all _ _ _ _ _ _ _ both c.requires.none_held in (
+    let is = sym (append-nil t.0) ∙ goes_all _ _ _ _ _ _ _ both c.requires.fresh.0 in (
       both.sent,
       both.went,
       both.counted,
@@ -38,7 +38,7 @@ returns-in_ok-send_held-clause-taken g c =
 pub returns-else-not-is_cut-clause-taken : goal.returns-else-not-is_cut-clause-taken
 returns-else-not-is_cut-clause-taken g c =
     let t = c.take_lines-taken.ensures.taken in
-    let is = goes_all _ _ _ _ _ _ _ t.1 c.requires.none_held in (
+    let is = goes_all _ _ _ _ _ _ _ t.1 c.requires.fresh.0 in (
       t.1.sent,
       t.1.went,
       t.1.counted,
@@ -46,5 +46,5 @@ returns-else-not-is_cut-clause-taken g c =
           c.take_lines-taken.new.self _ t.0 t.1.sent c.take_lines-taken.result t.2 is
           (λ other. absurd (false≢true (sym other ∙ sym c.is_cut.ensures ∙ c.if-not-is_cut.false)))
           (λ alone. nothing_held _ _ c.take_lines-taken.new.self.few_held
-          (c.take_lines-taken.ensures.most_held ∙ c.requires.alone alone)) refl refl,
+          (c.take_lines-taken.ensures.most_held ∙ c.requires.fresh.1 alone)) refl refl,
     )

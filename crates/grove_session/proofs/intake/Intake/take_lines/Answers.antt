@@ -3,7 +3,7 @@ use Rattle.std.proofs.Common.{append_assoc, rules}
 use Rattle.std.proofs.lemmas.Result.{err_from_is_err_and}
 use Rattle.grove_session.specs.Intakes.{Breaks}
 use Rattle.grove_session.proofs.Lines.{none_feedless, before_feedless, at_feed}
-use Rattle.grove_session.proofs.Going.{continues_nothing, continues_then, breaks_then, breaks_early, bytes_go}
+use Rattle.grove_session.proofs.Going.{continues_nothing, continues_then, continues_as, breaks_then, breaks_early, bytes_go}
 use Rattle.grove_session.proofs.Going.{feed_goes, feed_breaks, rest_goes, no_room_breaks}
 use Rattle.grove_session.proofs.Sending.{goes_nothing, goes_then}
 use Rattle.grove_session.proofs.intake.Intake.take_lines.Goals as goal
@@ -26,13 +26,15 @@ loop-length-init g c = (
 pub returns-in_err-extend-clause-taken : goal.returns-in_err-extend-clause-taken
 returns-in_err-extend-clause-taken g c =
     let rest = c.loop-length.rest.now in
-    let (front, more, all, sent, gone) = c.loop-length.invariant.0 in
+    let (front, more, all, sent, went) = c.loop-length.invariant.0 in
+    let gone = continues_as g.A.Answers.is_shared g.A.Answers.lawful c.args.answers.now c.loop-length.answers
+    c.look_ahead.new.answers c.args.self.now c.loop-length.self front more c.look_ahead.ensures went in
     let p = err_from_is_err_and c.from_residual.result c.from_residual.ensures.1 in
     rw (p.1, p.2) (
       more ++ [],
       goes_then _ _ _ _ _ _ _ _ _ more [] sent (goes_nothing _ _ _),
       subst (λ (bytes : List ℕ). Breaks g.A.Answers.is_shared g.A.Answers.lawful c.args.answers.now c.args.self.now
-          bytes (more ++ []) _ c.loop-length.answers) all
+          bytes (more ++ []) _ c.look_ahead.new.answers) all
           (breaks_then g.A.Answers.is_shared g.A.Answers.lawful _ _ _ _ c.loop-length.self front rest more [] _ gone
           (no_room_breaks g.A.Answers.is_shared g.A.Answers.lawful _ c.loop-length.self rest)),
     )
@@ -41,7 +43,9 @@ pub returns-in_err-answer-clause-taken : goal.returns-in_err-answer-clause-taken
 returns-in_err-answer-clause-taken g c =
     let rest = c.loop-length.rest.now in
     let n = c.in-Some.length in
-    let (front, more, all, sent, gone) = c.loop-length.invariant.0 in
+    let (front, more, all, sent, went) = c.loop-length.invariant.0 in
+    let gone = continues_as g.A.Answers.is_shared g.A.Answers.lawful c.args.answers.now c.loop-length.answers
+    c.look_ahead.new.answers c.args.self.now c.loop-length.self front more c.look_ahead.ensures went in
     let h = c.in_err-answer.ensures.answered in
     let cut = feed_breaks g.A.Answers.is_shared g.A.Answers.lawful _ _ _ h.0 c.in_err-answer.field-0.0 h.2 in
     let ended = breaks_then g.A.Answers.is_shared g.A.Answers.lawful _ _ _ c.loop-length.self _ (take n rest)
@@ -68,7 +72,9 @@ pub loop-length-preserved : goal.loop-length-preserved
 loop-length-preserved g c =
     let rest = c.loop-length.rest.now in
     let n = c.in-Some.length in
-    let (front, more, all, sent, gone) = c.loop-length.invariant.0 in
+    let (front, more, all, sent, went) = c.loop-length.invariant.0 in
+    let gone = continues_as g.A.Answers.is_shared g.A.Answers.lawful c.args.answers.now c.loop-length.answers
+    c.look_ahead.new.answers c.args.self.now c.loop-length.self front more c.look_ahead.ensures went in
     let h = c.in_ok-answer.ensures.answered in
     let fed = feed_goes g.A.Answers.is_shared g.A.Answers.lawful _ _ _ _ h.0 h.2 in
     let ended = continues_then g.A.Answers.is_shared g.A.Answers.lawful _ _ _ c.loop-length.self _ _ (take n rest)

@@ -1,7 +1,7 @@
 use Rattle.std.proofs.Common.{ℕ, Bool, false, ◌||◌, take, sym, ap, ◌∙◌, arith}
 use Rattle.std.proofs.lemmas.Result.{err_from_is_err_and}
 use Rattle.grove_session.proofs.Reading.{apart_from_read, apart_from_turns, ended_at_end, ended_among}
-use Rattle.grove_session.proofs.sessions.session.Goals as goal
+use Rattle.grove_session.proofs.sessions.answer_lines.Goals as goal
 
 pub returns-then-count-eq0-clause-text : goal.returns-then-count-eq0-clause-text
 returns-then-count-eq0-clause-text g c =
@@ -28,4 +28,4 @@ returns-in_err-take-clause-text g c =
     let t = c.in_err-take.ensures.taken in
     rw (p.1, p.2) (ended_among g.A.Answers.is_shared g.A.Answers.lawful _ _ _ _ _ _ _ c.loop.answers _ c.loop.intake
     c.take.new.self (take c.in_ok-count.count c.read.new.buffer) t.0 _
-    c.loop.invariant.answered c.in_ok-count.ensures.bytes.0 t.1 t.2 t.3 c.in_err-take.ensures.apart)
+    c.loop.invariant.answered c.in_ok-count.ensures.bytes.0 t.1 t.2 t.3 c.in_err-take.ensures.fault.0)
