@@ -4,7 +4,7 @@ use crate::board::MOST_LINES;
 use std::array;
 use std::sync::Condvar;
 
-/// How many bells there are for lines. Two callers share one only where a ticket is collected that late.
+/// How many bells there are for lines. Two callers share one only if so many lines or more were put between theirs.
 const LINE_BELLS: usize = 2 * MOST_LINES;
 
 /// How many bells there are for those who wait for a round. Two wait at one bell only if their numbers leave the same

@@ -9,7 +9,6 @@ ghost use Rattle.grove_desk.specs.Receipts.{ReceiptState, IsAllowed, IsDeskRecei
 use crate::bells::Bells;
 use crate::board::{Board, MOST_LINES};
 use crate::ledger::Ledger;
-use crate::line::Line;
 use crate::slot::Asked;
 use crate::{DeskFault, Opening, Receipt, RoundWatch, Unwatched};
 pub use closing::Closed;
@@ -22,10 +21,11 @@ use std::sync::{Mutex, Wait};
 use std::thread::Threads;
 
 mod closing;
+mod putting;
 mod waiting;
 
 /// A line with more bytes than this is put once no other such line is being answered.
-const LARGE_LINE: usize = 64 * 1024;
+pub(crate) const LARGE_LINE: usize = 64 * 1024;
 
 /// A store that many callers share. Each puts a line and waits for its receipt; one of them, whoever finds the store
 /// there, takes it with the first lines that wait, answers them as one round, and puts it back. What it was opened with
@@ -88,14 +88,16 @@ impl<B: Opening> Desk<B> {
             → (receipt : ReceiptState) × IsDeskReceipt self.now.opening self.now.kept receipt
             × IsForeignReceipt self.now.kept line.now (option_copied seen.entry) receipt }
     {
-        self.answer_watched(rt, alloc, seen, line, gate, &Unwatched)
+        self.answer_watched(rt, alloc, None, seen, line, gate, &Unwatched)
     }
 
-    /// The same, and of the rounds that this caller runs is learned.
+    /// The same of a line that may have been put ahead, under this ticket. Of the rounds that this caller runs is
+    /// learned.
     pub(crate) fn answer_watched<R: Threads + Wait + Sync, G: Gate + Sync, W: RoundWatch<R>>(
         &self,
         rt: &R,
         alloc: Global,
+        ahead: Option<u64>,
         seen: Option<&Receipt>,
         line: &[u8],
         gate: &G,
@@ -116,8 +118,7 @@ impl<B: Opening> Desk<B> {
             None
         };
         let mut taken = Vec::with_capacity(alloc, MOST_LINES)?;
-        let copy = Line::new(alloc, line)?;
-        let ticket = self.put(rt, copy)?;
+        let ticket = self.ticket_of(rt, alloc, ahead, line)?;
         let receipt = self.attend(rt, alloc, ticket, &mut taken, gate, watch)?;
         if receipt.is_of(line) && receipt.follows(seen, self.kept) {
             Ok(receipt)
@@ -148,24 +149,6 @@ impl<B: Opening> Desk<B> {
             let _again = self.bells.looks.wait(rt, board);
         }
         unreachable!()
-    }
-
-    /// Puts a line once there is room for it, and gives its ticket.
-    fn put<R: Wait>(&self, rt: &R, line: Line) -> Result<u64, NoMemory> {
-        let mut board = self.board.lock(rt);
-        board.stay_outside();
-        let mut board = self
-            .bells
-            .room
-            .wait_while(rt, board, |board| board.is_full());
-        board.come_in();
-        let put = board.put(line);
-        drop(board);
-        if put.is_err() {
-            // The room that it leaves is another one's.
-            self.bells.let_in(1);
-        }
-        put
     }
 
     /// Waits for what the line of this ticket was answered; whenever it finds the store there, answers the first lines

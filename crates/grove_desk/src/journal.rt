@@ -1,9 +1,9 @@
-ghost use Rattle.std.specs.Prelude.{◌≡◌, [], Some, ◌<◌, ◌≤◌, ◌↔◌, length, map, take, drop, All, IsTrue, IfOk, IfErr};
+ghost use Rattle.std.specs.Prelude.{◌≡◌, [], Some, ◌<◌, ◌≤◌, ◌↔◌, length, map, take, All, IsTrue, IfOk, IfErr};
 ghost use Rattle.std.specs.Prelude.{OnErr};
 ghost use Rattle.std.specs.Vec.{vec_capacity};
 ghost use Rattle.grove_desk.specs.Receipts.{AreNumberedFrom};
 ghost use Rattle.grove_desk.specs.Histories.{StandsIn, Ascend, IsRound};
-ghost use Rattle.grove_desk.specs.Ledgers.{noted_in};
+ghost use Rattle.grove_desk.specs.Ledgers.{noted_in, LeavesOthers};
 
 use crate::Receipt;
 use crate::answering::answer_taken;
@@ -86,9 +86,7 @@ impl Journal {
             ≡ take (length receipts.items) (map (λ asked. asked.line.bytes.items) taken.old.items)) }
         ensures round { IfOk result (λ receipts. IsRound store.old receipts.items store.new) }
         ensures numbered { IfOk result (λ receipts. AreNumberedFrom (Some self.old.lines) receipts.items) }
-        ensures left { IfOk result (λ receipts. drop (length receipts.items) taken.new.items
-            ≡ drop (length receipts.items) taken.old.items) }
-        ensures tickets { map (λ asked. asked.ticket) taken.new.items ≡ map (λ asked. asked.ticket) taken.old.items }
+        ensures left { LeavesOthers result (λ receipts. receipts.items) taken.old.items taken.new.items }
         ensures room { vec_capacity taken.new ≡ vec_capacity taken.old }
         ensures journal { IfOk result
             (λ receipts. self.new ≡ noted_in (record { before = store.old; receipts = receipts.items }) self.old) }

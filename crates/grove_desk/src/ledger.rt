@@ -1,9 +1,9 @@
-ghost use Rattle.std.specs.Prelude.{◌≡◌, true, Some, ◌<◌, ◌≤◌, ◌↔◌, length, map, take, drop, All, IfOk, OnErr, IsSome};
+ghost use Rattle.std.specs.Prelude.{◌≡◌, true, Some, ◌<◌, ◌≤◌, ◌↔◌, length, map, take, All, IfOk, OnErr, IsSome};
 ghost use Rattle.std.specs.Option.{option_map};
 ghost use Rattle.std.specs.Vec.{vec_capacity};
 ghost use Rattle.grove_desk.specs.Receipts.{IsDeskReceipt};
 ghost use Rattle.grove_desk.specs.Histories.{IsRound, Led};
-ghost use Rattle.grove_desk.specs.Ledgers.{noted_in, IsJournalOf};
+ghost use Rattle.grove_desk.specs.Ledgers.{noted_in, IsJournalOf, LeavesOthers};
 
 use crate::answering::answer_taken;
 use crate::journal::Journal;
@@ -89,9 +89,7 @@ impl<B: Opening> Ledger<B> {
             (λ receipts. self.new.journal
             ≡ option_map (noted_in (record { before = self.old.store; receipts = receipts.items })) self.old.journal) }
         ensures answered { IfOk result (λ receipts. All (IsDeskReceipt B.store B.kept) receipts.items) }
-        ensures left { IfOk result (λ receipts. drop (length receipts.items) taken.new.items
-            ≡ drop (length receipts.items) taken.old.items) }
-        ensures tickets { map (λ asked. asked.ticket) taken.new.items ≡ map (λ asked. asked.ticket) taken.old.items }
+        ensures left { LeavesOthers result (λ receipts. receipts.items) taken.old.items taken.new.items }
         ensures room { vec_capacity taken.new ≡ vec_capacity taken.old }
         ensures err { OnErr result (self.new ≡ self.old) }
     {

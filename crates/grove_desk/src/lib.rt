@@ -12,6 +12,7 @@ pub use told::Told;
 pub use visit::{Visit, desk_session};
 pub use watch::{RoundWatch, Unwatched};
 
+mod ahead;
 mod answering;
 mod awaited;
 mod bells;

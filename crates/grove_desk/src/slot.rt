@@ -17,10 +17,24 @@ pub(crate) enum State {
     Done(Result<Receipt, NoMemory>),
 }
 
-/// A line that was put, by the ticket of its caller.
+/// Whether anybody is there for a line that was put.
+#[derive(Clone, Copy, Debug, PartialEq, Eq)]
+pub(crate) enum Caller {
+    /// Its caller waits for what it is answered.
+    Here,
+    /// Its visitor comes once its earlier lines are answered.
+    Later,
+    /// Nobody comes.
+    Gone,
+}
+
+/// A line that was put, by its ticket.
 #[derive(Drop)]
 pub(crate) struct Slot {
     pub ticket: u64,
+    /// Whose line it is, by the ticket of the first of the visitor's lines.
+    pub visitor: u64,
+    pub caller: Caller,
     pub state: State,
 }
 
@@ -28,6 +42,7 @@ pub(crate) struct Slot {
 #[derive(Drop)]
 pub(crate) struct Asked {
     pub ticket: u64,
+    pub visitor: u64,
     pub line: Line,
 }
 
@@ -36,8 +51,37 @@ impl Slot {
         matches!(self.state, State::Waiting(_))
     }
 
+    pub(crate) fn is_running(&self) -> bool {
+        matches!(self.state, State::Running)
+    }
+
     pub(crate) fn is_done(&self) -> bool {
         matches!(self.state, State::Done(_))
+    }
+
+    /// Was memory refused for the line?
+    pub(crate) fn is_refused(&self) -> bool {
+        matches!(self.state, State::Done(Err(NoMemory)))
+    }
+
+    /// Does its caller wait for the line to be taken?
+    pub(crate) fn awaits_round(&self) -> bool {
+        self.is_waiting() && self.caller == Caller::Here
+    }
+
+    /// Does its caller wait, though the line is answered?
+    pub(crate) fn awaits_call(&self) -> bool {
+        self.is_done() && self.caller == Caller::Here
+    }
+
+    /// Was it put ahead by a visitor that hasn't come to it yet?
+    pub(crate) fn is_ahead(&self) -> bool {
+        self.caller == Caller::Later
+    }
+
+    /// Does it wait behind other lines of this visitor?
+    pub(crate) fn waits_behind(&self, visitor: u64) -> bool {
+        self.visitor == visitor && self.is_waiting() && self.is_ahead()
     }
 
     /// The line, where it waits. It leaves then.
@@ -48,6 +92,7 @@ impl Slot {
         match mem::replace(&mut self.state, State::Running) {
             State::Waiting(line) => Some(Asked {
                 ticket: self.ticket,
+                visitor: self.visitor,
                 line,
             }),
             state => {

@@ -5,6 +5,7 @@ ghost use Rattle.grove_session.specs.Sessions.{SessionEnds, is_read, is_write};
 ghost use Rattle.grove_tree.specs.Weights.{unweighed};
 ghost use Rattle.grove_desk.specs.Desks.{VisitState, IsShared};
 
+use crate::ahead::Ahead;
 use crate::fault::answer_fault;
 use crate::{Desk, Opening, Receipt, RoundWatch, Told, Unwatched};
 use grove_session::{AnswerFault, Answers, SessionFault, Sink, Source, session};
@@ -23,6 +24,8 @@ pub struct Visit<'a, B: Opening, W = Unwatched> {
     /// What the last line was answered.
     seen: Option<Receipt>,
     told: Told,
+    /// The lines that were put ahead, once one could be.
+    ahead: Option<Ahead>,
 }
 
 impl<'a, B: Opening, W> Model for Visit<'a, B, W> {
@@ -57,6 +60,7 @@ impl<'a, B: Opening, W> Visit<'a, B, W> {
             watch,
             seen: None,
             told: Told::Nothing,
+            ahead: None,
         }
     }
 
@@ -82,9 +86,11 @@ impl<'a, B: Opening, R: Threads + Wait + Sync + AllocGlobal, W: RoundWatch<R>> A
 
     fn answer(&mut self, rt: &R, line: &[u8]) -> Result<Vec<u8>, AnswerFault> {
         let alloc = rt.alloc();
+        let ahead = next_ahead(&self.ahead);
+        let seen = self.seen.as_ref();
         match self
             .desk
-            .answer_watched(rt, alloc, self.seen.as_ref(), line, &OpenGate, self.watch)
+            .answer_watched(rt, alloc, ahead, seen, line, &OpenGate, self.watch)
         {
             Ok(
                 Receipt {
@@ -95,6 +101,9 @@ impl<'a, B: Opening, R: Threads + Wait + Sync + AllocGlobal, W: RoundWatch<R>> A
                     ..
                 },
             ) => {
+                if let Some(ahead) = &mut self.ahead {
+                    ahead.pass();
+                }
                 self.told = match refusal {
                     Some(refusal) => Told::Refused(refusal),
                     None => Told::Accepted,
@@ -109,12 +118,37 @@ impl<'a, B: Opening, R: Threads + Wait + Sync + AllocGlobal, W: RoundWatch<R>> A
                 });
                 Ok(reply)
             }
-            Err(fault) => Err(answer_fault(fault)),
+            Err(fault) => {
+                self.desk.withdraw(rt, &mut self.ahead);
+                Err(answer_fault(fault))
+            }
         }
     }
 
     fn may_hold(&self) -> bool {
         true
+    }
+
+    fn look_ahead(&mut self, rt: &R, bytes: &[u8]) {
+        let alloc = rt.alloc();
+        if self.ahead.is_none() {
+            self.ahead = Some(Ahead::new(alloc));
+        }
+        if let Some(ahead) = &mut self.ahead {
+            self.desk.put_ahead(rt, alloc, ahead, bytes);
+        }
+    }
+
+    fn leave(&mut self, rt: &R) {
+        self.desk.withdraw(rt, &mut self.ahead);
+    }
+}
+
+/// The ticket of the line that is asked for next, if it was put ahead.
+fn next_ahead(ahead: &Option<Ahead>) -> Option<u64> {
+    match ahead {
+        Some(ahead) => ahead.next(),
+        None => None,
     }
 }
 
