@@ -96,6 +96,14 @@ impl<'a, B: Opening, R: Threads + Wait + Sync + AllocGlobal, W: RoundWatch<R>> A
     fn may_hold(&self) -> bool {
         true
     }
+
+    fn look_ahead(&mut self, rt: &R, bytes: &[u8]) {
+        self.visit.look_ahead(rt, bytes);
+    }
+
+    fn leave(&mut self, rt: &R) {
+        self.visit.leave(rt);
+    }
 }
 
 /// The refusal of the line with a hint, and the hint, or the refusal as it is if there is no memory for them.

@@ -108,6 +108,14 @@ impl<'a, B: Opening, R: Host> Answers<R> for WatchedVisit<'a, B> {
         self.guest.note_long_line(rt);
         self.guest.count_line();
     }
+
+    fn look_ahead(&mut self, rt: &R, bytes: &[u8]) {
+        self.visit.look_ahead(rt, bytes);
+    }
+
+    fn leave(&mut self, rt: &R) {
+        self.visit.leave(rt);
+    }
 }
 
 /// Answers the lines of the guest's source at the desk, one after the other, with hints in refusals if these are asked
