@@ -1,7 +1,8 @@
-"""Sixteen clients that send all their lines ahead: each line sees what the client's earlier ones did, and nothing is
-lost or put in another order among the lines of the others.
+"""Sixteen clients that send their lines ahead: each line sees what the client's earlier ones did, and nothing is lost
+or put in another order among the lines of the others.
 
-Each client writes records of its own, which nobody else looks at, and all of them add to one.
+Each client writes records of its own, which nobody else looks at. All of them add to one record, and read and write
+another one in every way.
 """
 
 from __future__ import annotations
@@ -11,15 +12,18 @@ from concurrent.futures import ThreadPoolExecutor
 from dataclasses import dataclass, field
 from functools import partial
 from random import Random
+from typing import Callable
 
 from history import fault_of_history
-from server import Serving, connected, talk
+from server import BadServer, Serving, connected, talk
 from store import Store, compact
 
 from sweeps.program import Tally, Try
 
 TRIED = "lines that were sent ahead of the replies to the lines before"
 CLIENTS, LINES = 16, 200
+# So many lines of a client that waits for their replies are under way at once.
+BURST = 16
 # More bytes than a line may have, and than one has that is put without waiting for another long one.
 TOO_MANY, LARGE = 1_048_577, 70_000
 # Lines that are refused, and why.
@@ -32,29 +36,54 @@ REFUSED = {
 
 
 def tries(program: str, _room: str) -> list[Try]:
-    sent = [("at once", 1 << 30), ("in pieces of 5,000 bytes", 5_000)]
+    talks = {
+        "at once": lambda port, lines: talk(port, joined(lines), 1 << 30),
+        "in pieces of 5,000 bytes": lambda port, lines: talk(port, joined(lines), 5_000),
+        f"{BURST} lines and their replies in turn": talk_in_bursts,
+    }
     crowds = [
-        Try(f"{workers} workers, {how}", partial(crowd, program, workers, piece))
+        Try(f"{workers} workers, {how}", partial(crowd, program, workers, talk_so))
         for workers in (1, 4)
-        for how, piece in sent
+        for how, talk_so in talks.items()
     ]
-    return crowds + [Try("replies before the next line is whole", partial(wait_for_replies, program))]
+    return crowds + [
+        Try("replies before the next line is whole", partial(wait_for_replies, program)),
+        Try("clients that leave their lines behind", partial(leave_lines, program)),
+    ]
+
+
+def joined(lines: list[bytes]) -> bytes:
+    return b"".join(line + b"\n" for line in lines)
+
+
+def talk_in_bursts(port: int, lines: list[bytes]) -> bytes:
+    """Sends some lines, and the next ones once the replies to these have come."""
+    came = []
+    with connected(port) as connection, connection.makefile("rb") as replies:
+        try:
+            for at in range(0, len(lines), BURST):
+                connection.sendall(joined(lines[at : at + BURST]))
+                came += [replies.readline() for _ in lines[at : at + BURST]]
+        except OSError as fault:
+            raise BadServer(f"a burst of lines isn't answered: {fault}") from None
+    return b"".join(came)
 
 
 def document() -> bytes:
-    """A root, a record for all clients, and two for each of them, one below the other."""
+    """A root, a record to which all clients add, one that they use in every way, and two of each client's own, one
+    below the other."""
     rows = [{"parent": None, "name": "", "weight": 9}, {"parent": 0, "name": "all", "weight": 5}]
+    rows += [{"parent": 0, "name": "shared", "weight": 3, "value": 20}]
     for number in range(CLIENTS):
         rows += [{"parent": 0, "name": f"own{number}", "weight": 2}]
         rows += [{"parent": len(rows) - 1, "name": "low", "weight": 1}]
     return json.dumps({"nodes": rows}).encode()
 
 
-def crowd(program: str, workers: int, piece: int, tally: Tally) -> None:
+def crowd(program: str, workers: int, talk_so: Callable[[int, list[bytes]], bytes], tally: Tally) -> None:
     asked = [Asking(number).lines() for number in range(CLIENTS)]
     with Serving(program, document(), workers) as server, ThreadPoolExecutor(CLIENTS) as pool:
-        texts = [b"".join(line + b"\n" for line in lines) for lines in asked]
-        came = list(pool.map(talk, [server.port] * CLIENTS, texts, [piece] * CLIENTS))
+        came = list(pool.map(talk_so, [server.port] * CLIENTS, asked))
     clients = [Client(number, tally) for number in range(CLIENTS)]
     for client, lines, text in zip(clients, asked, came):
         client.note_all(lines, text)
@@ -76,6 +105,47 @@ def wait_for_replies(program: str, tally: Tally) -> None:
             tally.note("the line that was begun", None if replies.readline() else "no reply")
 
 
+def leave_lines(program: str, tally: Tally) -> None:
+    """Half of the clients hang up with lines unanswered, beside the other half. Of what each has left just the first
+    lines are done, each whole; and a server that they have left answers as ever."""
+    with Serving(program, document(), 4) as server, ThreadPoolExecutor(CLIENTS) as pool:
+        for _ in range(8):
+            leaving = pool.map(partial(hang_up, server.port), range(0, CLIENTS, 2))
+            staying = pool.map(partial(stay, server.port), range(1, CLIENTS, 2))
+            tally.note("those who hang up", None if all(leaving) else "one couldn't send")
+            for number, fault in zip(range(1, CLIENTS, 2), staying):
+                tally.note(f"client {number}, which stays", fault)
+        for number in range(0, CLIENTS, 2):
+            tally.note(f"client {number}, which has left", fault_of_left(server.port, number))
+
+
+def rising(number: int) -> list[bytes]:
+    """Lines that each add to both records of a client, and read them."""
+    own, low = f"/own{number}", f"/own{number}/low"
+    line = compact({"batch": [[["add", own, 1], ["add", low, 1]]]})
+    return [line] * 40
+
+
+def hang_up(port: int, number: int) -> bool:
+    talk(port, joined(rising(number)), 1 << 30, leaves=True)
+    return True
+
+
+def stay(port: int, number: int) -> str | None:
+    """Each line finds what the client's line before has left."""
+    lines = rising(number)
+    replies = [json.loads(reply)["replies"][0] for reply in talk(port, joined(lines)).splitlines()]
+    first = replies[0][0] if replies else 1
+    wanted = [[first + at] * 2 for at in range(len(lines))]
+    return None if replies == wanted else f"wanted {wanted[:3]}..; came {replies[:50]}"
+
+
+def fault_of_left(port: int, number: int) -> str | None:
+    line = compact({"batch": [[["get", f"/own{number}"], ["get", f"/own{number}/low"]]]})
+    [[own, low]] = json.loads(talk(port, line + b"\n"))["replies"]
+    return None if own == low <= 8 * 40 else f"came {own} and {low}"
+
+
 class Asking:
     """The lines of one client, of all kinds."""
 
@@ -91,7 +161,9 @@ class Asking:
         return self.too_long() if at == LINES // 2 else self.random.choice(kinds)()
 
     def accesses(self) -> list[list]:
-        path = self.random.choice(self.paths)
+        return self.accesses_at(self.random.choice(self.paths))
+
+    def accesses_at(self, path: str) -> list[list]:
         amount = self.random.randrange(5)
         return self.random.choice(
             [
@@ -104,7 +176,7 @@ class Asking:
 
     def batch(self) -> bytes:
         lists = [self.accesses() for _ in range(self.random.randrange(1, 4))]
-        return compact({"batch": [*lists, [["add", "/all", 1]]]})
+        return compact({"batch": [*lists, self.accesses_at("/shared"), [["add", "/all", 1]]]})
 
     def large(self) -> bytes:
         return self.batch() + b" " * LARGE if self.random.random() < 0.1 else self.batch()
@@ -158,7 +230,8 @@ class Client:
         return self.store.fault_of(line, reply)
 
     def fault_of_batch(self, lists: list, reply: bytes) -> str | None:
-        """The client's own lists see what its earlier ones did, in the order of their places; the last list adds to the
+        """The client's own lists see what its earlier ones did, in the order of their places. The last but one is at
+        the record that all clients use, whose replies the history of all has to explain. The last one adds to the
         record of all, which only rises."""
         found = json.loads(reply)
         is_round = found.keys() == {"places", "replies", "round"}
@@ -168,7 +241,7 @@ class Client:
             return f"round {found['round']} after round {self.round}"
         self.round = found["round"]
         self.batches.append((lists, found))
-        *own, [reached] = found["replies"]
+        *own, _shared, [reached] = found["replies"]
         if self.sums and reached <= self.sums[-1]:
             return f"{reached} in all after {self.sums[-1]}"
         self.sums.append(reached)
