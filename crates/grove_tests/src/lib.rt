@@ -31,6 +31,8 @@ mod kept;
 #[cfg(test)]
 mod leftovers;
 #[cfg(test)]
+mod lines_ahead;
+#[cfg(test)]
 mod lists;
 #[cfg(test)]
 mod loopback;
