@@ -24,10 +24,10 @@ from sweeps.program import Tally
 # What a unit file of a service has to have, and what each.
 GRANTED = ["DynamicUser=yes", "NoNewPrivileges=yes", "MemoryMax=", "TasksMax="]
 UNITS = {
-    "grove-page.service": [*GRANTED, "--verbose", "--explain", "--idle"],
+    "grove-page.service": [*GRANTED, "--verbose", "--explain", "--idle", "KillSignal=SIGTERM"],
     "grove-save.service": [*GRANTED, "--explain", "Type=oneshot", "StateDirectory=grove"],
     "grove-save.timer": ["OnCalendar=", "WantedBy=timers.target"],
-    "grove-serve.service": [*GRANTED, "--verbose", "--explain", "--idle"],
+    "grove-serve.service": [*GRANTED, "--verbose", "--explain", "--idle", "KillSignal=SIGTERM"],
     "grove-work.service": [*GRANTED, "--verbose"],
 }
 

@@ -33,6 +33,9 @@ Environment=GLIBC_TUNABLES=@SERVER_MEMORY@
 # Status 1 is a document that is refused, 2 a wrong word: neither gets better by another start.
 Restart=on-failure
 RestartPreventExitStatus=1 2
+# SIGTERM ends it at once, and its records with it. So stop its clients, and run `systemctl start grove-save`, first.
+KillSignal=SIGTERM
+TimeoutStopSec=10
 
 # Limits. There are 16 connections with a thread each, and up to 16 workers.
 MemoryMax=2G
