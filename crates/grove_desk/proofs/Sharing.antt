@@ -9,6 +9,7 @@ use Rattle.grove_tree.specs.contracts.name.Name as Name
 use Rattle.grove_tree.specs.contracts.outline.Outline as Outline
 use Rattle.grove_desk.specs.declared.opening.Opening as opening
 use Rattle.grove_store.specs.contracts.store.Store as Store
+use Rattle.grove_build.specs.contracts.kept_plans.counts.PlanCounts as Counts
 use Rattle.std.specs.contracts.marker.PhantomData as Phantom
 use Rattle.grove_desk.specs.contracts.journal.Journal as Journal
 use Rattle.std.specs.contracts.vec.Vec as Vec
@@ -67,6 +68,9 @@ Slots-send = Vec-send Slot.the_row Slot-send
 Numbers-send : IsSend (Vec.the_row u64 Heap.the_row ghosts)
 Numbers-send = Vec-send u64 (search (sendable, crosses))
 
+Counts-send : IsSend (Counts.the_field).row
+Counts-send = search (sendable, crosses) depth 60 fits 4000
+
 -- and what lies behind the lock
 BoardInside-send : (B : RattleType) (picked : opening.Ghosts B.Denot) → IsSend B → IsSync B → IsSend (BoardInside.the_row B picked)
 BoardInside-send B picked send sync =
@@ -77,7 +81,10 @@ BoardInside-send B picked send sync =
         Slots-send,
         (
           search (sendable, crosses),
-          (search (sendable, crosses), (search (sendable, crosses), (search (sendable, crosses), (Numbers-send, tt)))),
+          (
+            search (sendable, crosses),
+            (search (sendable, crosses), (search (sendable, crosses), (Counts-send, (Numbers-send, tt)))),
+          ),
         ),
       ),
     ) in

@@ -13,6 +13,7 @@ use crate::ledger::Ledger;
 use crate::line::Line;
 use crate::slot::{Asked, Caller, Slot, State};
 use crate::{Opening, Receipt};
+use grove_build::PlanCounts;
 use grove_store::Store;
 use grove_tree::NoMemory;
 use std::alloc::Global;
@@ -37,6 +38,8 @@ pub(crate) struct Board<B: Opening> {
     outside: u64,
     /// The store's count of rounds when it was last here.
     rounds: u64,
+    /// What the store had counted of plans by then.
+    plans: PlanCounts,
     /// For each caller who waits for a later round: which one it has to be later than.
     awaited: Vec<u64>,
 }
@@ -59,6 +62,7 @@ impl<B: Opening> Board<B> {
     {
         Board {
             rounds: ledger.rounds(),
+            plans: ledger.plan_counts(),
             ledger: Some(ledger),
             slots: Vec::new(alloc),
             tickets: 0,
@@ -160,6 +164,11 @@ impl<B: Opening> Board<B> {
     /// Is a round later than this one done?
     pub(crate) fn is_past(&self, after: u64) -> bool {
         self.rounds > after
+    }
+
+    /// What the store had counted of plans when it was last here.
+    pub(crate) fn plan_counts(&self) -> PlanCounts {
+        self.plans
     }
 
     /// A caller waits for a round later than this one.
@@ -276,6 +285,7 @@ impl<B: Opening> Board<B> {
             drop_lines_behind(&mut self.slots, asked.visitor);
         }
         self.rounds = ledger.rounds();
+        self.plans = ledger.plan_counts();
         self.ledger = Some(ledger);
     }
 }

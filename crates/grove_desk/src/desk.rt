@@ -21,6 +21,7 @@ use std::sync::{Mutex, Wait};
 use std::thread::Threads;
 
 mod closing;
+mod counting;
 mod putting;
 mod waiting;
 

@@ -9,6 +9,7 @@ use crate::answering::answer_taken;
 use crate::journal::Journal;
 use crate::slot::Asked;
 use crate::{Opening, Receipt};
+use grove_build::PlanCounts;
 use grove_store::Store;
 use grove_tree::{Gate, NoMemory};
 use std::alloc::Global;
@@ -63,6 +64,11 @@ impl<B: Opening> Ledger<B> {
     /// How many rounds the store has run.
     pub(crate) fn rounds(&self) -> u64 {
         self.store.rounds()
+    }
+
+    /// What the store has counted of plans.
+    pub(crate) fn plan_counts(&self) -> PlanCounts {
+        self.store.plan_counts()
     }
 
     /// A copy of the store.

@@ -20,7 +20,7 @@ impl<B: Opening> Desk<B> {
     ) -> Result<Awaited, NoMemory>
         ensures { IfOk result (TellsLater self.now.opening after) }
     {
-        self.await_round(rt, after, longest)?;
+        let _is_past = self.await_round(rt, after, longest)?;
         let store = self.snapshot(rt, alloc)?;
         if store.rounds() > after {
             Ok(Awaited::Later(store))
@@ -29,13 +29,14 @@ impl<B: Opening> Desk<B> {
         }
     }
 
-    /// Waits until a round later than this one is done, but no longer than this.
-    fn await_round<R: Wait + Clock>(
+    /// Waits until a round later than this one is done, but no longer than this, and says whether one is. No copy of
+    /// the store is made.
+    pub fn await_round<R: Wait + Clock>(
         &self,
         rt: &R,
         after: u64,
         longest: Duration,
-    ) -> Result<(), NoMemory> {
+    ) -> Result<bool, NoMemory> {
         let mut board = self.board.lock(rt);
         board.await_round(after)?;
         let bell = self.bells.of_round(after);
@@ -46,6 +47,6 @@ impl<B: Opening> Desk<B> {
             |board| !board.is_past(after),
         );
         board.leave_round(after);
-        Ok(())
+        Ok(board.is_past(after))
     }
 }
