@@ -4,6 +4,7 @@ from __future__ import annotations
 
 import json
 import shutil
+import socket
 import subprocess
 import time
 from contextlib import ExitStack
@@ -22,6 +23,22 @@ TRIED = "counts of a server"
 SLOTS, HTTP_SLOTS = 16, 64
 LINES = (ADD, GET, b'{"get":"/a"}\n', WEIGHTS, b"\n", b'{"plan":[["get","/c"]]}\n', b'{"plan":[["get","/d"]]}\n')
 REFUSED = {"shape": 1, "bad-json": 1, "no-path": 2}
+PLAN = b'{"plan":[["get","/a"]]}\n'
+TWO = b'{"batch":[[["add","/a",1]],[["add","/b",1]]]}\n'
+ALIKE = b'{"batch":[[["get","/"]],[["set","/",3]]]}\n'
+ABSENT = b'{"batch":[[["get","/a"]],[["get","/d"]]]}\n'
+# Lines, each with how many lists were done, found a plan and found none, once it is answered.
+PLANNED = (
+    (PLAN, 0, 0, 1),
+    (PLAN, 0, 1, 1),
+    (TWO, 2, 2, 2),
+    (TWO, 4, 4, 2),
+    (ALIKE, 6, 5, 3),
+    (ABSENT, 6, 5, 3),
+    (GET, 7, 6, 3),
+)
+# How many looks wait, and within how many seconds they have left their slots.
+LOOKS, SOON = 8, 10.0
 # How long a count that follows an answer may be waited for.
 LONGEST = 60.0
 
@@ -31,7 +48,9 @@ def tries(program: str, room: str) -> list[Try]:
         Try("lines, rounds and bytes", partial(lines_and_bytes, program)),
         Try("lines in bodies, and lines that are too long", partial(bodies, program)),
         Try("rounds that are shared", partial(shared, program)),
+        Try("lists and plans", partial(plans, program)),
         Try("nodes", partial(nodes, program)),
+        Try("looks that are left", partial(left_looks, program)),
         Try("connections that come and go", partial(come_and_go, program)),
         Try("connections that idle or find no slot", partial(idle_and_busy, program)),
         Try("at a page alone", partial(at_a_page, program)),
@@ -95,6 +114,7 @@ def lines_and_bytes(program: str, tally: Tally) -> None:
         wanted = {
             "grove_lines_total": count,
             "grove_rounds_total": 2,
+            **of_plans(2, 1, 1),
             "grove_round_lines_count": count,
             "grove_round_lines_sum": count,
             'grove_round_lines_bucket{le="1"}': count,
@@ -139,6 +159,40 @@ def shared(program: str, tally: Tally) -> None:
         note({"grove_lines_total": count, "grove_round_lines_sum": count}, came, "the lines", tally)
         turns = came["grove_round_lines_count"]
         tally.note("the turns", None if came["grove_rounds_total"] <= turns <= count else f"there were {turns}")
+
+
+def of_plans(lists: int, hits: int, misses: int) -> dict[str, float]:
+    kept = "grove_kept_plans"
+    return {"grove_lists_total": lists, f"{kept}_hits_total": hits, f"{kept}_misses_total": misses}
+
+
+def plans(program: str, tally: Tally) -> None:
+    """A list finds its plan if one was made for the same nodes before, by itself or in a batch."""
+    for workers in (1, 4):
+        with Both(program, workers=workers) as server:
+            note(of_plans(0, 0, 0), metrics_at(server.http), "at first", tally)
+            for number, (line, *counts) in enumerate(PLANNED):
+                server.talk(line)
+                note(of_plans(*counts), metrics_at(server.http), f"{workers} workers, line {number}", tally)
+
+
+def left_looks(program: str, tally: Tally) -> None:
+    """A look that waits leaves its slot soon after its client has left; one whose client closes its side alone is
+    answered soon."""
+    with Both(program) as server, ExitStack() as room:
+        looks = [room.enter_context(Client(server.http)) for _ in range(LOOKS)]
+        for look in looks:
+            look.send(request("GET", "/nodes?after=9"))
+        once_well(server.http, by_protocol("grove_connections", 0, LOOKS + 1), "they wait", tally)
+        started = time.monotonic()
+        for look in looks[1:]:
+            look.close()
+        looks[0].connection.shutdown(socket.SHUT_WR)
+        came = looks[0].next()
+        tally.note("the half that is open", None if came and came.status == 200 else f"came {came}")
+        once_well(server.http, by_protocol("grove_connections", 0, 1), "they have left", tally)
+        taken = time.monotonic() - started
+        tally.note("the time", None if taken < SOON else f"they had their slots for {taken:.1f} s")
 
 
 def nodes(program: str, tally: Tally) -> None:

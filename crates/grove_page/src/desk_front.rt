@@ -8,7 +8,7 @@ use std::thread::Threads;
 use std::time::{Clock, Duration};
 
 /// For so many seconds a round is waited for.
-const LONGEST_WAIT: u64 = 30;
+pub const LONGEST_WAIT: u64 = 30;
 
 impl<B: Opening, R: Threads + Wait + Clock + Sync + AllocGlobal> Front<R> for Desk<B> {
     ghost use Rattle.std.specs.Thread.{IsSync};

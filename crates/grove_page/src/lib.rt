@@ -1,6 +1,7 @@
 //! The store over HTTP: a page to look at it, replies to lines, and the store as a document.
 #![tactic(auto)]
 
+pub use desk_front::LONGEST_WAIT;
 pub use front::{Front, Visited};
 pub use hinted_visit::HintedVisit;
 pub use hints::hint_of_refusal;

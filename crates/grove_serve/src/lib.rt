@@ -18,6 +18,7 @@ mod fields;
 mod guest;
 mod histogram;
 mod host;
+mod leaving;
 mod log;
 mod metrics;
 mod metrics_text;

@@ -8,9 +8,10 @@ use crate::seconds::Seconds;
 use crate::service::Talk;
 use crate::slots::Slots;
 use grove_base::NoMemory;
+use grove_build::PlanCounts;
 use grove_store::Store;
 use grove_tree::{Node, Tree};
-use std::alloc::Global;
+use std::alloc::{AllocGlobal, Global};
 use std::sync::Wait;
 
 const STARTED: Family = Family {
@@ -35,6 +36,24 @@ const ROUNDS: Family = Family {
     name: "grove_rounds_total",
     kind: Kind::Counter,
     help: "Rounds of batches that were run.",
+};
+
+const LISTS: Family = Family {
+    name: "grove_lists_total",
+    kind: Kind::Counter,
+    help: "Lists of the batches of rounds.",
+};
+
+const PLANS_FOUND: Family = Family {
+    name: "grove_kept_plans_hits_total",
+    kind: Kind::Counter,
+    help: "Lists whose plan was kept already.",
+};
+
+const PLANS_MADE: Family = Family {
+    name: "grove_kept_plans_misses_total",
+    kind: Kind::Counter,
+    help: "Lists that were planned, since no plan was kept for them.",
 };
 
 const LINES_OF_ROUNDS: Family = Family {
@@ -103,13 +122,14 @@ const WEIGHT: Family = Family {
     help: "The weight of the node.",
 };
 
-/// What is counted of the server and, if there is a copy of its store, of each node.
-pub fn metrics_text<R: Wait>(
+/// What is counted of the server, of its store's plans and, if there is a copy of the store, of each node.
+pub fn metrics_text<R: Wait + AllocGlobal>(
     rt: &R,
-    alloc: Global,
     slots: &Slots,
+    plans: PlanCounts,
     store: Option<&Store>,
 ) -> Result<String, NoMemory> {
+    let alloc = rt.alloc();
     let mut text = Exposition::new(alloc);
     let metrics = slots.metrics();
     if let Some(started) = metrics.started {
@@ -118,6 +138,7 @@ pub fn metrics_text<R: Wait>(
     text.single(LINES, metrics.lines.get())?;
     write_refusals(rt, &mut text, metrics)?;
     text.single(ROUNDS, metrics.rounds.get())?;
+    write_plans(&mut text, plans)?;
     write_rounds(&mut text, alloc, metrics)?;
     write_slots(&mut text, slots)?;
     write_traffic(&mut text, metrics)?;
@@ -143,6 +164,13 @@ fn write_refusals<R: Wait>(
         text.labelled(REFUSED, label, refusal.lines)?;
     }
     Ok(())
+}
+
+/// The lists of rounds, and how many lists had their plans already.
+fn write_plans(text: &mut Exposition, plans: PlanCounts) -> Result<(), NoMemory> {
+    text.single(LISTS, plans.in_batches())?;
+    text.single(PLANS_FOUND, plans.hits())?;
+    text.single(PLANS_MADE, plans.misses())
 }
 
 /// How many lines the rounds had, and how long they took.

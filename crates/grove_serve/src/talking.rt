@@ -137,7 +137,7 @@ fn answer_requests<'a, B: Opening, R: Host>(
         return Ending::Untimed;
     }
     let was_late = Cell::new(false);
-    let front = ServedDesk::new(desk, guest);
+    let front = ServedDesk::new(desk, guest, stream);
     let mut reader = guest.reader(stream);
     let ended = match longest {
         Some(longest) => {
@@ -161,7 +161,7 @@ fn answer_state<'a, B: Opening, R: Host>(
     stream: &TcpStream,
     length: u64,
 ) {
-    let front = ServedDesk::new(desk, guest);
+    let front = ServedDesk::new(desk, guest, stream);
     let mut reader = guest.reader(stream).take(length);
     let _limited = stream.set_write_timeout(Some(Duration::from_secs(LONGEST_WRITE)));
     let ending = match serve_site(rt, &front, guest, &mut reader, stream) {

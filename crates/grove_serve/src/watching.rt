@@ -6,17 +6,19 @@ ghost use Rattle.grove_page.specs.Hints.{caller, CallerState, IsCallerReply};
 
 use crate::guest::Guest;
 use crate::host::Host;
+use crate::leaving::has_left;
 use crate::metrics::Metrics;
 use crate::metrics_text::metrics_text;
 use grove_base::{Hint, NoMemory};
 use grove_desk::{Awaited, Desk, Opening, Told};
-use grove_page::{Front, HintedVisit, RepliesSink, Visited, hint_of_refusal, visit};
+use grove_page::{Front, HintedVisit, LONGEST_WAIT, RepliesSink, Visited, hint_of_refusal, visit};
 use grove_session::{AnswerFault, Answers, SessionFault, Sink, Source, session};
 use grove_store::{Refusal, Store};
 use std::alloc::{AllocGlobal, Global};
 use std::marker::Model;
+use std::net::TcpStream;
 use std::sync::Wait;
-use std::time::Clock;
+use std::time::{Clock, Duration};
 
 /// A visitor of a desk whose lines are counted.
 #[derive(Drop)]
@@ -146,6 +148,8 @@ pub fn session_at<'a, B: Opening, R: Host, I: Source, O: Sink>(
 pub struct ServedDesk<'a, B: Opening> {
     desk: &'a Desk<B>,
     guest: &'a Guest<'a>,
+    /// The connection over which the requests come.
+    stream: &'a TcpStream,
 }
 
 impl<'a, B: Opening> Model for ServedDesk<'a, B> {
@@ -157,8 +161,23 @@ impl<'a, B: Opening> Model for ServedDesk<'a, B> {
 }
 
 impl<'a, B: Opening> ServedDesk<'a, B> {
-    pub fn new(desk: &'a Desk<B>, guest: &'a Guest<'a>) -> Self {
-        ServedDesk { desk, guest }
+    pub fn new(desk: &'a Desk<B>, guest: &'a Guest<'a>, stream: &'a TcpStream) -> Self {
+        ServedDesk {
+            desk,
+            guest,
+            stream,
+        }
+    }
+
+    /// Waits for a round later than this one, as long as a desk does, or until the client has left.
+    fn await_round<R: Wait + Clock>(&self, rt: &R, after: u64) -> Result<(), NoMemory> {
+        let pause = Duration::from_secs(1);
+        for _second in 0..LONGEST_WAIT {
+            if self.desk.await_round(rt, after, pause)? || has_left(self.stream) {
+                break;
+            }
+        }
+        Ok(())
     }
 }
 
@@ -187,11 +206,13 @@ impl<'a, B: Opening, R: Host> Front<R> for ServedDesk<'a, B> {
         } else {
             None
         };
-        metrics_text(rt, alloc, self.guest.slots(), store.as_ref())
+        let plans = self.desk.plan_counts(rt);
+        metrics_text(rt, self.guest.slots(), plans, store.as_ref())
     }
 
     fn snapshot_after(&self, rt: &R, after: u64) -> Result<Awaited, NoMemory> {
-        Front::snapshot_after(self.desk, rt, after)
+        self.await_round(rt, after)?;
+        Desk::snapshot_after(self.desk, rt, rt.alloc(), after, Duration::ZERO)
     }
 
     fn note_request(&self) {
