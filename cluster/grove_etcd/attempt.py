@@ -2,7 +2,7 @@
 
 The job is the worker's as long as no other worker has put `u/NAME`, which guards each group and each sign of life. So
 of two workers at one job one finds its guard broken, and drops the job. When to take a job up is a guess by the clock.
-If it is wrong, work may be done twice, and nothing else.
+If it is wrong, the work is done again, and nothing else: the worker that does it is ended before (leash.py).
 
 If there is work, the transaction of a job's last group also begins the worker's next job: a nested transaction takes
 the first group of that job, if its guards hold.
@@ -19,11 +19,12 @@ from .groups import Group, Limits, Turn, group_of, older_waiter, record_of
 from .jobs import Access, Event, Job, Kind, Progress, UnderWay, Waiter, written
 from .journal import Journal
 from .keys import Keys, last_part
+from .leash import now
 from .members import MOST_OPERATIONS, Lost, Members, pauses
 from .ready import MOST_INNER, Aside, Beginning, Ready
 from .refusals import Refused
 from .seeing import MOST_READS, Seen, contested, is_last, left_by, reads_for, reads_of_steps, seen, window
-from .signs import Abandoned, Signs, Stills
+from .signs import PATIENCE, SIGNS, Abandoned, Signs, Stills
 from .waiting import Watched, wait
 from .wire import Done, Found, Guard, Operation, choosing, deleting, other_than, putting, request_of, unchanged
 
@@ -41,8 +42,8 @@ class Means:
     name: str
     # Without work, accesses take no time.
     work: Optional[Work] = None
-    # A job without a sign of life for so many seconds is taken up.
-    patience: float = 2.0
+    # A job without a sign of life for so many seconds is taken up, if its last one doesn't say more.
+    patience: float = PATIENCE
     # A job whose work has failed so many times at an access is set aside.
     tries: int = 5
     journal: Journal = field(default_factory=Journal)
@@ -53,7 +54,7 @@ class Means:
 
     @cached_property
     def signs(self) -> Signs:
-        return Signs(self.members, self.keys, self.beat_seconds)
+        return Signs(self.members, self.keys, self.patience, self.journal)
 
     @cached_property
     def aside(self) -> ThreadPoolExecutor:
@@ -62,7 +63,15 @@ class Means:
 
     @property
     def beat_seconds(self) -> float:
-        return self.patience / 2.5
+        return self.patience / SIGNS
+
+    def sign(self, waits: str | None = None, fails: int = 0, why: str = "") -> UnderWay:
+        """What this worker puts for a job that it goes on with."""
+        return UnderWay(self.name, waits, fails, why, patience=self.patience)
+
+    def is_still(self, last: Abandoned, under_way: UnderWay) -> bool:
+        """Has there been no sign of life for as long as this worker is patient, and as the last sign says?"""
+        return self.stills.is_still(*last, max(self.patience, under_way.patience))
 
 
 class Attempt:
@@ -80,7 +89,8 @@ class Attempt:
         self.worked_at: int | None = None
         # The group that follows the work, as it was made ready.
         self.ready: Ready | None = None
-        # A time not after the job's last sign of life. None is given when a node is handed to the job.
+        # When the job's last sign of life was sent that etcd has confirmed. None is given when a node is handed to the
+        # job.
         self.signed_at = 0.0
         self.waits_since: float | None = None
         self.pauses: Iterator[float] = pauses()
@@ -158,7 +168,7 @@ class Attempt:
         after, begins = group.after(), self.beginning(found, group)
         group.place = int(begins is not None)
         guards, changes = self.guards(found, group), self.changes(found, group)
-        leaves = left_by(self.keys, self.job, group, self.means.name)
+        leaves = left_by(self.keys, self.job, group, self.means.sign())
         otherwise, then = self.reads(found.progress.step), self.reads_then(after, leaves)
         if begins and max(len(guards), len(changes) + 1, len(otherwise)) + begins.size <= MOST_OPERATIONS:
             then = [begins.operation()]
@@ -171,12 +181,13 @@ class Attempt:
 
     def make(self, ready: Ready) -> Seen | None:
         """Sends the transaction; gives the job as it is then."""
-        step, self.signed_at = ready.found.progress.step, time.monotonic()
+        step, sent_at = ready.found.progress.step, now()
         try:
             done = self.members.make(ready.request)
         except Lost as lost:
             return self.look_again(step, lost)
         if done.succeeded:
+            self.signed_at = sent_at
             return self.committed(ready, done)
         self.means.journal.log("commit_failed")
         return self.give_way(ready.group, ready.found, self.at(step, self.found_in(done.found)))
@@ -199,15 +210,17 @@ class Attempt:
         return None
 
     def found_after(self, found: Found, begun: Seen | None, ended_at: float) -> Seen | None:
-        """The job as it is after the transaction that ended another job, at that time or later, and that may have begun
-        this one."""
-        self.signed_at = ended_at
+        """The job as it is after the transaction that ended another job, and was sent at that time, and that may have
+        begun this one."""
         if begun is not None:
+            self.signed_at = ended_at
             return begun.read_with(found)
-        now = self.found_in(found)
-        if now is not None and now.under_way is not None and now.under_way.waits and now.is_for(self.means.name):
-            self.means.journal.log("waits", job=self.job.name, node=now.under_way.waits)
-        return now
+        found_now = self.found_in(found)
+        under_way = found_now.under_way if found_now is not None else None
+        if under_way is not None and under_way.waits and under_way.by == self.means.name:
+            self.signed_at = ended_at
+            self.means.journal.log("waits", job=self.job.name, node=under_way.waits)
+        return found_now
 
     def found_in(self, found: Found) -> Seen | None:
         return seen(self.keys, self.job, found)
@@ -230,7 +243,7 @@ class Attempt:
         after, free = group.after(), ending.hands.keys() - handed
         if after.has_ended() or group.blocked in free or ending.hands.keys() & set(group.locked):
             return None
-        leaves = left_by(self.keys, self.job, group, self.means.name)
+        leaves = left_by(self.keys, self.job, group, self.means.sign())
         then = [*self.changes(found, group), *self.reads_then(after, leaves)]
         return Beginning(self.guards(found, group), then, self.reads(0), leaves)
 
@@ -322,7 +335,7 @@ class Attempt:
         fresh = [deleting(self.keys.fresh(self.job.age, self.job.name))] if found.under_way is None else []
         key = self.keys.under_way(self.job.name)
         if not after.has_ended():
-            return [*fresh, putting(key, UnderWay(self.means.name, group.blocked).text())]
+            return [*fresh, putting(key, self.means.sign(group.blocked).text())]
         return fresh or [deleting(key)]
 
     # Work
@@ -332,14 +345,16 @@ class Attempt:
         return self.limits.works and is_access and self.worked_at != progress.step
 
     def do_work(self, found: Seen) -> Seen | None:
-        """Does the work of the next access, with signs of life. Meanwhile the group that follows is made ready. It is
-        sent if the work hasn't failed, and no sign was given."""
+        """Does the work of the next access, with signs of life before it and in it. Meanwhile the group that follows is
+        made ready. It is sent if the work hasn't failed, and no sign was given."""
         step = self.job.steps[found.progress.step]
         record = record_of(self.keys, step.path, found.found)
-        under_way = found.under_way or UnderWay(self.means.name)
+        under_way = found.under_way or self.means.sign()
+        if self.means.signs.is_wanted(self.signed_at):
+            return self.put_under_way(found, under_way)
         failure: Exception | None = None
-        self.means.signs.begin(self.job.name, found, self.sign_due())
         self.means.ready.begin(lambda: self.made_ready(found, self.group(found)))
+        self.means.signs.begin(self.job.name, found, self.signed_at)
         try:
             self.perform(self.job.accesses[step.access], record, f"{self.job.name}/{step.access}")
         except Exception as why:  # any exception of the work means that it has failed
@@ -366,7 +381,7 @@ class Attempt:
         if fails >= self.means.tries:
             self.set_aside(found, why, fails)
             return None
-        return self.pause(found, UnderWay(self.means.name, fails=fails, why=why))
+        return self.pause(found, self.means.sign(fails=fails, why=why))
 
     def pause(self, found: Seen, under_way: UnderWay) -> Seen | None:
         """Waits until the next try, with signs of life."""
@@ -395,12 +410,13 @@ class Attempt:
         changes = [putting(self.keys.under_way(self.job.name), under_way.text())]
         if found.under_way is None:
             changes.append(deleting(self.keys.fresh(self.job.age, self.job.name)))
-        reads = self.reads(found.progress.step)
-        self.signed_at = time.monotonic()
+        reads, sent_at = self.reads(found.progress.step), now()
         try:
             done = self.members.commit([found.claim(self.keys, self.job)], changes, reads, reads)
         except Lost as lost:
             return self.look_again(found.progress.step, lost)
+        if done.succeeded:
+            self.signed_at = sent_at
         return self.at(found.progress.step, self.found_in(done.found))
 
     # Waiting
@@ -409,7 +425,7 @@ class Attempt:
         """Waits for the job before this one in line, or if there is none for the node, until a sign of life is due."""
         path = str(group.blocked)
         before = older_waiter(self.keys, self.job, path, found.found) if self.limits.queues else None
-        revision, seconds = found.found.revision, max(0.0, self.sign_due() - time.monotonic())
+        revision, seconds = found.found.revision, max(0.0, self.sign_due() - now())
         if before is not None:
             # The node may be handed to this job all the same, by a job that hasn't seen those before it.
             own = self.keys.waiter(path, self.job.age, self.job.name)
@@ -433,21 +449,19 @@ class Attempt:
     def wait_on(self, found: Seen, path: str, before: str | None) -> Seen | None:
         """Gives a sign of life. If nobody goes on with the job for which this one waits, this one is left, or goes
         first."""
-        now = time.monotonic()
-        self.waits_since = self.waits_since or now
+        begun_at = self.waits_since = self.waits_since or now()
         other = last_part(before) if before else str(found.found.value(self.keys.owner(path)))
         key = self.keys.under_way(other)
         found_other = self.members.get(key)
         last = Abandoned(other, found_other.revision_of(key))
-        is_still = self.means.stills.is_still(*last, self.means.patience)
         text = found_other.value(key)
         others = UnderWay.read(text) if text is not None else None
-        if others is not None and (others.by == "" or is_still):
+        if others is not None and (others.by == "" or self.means.is_still(last, others)):
             if not before:
                 self.abandoned = None if others.aside else last
                 self.leave(found)
                 return None
             self.limits = replace(self.limits, queues=False)
-        elif others is None and before and now - self.waits_since > self.means.patience:
+        elif others is None and before and now() - begun_at > self.means.patience:
             self.limits = replace(self.limits, queues=False)
-        return self.put_under_way(found, found.under_way or UnderWay(self.means.name, path))
+        return self.put_under_way(found, found.under_way or self.means.sign(path))

@@ -102,14 +102,15 @@ class Progress:
 @dataclass(frozen=True)
 class UnderWay:
     """The worker that goes on with a job, and how often the work of the present access has failed. A job that is set
-    aside is taken up by nobody. One with an empty name for its worker is taken up at once. `waits` is the node that
-    the job waits for."""
+    aside is taken up by nobody. One with an empty name for its worker is taken up at once, and any other no sooner than
+    `patience` seconds after this sign of life. `waits` is the node that the job waits for."""
 
     by: str
     waits: str | None = None
     fails: int = 0
     why: str = ""
     aside: bool = False
+    patience: float = 0.0
 
     @staticmethod
     def read(text: str) -> UnderWay:

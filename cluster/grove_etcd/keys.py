@@ -15,9 +15,10 @@ a job.
                        when the node is handed to it
     p/NAME             the job: its list, plan and age; put once
     q/AGE/NAME         is there until the job's first group is taken
-    u/NAME             is there from then on until the job ends: the worker that goes on with it. It is put by each of
-                       the job's groups, by each sign of life, and by a worker that takes the job up; the guard of the
-                       next group, or sign, is that no other worker has put it
+    u/NAME             is there from then on until the job ends: the worker that goes on with it, and for how long
+                       others wait for its next sign. It is put by each of the job's groups, by each sign of life, and
+                       by a worker that takes the job up; the guard of the next group, or sign, is that no other worker
+                       has put it
     j/NAME             the job's progress; put once by each group
     e/NAME/GROUP       what the group took, whether it marked the next step, the records that it left, and its place
                        among the groups of its transaction; put once

@@ -194,11 +194,12 @@ class Members:
         """Makes the changes if all guards hold, and reads `then`; else reads `otherwise`."""
         return self.make(request_of(guards, [*changes, *then], list(otherwise)))
 
-    def make(self, request: Request) -> Done:
-        """Makes a transaction, without repeating it."""
+    def make(self, request: Request, seconds: float | None = None) -> Done:
+        """Makes a transaction, without repeating it. The member is waited for as long as `seconds` says, if that is
+        less than usual."""
         member = self.asked
         try:
-            return done(member.ask(member.transact, request, self.seconds))
+            return done(member.ask(member.transact, request, min(self.seconds, seconds or self.seconds)))
         except grpc.RpcError as error:
             self.turn(member)
             raise lost(member, error) from error

@@ -96,13 +96,12 @@ def seen(keys: Keys, job: Job, found: Found) -> Seen | None:
     return Seen(now, UnderWay.read(under_way), found)
 
 
-def left_by(keys: Keys, job: Job, group: Group, worker: str) -> Seen | None:
+def left_by(keys: Keys, job: Job, group: Group, under_way: UnderWay) -> Seen | None:
     """The job as the worker's group leaves it, without a revision; None if the job ends, or if it depends on what the
     transaction finds."""
     after = group.after()
     if after.has_ended() or group.blocked is not None:
         return None
-    under_way = UnderWay(worker)
     texts = {keys.under_way(job.name): under_way.text(), keys.progress(job.name): after.text()}
     return Seen(after, under_way, Found(0, {key: Entry(text, 0, 0, 0) for key, text in texts.items()}))
 

@@ -10,6 +10,7 @@ import time
 import uuid
 from collections import deque
 from concurrent.futures import Future
+from contextlib import contextmanager
 from typing import Iterator, Optional
 
 from .attempt import Attempt, Means, Work
@@ -17,9 +18,10 @@ from .head import need_store
 from .jobs import Job, UnderWay
 from .journal import Journal
 from .keys import Keys, last_part
+from .leash import Leash
 from .members import Lost, Members, pauses
 from .seeing import Seen
-from .signs import Abandoned
+from .signs import PATIENCE, Abandoned
 from .together import Together, reads_together
 from .waiting import Watched, wait
 from .wire import Found, after, reading_below
@@ -40,15 +42,20 @@ class Worker:
         members: Members,
         keys: Keys,
         work: Optional[Work] = None,
-        patience: float = 2.0,
+        patience: float = PATIENCE,
         tries: int = 5,
         journal: Optional[Journal] = None,
+        leashed: bool = True,
     ) -> None:
         """A job without a sign of life for `patience` seconds is taken up. One whose work has failed `tries` times at
-        an access is set aside."""
+        an access is set aside.
+
+        If work goes on without a sign of life that etcd confirms, this process is killed (SIGKILL) shortly before
+        another worker may take its job up. If not `leashed` it isn't, and its work may go on with the node unheld."""
         name = uuid.uuid4().hex[:12]
         self.means = Means(members, keys, name, work, patience, tries, journal or Journal())
         self.members, self.keys = members, keys
+        self.leashed = leashed and work is not None
         # How many times in a row others have come to the nodes in between.
         self.clashes = 0
         # It takes one in so many of the jobs that it looks at.
@@ -63,6 +70,23 @@ class Worker:
         """Does jobs until it is stopped, or until all have ended or are set aside."""
         need_store(self.members, self.keys)
         self.means.journal.log("started", worker=self.means.name)
+        with self.on_leash():
+            self.do_jobs(until_ended)
+        self.means.journal.log("stopped", worker=self.means.name)
+
+    @contextmanager
+    def on_leash(self) -> Iterator[None]:
+        if not self.leashed:
+            yield
+            return
+        with Leash() as leash:
+            self.means.signs.leash = leash
+            try:
+                yield
+            finally:
+                self.means.signs.leash = None
+
+    def do_jobs(self, until_ended: bool) -> None:
         while not self.means.stopping:
             found = self.look()
             fresh = self.fresh_of(found)
@@ -75,7 +99,6 @@ class Worker:
                 self.run_batch(self.batch_of(fresh))
             else:
                 self.idle(found)
-        self.means.journal.log("stopped", worker=self.means.name)
 
     def look(self) -> Found:
         """Reads the oldest jobs that nobody has begun, and those under way."""
@@ -190,7 +213,7 @@ class Worker:
         left = []
         for name, under_way in begun.items():
             last = Abandoned(name, found.revision_of(self.keys.under_way(name)))
-            is_still = self.means.stills.is_still(*last, self.means.patience)
+            is_still = self.means.is_still(last, under_way)
             if not under_way.aside and (under_way.by == "" or is_still):
                 left.append(last)
         left = self.those_that_can_go_on(begun, left)
@@ -220,7 +243,7 @@ class Worker:
             return False
         self.means.journal.log("taken_up", job=name, by=self.means.name)
         attempt.run(
-            attempt.put_under_way(found, UnderWay(self.means.name, found.under_way.waits, found.under_way.fails))
+            attempt.put_under_way(found, self.means.sign(found.under_way.waits, found.under_way.fails))
         )
         self.take_up_abandoned(attempt)
         return True

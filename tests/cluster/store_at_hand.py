@@ -63,7 +63,8 @@ class Store:
         self.jobs += [self.submitter.submit(accesses) for accesses in lists]
 
     def worker(self, kind=Attempt, **how):
-        worker = Worker(self.members, self.keys, **how)
+        """One in the trial's own process, which isn't to be killed."""
+        worker = Worker(self.members, self.keys, leashed=False, **how)
         worker.attempt = kind
         if kind is not Attempt:
             # One with a planted bug does each job by itself.

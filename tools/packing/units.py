@@ -121,7 +121,8 @@ ExecStart=@PREFIX@/bin/grove-work $GROVE_WORK
 # SIGTERM ends it after the group that goes on, with the work that belongs to it.
 TimeoutStopSec=300
 # Status 1 is a store that isn't there or of another format, 2 a wrong word: neither gets better by another start. 3 is
-# that no member of etcd answered for a minute.
+# that no member of etcd answered for a minute. A worker is killed (SIGKILL) if its work goes on without a sign of life,
+# and is to come back then.
 Restart=on-failure
 RestartSec=5
 RestartPreventExitStatus=1 2

@@ -62,7 +62,7 @@ class Left(unittest.TestCase):
         return group_of(KEYS, JOB, window(JOB, progress.step), progress, found, Limits(works=True))
 
     def test_a_job_is_seen_as_its_group_leaves_it(self):
-        left = left_by(KEYS, JOB, self.group(Progress(0, 3)), "me")
+        left = left_by(KEYS, JOB, self.group(Progress(0, 3)), UnderWay("me"))
         found = done(answer(told((KEYS.record("/a"), "4", 2)))).found
         seen = left.read_with(found)
         self.assertEqual((seen.progress, seen.under_way), (Progress(1, 3, 1), UnderWay("me")))
@@ -71,8 +71,8 @@ class Left(unittest.TestCase):
         self.assertEqual(seen.found.value(keys[0]), UnderWay("me").text())
 
     def test_it_isnt_known_where_a_node_may_be_held_or_the_job_ends(self):
-        self.assertIsNone(left_by(KEYS, JOB, self.group(Progress(0, 3), a="two.0"), "me"))
-        self.assertIsNone(left_by(KEYS, JOB, self.group(Progress(1, 3, 1)), "me"))
+        self.assertIsNone(left_by(KEYS, JOB, self.group(Progress(0, 3), a="two.0"), UnderWay("me")))
+        self.assertIsNone(left_by(KEYS, JOB, self.group(Progress(1, 3, 1)), UnderWay("me")))
 
 
 class MadeReady(unittest.TestCase):
