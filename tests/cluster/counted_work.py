@@ -1,19 +1,27 @@
 """Work for `work --work counted_work:perform`: takes some time, and notes each try, and whether its node was held by
-its job then. `counted_work:fail_at_a` fails at /a for as long as a file is there.
+its job then. `counted_work:watch` looks again and again while it goes on. `counted_work:fail_at_a` fails at /a for as
+long as a file is there.
 
-The environment has COUNTED_ROOM, a folder; COUNTED_MEMBERS and COUNTED_STORE; and COUNTED_SECONDS.
+The environment has COUNTED_ROOM, a folder; COUNTED_MEMBERS and COUNTED_STORE; and COUNTED_SECONDS. With
+COUNTED_UNLEASHED the worker is never killed.
 """
 import os
 import time
 from pathlib import Path
 
+from grove_etcd.jobs import UnderWay
 from grove_etcd.keys import Keys
+from grove_etcd.leash import Leash
 from grove_etcd.members import Members
 
 ROOM = Path(os.environ["COUNTED_ROOM"])
 MEMBERS = Members(os.environ["COUNTED_MEMBERS"].split(","))
 KEYS = Keys(os.environ["COUNTED_STORE"])
 SECONDS = float(os.environ.get("COUNTED_SECONDS", "0"))
+# Between two looks.
+LOOK_SECONDS = 0.02
+if "COUNTED_UNLEASHED" in os.environ:
+    Leash.arm = lambda *_: None
 
 
 def note(line):
@@ -22,11 +30,15 @@ def note(line):
         file.write(line + "\n")
 
 
-def perform(access, _record, token):
+def is_held(access, token):
     owner = KEYS.owner(access[1])
-    held = MEMBERS.get(owner).value(owner) == token.partition("/")[0]
+    return MEMBERS.get(owner).value(owner) == token.partition("/")[0]
+
+
+def perform(access, _record, token):
+    held = is_held(access, token)
     time.sleep(SECONDS)
-    held_still = MEMBERS.get(owner).value(owner) == token.partition("/")[0]
+    held_still = is_held(access, token)
     note(f"{token} {held and held_still}")
 
 
@@ -34,6 +46,26 @@ def begin(access, record, token):
     """Notes the try before it takes its time."""
     note(f"{token} begun")
     perform(access, record, token)
+
+
+def holders(access, token):
+    """The job that holds the node, and the worker that goes on with this job."""
+    owner, under_way = KEYS.owner(access[1]), KEYS.under_way(token.partition("/")[0])
+    found = MEMBERS.get(owner, under_way)
+    text = found.value(under_way)
+    return found.value(owner), UnderWay.read(text).by if text is not None else None
+
+
+def watch(access, _record, token):
+    """Notes it as soon as the node isn't held, or by another worker."""
+    note(f"{token} begun")
+    until, own = time.monotonic() + SECONDS, holders(access, token)
+    held = goes_on = own[0] == token.partition("/")[0]
+    while held and goes_on:
+        goes_on = time.monotonic() < until
+        time.sleep(LOOK_SECONDS)
+        held = holders(access, token) == own
+    note(f"{token} {held}")
 
 
 def fail_at_a(access, _record, token):

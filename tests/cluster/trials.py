@@ -21,6 +21,11 @@ from beginning import (
     where_the_worker_is_told_to_end_no_other_is_begun,
 )
 from between import what_is_planted_between_epochs_is_told, what_no_worker_writes_is_not_seen
+from leashed import (
+    a_stopped_worker_is_killed_in_its_work,
+    a_worker_that_is_cut_off_is_killed_in_its_work,
+    whatever_is_stopped_no_work_goes_on_unheld,
+)
 from members_at_hand import SecretCluster
 from planted import (
     a_record_that_is_none_sets_its_job_aside,
@@ -56,6 +61,7 @@ from working import (
 
 from etcd3 import etcdrpc
 from grove_etcd.keys import Keys
+from grove_etcd.leash import now
 from grove_etcd.members import Lost, Members
 from grove_etcd.weighing import reweigh
 from grove_etcd.worker import Worker
@@ -169,8 +175,8 @@ class Silent(Members):
 
     told = True
 
-    def make(self, request):
-        done = super().make(request)
+    def make(self, request, seconds=None):
+        done = super().make(request, seconds)
         self.told = not self.told
         if not self.told:
             raise Lost("no answer")
@@ -181,7 +187,11 @@ def a_commit_without_an_answer_is_done_once(cluster, grove):
     store = Store(cluster, grove, "silent", [BOTH] * 5)
     tokens = []
     silent = Silent(cluster.clients)
-    Worker(silent, store.keys, lambda _access, _record, token: tokens.append(token)).run(until_ended=True)
+
+    def work(_access, _record, token):
+        tokens.append(token)
+
+    Worker(silent, store.keys, work, leashed=False).run(until_ended=True)
     store.audit()
     came = store.records("/a", "/b"), len(tokens), len(set(tokens))
     return None if came == ([15, 5], 10, 10) else f"records, works and tokens {came}"
@@ -203,7 +213,7 @@ def two_workers_at_one_job_do_it_once(cluster, grove):
 
 def a_job_is_taken_up_by_one_that_waits_for_it(cluster, grove):
     store = Store(cluster, grove, "taken", [BOTH, [["add", "/b", 1]], [["get", "/b/c"]]])
-    one_group(store.attempt(0))
+    one_group(store.attempt(0, patience=0.2))
     worker = store.worker(work=slots(SLOT), patience=0.2)
     worker.run(until_ended=True)
     audited = store.audit()
@@ -223,7 +233,7 @@ def one_is_woken_at_each_release(cluster, grove):
 
 def few_commit_in_vain(cluster, grove, number):
     store = Store(cluster, grove, f"woken-{number}", [[["add", "/", 1]] for _ in range(40)])
-    workers = [Worker(cluster.members(), store.keys, slots(0.005)) for _ in range(8)]
+    workers = [Worker(cluster.members(), store.keys, slots(0.005), leashed=False) for _ in range(8)]
     run_all(workers)
     store.audit()
     counts = sum((worker.means.journal.counts for worker in workers), start=Counter())
@@ -245,7 +255,7 @@ def a_job_is_woken_where_the_node_is_handed_past_an_older_one(cluster, grove):
     younger.wait_on = None
     woken = younger.go_on(waits)
     younger.run(woken)
-    store.work()
+    older.run(older.look(1))
     store.audit()
     came = waits.progress.step, woken.progress.step, store.records("/")
     return None if came == (0, 1, [3]) else f"came {came}"
@@ -264,7 +274,7 @@ def signs_of_life_are_given_between_waits(cluster, grove):
     waits.signed_at -= 2 * SECONDS
     found = waits.go_on(found)
     key = store.keys.under_way(store.jobs[2])
-    came = lasted, store.members.get(key).version_of(key), waits.sign_due() > time.monotonic()
+    came = lasted, store.members.get(key).version_of(key), waits.sign_due() > now()
     return None if came == ([0], 2, True) else f"came {came}"
 
 
@@ -279,7 +289,7 @@ def run_all(workers):
 def a_forgotten_job_is_not_done_again(cluster, grove):
     """A worker hangs after it has looked, and the job's epoch is audited and forgotten meanwhile."""
     store = Store(cluster, grove, "hangs", [[["add", "/b", 1]], BOTH])
-    hangs, hangs_later = store.attempt(0, slot=0), store.attempt(1)
+    hangs, hangs_later = store.attempt(0, slot=0), store.attempt(1, patience=0.1)
     seen, later = hangs.look(0), one_group(hangs_later)
     store.worker(patience=0.1).run(until_ended=True)
     store.audit()
@@ -338,6 +348,9 @@ TRIALS = [
     loads_that_mix_leave_one_document,
     slow_work_is_done_once,
     work_of_a_killed_worker_is_done_again,
+    a_stopped_worker_is_killed_in_its_work,
+    a_worker_that_is_cut_off_is_killed_in_its_work,
+    whatever_is_stopped_no_work_goes_on_unheld,
     an_abandoned_job_is_taken_up_once,
     work_that_fails_sets_its_job_aside,
     a_worker_that_is_told_to_end_ends_after_its_group,

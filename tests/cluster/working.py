@@ -73,7 +73,7 @@ def slow_work(cluster, grove, number):
     counted = Counted(cluster, grove, f"slow-{number}", [ROOT] * 4, 2.0)
     started = [counted.start("begin", "--patience", "1", "--until-ended") for _ in range(4)]
     statuses = [worker.wait(SECONDS) for worker in started]
-    return counted.fault(8) or (None if statuses == [0] * 4 else f"statuses {statuses}")
+    return counted.fault(8) or fault_of(statuses)
 
 
 def work_of_a_killed_worker_is_done_again(cluster, grove):
@@ -92,7 +92,14 @@ def work_again(cluster, grove, number):
         worker.wait()
     started = [counted.start("begin", "--patience", "1", "--until-ended") for _ in range(3)]
     statuses = [worker.wait(SECONDS) for worker in started]
-    return counted.fault(12, killed) or (None if statuses == [0] * 3 else f"statuses {statuses}")
+    return counted.fault(12, killed) or fault_of(statuses)
+
+
+def fault_of(statuses):
+    """A worker that its leash has killed had no processor, or no answer from etcd, for as long as others wait."""
+    if -signal.SIGKILL in statuses:
+        raise Untimely(f"statuses {statuses}")
+    return f"statuses {statuses}" if any(statuses) else None
 
 
 class TakesUpLate(Worker):
@@ -109,14 +116,14 @@ class TakesUpLate(Worker):
 def an_abandoned_job_is_taken_up_once(cluster, grove):
     """Two workers find the job abandoned at the same time, and the second one leaves it to the first."""
     store = Store(cluster, grove, "late", [[["add", "/a", 1]]])
-    one_group(store.attempt(0))
+    one_group(store.attempt(0, patience=PATIENCE))
     works = []
 
     def work(_access, _record, token):
         works.append(token)
         time.sleep(10 * PATIENCE)
 
-    first, late = (kind(store.members, store.keys, work, PATIENCE) for kind in (Worker, TakesUpLate))
+    first, late = (kind(store.members, store.keys, work, PATIENCE, leashed=False) for kind in (Worker, TakesUpLate))
     thread = threading.Thread(target=first.run, args=(True,))
 
     def take_up():
