@@ -22,6 +22,8 @@ PATIENCE = 5.0
 SIGNS = 4
 # How often it is looked whether one is due, in the time between two.
 LOOKS = 4
+# As long as this, at least, a member has for its answer to a sign.
+LEAST_ANSWER_SECONDS = 0.5
 
 
 class Signs:
@@ -78,7 +80,7 @@ class Signs:
         guard = unchanged(key, found.revision_of(key))
         request = request_of([guard], [putting(key, text), reading(key)], [reading(key)])
         try:
-            done = self.members.make(request, self.seconds)
+            done = self.members.make(request, max(self.seconds, LEAST_ANSWER_SECONDS))
         except (Lost, Failed) as why:
             self.journal.log("lost", job=self.name, why=why)
             return

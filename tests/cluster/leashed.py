@@ -46,10 +46,10 @@ def stopped(_cluster, counted):
     return worker, statuses
 
 
-def cut_off(cluster, counted):
+def cut_off(cluster, counted, *words):
     """A worker that reaches no member from its work on, until others have done that. Its work does."""
     with Ways(cluster) as ways:
-        worker = begin_work(counted, "--members", ways.addresses)
+        worker = begin_work(counted, "--members", ways.addresses, *words)
         ways.cut()
         statuses = do_the_rest(counted)
         ways.mend()
@@ -67,10 +67,9 @@ def no_work_goes_on_unheld(way, cluster, grove):
 def fault_of_both(way, cluster, grove, number):
     """With a leash the worker is killed; without it goes on, and its node isn't held."""
     leashed = Counted(cluster, grove, f"{way.__name__}-{number}".replace("_", "-"), [AT_A], WORK)
-    worker, statuses = way(cluster, leashed)
-    came = worker.wait(SECONDS), statuses, is_unheld(leashed)
-    if came != (KILLED, [0, 0], False):
-        return f"it ended with {came[0]}, others with {statuses}, {leashed.tries()}"
+    fault = fault_of_killed(leashed, *way(cluster, leashed))
+    if fault:
+        return fault
     loose = Counted(cluster, grove, f"loose-{way.__name__}-{number}".replace("_", "-"), [AT_A], WORK)
     loose.environment["COUNTED_UNLEASHED"] = "yes"
     worker, statuses = way(cluster, loose)
@@ -79,7 +78,17 @@ def fault_of_both(way, cluster, grove, number):
     worker.wait()
     if not is_seen:
         raise Untimely(f"without a leash it wasn't seen, {loose.tries()}")
-    return leashed.fault(1, killed=1)
+    return None
+
+
+def fault_of_killed(counted, worker, statuses):
+    """The worker was killed before others did its work, once more."""
+    came = worker.poll(), statuses, is_unheld(counted)
+    worker.kill()
+    worker.wait()
+    if came != (KILLED, [0, 0], False):
+        return f"it ended with {came[0]}, others with {statuses}, {counted.tries()}"
+    return counted.fault(1, killed=1)
 
 
 def a_stopped_worker_is_killed_in_its_work(cluster, grove):
@@ -88,6 +97,12 @@ def a_stopped_worker_is_killed_in_its_work(cluster, grove):
 
 def a_worker_that_is_cut_off_is_killed_in_its_work(cluster, grove):
     return no_work_goes_on_unheld(cut_off, cluster, grove)
+
+
+def others_wait_for_as_long_as_the_sign_says(cluster, grove):
+    """The worker is more patient than they are, and is killed later."""
+    counted = Counted(cluster, grove, f"patient-{time.time_ns()}", [AT_A], 4 * PATIENCE)
+    return fault_of_killed(counted, *cut_off(cluster, counted, "--patience", str(3 * PATIENCE)))
 
 
 class Disturbed:

@@ -24,6 +24,7 @@ from between import what_is_planted_between_epochs_is_told, what_no_worker_write
 from leashed import (
     a_stopped_worker_is_killed_in_its_work,
     a_worker_that_is_cut_off_is_killed_in_its_work,
+    others_wait_for_as_long_as_the_sign_says,
     whatever_is_stopped_no_work_goes_on_unheld,
 )
 from members_at_hand import SecretCluster
@@ -350,6 +351,7 @@ TRIALS = [
     work_of_a_killed_worker_is_done_again,
     a_stopped_worker_is_killed_in_its_work,
     a_worker_that_is_cut_off_is_killed_in_its_work,
+    others_wait_for_as_long_as_the_sign_says,
     whatever_is_stopped_no_work_goes_on_unheld,
     an_abandoned_job_is_taken_up_once,
     work_that_fails_sets_its_job_aside,
