@@ -69,10 +69,10 @@ class Worker:
     def run(self, until_ended: bool = False) -> None:
         """Does jobs until it is stopped, or until all have ended or are set aside."""
         need_store(self.members, self.keys)
-        self.means.journal.log("started", worker=self.means.name)
         with self.on_leash():
+            self.means.journal.log("started", worker=self.means.name)
             self.do_jobs(until_ended)
-        self.means.journal.log("stopped", worker=self.means.name)
+            self.means.journal.log("stopped", worker=self.means.name)
 
     @contextmanager
     def on_leash(self) -> Iterator[None]:

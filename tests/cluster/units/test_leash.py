@@ -1,6 +1,8 @@
 """The timer that kills a process, each in a child that has one of its own."""
 import os
+import select
 import signal
+import subprocess
 import sys
 import time
 import unittest
@@ -110,6 +112,16 @@ class Leashes(unittest.TestCase):
                 time.sleep(LONG)
 
         self.need_killed(armed(body))
+
+    def test_a_program_that_it_starts_ends_with_it_by_setpriv(self):
+        """The program has the end of a pipe."""
+        here, there = os.pipe()
+        words = ["setpriv", "--pdeathsig", "KILL", "sleep", str(LONG)]
+        self.need_killed(armed(lambda _: subprocess.run(words, pass_fds=[there], check=False)))
+        os.close(there)
+        self.assertEqual(select.select([here], [], [], LONG / 2)[0], [here])
+        self.assertEqual(os.read(here, 1), b"")
+        os.close(here)
 
     def test_another_process_has_none(self):
         """A fork takes no timer with it, so it can't arm one that it doesn't have."""
