@@ -13,8 +13,8 @@ from ways import Ways
 from working import Counted
 
 AT_A = [["add", "/a", 1]]
-# How long others wait for a sign of life, and how long work takes.
-PATIENCE, WORK = 1.0, 2.0
+# How long others wait for a sign of life; and how long work takes, also without a leash, when they have to come to it.
+PATIENCE, WORK, LOOSE_WORK = 1.0, 2.0, 4.0
 WORDS = ["--patience", str(PATIENCE)]
 KILLED = -signal.SIGKILL
 # Of the trial at random: workers, lists, how long work takes, and the longest time for which something is stopped.
@@ -70,10 +70,10 @@ def fault_of_both(way, cluster, grove, number):
     fault = fault_of_killed(leashed, *way(cluster, leashed))
     if fault:
         return fault
-    loose = Counted(cluster, grove, f"loose-{way.__name__}-{number}".replace("_", "-"), [AT_A], WORK)
+    loose = Counted(cluster, grove, f"loose-{way.__name__}-{number}".replace("_", "-"), [AT_A], LOOSE_WORK)
     loose.environment["COUNTED_UNLEASHED"] = "yes"
     worker, statuses = way(cluster, loose)
-    is_seen = await_true(partial(is_unheld, loose), 4 * PATIENCE)
+    is_seen = await_true(partial(is_unheld, loose), LOOSE_WORK)
     worker.kill()
     worker.wait()
     if not is_seen:
@@ -101,7 +101,7 @@ def a_worker_that_is_cut_off_is_killed_in_its_work(cluster, grove):
 
 def others_wait_for_as_long_as_the_sign_says(cluster, grove):
     """The worker is more patient than they are, and is killed later."""
-    counted = Counted(cluster, grove, f"patient-{time.time_ns()}", [AT_A], 4 * PATIENCE)
+    counted = Counted(cluster, grove, f"patient-{time.time_ns()}", [AT_A], LOOSE_WORK)
     return fault_of_killed(counted, *cut_off(cluster, counted, "--patience", str(3 * PATIENCE)))
 
 
