@@ -59,7 +59,7 @@ LIMITS = [
         "crates/grove_access/src/list.rt",
         "LONGEST_ACCESS",
         [
-            ("README.md", "each of 1 to {} slots |"),
+            ("README.md", "each 1 to {} slots (units of time) long |"),
             ("docs/PROTOCOL.md", "its *length*, from 1 to {},"),
             ("docs/FORMATS.md", "what is read has 1 to {}."),
         ],
