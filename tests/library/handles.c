@@ -69,6 +69,22 @@ static void try_opened(void) {
     want(tree.held == NULL && blocks == 0, "open", "closed, and all memory is given back");
 }
 
+static void try_open_gigabyte(void) {
+    grove_tree tree = GROVE_NOTHING;
+    uint8_t *much = gigabyte("open");
+    grove_told told;
+    if (much == NULL)
+        return;
+    told = grove_c_tree_open(&tree, NULL, 0, much, GIGABYTE);
+    want(told.status == GROVE_REFUSED && told.length == 8, "open", "a refusal with a room of 1 GiB");
+    want(memcmp(much, "bad-json", 8) == 0 && tree.held == NULL, "open", "the same refusal in it");
+    told = grove_c_tree_open(&tree, document.at, document.length, much, GIGABYTE);
+    want(told.status == GROVE_DONE && told.length == 0, "open", "a room of 1 GiB");
+    want(memcmp(much, "bad-json", 8) == 0 && tree.held != NULL, "open", "nothing is written there");
+    grove_c_tree_close(&tree);
+    __real_free(much);
+}
+
 static void try_open_growths(void) {
     grove_tree tree = GROVE_NOTHING;
     long number, count;
@@ -108,14 +124,12 @@ static size_t try_rooms(const char *name, ask *ask, call *same, grove_tree *tree
     return length;
 }
 
-/* A GiB that the system gives no pages for as long as nobody writes there. */
 static void try_gigabyte(const char *name, ask *ask, grove_tree *tree, size_t length) {
-    size_t room = (size_t)1 << 30;
-    uint8_t *much = __real_malloc(room);
+    uint8_t *much = gigabyte(name);
     grove_told told;
     if (much == NULL)
         return;
-    told = ask(tree, question.at, question.length, much, room);
+    told = ask(tree, question.at, question.length, much, GIGABYTE);
     want(told.status == GROVE_DONE && told.length == length, name, "a room of 1 GiB");
     want(memcmp(much, whole, length) == 0, name, "the same text in it");
     __real_free(much);
@@ -179,6 +193,7 @@ int main(int count, char **words) {
     blocks = 0;
     try_closed();
     try_opened();
+    try_open_gigabyte();
     try_open_growths();
     try_again();
     for (number = 2; number < count; number++) {

@@ -145,6 +145,40 @@ static void try_lines(void) {
     want(blocks == 0, "lines", "all memory is given back");
 }
 
+/* A reply has its place in a room of 1 GiB, and is had there once more. */
+static void try_reply_gigabyte(const char *name, const char *line, grove_store *store, uint8_t *much) {
+    grove_told told = grove_c_store_answer(store, (const uint8_t *)line, strlen(line), much, GIGABYTE);
+    size_t length = replied(store);
+    want(told.status == GROVE_DONE && told.length == length, name, "a room of 1 GiB");
+    want(memcmp(much, reply, length) == 0, name, "the same reply in it");
+    memset(much, 0xA5, length + 1);
+    told = grove_c_store_reply(store, much, GIGABYTE);
+    want(told.status == GROVE_DONE && told.length == length, name, "a room of 1 GiB once more");
+    want(memcmp(much, reply, length) == 0 && much[length] == 0xA5, name, "the same reply once more, and no more");
+}
+
+static void try_gigabyte(void) {
+    grove_store store = GROVE_NOTHING;
+    uint8_t *much = gigabyte("open");
+    grove_told told;
+    if (much == NULL)
+        return;
+    told = grove_c_store_open(&store, NULL, 0, much, GIGABYTE);
+    want(told.status == GROVE_REFUSED && told.length == 8, "open", "a refusal with a room of 1 GiB");
+    want(memcmp(much, "bad-json", 8) == 0 && store.held == NULL, "open", "the same refusal in it");
+    told = grove_c_store_open(&store, document.at, document.length, much, GIGABYTE);
+    want(told.status == GROVE_DONE && told.length == 0, "open", "a room of 1 GiB");
+    want(memcmp(much, "bad-json", 8) == 0 && store.held != NULL, "open", "nothing is written there");
+    try_reply_gigabyte("add", add, &store, much);
+    try_reply_gigabyte("plan", (const char *)planned.at, &store, much);
+    try_reply_gigabyte("weights", weights, &store, much);
+    try_reply_gigabyte("reweigh", reweigh, &store, much);
+    try_reply_gigabyte("bad", "{", &store, much);
+    grove_c_store_close(&store);
+    __real_free(much);
+    want(blocks == 0, "open", "all memory is given back after a room of 1 GiB");
+}
+
 /* A line for which some allocation fails changes neither the store nor its last reply. */
 static void try_growths(const char *name, const char *line) {
     long number, count, failed = 0;
@@ -209,6 +243,7 @@ int main(int count, char **words) {
     try_opened();
     try_open_growths();
     try_lines();
+    try_gigabyte();
     try_growths("add", add);
     try_growths("plan", (const char *)planned.at);
     try_growths("weights", weights);
