@@ -53,7 +53,8 @@ def show(name, times):
     lemon = times["lemon"]
     tested = times["walk"] + times["test"]
     parts = " ".join(f"{layer} {times[layer] / 1000:.0f}" for layer in LAYERS)
-    ratios = f"walk and test {tested / lemon:.2f}, plan {times['plan'] / lemon:.2f}, search {times['solve'] / lemon:.1f}"
+    plan, search = (times[name] / lemon for name in ("plan", "solve"))
+    ratios = f"walk and test {tested / lemon:.2f}, plan {plan:.2f}, search {search:.1f}"
     print(f"{name}: lemon {lemon / 1000:.0f} µs; {ratios} of it; {parts}", flush=True)
 
 

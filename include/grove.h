@@ -105,8 +105,8 @@ typedef struct grove_store {
 } grove_store;
 
 /* Reads a document, and holds a store of its tree and its records, as `grove serve --workers 1` opens it; what was held
- * before is let go. It has no lines: if it is done, `text` is as it was, and `length` is 0. If it isn't done, the handle
- * is as it was. */
+ * before is let go. It has no lines: if it is done, `text` is as it was, and `length` is 0. If it isn't done, the
+ * handle is as it was. */
 grove_told grove_c_store_open(
     grove_store *store, const uint8_t *document, size_t document_length, uint8_t *text, size_t room
 );

@@ -89,8 +89,8 @@ def deep(random: Random, count: int = 128) -> dict:
 
 
 def shelves(random: Random, root: int = 1000, leaf: int = 1, count: int = MOST_LISTS) -> dict:
-    """Ninety-six leaves, each on a shelf of its own, of which each list needs sixty-four: its plan has 322 steps. A heavy
-    root is held for a moment; a light one from end to end."""
+    """Ninety-six leaves, each on a shelf of its own, of which each list needs sixty-four: its plan has 322 steps. A
+    heavy root is held for a moment; a light one from end to end."""
     nodes = [a_row(None, "", root)]
     for number in range(96):
         nodes += [a_row(0, f"n{number}", leaf), a_row(len(nodes), "l", leaf)]

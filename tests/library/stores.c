@@ -3,8 +3,8 @@
  *
  *   usage: stores DOC PLAN      (linked with --wrap of malloc, realloc and free)
  *
- * DOC has a node `/a` below its root, and PLAN is the line of a plan over it. Says what is wrong, and ends with status 1
- * then.
+ * DOC has a node `/a` below its root, and PLAN is the line of a plan over it. Says what is wrong, and ends with status
+ * 1 then.
  */
 #include "counted.h"
 #include "grove.h"
@@ -59,7 +59,7 @@ static void try_refused(grove_store *store) {
     void *held = store->held;
     long before = blocks;
     grove_told told = grove_c_store_open(store, NULL, 0, text, filled(7));
-    want(told.status == GROVE_ROOM && told.length == 8 && is_untouched(0), "open", "a refusal with one byte too little");
+    want(told.status == GROVE_ROOM && told.length == 8 && is_untouched(0), "open", "a refusal with a byte too little");
     told = grove_c_store_open(store, NULL, 0, text, filled(8));
     want(told.status == GROVE_REFUSED && memcmp(text, "bad-json", 8) == 0 && is_untouched(8), "open", "a refusal");
     want(store->held == held && blocks == before, "open", "a refusal changes nothing");
@@ -139,7 +139,7 @@ static void try_lines(void) {
     want(told.status == GROVE_DONE && told.length == strlen(longest), "long line", "it is refused");
     want(memcmp(text, longest, told.length) == 0, "long line", "by its name");
     told = grove_c_store_answer(&store, line.at, 1048576, text, filled(64));
-    want(told.status == GROVE_DONE && memcmp(text, none, told.length) == 0, "long line", "one byte less is looked into");
+    want(told.status == GROVE_DONE && memcmp(text, none, told.length) == 0, "long line", "a byte less is looked into");
     want_reply(&store, add, "{\"places\":[0,1],\"replies\":[[6,6],[5]],\"round\":6}");
     grove_c_store_close(&store);
     want(blocks == 0, "lines", "all memory is given back");

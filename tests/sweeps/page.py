@@ -81,7 +81,8 @@ HOSTS = [(f"host: {name}",) for name in HERE + ELSEWHERE]
 # Queries of nodes that nothing is waited for: read, ignored, refused, and with a path at which there is no node.
 QUERIES = ["", "x=1&x=2", "after=0", "below=/", "below=/a", "below=%2Fb&x", "after=0&below=/a", "below=/a&after=0"]
 QUERIES += ["&&after=0&", "after=%30", "af%74er=0&b%65low=/b", "after=000", "AFTER=x", "=0&after=0"]
-QUERIES += ["after=", "after", "after=-1", "after=%2B0", "after=+0", "after=0x0", "after=0.0", "after=%D9%A0", "after=0="]
+QUERIES += ["after=", "after", "after=-1", "after=%2B0", "after=+0", "after=0x0", "after=0.0", "after=%E0%A5%A6"]
+QUERIES += ["after=0="]
 QUERIES += ["after=18446744073709551616", "after=99999999999999999999999", "after=0&after=0", "after=0&x=1&after=1"]
 QUERIES += ["below=/a&below=/a", "below=/a&below=/c", "after=x&below=/c", "after=0&below=/c&below=/c"]
 QUERIES += ["below=", "below", "below=a", "below=/a/", "below=//", "below=/c", "below=/A", "below=%ff", "below=/%61%"]
@@ -391,8 +392,9 @@ def connections(program: str, tally: Tally) -> None:
 
 
 def below_each(program: str, tally: Tally) -> None:
-    """Of a seeded tree, and of one as deep as there may be: each path as it is and encoded, and others that are near."""
-    deepest = [{"parent": number - 1 if number else None, "name": "a" if number else "", "weight": 1} for number in range(33)]
+    """Of a seeded tree, and of one as deep as there may be: each path as it is and encoded, and others near it."""
+    below_root = [{"parent": number, "name": "a", "weight": 1} for number in range(32)]
+    deepest = [{"parent": None, "name": "", "weight": 1}, *below_root]
     for document in (seeded(0), json.dumps({"nodes": deepest}).encode()):
         store = Store(json.loads(document))
         with serving(program, document) as server, Client(server.port) as client:

@@ -171,10 +171,11 @@ def fault_of_contention(waits: int) -> str | None:
 
 
 def answer_in_place(program: str, library: str, shape: str, tally: Tally) -> None:
-    """A batch of fewer steps is sent twice: it is planned once, by threads, done by its caller alone, and nobody waits."""
+    """A batch of fewer steps is sent twice: it is planned once, by threads, done by its caller, and nobody waits."""
     for workers in WORKERS:
         document = SHAPES[shape](Random(f"in place {shape} {workers}"))
-        count = (ROUND_WORTH_THREADS - 1) * len(document["lists"]) // steps_of(Tree(document["nodes"]), document["lists"])
+        steps = steps_of(Tree(document["nodes"]), document["lists"])
+        count = (ROUND_WORTH_THREADS - 1) * len(document["lists"]) // steps
         lists = document["lists"][: int(0.9 * count)]
         seen = note_clients(program, library, workers, document, [[lists, lists]], tally)
         tally.blame(f"by {workers}", "a round has steps enough for threads" if seen.has_large else None)

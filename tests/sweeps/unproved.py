@@ -33,8 +33,8 @@ MEMORY_EACH = 3_000_000
 def tries(program: str, room: str) -> list[Try]:
     turns = threading.BoundedSemaphore(side_by_side())
     trials = [Trial(program, room, name, turns) for name in ("accepted", "refused", "served")]
-    documents = ["two-leaves.json", "stock-let-go-early.json"]
-    parts = [Try(f"a document that is {trial.name}", partial(answer, trial, it)) for trial, it in zip(trials, documents)]
+    documents = zip(trials, ("two-leaves.json", "stock-let-go-early.json"))
+    parts = [Try(f"a document that is {trial.name}", partial(answer, trial, it)) for trial, it in documents]
     return [*parts, Try("a server that is ended", partial(serve, trials[2]))]
 
 

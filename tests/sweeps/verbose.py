@@ -149,7 +149,8 @@ def compare(wanted: list[str], told: list[str], tally: Tally) -> None:
     """Whether these events came, in this order. One with `; hint` at its end has a hint there."""
     for number, (want, came) in enumerate(zip(wanted, told)):
         tally.note(f"line {number}", None if fits(want, came) else f"wanted {want!r}; came {came!r}")
-    tally.note("the lines", None if len(wanted) == len(told) else f"wanted {len(wanted)}; came {short('|'.join(told).encode())}")
+    others = f"wanted {len(wanted)}; came {short('|'.join(told).encode())}"
+    tally.note("the lines", None if len(wanted) == len(told) else others)
 
 
 def fits(want: str, came: str) -> bool:

@@ -56,8 +56,8 @@ class Requests(ABC):
         return changed
 
     def ask(self, request: Dict[str, object]) -> Dict[str, Any]:
-        """The reply to a request. A refusal, by which nothing changes, is raised. It has a name, no place, and the hint of
-        the reply if that has one."""
+        """The reply to a request. A refusal, by which nothing changes, is raised. It has a name, no place, and the hint
+        of the reply if that has one."""
         reply: Dict[str, Any] = json.loads(self.send(json.dumps(request, separators=(",", ":")).encode()))
         if "error" in reply:
             raise Refused(reply["error"], reply.get("hint"))

@@ -52,8 +52,8 @@ class Stores(unittest.TestCase):
 
     def test_documents_that_are_refused_open_no_store(self) -> None:
         heavy = Tree.from_paths({"/": 1001})
-        refused: List[Tuple[Union[Tree, bytes, str], str]] = [(b"{", "bad-json"), ("[]", "shape"), (heavy, "bad-weight")]
-        for document, name in refused:
+        documents: List[Union[Tree, bytes, str]] = [b"{", "[]", heavy]
+        for document, name in zip(documents, ("bad-json", "shape", "bad-weight")):
             with self.assertRaises(Refused) as caught:
                 Store(document)
             self.assertEqual(caught.exception.name, name)
@@ -85,7 +85,7 @@ class Stores(unittest.TestCase):
 
 
 class Memory(unittest.TestCase):
-    """Ten thousand lines, and stores that are opened and closed, or dropped, leave the memory of the process as it was."""
+    """Ten thousand lines, and stores that are opened and closed, or dropped, leave the process's memory as it was."""
 
     MOST = 2 << 20
 
