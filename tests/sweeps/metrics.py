@@ -3,12 +3,14 @@
 from __future__ import annotations
 
 import json
+import os
 import shutil
 import socket
 import subprocess
 import time
 from contextlib import ExitStack
 from functools import partial
+from pathlib import Path
 
 from exposition import KIND, BadText, families_in, samples_in
 from server import Serving, connected, free_port
@@ -39,6 +41,21 @@ PLANNED = (
 )
 # How many looks wait, and within how many seconds they have left their slots.
 LOOKS, SOON = 8, 10.0
+MEMORY = "process_resident_memory_bytes"
+PAGE = 4096
+# What may stand in place of the system's file of the memory, each with how many pages are in use by it.
+STATMS = (
+    (b"900 250 20 3 0 9 0\n", 250),
+    (b"900 0 20 3 0 9 0\n", 0),
+    (b"900 250", 250),
+    (b"", None),
+    (b"900\n", None),
+    (b"900 -250 20 3 0 9 0\n", None),
+    (b"900 some 20 3 0 9 0\n", None),
+    (b"900 \xff 20 3 0 9 0\n", None),
+    (b"900 %d 20 3 0 9 0\n" % (2**64 // PAGE), None),
+    (b"900 %d 20 3 0 9 0\n" % 2**64, None),
+)
 # How long a count that follows an answer may be waited for.
 LONGEST = 60.0
 
@@ -50,6 +67,8 @@ def tries(program: str, room: str) -> list[Try]:
         Try("rounds that are shared", partial(shared, program)),
         Try("lists and plans", partial(plans, program)),
         Try("nodes", partial(nodes, program)),
+        Try("the memory", partial(memory, program)),
+        Try("what the system may say of the memory", partial(other_memory, program, room)),
         Try("looks that are left", partial(left_looks, program)),
         Try("connections that come and go", partial(come_and_go, program)),
         Try("connections that idle or find no slot", partial(idle_and_busy, program)),
@@ -79,7 +98,7 @@ def metrics_at(port: int, query: str = "") -> dict[str, float]:
     return samples_in(response.body.decode())
 
 
-def note(wanted: dict[str, float], came: dict[str, float], where: str, tally: Tally) -> None:
+def note(wanted: dict[str, float | None], came: dict[str, float], where: str, tally: Tally) -> None:
     for key, value in wanted.items():
         tally.note(f"{where}, {key}", None if came.get(key) == value else f"wanted {value}; came {came.get(key)}")
 
@@ -176,6 +195,56 @@ def plans(program: str, tally: Tally) -> None:
                 note(of_plans(*counts), metrics_at(server.http), f"{workers} workers, line {number}", tally)
 
 
+def memory(program: str, tally: Tally) -> None:
+    """The memory is what is seen from outside: at first, and with long lines of all clients, which aren't ended."""
+    with Both(program) as server, ExitStack() as room:
+        told, seen = note_memory(server, "at first", tally), seen_from_outside(server)
+        for _ in range(SLOTS):
+            room.enter_context(connected(server.port)).sendall(b"x" * MOST_LINE)
+        ends = time.monotonic() + LONGEST
+        while seen_from_outside(server) < seen + SLOTS * MOST_LINE / 2 and time.monotonic() < ends:
+            time.sleep(0.02)
+        grown = note_memory(server, "with long lines", tally) - told
+        tally.note("the growth", None if grown > SLOTS * MOST_LINE / 4 else f"it has {grown} bytes more")
+
+
+def note_memory(server: Both, where: str, tally: Tally) -> float:
+    told, seen = metrics_at(server.http).get(MEMORY, 0.0), seen_from_outside(server)
+    tally.note(where, None if seen / 2 <= told <= seen * 2 else f"{seen} bytes are seen; came {told}")
+    return told
+
+
+def seen_from_outside(server: Serving) -> int:
+    """How many bytes of memory a server has."""
+    pages = Path(f"/proc/{server.started.pid}/statm").read_text().split()[1]
+    return int(pages) * os.sysconf("SC_PAGE_SIZE")
+
+
+def other_memory(program: str, room: str, tally: Tally) -> None:
+    """What the file says is read at each request. If it doesn't say it, or isn't there, its sample alone is left
+    out."""
+    library, statm = library_in(room), Path(room, "statm")
+    surroundings = {**os.environ, "LD_PRELOAD": library, "STATM": str(statm)}
+    with Both(program, env=surroundings) as server:
+        names = set(metrics_at(server.http))
+        tally.note("without it", f"came {MEMORY}" if MEMORY in names else None)
+    statm.write_bytes(b"")
+    with Both(program, env=surroundings) as server:
+        for text, pages in STATMS:
+            statm.write_bytes(text)
+            came = metrics_at(server.http)
+            note({MEMORY: None if pages is None else pages * PAGE}, came, f"at {text!r}", tally)
+            tally.note(f"the others at {text!r}", None if set(came) - {MEMORY} == names else f"came {sorted(came)}")
+
+
+def library_in(room: str) -> str:
+    """Compiles what has another file in place of the system's, to be preloaded."""
+    library = f"{room}/other_statm.so"
+    source = Path(__file__).with_name("other_statm.c")
+    subprocess.run(["cc", "-O1", "-shared", "-fPIC", "-o", library, source], check=True, stdin=subprocess.DEVNULL)
+    return library
+
+
 def left_looks(program: str, tally: Tally) -> None:
     """A look that waits leaves its slot soon after its client has left; one whose client closes its side alone is
     answered soon."""
@@ -246,6 +315,7 @@ def at_a_page(program: str, tally: Tally) -> None:
             client.post(ADD + GET)
         wanted = {"grove_lines_total": 2, **by_protocol("grove_connection_slots", 0, SLOTS)}
         once_well(server.port, {**wanted, **by_protocol("grove_accepted_connections_total", 0)}, "a page", tally)
+        tally.note("its memory", None if metrics_at(server.port).get(MEMORY) else "it has none")
         with Client(server.port) as client:
             seen = client.get("/metrics")
             client.send(request("HEAD", "/metrics"))

@@ -24,10 +24,12 @@ use grove_serve::{Host, Talk};
 use grove_words::{Command, Form as WrittenForm};
 use serde_json::Value;
 use std::alloc::Global;
+use std::fs::File;
 use std::net::{Net, TcpListener, TcpStream};
+use std::rt::Files;
 
 /// What a command answers to the bytes of its document, and what a person is told beside it.
-pub fn response_to<R: Host + Net<Listener = TcpListener, Stream = TcpStream>>(
+pub fn response_to<R: Host + Files<File = File> + Net<Listener = TcpListener, Stream = TcpStream>>(
     rt: &R,
     command: &Command<'_>,
     bytes: &[u8],
@@ -52,7 +54,7 @@ pub fn response_to<R: Host + Net<Listener = TcpListener, Stream = TcpStream>>(
 }
 
 /// What a command answers to its document.
-fn answer_to<R: Host + Net<Listener = TcpListener, Stream = TcpStream>>(
+fn answer_to<R: Host + Files<File = File> + Net<Listener = TcpListener, Stream = TcpStream>>(
     rt: &R,
     command: &Command<'_>,
     document: &Value,

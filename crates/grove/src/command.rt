@@ -19,6 +19,7 @@ use grove_serve::Host;
 use grove_session::{Sink, Source};
 use grove_words::{Command, Document, NoOrder, Order, order_of};
 use std::alloc::Global;
+use std::fs::File;
 use std::net::{Net, TcpListener, TcpStream};
 use std::rt::Files;
 
@@ -28,7 +29,7 @@ use std::rt::Files;
 /// that has a member which nothing uses and which resembles one that is used.
 #[tactic(auto, using(crate::proofs::Invitations::uninvited_does))]
 pub fn run_command<
-    R: Host + Files + Net<Listener = TcpListener, Stream = TcpStream>,
+    R: Host + Files<File = File> + Net<Listener = TcpListener, Stream = TcpStream>,
     I: Source + Explained,
     O: Sink + Explained,
     E: Sink,
@@ -48,7 +49,7 @@ pub fn run_command<
 
 /// The same. Where the input `is_typed`, `err` says first which document is awaited.
 pub fn run_at<
-    R: Host + Files + Net<Listener = TcpListener, Stream = TcpStream>,
+    R: Host + Files<File = File> + Net<Listener = TcpListener, Stream = TcpStream>,
     I: Source + Explained,
     O: Sink + Explained,
     E: Sink,
@@ -101,7 +102,7 @@ fn invite<E: Sink>(alloc: Global, order: &Order<'_>, is_typed: bool, err: &mut E
 
 /// Does the order, and gives its status.
 fn obey<
-    R: Host + Files + Net<Listener = TcpListener, Stream = TcpStream>,
+    R: Host + Files<File = File> + Net<Listener = TcpListener, Stream = TcpStream>,
     I: Source,
     O: Sink,
     E: Sink,
@@ -127,7 +128,7 @@ fn obey<
 
 /// Does the command with the document, and gives its status.
 fn do_command<
-    R: Host + Files + Net<Listener = TcpListener, Stream = TcpStream>,
+    R: Host + Files<File = File> + Net<Listener = TcpListener, Stream = TcpStream>,
     I: Source,
     O: Sink,
     E: Sink,

@@ -13,31 +13,30 @@ use crate::answer::{Answer, Stop};
 use crate::answering::refused;
 use crate::failure::Failure;
 use grove_answer::{Refusal, or_refuse};
-use grove_serve::{Door, Host, LogForm, Manner, Patience, Service, Talk};
+use grove_serve::{Door, Host, LogForm, Manner, MemoryFile, Patience, Service, Talk};
 use grove_store::{NoStore, Store};
 use grove_wire::read_tree;
 use grove_words::{Place, Port, Serving, Workers};
 use serde_json::Value;
 use std::alloc::{AllocError, Global};
+use std::fs::File;
 use std::net::{IpAddr, Net, TcpListener, TcpStream};
+use std::rt::Files;
 
 /// How many connections to a store are served at once at the port of its command.
 const SLOTS: u32 = 16;
 
 /// A service with the document's tree and records, which listens already, or why there is none.
-pub fn serve_document<R: Host + Net<Listener = TcpListener, Stream = TcpStream>>(
-    rt: &R,
-    document: &Value,
-    serving: &Serving<'_>,
-    talk: Talk,
-) -> Result<Answer, Stop>
+pub fn serve_document<
+    R: Host + Files<File = File> + Net<Listener = TcpListener, Stream = TcpStream>,
+>(rt: &R, document: &Value, serving: &Serving<'_>, talk: Talk) -> Result<Answer, Stop>
     ensures { (command : Command) → serving_of command ≡ Some serving.now
         → IfOk result (IsAnswerTo command (Ok (view document.now))) }
 {
     let alloc = rt.alloc();
     match open_store(alloc, document, serving.workers) {
         Ok(store) => {
-            let manner = manner_of(alloc, serving)?;
+            let manner = manner_of(rt, alloc, serving, talk)?;
             let Doors { door, http, line } = open_doors(rt, alloc, serving, talk)?;
             let service = Service {
                 store,
@@ -52,7 +51,12 @@ pub fn serve_document<R: Host + Net<Listener = TcpListener, Stream = TcpStream>>
 }
 
 /// How connections are served.
-fn manner_of(alloc: Global, serving: &Serving<'_>) -> Result<Manner, AllocError> {
+fn manner_of<R: Files<File = File>>(
+    rt: &R,
+    alloc: Global,
+    serving: &Serving<'_>,
+    talk: Talk,
+) -> Result<Manner, AllocError> {
     let mut hosts = Vec::new(alloc);
     for host in &serving.hosts {
         hosts.push(String::from_str(alloc, host)?)?;
@@ -65,7 +69,17 @@ fn manner_of(alloc: Global, serving: &Serving<'_>) -> Result<Manner, AllocError>
         log: serving.log.map(form_of_log),
         hosts,
         hints: serving.hints,
+        memory: memory_for(rt, serving.place, talk),
     })
+}
+
+/// Where the system says how much memory the server has. Only who speaks HTTP can ask for it: without that the file
+/// would take a descriptor for nothing.
+fn memory_for<R: Files<File = File>>(rt: &R, place: Place, talk: Talk) -> Option<MemoryFile> {
+    match (talk, place.http) {
+        (Talk::Lines, None) => None,
+        (Talk::Requests, _) | (Talk::Lines, Some(_)) => MemoryFile::open(rt),
+    }
 }
 
 fn form_of_log(form: grove_words::LogForm) -> LogForm {

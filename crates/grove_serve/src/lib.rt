@@ -4,6 +4,7 @@
 
 pub use connections::serve;
 pub use host::Host;
+pub use memory_file::MemoryFile;
 pub use service::{Door, LogForm, Manner, Patience, Service, Talk};
 
 mod busy;
@@ -20,6 +21,7 @@ mod histogram;
 mod host;
 mod leaving;
 mod log;
+mod memory_file;
 mod metrics;
 mod metrics_text;
 mod minutes;

@@ -1,5 +1,6 @@
 use crate::counter::Counter;
 use crate::histogram::Histogram;
+use crate::memory_file::MemoryFile;
 use crate::scale::Scale;
 use crate::service::Talk;
 use grove_desk::{Receipt, RoundWatch};
@@ -21,6 +22,7 @@ pub struct Metrics {
     pub lines_of_rounds: Histogram,
     /// How long each took, in microseconds.
     pub times_of_rounds: Histogram,
+    memory: Option<MemoryFile>,
     alloc: Global,
     refusals: Mutex<Vec<RefusalCount>>,
     refused: Counter,
@@ -51,20 +53,26 @@ pub struct Traffic {
 }
 
 impl Metrics {
-    /// Of a server that is started now.
-    pub fn new<R: Clock>(rt: &R, alloc: Global) -> Metrics {
+    /// Of a server that is started now, and whose memory the file tells.
+    pub fn new<R: Clock>(rt: &R, alloc: Global, memory: Option<MemoryFile>) -> Metrics {
         Metrics {
             started: Timestamp::now(rt).ok(),
             lines: Counter::new(),
             rounds: Counter::new(),
             lines_of_rounds: Histogram::new(Scale::Lines),
             times_of_rounds: Histogram::new(Scale::Times),
+            memory,
             alloc,
             refusals: Mutex::new(Vec::new(alloc)),
             refused: Counter::new(),
             sessions: Traffic::new(),
             requests: Traffic::new(),
         }
+    }
+
+    /// How many bytes of memory the server has now, if the system says it.
+    pub fn resident_bytes(&self) -> Option<u64> {
+        self.memory.as_ref()?.resident_bytes()
     }
 
     /// What is counted of connections that talk so.

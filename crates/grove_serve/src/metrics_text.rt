@@ -20,6 +20,12 @@ const STARTED: Family = Family {
     help: "When the server was started, in seconds since 1970.",
 };
 
+const MEMORY: Family = Family {
+    name: "process_resident_memory_bytes",
+    kind: Kind::Gauge,
+    help: "How much memory the server has, in bytes.",
+};
+
 const LINES: Family = Family {
     name: "grove_lines_total",
     kind: Kind::Counter,
@@ -134,6 +140,9 @@ pub fn metrics_text<R: Wait + AllocGlobal>(
     let metrics = slots.metrics();
     if let Some(started) = metrics.started {
         text.single(STARTED, u64::try_from(started.as_second()).unwrap_or(0))?;
+    }
+    if let Some(bytes) = metrics.resident_bytes() {
+        text.single(MEMORY, bytes)?;
     }
     text.single(LINES, metrics.lines.get())?;
     write_refusals(rt, &mut text, metrics)?;

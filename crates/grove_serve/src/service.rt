@@ -1,3 +1,4 @@
+use crate::memory_file::MemoryFile;
 use grove_store::Store;
 use std::net::TcpListener;
 
@@ -30,6 +31,8 @@ pub struct Manner {
     pub hosts: Vec<String>,
     /// Whether each refusal of a line has a hint.
     pub hints: bool,
+    /// Where the system says how much memory the server has, if anybody may ask for that.
+    pub memory: Option<MemoryFile>,
 }
 
 /// The form of a log's lines.

@@ -52,6 +52,7 @@ impl Slots {
             log,
             hosts,
             hints,
+            memory,
         } = manner;
         Slots {
             lines: Pool::new(lines, 0),
@@ -59,7 +60,7 @@ impl Slots {
             long_body: Mutex::new(()),
             patience,
             hosts,
-            metrics: Metrics::new(rt, alloc),
+            metrics: Metrics::new(rt, alloc, memory),
             hints,
             tree,
             log: log.map(|form| Log::new(form)),
