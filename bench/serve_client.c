@@ -210,7 +210,7 @@ int main(int count, char **words) {
     size_t answered = ask(clients, many, &all, feeds, &taken);
     if (!taken.count) stop("too little time: all replies came before the counting began");
     qsort(taken.all, taken.count, sizeof *taken.all, by_size);
-    printf("%.0f %u %u %zu\n", (double)taken.count * 1e9 / (double)(taken.until - from), taken.all[taken.count / 2],
+    printf("%.3f %u %u %zu\n", (double)taken.count * 1e9 / (double)(taken.until - from), taken.all[taken.count / 2],
            taken.all[taken.count * 99 / 100], answered);
     return 0;
 }
