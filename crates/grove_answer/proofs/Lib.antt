@@ -9,3 +9,4 @@ pub mod SameReplies
 pub mod Saying
 pub mod OneLine
 pub mod PlannedDocuments
+pub mod Tokens

@@ -6,9 +6,10 @@ ghost use Rattle.grove_wire.specs.Reading.{list_in};
 ghost use Rattle.grove_answer.specs.Says.{Says};
 ghost use Rattle.grove_answer.specs.Outcomes.{ThenSays, task_in, plan_lines, IsPlannedOver, IsPlannedTask};
 
+use crate::flow_texts::flow_text;
+use crate::plan_texts::plan_text;
 use crate::reading::read_task;
 use crate::refusal::{Refusal, or_refuse};
-use crate::texts::{flow_text, plan_text};
 use grove_access::AccessList;
 use grove_base::NoMemory;
 use grove_build::{Planned, plan};

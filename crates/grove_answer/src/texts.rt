@@ -1,14 +1,13 @@
-ghost use Rattle.std.specs.Prelude.{◌≡◌, length, map, IfOk, string_bytes};
+ghost use Rattle.std.specs.Prelude.{◌≡◌, [], length, map, IfOk, string_bytes};
+ghost use Rattle.json.specs.Print.{print};
 ghost use Rattle.serde_json.specs.Written.{compact_text};
-ghost use Rattle.grove_wire.specs.Writing.{plan_data, flow_data, PlanFits, FlowFits, array_of, count_data, number_data};
-ghost use Rattle.grove_wire.specs.Writing.{reply_data};
+ghost use Rattle.grove_wire.specs.Writing.{array_of, count_data, number_data, reply_data};
 
 use grove_access::{Records, Reply};
 use grove_base::NoMemory;
-use grove_plan::Plan;
-use grove_proof::Flow;
 use grove_tree::{Node, Tree};
-use grove_wire::{counts_value, flow_value, lists_value, numbers_value, plan_value, replies_value};
+use grove_wire::{counts_value, lists_value, numbers_value, replies_value};
+use json::Writer;
 use std::alloc::{AllocError, Global};
 
 /// The replies of a list, as JSON.
@@ -39,23 +38,6 @@ pub fn numbers_of(alloc: Global, tree: &Tree, records: &Records) -> Result<Vec<i
     Ok(numbers)
 }
 
-/// A plan's steps, as JSON.
-pub fn plan_text(alloc: Global, tree: &Tree, plan: &Plan) -> Result<String, NoMemory>
-    requires { PlanFits tree.now plan.now }
-    ensures { IfOk result (λ text. string_bytes text ≡ compact_text (plan_data tree.now plan.now)) }
-{
-    Ok(plan_value(alloc, tree, plan)?.to_string(alloc)?)
-}
-
-/// A flow's rows, as JSON.
-#[tactic(auto, using(grove_wire::proofs::Floatless::flow_has_no_float))]
-pub fn flow_text(alloc: Global, tree: &Tree, flow: &Flow) -> Result<String, NoMemory>
-    requires { FlowFits tree.now flow.now }
-    ensures { IfOk result (λ text. string_bytes text ≡ compact_text (flow_data tree.now flow.now)) }
-{
-    Ok(flow_value(alloc, tree, flow)?.to_string(alloc)?)
-}
-
 /// Counts, as JSON.
 #[tactic(auto, using(grove_wire::proofs::Floatless::counts_have_no_float))]
 pub fn counts_text(alloc: Global, counts: &[u32]) -> Result<String, NoMemory>
@@ -71,4 +53,12 @@ pub fn lists_text(alloc: Global, lists: &[&[Reply]]) -> Result<String, NoMemory>
         (λ text. string_bytes text ≡ compact_text (array_of (array_of reply_data) (map (λ list. list.now) lists.now))) }
 {
     Ok(lists_value(alloc, lists)?.to_string(alloc)?)
+}
+
+/// What was written, as a text.
+pub fn text_of(writer: Writer) -> String
+    requires { writer.before ≡ [] }
+    ensures { string_bytes result ≡ print writer.tokens }
+{
+    String::from_utf8(writer.into_inner()).unwrap()
 }

@@ -1,0 +1,11 @@
+use Rattle.std.proofs.Common.{◌≡◌, ◌++◌, take}
+use Rattle.grove_wire.specs.Writing.{step_data}
+use Rattle.grove_answer.specs.Tokens.{tokens_of}
+use Rattle.grove_answer.proofs.plan_texts.write_steps.Given as goal
+
+-- the tokens of the steps so far
+abbrev pub invariant-loop-step : goal.invariant-loop-step
+invariant-loop-step l = record {
+  tokens : l.writer.tokens ≡ l.fn.writer.tokens ++ tokens_of (step_data l.tree) (take l.step-index l.steps);
+  before : l.writer.before ≡ l.fn.writer.before;
+}

@@ -1,0 +1,92 @@
+ghost use Rattle.std.specs.Prelude.{◌≡◌, ◌<◌, ◌++◌, IfOk, OnOk, codes, length, string_bytes};
+ghost use Rattle.json.specs.Tree.{json_tokens};
+ghost use Rattle.serde_json.specs.Data.{string};
+ghost use Rattle.serde_json.specs.Written.{compact_text, outline};
+ghost use Rattle.grove_tree.specs.Paths.{path_of};
+ghost use Rattle.grove_wire.specs.Writing.{StepFits, PlanFits, count_data, pair_data, step_data, plan_data};
+ghost use Rattle.grove_answer.specs.Tokens.{tokens_of};
+
+use crate::texts::text_of;
+use grove_base::NoMemory;
+use grove_plan::{Plan, Step};
+use grove_tree::{Node, Tree};
+use json::Writer;
+use std::alloc::{AllocError, Global};
+
+/// About how many bytes a step takes.
+const STEP_BYTES: usize = 96;
+
+/// A plan's steps, as JSON.
+pub fn plan_text(alloc: Global, tree: &Tree, plan: &Plan) -> Result<String, NoMemory>
+    requires { PlanFits tree.now plan.now }
+    ensures { IfOk result (λ text. string_bytes text ≡ compact_text (plan_data tree.now plan.now)) }
+{
+    let steps = plan.steps();
+    let mut writer = Writer::new(Vec::with_capacity(alloc, STEP_BYTES * steps.len())?);
+    writer.begin_array()?;
+    write_steps(&mut writer, alloc, tree, steps)?;
+    writer.end_array()?;
+    Ok(text_of(writer))
+}
+
+fn write_steps(
+    writer: &mut Writer,
+    alloc: Global,
+    tree: &Tree,
+    steps: &[Step],
+) -> Result<(), NoMemory>
+    requires { PlanFits tree.now steps.now }
+    ensures tokens { OnOk result
+        (writer.new.tokens ≡ writer.old.tokens ++ tokens_of (step_data tree.now) steps.now) }
+    ensures before { writer.new.before ≡ writer.old.before }
+{
+    for step in steps {
+        write_step(writer, alloc, tree, *step)?;
+    }
+    Ok(())
+}
+
+fn write_step(writer: &mut Writer, alloc: Global, tree: &Tree, step: Step) -> Result<(), NoMemory>
+    requires { StepFits tree.now step }
+    ensures tokens { OnOk result
+        (writer.new.tokens ≡ writer.old.tokens ++ json_tokens (outline (step_data tree.now step))) }
+    ensures before { writer.new.before ≡ writer.old.before }
+{
+    match step {
+        Step::Lock(node) => write_of_node(writer, alloc, tree, "lock", node),
+        Step::Unlock(node) => write_of_node(writer, alloc, tree, "unlock", node),
+        Step::Access(access) => Ok(write_access(writer, access)?),
+    }
+}
+
+/// The pair of a word and a node's path.
+fn write_of_node(
+    writer: &mut Writer,
+    alloc: Global,
+    tree: &Tree,
+    word: &str,
+    node: Node,
+) -> Result<(), NoMemory>
+    requires { node < length tree.now }
+    ensures tokens { OnOk result (writer.new.tokens
+        ≡ writer.old.tokens ++ json_tokens (outline (pair_data word.now (string (path_of tree.now node))))) }
+    ensures before { writer.new.before ≡ writer.old.before }
+{
+    let path = tree.path_of(alloc, node)?;
+    writer.begin_array()?;
+    writer.string(word)?;
+    writer.string(&path)?;
+    writer.end_array()?;
+    Ok(())
+}
+
+fn write_access(writer: &mut Writer, access: u32) -> Result<(), AllocError>
+    ensures tokens { OnOk result (writer.new.tokens
+        ≡ writer.old.tokens ++ json_tokens (outline (pair_data (codes "access") (count_data access)))) }
+    ensures before { writer.new.before ≡ writer.old.before }
+{
+    writer.begin_array()?;
+    writer.string("access")?;
+    writer.u64(u64::from(access))?;
+    writer.end_array()
+}
