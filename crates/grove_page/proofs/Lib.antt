@@ -1,5 +1,7 @@
 pub mod Mapped
 pub mod NodeTexts
+pub mod SamePaths
+pub mod Sharing
 pub mod Refused
 pub mod Replied
 pub mod Ending

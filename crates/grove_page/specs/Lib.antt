@@ -3,5 +3,5 @@ pub mod Hosts
 pub mod Hints
 pub mod Queries
 pub mod NodeLines
-pub mod NodeTokens
+pub mod NodeTexts
 pub mod Pages

@@ -2,6 +2,7 @@ ghost use Rattle.std.specs.Prelude.{◌≡◌, IfOk};
 ghost use Rattle.grove_page.specs.NodeLines.{IsWithin};
 ghost use Rattle.grove_page.specs.Pages.{document_line, nodes_line};
 
+use crate::Paths;
 use crate::nodes::{Part, line_of_nodes};
 use grove_store::Store;
 use grove_tree::NoMemory;
@@ -18,7 +19,12 @@ pub(crate) fn document_line(alloc: Global, store: &Store) -> Result<Vec<u8>, NoM
 }
 
 /// What there is of each node of a part of the store, on a line.
-pub(crate) fn nodes_line(alloc: Global, store: &Store, part: &Part) -> Result<Vec<u8>, NoMemory>
+pub(crate) fn nodes_line(
+    alloc: Global,
+    store: &Store,
+    paths: Option<&Paths>,
+    part: &Part,
+) -> Result<Vec<u8>, NoMemory>
     requires { IsWithin store.now.rows part.now }
     ensures { IfOk result (λ line. line.items ≡ nodes_line store.now part.now) }
 {
@@ -28,6 +34,7 @@ pub(crate) fn nodes_line(alloc: Global, store: &Store, part: &Part) -> Result<Ve
         store.records(),
         store.waits(),
         store.rounds(),
+        paths,
         part,
     )
 }

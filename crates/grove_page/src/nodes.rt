@@ -1,16 +1,17 @@
-ghost use Rattle.std.specs.Prelude.{◌≡◌, ◌<◌, ◌++◌, IfOk, IfSome, OnOk, length};
-ghost use Rattle.json.specs.Tree.{json_tokens};
-ghost use Rattle.serde_json.specs.Written.{outline};
-ghost use Rattle.grove_base.specs.Numbers.{alone};
+ghost use Rattle.std.specs.Prelude.{◌≡◌, ◌<◌, ◌++◌, false, IfOk, IfSome, OnOk, length};
+ghost use Rattle.std.specs.Option.{ForSome};
+ghost use Rattle.serde_json.specs.Written.{compact_text, comma_if};
+ghost use Rattle.grove_tree.specs.Weights.{unweighed};
 ghost use Rattle.grove_wire.specs.Documents.{node_data};
 ghost use Rattle.grove_page.specs.NodeLines.{line_of_nodes, is_told, IsWithin, nodes_told, part_of};
-ghost use Rattle.grove_page.specs.NodeTokens.{tokens_of_nodes, entry_tokens};
+ghost use Rattle.grove_page.specs.NodeTexts.{entries_text, entry_start, entry_end};
 
+use crate::paths::{Paths, start_of};
 use crate::query::NodesQuery;
 use grove_access::Records;
 use grove_tree::{NoMemory, Node, Tree};
-use json::Writer;
-use std::alloc::Global;
+use itoa::{Buffer, Integer};
+use std::alloc::{AllocError, Global};
 
 /// Which nodes are told of.
 #[derive(Clone, Copy, Debug)]
@@ -33,15 +34,16 @@ pub(crate) fn part_for(tree: &Tree, asked: &NodesQuery) -> Option<Part>
 }
 
 /// About how many bytes a node takes.
-const NODE_BYTES: usize = 96;
+const NODE_BYTES: usize = 112;
 
-/// What there is of the nodes, on a line.
+/// What there is of the nodes, on a line. Their paths are taken from those given, if these are the tree's.
 pub(crate) fn line_of_nodes(
     alloc: Global,
     tree: &Tree,
     records: &Records,
     waits: &[u32],
     round: u64,
+    paths: Option<&Paths>,
     part: &Part,
 ) -> Result<Vec<u8>, NoMemory>
     requires records { length records.now ≡ length tree.now }
@@ -49,65 +51,71 @@ pub(crate) fn line_of_nodes(
     requires part { IsWithin tree.now part.now }
     ensures { IfOk result (λ line. line.items ≡ line_of_nodes tree.now records.now waits.now round part.now) }
 {
-    let room = NODE_BYTES * tree.len() as usize;
-    let mut writer = Writer::new(Vec::with_capacity(alloc, room)?);
-    writer.begin_object()?;
-    writer.key("nodes")?;
-    writer.begin_array()?;
-    write_nodes(&mut writer, alloc, tree, records, waits, part)?;
-    writer.end_array()?;
-    writer.key("round")?;
-    writer.u64(round)?;
-    writer.end_object()?;
-    let mut line = writer.into_inner();
-    line.push(b'\n')?;
+    let mut line = Vec::with_capacity(alloc, NODE_BYTES * tree.len() as usize)?;
+    line.extend_from_slice(b"{\"nodes\":[")?;
+    write_nodes(
+        &mut line,
+        alloc,
+        tree,
+        records,
+        waits,
+        paths_for(tree, paths),
+        part,
+    )?;
+    line.extend_from_slice(b"],\"round\":")?;
+    write_number(&mut line, round)?;
+    line.extend_from_slice(b"}\n")?;
     Ok(line)
 }
 
+/// The paths, if they are those of the tree's nodes.
+fn paths_for<'a>(tree: &Tree, paths: Option<&'a Paths>) -> Option<&'a Paths>
+    ensures { IfSome result (λ paths. unweighed paths.now ≡ unweighed tree.now) }
+{
+    let paths = paths?;
+    if paths.are_of(tree) {
+        Some(paths)
+    } else {
+        None
+    }
+}
+
 fn write_nodes(
-    writer: &mut Writer,
+    line: &mut Vec<u8>,
     alloc: Global,
     tree: &Tree,
     records: &Records,
     waits: &[u32],
+    paths: Option<&Paths>,
     part: &Part,
 ) -> Result<(), NoMemory>
     requires records { length records.now ≡ length tree.now }
     requires waits { length waits.now ≡ length tree.now }
+    requires paths { ForSome paths (λ paths. unweighed paths.now ≡ unweighed tree.now) }
     requires part { IsWithin tree.now part.now }
-    ensures tokens { OnOk result (writer.new.tokens
-        ≡ writer.old.tokens ++ tokens_of_nodes tree.now records.now waits.now (nodes_told tree.now part.now)) }
-    ensures before { writer.new.before ≡ writer.old.before }
+    ensures { OnOk result (line.new.items
+        ≡ line.old.items ++ entries_text tree.now records.now waits.now false (nodes_told tree.now part.now)) }
 {
+    let mut later = false;
     for number in 0..tree.len() {
-        write_told(writer, alloc, tree, records, waits, part, Node::new(number))?;
+        let node = Node::new(number);
+        if is_told(tree, part, node) {
+            write_comma(line, later)?;
+            write_node(line, alloc, tree, records, waits, paths, node)?;
+            later = true;
+        }
     }
     Ok(())
 }
 
-/// The node, if it is one of the part.
-fn write_told(
-    writer: &mut Writer,
-    alloc: Global,
-    tree: &Tree,
-    records: &Records,
-    waits: &[u32],
-    part: &Part,
-    node: Node,
-) -> Result<(), NoMemory>
-    requires part { IsWithin tree.now part.now }
-    requires node { node < length tree.now }
-    requires record { node < length records.now }
-    requires waits { node < length waits.now }
-    ensures tokens { OnOk result (writer.new.tokens ≡ writer.old.tokens
-        ++ tokens_of_nodes tree.now records.now waits.now (alone (is_told tree.now part.now node) node)) }
-    ensures before { writer.new.before ≡ writer.old.before }
+/// The comma before an entry, if it is a later one.
+fn write_comma(line: &mut Vec<u8>, later: bool) -> Result<(), AllocError>
+    ensures { OnOk result (line.new.items ≡ line.old.items ++ comma_if later) }
 {
-    if is_told(tree, part, node) {
-        write_node(writer, alloc, tree, records, waits, node)
-    } else {
-        Ok(())
+    if later {
+        line.push(b',')?;
     }
+    Ok(())
 }
 
 /// Is the node one of the part?
@@ -125,49 +133,64 @@ fn is_told(tree: &Tree, part: &Part, node: Node) -> bool
     }
 }
 
-#[tactic(auto, using(crate::proofs::NodeTexts::entry_is))]
 fn write_node(
-    writer: &mut Writer,
+    line: &mut Vec<u8>,
     alloc: Global,
     tree: &Tree,
     records: &Records,
     waits: &[u32],
+    paths: Option<&Paths>,
     node: Node,
 ) -> Result<(), NoMemory>
     requires node { node < length tree.now }
     requires record { node < length records.now }
     requires waits { node < length waits.now }
-    ensures tokens { OnOk result (writer.new.tokens
-        ≡ writer.old.tokens ++ json_tokens (outline (node_data tree.now records.now waits.now node))) }
-    ensures before { writer.new.before ≡ writer.old.before }
+    requires paths { ForSome paths (λ paths. unweighed paths.now ≡ unweighed tree.now) }
+    ensures { OnOk result (line.new.items
+        ≡ line.old.items ++ compact_text (node_data tree.now records.now waits.now node)) }
 {
-    let path = tree.path_of(alloc, node)?;
+    write_start(line, alloc, tree, paths, node)?;
     let value = records.get(node);
     let waited = u64::from(waits[node.number() as usize]);
     let weight = u64::from(tree.weight(node));
-    write_entry(writer, &path, value, waited, weight)
+    Ok(write_end(line, value, waited, weight)?)
 }
 
-fn write_entry(
-    writer: &mut Writer,
-    path: &str,
-    value: i64,
-    waits: u64,
-    weight: u64,
+/// What the node's entry begins with.
+fn write_start(
+    line: &mut Vec<u8>,
+    alloc: Global,
+    tree: &Tree,
+    paths: Option<&Paths>,
+    node: Node,
 ) -> Result<(), NoMemory>
-    ensures tokens { OnOk result
-        (writer.new.tokens ≡ writer.old.tokens ++ entry_tokens path.now value waits weight) }
-    ensures before { writer.new.before ≡ writer.old.before }
+    requires node { node < length tree.now }
+    requires paths { ForSome paths (λ paths. unweighed paths.now ≡ unweighed tree.now) }
+    ensures { OnOk result (line.new.items ≡ line.old.items ++ entry_start tree.now node) }
 {
-    writer.begin_object()?;
-    writer.key("path")?;
-    writer.string(path)?;
-    writer.key("record")?;
-    writer.i64(value)?;
-    writer.key("waits")?;
-    writer.u64(waits)?;
-    writer.key("weight")?;
-    writer.u64(weight)?;
-    writer.end_object()?;
+    match paths {
+        Some(paths) => line.extend_from_slice(paths.start(node))?,
+        None => line.extend_from_slice(&start_of(alloc, tree, node)?)?,
+    }
     Ok(())
+}
+
+/// What an entry goes on with behind its path.
+fn write_end(line: &mut Vec<u8>, value: i64, waits: u64, weight: u64) -> Result<(), AllocError>
+    ensures { OnOk result (line.new.items ≡ line.old.items ++ entry_end value waits weight) }
+{
+    write_number(line, value)?;
+    line.extend_from_slice(b",\"waits\":")?;
+    write_number(line, waits)?;
+    line.extend_from_slice(b",\"weight\":")?;
+    write_number(line, weight)?;
+    line.push(b'}')?;
+    Ok(())
+}
+
+fn write_number<I: Integer>(line: &mut Vec<u8>, number: I) -> Result<(), AllocError>
+    ensures { OnOk result (line.new.items ≡ line.old.items ++ I.text number) }
+{
+    let mut buffer = Buffer::new();
+    line.extend_from_slice(buffer.format(number).as_bytes())
 }

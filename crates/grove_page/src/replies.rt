@@ -48,6 +48,17 @@ pub(crate) fn fill_json(
     response.body.put_slice(lines)
 }
 
+/// A line of JSON, of which no copy is made.
+pub(crate) fn fill_whole(response: &mut Response, line: Vec<u8>) -> Result<(), AllocError>
+    requires { IsBlank response.old }
+    ensures { OnOk result (IsResponse 200 json line.items response.new) }
+{
+    let kind = HeaderValue::from_static("application/json; charset=utf-8");
+    response.add_header(header::CONTENT_TYPE, kind)?;
+    add_guards(response)?;
+    response.body.push(Bytes::from_vec(line)?)
+}
+
 /// What is counted of a server.
 pub(crate) fn fill_metrics(response: &mut Response, text: &str) -> Result<(), AllocError>
     requires { IsBlank response.old }

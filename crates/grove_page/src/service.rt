@@ -13,9 +13,9 @@ use crate::hosts::is_for_here;
 use crate::lines::{document_line, nodes_line};
 use crate::nodes::part_for;
 use crate::query::{NodesQuery, QueryFault, read_query};
-use crate::replies::{fill_allowed, fill_json, fill_metrics, fill_page};
+use crate::replies::{fill_allowed, fill_json, fill_metrics, fill_page, fill_whole};
 use crate::route::{Route, asks_for_hints, route_for};
-use crate::{Front, RepliesSink, Visited};
+use crate::{Front, Paths, RepliesSink, Visited};
 use bytes::{BufMut, Bytes};
 use grove_desk::Awaited;
 use grove_session::SessionFault;
@@ -64,6 +64,7 @@ pub(crate) struct PageService<'a, R, F: Front<R>> {
     pub(crate) page: &'static str,
     pub(crate) hosts: &'a [String],
     pub(crate) hints: bool,
+    pub(crate) paths: Option<&'a Paths>,
 }
 
 impl<'a, R, F: Front<R>> Model for PageService<'a, R, F> {
@@ -258,7 +259,10 @@ impl<'a, R: AllocGlobal, F: Front<R>> PageService<'a, R, F> {
             ⊎ LacksMemory response.new) }
     {
         match part_for(store.tree(), asked) {
-            Some(part) => fill_line(response, nodes_line(self.rt.alloc(), store, &part)),
+            Some(part) => {
+                let line = nodes_line(self.rt.alloc(), store, self.paths, &part);
+                fill_line(response, line)
+            }
             None => fill_json(response, StatusCode::BAD_REQUEST, NO_PATH),
         }
     }
@@ -309,7 +313,7 @@ fn fill_line(response: &mut Response, line: Result<Vec<u8>, NoMemory>) -> Result
     ensures refused { OnOk result (OnErr line (IsResponse 503 json (error_line (codes "memory")) response.new)) }
 {
     match line {
-        Ok(line) => fill_json(response, StatusCode::OK, &line),
+        Ok(line) => fill_whole(response, line),
         Err(NoMemory) => fill_json(response, StatusCode::SERVICE_UNAVAILABLE, NO_MEMORY),
     }
 }

@@ -4,8 +4,8 @@ ghost use Rattle.http_server.specs.declared.state.Config.{Config};
 ghost use Rattle.http_server.specs.History.{History, IsDone};
 ghost use Rattle.grove_page.specs.Pages.{IsPageHistory};
 
-use crate::Front;
 use crate::service::PageService;
+use crate::{Front, Paths};
 use http_server::{Config, Connection, serve};
 use std::alloc::AllocGlobal;
 use std::hash::RandomState;
@@ -23,6 +23,8 @@ pub struct Site<'a> {
     pub hosts: &'a [String],
     /// Whether each refusal of a line has a hint; else only that of a request that asks for hints.
     pub hints: bool,
+    /// Paths of nodes, which need not be those of the store. Those that are aren't made again at each look.
+    pub paths: Option<&'a Paths>,
 }
 
 /// Serves a connection: reads its requests, and writes what is replied to them, until it is done.
@@ -49,13 +51,19 @@ pub fn serve_page<R: AllocGlobal, F: Front<R>, I: Read, O: Write>(
     let mut config = Config::default();
     config.max_body_len = MOST_BODY;
     let mut connection = Connection::new(rt.alloc(), keys, config);
-    let Site { page, hosts, hints } = site;
+    let Site {
+        page,
+        hosts,
+        hints,
+        paths,
+    } = site;
     let mut service = PageService {
         rt,
         front,
         page,
         hosts,
         hints,
+        paths,
     };
     serve(&mut connection, &mut service, reader, writer)
 }

@@ -8,8 +8,9 @@ use crate::service::{Door, Service, Talk};
 use crate::slots::Slots;
 use crate::talking::{Caller, serve_caller};
 use grove_desk::{Desk, Opening};
+use grove_page::Paths;
 use grove_store::Store;
-use grove_tree::{NoMemory, Tree};
+use grove_tree::NoMemory;
 use std::alloc::Global;
 use std::marker::Brand;
 use std::net::SocketAddr;
@@ -37,18 +38,15 @@ fn serve_as<B: Opening + Send + Sync, R: Host>(rt: &R, service: Service)
         http,
         manner,
     } = service;
-    let tree = tree_of(rt.alloc(), &store);
+    let paths = paths_of(rt.alloc(), &store).ok();
     let desk = Desk::<B>::open(rt.alloc(), store, false);
-    let slots = Slots::new(rt, rt.alloc(), &door, http.as_ref(), manner, tree);
+    let slots = Slots::new(rt, rt.alloc(), &door, http.as_ref(), manner, paths);
     serve_at(rt, &desk, &slots, &door, http.as_ref());
 }
 
-/// A copy of the store's tree, if there is memory for it: its names stay the same.
-fn tree_of(alloc: Global, store: &Store) -> Option<Tree> {
-    match store.tree().copy(alloc) {
-        Ok(tree) => Some(tree),
-        Err(NoMemory) => None,
-    }
+/// The paths of the store's nodes, which stay the same.
+fn paths_of(alloc: Global, store: &Store) -> Result<Paths, NoMemory> {
+    Paths::new(alloc, store.tree().copy(alloc)?)
 }
 
 /// Serves the connections of the doors at the desk, and logs each minute meanwhile.

@@ -4,7 +4,7 @@ use crate::log::Log;
 use crate::metrics::Metrics;
 use crate::pool::Pool;
 use crate::service::{Door, Manner, Patience, Talk};
-use grove_page::MOST_KEPT;
+use grove_page::{MOST_KEPT, Paths};
 use grove_tree::Tree;
 use std::alloc::Global;
 use std::sync::{Mutex, MutexGuard, Wait};
@@ -27,8 +27,8 @@ pub struct Slots {
     hosts: Vec<String>,
     metrics: Metrics,
     hints: bool,
-    /// A tree with the names of the store's, by which hints go, if there was memory for it.
-    tree: Option<Tree>,
+    /// The paths of the store's nodes, by which hints go and looks are answered, if there was memory for them.
+    paths: Option<Paths>,
     log: Option<Log>,
 }
 
@@ -40,7 +40,7 @@ impl Slots {
         door: &Door,
         http: Option<&Door>,
         manner: Manner,
-        tree: Option<Tree>,
+        paths: Option<Paths>,
     ) -> Slots {
         let (lines, requests) = match (door.talk, http) {
             (Talk::Requests, _) => (0, door.slots),
@@ -62,7 +62,7 @@ impl Slots {
             hosts,
             metrics: Metrics::new(rt, alloc, memory),
             hints,
-            tree,
+            paths,
             log: log.map(|form| Log::new(form)),
         }
     }
@@ -99,7 +99,13 @@ impl Slots {
 
     /// A tree with the names of the store's, by which hints go, if it is known.
     pub fn tree(&self) -> Option<&Tree> {
-        self.tree.as_ref()
+        let paths = self.paths.as_ref()?;
+        Some(paths.tree())
+    }
+
+    /// The paths of the store's nodes, if they are known.
+    pub fn paths(&self) -> Option<&Paths> {
+        self.paths.as_ref()
     }
 
     /// Where it is logged who comes and goes, if anywhere.

@@ -188,6 +188,7 @@ fn serve_site<B: Opening, R: Host, I: Read>(
         page: PAGE,
         hosts: guest.slots().hosts(),
         hints: guest.slots().hints(),
+        paths: guest.slots().paths(),
     };
     let mut writer = guest.writer(stream);
     Ok(serve_page(rt, front, site, keys, reader, &mut writer))

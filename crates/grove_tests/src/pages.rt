@@ -53,6 +53,7 @@ fn add_and_look<B: Opening, R: Host + Clock>(rt: &R, store: Store)
         page: PAGE,
         hosts: &[],
         hints: false,
+        paths: None,
     };
     let served = serve_page(rt, &desk, site, keys, &mut reader, &mut writer);
     assert!(rt; served.is_ok());

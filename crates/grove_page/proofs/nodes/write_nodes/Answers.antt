@@ -1,13 +1,22 @@
-use Rattle.std.proofs.Common.{◌∙◌}
+use Rattle.std.proofs.Common.{◌∙◌, sym, ap}
 use Rattle.grove_page.specs.NodeLines.{is_told}
-use Rattle.grove_page.proofs.NodeTexts.{one_more}
+use Rattle.grove_page.proofs.NodeTexts.{one_told, none_told}
 use Rattle.grove_page.proofs.nodes.write_nodes.Goals as goal
+use Rattle.grove_page.proofs.nodes.write_nodes.Goals.{then-is_told+in_ok-write_comma+in_ok-write_node, else-is_told}
 
 pub loop-number-preserved : goal.loop-number-preserved
-loop-number-preserved c = (
-  one_more c.args.tree.now c.args.records.now c.args.waits.now (is_told c.args.tree.now c.args.part.now)
-      c.loop-number.number
-      c.new.result c.args.writer.now.tokens c.loop-number.writer.tokens c.write_told.new.writer.tokens c.new.ensures
-      c.loop-number.invariant.0 c.in_ok-write_told.ensures.tokens,
-  c.in_ok-write_told.ensures.before ∙ c.loop-number.invariant.1,
-)
+loop-number-preserved c =
+    let rows = c.args.tree.now in
+    let test = is_told rows c.args.part.now in
+    elim c.if-is_told.branch [
+      | then-is_told+in_ok-write_comma+in_ok-write_node w ↦
+          let (text, some) = one_told rows c.args.records.now c.args.waits.now test c.loop-number.number c.new-node.result c.loop-number.later
+          c.args.line.now.items c.loop-number.line.items w.write_comma.new.line.items w.write_node.new.line.items c.new-node.ensures
+          (sym c.is_told.ensures ∙ w.if-is_told.true) c.loop-number.invariant.1 c.loop-number.invariant.0 w.in_ok-write_comma.ensures w.in_ok-write_node.ensures in
+          (ap (λ line. line.items) w.line-is ∙ text, w.later-is ∙ some)
+      | else-is_told w ↦
+          let (text, some) = none_told rows c.args.records.now c.args.waits.now test c.loop-number.number c.new-node.result c.loop-number.later
+          c.args.line.now.items c.loop-number.line.items c.new-node.ensures
+          (sym c.is_told.ensures ∙ w.if-is_told.false) c.loop-number.invariant.1 c.loop-number.invariant.0 in
+          (ap (λ line. line.items) w.line-is ∙ text, w.later-is ∙ some)
+    ]
