@@ -4,3 +4,4 @@ pub mod Says
 pub mod PlannedDocuments
 pub mod Laws
 pub mod Tokens
+pub mod MadePaths

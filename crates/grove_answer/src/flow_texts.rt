@@ -5,25 +5,26 @@ ghost use Rattle.serde_json.specs.Written.{compact_text, outline};
 ghost use Rattle.grove_wire.specs.Writing.{FlowFits, flow_row_data, flow_data};
 ghost use Rattle.grove_answer.specs.Tokens.{tokens_of};
 
+use crate::paths::Paths;
 use crate::texts::text_of;
 use grove_base::NoMemory;
 use grove_proof::{Flow, FlowRow};
-use grove_tree::Tree;
 use json::Writer;
 use std::alloc::{AllocError, Global};
 
 /// About how many bytes a row takes.
-const ROW_BYTES: usize = 160;
+const ROW_BYTES: usize = 192;
 
 /// A flow's rows, as JSON.
-pub fn flow_text(alloc: Global, tree: &Tree, flow: &Flow) -> Result<String, NoMemory>
-    requires { FlowFits tree.now flow.now }
-    ensures { IfOk result (λ text. string_bytes text ≡ compact_text (flow_data tree.now flow.now)) }
+pub fn flow_text(alloc: Global, paths: &mut Paths<'_>, flow: &Flow) -> Result<String, NoMemory>
+    requires { FlowFits paths.old flow.now }
+    ensures text { IfOk result (λ text. string_bytes text ≡ compact_text (flow_data paths.old flow.now)) }
+    ensures tree { paths.new ≡ paths.old }
 {
     let rows = flow.rows();
     let mut writer = Writer::new(Vec::with_capacity(alloc, ROW_BYTES * rows.len())?);
     writer.begin_array()?;
-    write_rows(&mut writer, alloc, tree, rows)?;
+    write_rows(&mut writer, alloc, paths, rows)?;
     writer.end_array()?;
     Ok(text_of(writer))
 }
@@ -31,34 +32,40 @@ pub fn flow_text(alloc: Global, tree: &Tree, flow: &Flow) -> Result<String, NoMe
 fn write_rows(
     writer: &mut Writer,
     alloc: Global,
-    tree: &Tree,
+    paths: &mut Paths<'_>,
     rows: &[FlowRow],
 ) -> Result<(), NoMemory>
-    requires { FlowFits tree.now rows.now }
+    requires { FlowFits paths.old rows.now }
     ensures tokens { OnOk result
-        (writer.new.tokens ≡ writer.old.tokens ++ tokens_of (flow_row_data tree.now) rows.now) }
+        (writer.new.tokens ≡ writer.old.tokens ++ tokens_of (flow_row_data paths.old) rows.now) }
     ensures before { writer.new.before ≡ writer.old.before }
+    ensures tree { paths.new ≡ paths.old }
 {
     for row in rows {
-        write_row(writer, alloc, tree, row)?;
+        write_row(writer, alloc, paths, row)?;
     }
     Ok(())
 }
 
-fn write_row(writer: &mut Writer, alloc: Global, tree: &Tree, row: &FlowRow) -> Result<(), NoMemory>
-    requires { row.now.node < length tree.now }
+fn write_row(
+    writer: &mut Writer,
+    alloc: Global,
+    paths: &mut Paths<'_>,
+    row: &FlowRow,
+) -> Result<(), NoMemory>
+    requires { row.now.node < length paths.old }
     ensures tokens { OnOk result
-        (writer.new.tokens ≡ writer.old.tokens ++ json_tokens (outline (flow_row_data tree.now row.now))) }
+        (writer.new.tokens ≡ writer.old.tokens ++ json_tokens (outline (flow_row_data paths.old row.now))) }
     ensures before { writer.new.before ≡ writer.old.before }
+    ensures tree { paths.new ≡ paths.old }
 {
-    let path = tree.path_of(alloc, row.node)?;
     writer.begin_object()?;
     write_count(writer, "above", row.above)?;
     write_count(writer, "first", row.first)?;
     write_count(writer, "held", row.held)?;
     write_count(writer, "last", row.last)?;
     writer.key("node")?;
-    writer.string(&path)?;
+    paths.write(alloc, writer, row.node)?;
     write_count(writer, "own", row.own)?;
     writer.end_object()?;
     Ok(())

@@ -18,6 +18,7 @@ mod drawing;
 mod flow_texts;
 mod judging;
 mod laws;
+mod paths;
 mod plan_texts;
 mod planning;
 mod reading;

@@ -6,25 +6,27 @@ ghost use Rattle.grove_tree.specs.Paths.{path_of};
 ghost use Rattle.grove_wire.specs.Writing.{StepFits, PlanFits, count_data, pair_data, step_data, plan_data};
 ghost use Rattle.grove_answer.specs.Tokens.{tokens_of};
 
+use crate::paths::Paths;
 use crate::texts::text_of;
 use grove_base::NoMemory;
 use grove_plan::{Plan, Step};
-use grove_tree::{Node, Tree};
+use grove_tree::Node;
 use json::Writer;
 use std::alloc::{AllocError, Global};
 
 /// About how many bytes a step takes.
-const STEP_BYTES: usize = 96;
+const STEP_BYTES: usize = 128;
 
 /// A plan's steps, as JSON.
-pub fn plan_text(alloc: Global, tree: &Tree, plan: &Plan) -> Result<String, NoMemory>
-    requires { PlanFits tree.now plan.now }
-    ensures { IfOk result (λ text. string_bytes text ≡ compact_text (plan_data tree.now plan.now)) }
+pub fn plan_text(alloc: Global, paths: &mut Paths<'_>, plan: &Plan) -> Result<String, NoMemory>
+    requires { PlanFits paths.old plan.now }
+    ensures text { IfOk result (λ text. string_bytes text ≡ compact_text (plan_data paths.old plan.now)) }
+    ensures tree { paths.new ≡ paths.old }
 {
     let steps = plan.steps();
     let mut writer = Writer::new(Vec::with_capacity(alloc, STEP_BYTES * steps.len())?);
     writer.begin_array()?;
-    write_steps(&mut writer, alloc, tree, steps)?;
+    write_steps(&mut writer, alloc, paths, steps)?;
     writer.end_array()?;
     Ok(text_of(writer))
 }
@@ -32,29 +34,36 @@ pub fn plan_text(alloc: Global, tree: &Tree, plan: &Plan) -> Result<String, NoMe
 fn write_steps(
     writer: &mut Writer,
     alloc: Global,
-    tree: &Tree,
+    paths: &mut Paths<'_>,
     steps: &[Step],
 ) -> Result<(), NoMemory>
-    requires { PlanFits tree.now steps.now }
+    requires { PlanFits paths.old steps.now }
     ensures tokens { OnOk result
-        (writer.new.tokens ≡ writer.old.tokens ++ tokens_of (step_data tree.now) steps.now) }
+        (writer.new.tokens ≡ writer.old.tokens ++ tokens_of (step_data paths.old) steps.now) }
     ensures before { writer.new.before ≡ writer.old.before }
+    ensures tree { paths.new ≡ paths.old }
 {
     for step in steps {
-        write_step(writer, alloc, tree, *step)?;
+        write_step(writer, alloc, paths, *step)?;
     }
     Ok(())
 }
 
-fn write_step(writer: &mut Writer, alloc: Global, tree: &Tree, step: Step) -> Result<(), NoMemory>
-    requires { StepFits tree.now step }
+fn write_step(
+    writer: &mut Writer,
+    alloc: Global,
+    paths: &mut Paths<'_>,
+    step: Step,
+) -> Result<(), NoMemory>
+    requires { StepFits paths.old step }
     ensures tokens { OnOk result
-        (writer.new.tokens ≡ writer.old.tokens ++ json_tokens (outline (step_data tree.now step))) }
+        (writer.new.tokens ≡ writer.old.tokens ++ json_tokens (outline (step_data paths.old step))) }
     ensures before { writer.new.before ≡ writer.old.before }
+    ensures tree { paths.new ≡ paths.old }
 {
     match step {
-        Step::Lock(node) => write_of_node(writer, alloc, tree, "lock", node),
-        Step::Unlock(node) => write_of_node(writer, alloc, tree, "unlock", node),
+        Step::Lock(node) => write_of_node(writer, alloc, paths, "lock", node),
+        Step::Unlock(node) => write_of_node(writer, alloc, paths, "unlock", node),
         Step::Access(access) => Ok(write_access(writer, access)?),
     }
 }
@@ -63,19 +72,19 @@ fn write_step(writer: &mut Writer, alloc: Global, tree: &Tree, step: Step) -> Re
 fn write_of_node(
     writer: &mut Writer,
     alloc: Global,
-    tree: &Tree,
+    paths: &mut Paths<'_>,
     word: &str,
     node: Node,
 ) -> Result<(), NoMemory>
-    requires { node < length tree.now }
+    requires { node < length paths.old }
     ensures tokens { OnOk result (writer.new.tokens
-        ≡ writer.old.tokens ++ json_tokens (outline (pair_data word.now (string (path_of tree.now node))))) }
+        ≡ writer.old.tokens ++ json_tokens (outline (pair_data word.now (string (path_of paths.old node))))) }
     ensures before { writer.new.before ≡ writer.old.before }
+    ensures tree { paths.new ≡ paths.old }
 {
-    let path = tree.path_of(alloc, node)?;
     writer.begin_array()?;
     writer.string(word)?;
-    writer.string(&path)?;
+    paths.write(alloc, writer, node)?;
     writer.end_array()?;
     Ok(())
 }

@@ -7,6 +7,7 @@ ghost use Rattle.grove_answer.specs.Says.{Says};
 ghost use Rattle.grove_answer.specs.Outcomes.{ThenSays, task_in, plan_lines, IsPlannedOver, IsPlannedTask};
 
 use crate::flow_texts::flow_text;
+use crate::paths::Paths;
 use crate::plan_texts::plan_text;
 use crate::reading::read_task;
 use crate::refusal::{Refusal, or_refuse};
@@ -51,8 +52,9 @@ fn plan_lines(
     requires { IsPlannedList tree.now list.now planned.now }
     ensures { IfOk result (λ lines. string_bytes lines ≡ plan_lines tree.now planned.now) }
 {
-    let steps = plan_text(alloc, tree, &planned.plan)?;
-    let flow = flow_text(alloc, tree, &planned.flow)?;
+    let mut paths = Paths::new(alloc, tree)?;
+    let steps = plan_text(alloc, &mut paths, &planned.plan)?;
+    let flow = flow_text(alloc, &mut paths, &planned.flow)?;
     let cost = planned.cost;
     Ok(format!(in alloc; "cost {cost}\nplan {steps}\nflow {flow}\n")?)
 }

@@ -1,4 +1,4 @@
-use Rattle.std.proofs.Common.{◌≡◌, ℕ, List, ◌∷◌, ◌++◌, [], ◌∙◌, ap, codes, decimal}
+use Rattle.std.proofs.Common.{ℕ, List, ◌∷◌, ◌++◌, [], codes, decimal}
 use Rattle.json.specs.Token.{Token, begin_object, key, string, number}
 use Rattle.grove_tree.specs.Paths.{path_of}
 use Rattle.grove_answer.proofs.Tokens.{then_more}
@@ -13,9 +13,7 @@ unfolding counted
 returns-clause-tokens c =
     let old = c.args.writer.now.tokens in
     let row = c.args.row.now in
-    let path = path_of c.args.tree.now row.node in
-    let is_path : c.deref.result.now ≡ path = c.deref.ensures ∙ c.in_ok-path.ensures.path in
-    let named = c.in_ok-string.ensures.ok ∙ ap (λ text. c.key.new.self.tokens ++ string text ∷ []) is_path in
+    let path = path_of c.args.paths.now row.node in
     let opening = begin_object ∷ [] in
     let above = opening ++ counted (codes "above") row.above in
     let first = above ++ counted (codes "first") row.first in
@@ -29,6 +27,6 @@ returns-clause-tokens c =
     let to_held = then_more old first _ _ _ to_first c.in_ok-write_count-3.ensures.tokens in
     let to_last = then_more old held _ _ _ to_held c.in_ok-write_count-4.ensures.tokens in
     let to_node = then_more old last _ _ _ to_last c.in_ok-key.ensures.ok in
-    let to_path = then_more old node _ _ _ to_node named in
+    let to_path = then_more old node _ _ _ to_node c.in_ok-write.ensures.tokens in
     let to_own = then_more old whose _ _ _ to_path c.in_ok-write_count-5.ensures.tokens in
     then_more old own _ _ _ to_own c.in_ok-end_object.ensures.ok

@@ -6,6 +6,7 @@ use Rattle.grove_answer.proofs.flow_texts.write_rows.Given as goal
 -- the tokens of the rows so far
 abbrev pub invariant-loop-row : goal.invariant-loop-row
 invariant-loop-row l = record {
-  tokens : l.writer.tokens ≡ l.fn.writer.tokens ++ tokens_of (flow_row_data l.tree) (take l.row-index l.rows);
+  tokens : l.writer.tokens ≡ l.fn.writer.tokens ++ tokens_of (flow_row_data l.fn.paths) (take l.row-index l.rows);
   before : l.writer.before ≡ l.fn.writer.before;
+  tree : l.paths ≡ l.fn.paths;
 }

@@ -11,9 +11,9 @@ text_of-requires c = c.in_ok-end_array.ensures.room.0
     ∙ c.new-writer.ensures.before
     ∙ c.in_ok-with_capacity.ensures.items
 
-pub returns : goal.returns
-returns c =
-    let tree = c.args.tree.now in
+pub returns-clause-text : goal.returns-clause-text
+returns-clause-text c =
+    let tree = c.args.paths.now in
     c.text_of.ensures
     ∙ array_written (step_data tree) _ _ _ _ _ c.new-writer.ensures.tokens c.in_ok-begin_array.ensures.ok
     c.in_ok-write_steps.ensures.tokens c.in_ok-end_array.ensures.ok

@@ -6,6 +6,7 @@ use Rattle.grove_answer.proofs.plan_texts.write_steps.Given as goal
 -- the tokens of the steps so far
 abbrev pub invariant-loop-step : goal.invariant-loop-step
 invariant-loop-step l = record {
-  tokens : l.writer.tokens ≡ l.fn.writer.tokens ++ tokens_of (step_data l.tree) (take l.step-index l.steps);
+  tokens : l.writer.tokens ≡ l.fn.writer.tokens ++ tokens_of (step_data l.fn.paths) (take l.step-index l.steps);
   before : l.writer.before ≡ l.fn.writer.before;
+  tree : l.paths ≡ l.fn.paths;
 }
