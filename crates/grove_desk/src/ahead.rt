@@ -7,7 +7,7 @@ use memchr::memchr;
 use std::alloc::Global;
 
 /// So many lines of a visitor at most are put before it asks for them.
-pub(crate) const MOST_OF_VISITOR: usize = 8;
+const MOST_OF_VISITOR: usize = 8;
 
 /// The lines that a visitor has put ahead, in order, and hasn't asked for yet.
 #[derive(Drop)]

@@ -5,7 +5,7 @@ use std::array;
 use std::sync::Condvar;
 
 /// How many bells there are for lines. Two callers share one only if so many lines or more were put between theirs.
-const LINE_BELLS: usize = 8 * MOST_LINES;
+const LINE_BELLS: usize = 2 * MOST_LINES;
 
 /// How many bells there are for those who wait for a round. Two wait at one bell only if their numbers leave the same
 /// rest.
@@ -102,7 +102,7 @@ impl Rings {
 }
 
 fn place_of(ticket: u64) -> usize
-    ensures { result < 128 }
+    ensures { result < 32 }
 {
     (ticket % LINE_BELLS as u64) as usize
 }

@@ -23,7 +23,7 @@ use std::marker::Model;
 pub(crate) const MOST_LINES: usize = 16;
 
 /// So many lines at most are on the board that were put ahead, and whose visitors haven't come to them yet.
-const MOST_AHEAD: usize = 128;
+const MOST_AHEAD: usize = 64;
 
 /// What lies behind a desk's lock: the store with its journal, unless they are out, and the lines that were put and not
 /// yet taken, in the order in which they were put.
@@ -185,37 +185,19 @@ impl<B: Opening> Board<B> {
 
     /// Whom to wake: the callers whose lines are answered, those who waited for a round that is done and, where the
     /// store is here, all who want a copy of it; or else the first caller whose line waits, who is to lead. A line that
-    /// nobody has come to yet calls nobody: its visitor comes, or takes it back. While the store is out, whoever leads
-    /// rings again: until then a caller sleeps on whose later lines aren't answered, so that it is woken once for all.
+    /// nobody has come to yet calls nobody: its visitor comes, or takes it back.
     pub(crate) fn rings(&self) -> Rings {
         let is_here = self.ledger.is_some();
         let mut rings = Rings::new(is_here && self.copies > 0);
         let mut is_led = !is_here || self.copies > 0;
         for slot in &self.slots {
-            let is_called = slot.awaits_call() && (is_here || !self.has_unanswered(slot.visitor));
-            if is_called || slot.awaits_round() && !is_led {
+            if slot.awaits_call() || slot.awaits_round() && !is_led {
                 rings.add(slot.ticket);
             }
             is_led |= slot.awaits_round();
         }
         self.add_rounds(&mut rings);
         rings
-    }
-
-    /// Is a line of this visitor on the board that has no receipt yet?
-    fn has_unanswered(&self, visitor: u64) -> bool {
-        self.slots
-            .iter()
-            .any(|slot| slot.visitor == visitor && !slot.is_done())
-    }
-
-    /// Does a line wait that the visitor of this ticket has put ahead?
-    pub(crate) fn has_further(&self, ticket: u64) -> bool {
-        let Some(place) = place_of(&self.slots, ticket) else {
-            return false;
-        };
-        let visitor = self.slots[place].visitor;
-        self.slots.iter().any(|slot| slot.waits_behind(visitor))
     }
 
     /// And those who waited for a round that is done.

@@ -1,4 +1,4 @@
-ghost use Rattle.std.specs.Prelude.{◌≡◌, ◌<◌, ◌≤◌, false, [], length, All, Err, IfOk, IfSome, IfNone};
+ghost use Rattle.std.specs.Prelude.{◌≡◌, ◌<◌, ◌≤◌, false, [], length, All, Err, IfOk};
 ghost use Rattle.std.specs.Option.{option_copied};
 ghost use Rattle.std.specs.Vec.{vec_capacity};
 ghost use Rattle.grove_session.specs.declared.answers.TheConstants.{LINE_LIMIT};
@@ -6,7 +6,6 @@ ghost use Rattle.grove_tree.specs.Weights.{unweighed};
 ghost use Rattle.grove_desk.specs.Histories.{Led};
 ghost use Rattle.grove_desk.specs.Receipts.{ReceiptState, IsAllowed, IsDeskReceipt, IsForeignReceipt, ComesAfter};
 
-use crate::ahead::MOST_OF_VISITOR;
 use crate::bells::Bells;
 use crate::board::{Board, MOST_LINES};
 use crate::ledger::Ledger;
@@ -153,7 +152,8 @@ impl<B: Opening> Desk<B> {
         unreachable!()
     }
 
-    /// Waits for what the line of this ticket was answered; whenever it finds the store there, it takes it and leads.
+    /// Waits for what the line of this ticket was answered; whenever it finds the store there, answers the first lines
+    /// that wait itself, outside the lock, and puts back the store and what they were answered.
     fn attend<R: Threads + Wait + Sync, G: Gate + Sync, W: RoundWatch<R>>(
         &self,
         rt: &R,
@@ -172,11 +172,16 @@ impl<B: Opening> Desk<B> {
                 return done;
             }
             match board.take(taken) {
-                Some(ledger) => {
+                Some(mut ledger) => {
                     let room = board.room();
                     drop(board);
                     self.bells.let_in(room);
-                    self.lead(rt, alloc, ticket, ledger, taken, gate, watch);
+                    let began = watch.begin(rt);
+                    let answered = ledger.answer(rt, alloc, taken, gate);
+                    if let Ok(receipts) = &answered {
+                        watch.end(rt, began, receipts);
+                    }
+                    self.put_back(rt, ledger, taken, answered);
                 }
                 None => {
                     let _again = self.bells.of(ticket).wait(rt, board);
@@ -186,65 +191,22 @@ impl<B: Opening> Desk<B> {
         unreachable!()
     }
 
-    /// Answers the lines that were taken, outside the lock, and puts back the store and what they were answered. Round
-    /// after round it goes on so with the first lines that wait then, while some are there that the visitor of this
-    /// ticket has put ahead: it would be the next to lead.
-    fn lead<R: Threads + Wait + Sync, G: Gate + Sync, W: RoundWatch<R>>(
-        &self,
-        rt: &R,
-        alloc: Global,
-        ticket: u64,
-        mut ledger: Ledger<B>,
-        taken: &mut Vec<Asked>,
-        gate: &G,
-        watch: &W,
-    )
-        requires { (0 < length taken.old.items) × (vec_capacity taken.old ≡ 16) }
-        ensures { (taken.new.items ≡ []) × (vec_capacity taken.new ≡ 16) }
-    {
-        let mut left = MOST_OF_VISITOR;
-        loop {
-            let began = watch.begin(rt);
-            let answered = ledger.answer(rt, alloc, taken, gate);
-            if let Ok(receipts) = &answered {
-                watch.end(rt, began, receipts);
-            }
-            match self.put_back(rt, ticket, left, ledger, taken, answered) {
-                Some(again) => ledger = again,
-                None => return,
-            }
-            left -= 1;
-        }
-    }
-
-    /// Puts back the store and what the lines were answered, and wakes those who wait for that. Where rounds are left
-    /// and lines wait that the visitor of this ticket has put ahead, it takes the store again.
+    /// Puts back the store and what the lines were answered, and wakes those who wait for that.
     fn put_back<R: Wait>(
         &self,
         rt: &R,
-        ticket: u64,
-        left: usize,
         ledger: Ledger<B>,
         taken: &mut Vec<Asked>,
         answered: Result<Vec<Receipt>, NoMemory>,
-    ) -> Option<Ledger<B>>
+    )
         requires { IfOk answered (λ receipts. All (IsDeskReceipt B.store B.kept) receipts.items) }
-        ensures again { IfSome result (λ _. (0 < left) × (0 < length taken.new.items)) }
-        ensures none { IfNone result (taken.new.items ≡ []) }
+        ensures taken { taken.new.items ≡ [] }
         ensures room { vec_capacity taken.new ≡ vec_capacity taken.old }
     {
         let mut board = self.board.lock(rt);
         board.put_back(ledger, taken, answered);
-        let again = if left > 0 && board.has_further(ticket) {
-            board.take(taken)
-        } else {
-            None
-        };
-        let room = board.room();
         let rings = board.rings();
         drop(board);
-        self.bells.let_in(room);
         self.bells.ring(&rings);
-        again
     }
 }

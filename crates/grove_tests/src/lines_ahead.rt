@@ -16,20 +16,13 @@ const GET: &[u8] = b"{\"batch\":[[[\"get\",\"/a\"]]]}";
 const ADDS: &[u8] =
     b"{\"batch\":[[[\"add\",\"/a\",1]]]}\n{\"batch\":[[[\"add\",\"/a\",1]]]}\n{\"batch\":[[[\"add\",\"/a\",1]]]}\n";
 
-/// What another caller finds, whose round begins with the first of them, and later on, once the others were taken back.
-const FOUND: [&[u8]; 2] = [
-    b"{\"places\":[1],\"replies\":[[11]],\"round\":1}",
-    b"{\"places\":[0],\"replies\":[[11]],\"round\":2}",
-];
+/// What another caller finds, whose round begins with the first of them.
+const FOUND: &[u8] = b"{\"places\":[1],\"replies\":[[11]],\"round\":1}";
 
-/// The reply to the first of them.
-const FIRST_REPLY: &[u8] = b"{\"places\":[0],\"replies\":[[11]],\"round\":1}";
-
-/// The replies to three more.
-const REPLIES: [&[u8]; 3] = [
-    b"{\"places\":[0],\"replies\":[[12]],\"round\":3}",
-    b"{\"places\":[0],\"replies\":[[13]],\"round\":4}",
-    b"{\"places\":[0],\"replies\":[[14]],\"round\":5}",
+/// The replies to the first two.
+const REPLIES: [&[u8]; 2] = [
+    b"{\"places\":[0],\"replies\":[[11]],\"round\":1}",
+    b"{\"places\":[0],\"replies\":[[12]],\"round\":2}",
 ];
 
 #[test]
@@ -38,8 +31,7 @@ fn lines_ahead_go_with_the_rounds_of_others_one_by_one_and_are_taken_back(rt: Ho
     lines_go_ahead::<Brand, HostRuntime>(&rt, store);
 }
 
-/// A visitor with three lines ahead comes to the first, after another caller's round, and leaves. Then one comes to all
-/// of its three, and has led their rounds by the first.
+/// A visitor with three lines ahead comes to two of them, after another caller's round, and leaves.
 fn lines_go_ahead<B: Opening, R: Host>(rt: &R, store: Store)
     requires store { store ≡ B.store }
     requires kept { B.kept ≡ false }
@@ -48,29 +40,16 @@ fn lines_go_ahead<B: Opening, R: Host>(rt: &R, store: Store)
     let mut visit = Visit::new(&desk);
     visit.look_ahead(rt, ADDS);
     assert_eq!(rt; desk.waiting(rt), 3);
-    find(rt, &desk, FOUND[0]);
-    assert_eq!(rt; desk.waiting(rt), 2);
-    add(rt, &mut visit, FIRST_REPLY);
-    visit.leave(rt);
-    assert_eq!(rt; desk.waiting(rt), 0);
-    find(rt, &desk, FOUND[1]);
-    visit.look_ahead(rt, ADDS);
-    for wanted in REPLIES {
-        add(rt, &mut visit, wanted);
-        assert_eq!(rt; desk.waiting(rt), 0);
-    }
-}
-
-/// Another caller finds this.
-fn find<B: Opening, R: Host>(rt: &R, desk: &Desk<B>, wanted: &[u8]) {
     let found = desk
         .answer(rt, rt.alloc(), None, GET, &OpenGate)
         .expect(rt, "a receipt");
-    assert!(rt; found.reply.as_slice() == wanted);
-}
-
-/// The visitor asks for the next of its lines, and has this reply.
-fn add<B: Opening, R: Host>(rt: &R, visit: &mut Visit<'_, B>, wanted: &[u8]) {
-    let reply = visit.answer(rt, ADD).expect(rt, "a reply");
-    assert!(rt; reply.as_slice() == wanted);
+    assert!(rt; found.reply.as_slice() == FOUND);
+    assert_eq!(rt; desk.waiting(rt), 2);
+    for wanted in REPLIES {
+        let reply = visit.answer(rt, ADD).expect(rt, "a reply");
+        assert!(rt; reply.as_slice() == wanted);
+    }
+    assert_eq!(rt; desk.waiting(rt), 1);
+    visit.leave(rt);
+    assert_eq!(rt; desk.waiting(rt), 0);
 }
