@@ -181,7 +181,9 @@ class Broken(Canned):
         self.listener.settimeout(SECONDS)
         connection, _ = self.listener.accept()
         connection.settimeout(SECONDS)
-        connection.recv(1)
+        # Reset between two writes, the client would learn of it by the second, and find no more than an end.
+        while (text := connection.recv(1 << 16)) and not text.endswith(b"\n"):
+            pass
         connection.setsockopt(socket.SOL_SOCKET, socket.SO_LINGER, struct.pack("ii", 1, 0))
         connection.close()
 
