@@ -180,7 +180,8 @@ named_fits : (rows : Rows) (row : ℕ) → IsWithinLimits rows → row < length 
 named_fits rows zero limits within = (bytes_eq-Decides (name_of rows 0) []).1 limits.unnamed_root
 named_fits rows (suc before) limits within = limits.names before within
 
-shared_parent : (own other : Option ℕ) → share_parent own other ≡ true → (parent : ℕ) × (own ≡ Some parent) × (other ≡ Some parent)
+pub shared_parent : (own other : Option ℕ) → share_parent own other ≡ true
+    → (parent : ℕ) × (own ≡ Some parent) × (other ≡ Some parent)
 shared_parent None other h = absurd (cc)
 shared_parent (Some parent) other h = (parent, refl, is_at_true parent other h)
 

@@ -20,3 +20,4 @@ pub mod SameNames
 pub mod SameOutlines
 pub mod WaysDown
 pub mod Standings
+pub mod Siblings

@@ -9,4 +9,5 @@ pub mod OutlinesInTrees
 pub mod PathRests
 pub mod Ways
 pub mod Standings
+pub mod Siblings
 pub mod BuiltRows

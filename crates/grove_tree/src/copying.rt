@@ -8,7 +8,7 @@ pub fn copy_of(alloc: Global, outline: &Outline) -> Result<Outline, AllocError>
     ensures { IfOk result (λ copy. copy ≡ outline.now) }
 {
     let name = outline.name.copy()?;
-    let mut children = Vec::new(alloc);
+    let mut children = Vec::with_capacity(alloc, outline.children.len())?;
     for child in &outline.children {
         let copy = copy_of(alloc, child)?;
         children.push(copy)?;

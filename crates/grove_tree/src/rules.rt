@@ -1,10 +1,11 @@
-ghost use Rattle.std.specs.Prelude.{◌≡◌, ℕ, ◌<◌, ◌≤◌, ◌↔◌, ◌&&◌, length, IsTrue, None, Some, string_bytes, bytes_eq};
+ghost use Rattle.std.specs.Prelude.{◌≡◌, ℕ, suc, ◌<◌, ◌≤◌, ◌↔◌, length, IsTrue, None, Some, IfSome, IfNone};
 ghost use Rattle.std.specs.List.{list_all};
 ghost use Rattle.grove_base.specs.Numbers.{any_below};
 ghost use Rattle.grove_tree.specs.Trees.{IsAbove, parent_of, weight_of, depth_of};
-ghost use Rattle.grove_tree.specs.Rules.{is_name_byte, is_name, is_well_placed, is_well_named, share_parent, is_twin};
+ghost use Rattle.grove_tree.specs.Rules.{is_name_byte, is_name, is_well_placed, is_well_named, is_twin};
 ghost use Rattle.grove_tree.specs.Rules.{is_weight, row_fault, rows_fault, tree_fault_of};
 ghost use Rattle.grove_tree.specs.BuiltRows.{rows_of};
+ghost use Rattle.grove_tree.specs.Siblings.{AreWellPlaced, HasNoChild};
 
 use crate::{Row, TreeFault};
 
@@ -102,23 +103,43 @@ fn is_row_well_named(rows: &[Row], row: u32) -> bool
     }
 }
 
-/// Have both rows one parent and one name?
-fn are_twins(row: &Row, other: &Row) -> bool
-    ensures { result ≡ (share_parent row.now.parent other.now.parent
-        && bytes_eq (string_bytes other.now.name) (string_bytes row.now.name)) }
+/// The nearest row before this one that has the same parent: the first below that parent on the way up from the row
+/// before this one.
+fn sibling_before(rows: &[Row], row: u32, parent: u32) -> Option<u32>
+    requires within { row < length rows.now }
+    requires placed { AreWellPlaced (rows_of rows.now) (suc row) }
+    requires own { parent_of (rows_of rows.now) row ≡ Some parent }
+    ensures sibling { IfSome result (λ other. (other < row) × (parent_of (rows_of rows.now) other ≡ Some parent)
+        × HasNoChild (rows_of rows.now) parent (suc other) row) }
+    ensures none { IfNone result (HasNoChild (rows_of rows.now) parent 0 row) }
 {
-    row.parent.is_some() && row.parent == other.parent && other.name == row.name
+    let mut at = row - 1;
+    while at > parent {
+        let above = parent_of_row(rows, at)?;
+        if above == parent {
+            return Some(at);
+        }
+        at = above;
+    }
+    None
 }
 
 /// Has an earlier row the same parent and the same name?
 fn has_twin(rows: &[Row], row: u32) -> bool
-    requires { row < length rows.now }
+    requires within { row < length rows.now }
+    requires placed { AreWellPlaced (rows_of rows.now) (suc row) }
     ensures { result ≡ any_below row (is_twin (rows_of rows.now) row) }
 {
-    for other in 0..row {
-        if are_twins(&rows[row as usize], &rows[other as usize]) {
+    let Some(parent) = parent_of_row(rows, row) else {
+        return false;
+    };
+    let name = &rows[row as usize].name;
+    let mut at = row;
+    while let Some(sibling) = sibling_before(rows, at, parent) {
+        if rows[sibling as usize].name == *name {
             return true;
         }
+        at = sibling;
     }
     false
 }
@@ -134,7 +155,7 @@ fn is_row_well_weighed(rows: &[Row], row: u32) -> bool
 /// The first rule that the row breaks.
 fn fault_of_row(rows: &[Row], row: u32) -> Option<TreeFault>
     requires within { row < length rows.now }
-    requires rising { (low parent : ℕ) → low < row → parent_of (rows_of rows.now) low ≡ Some parent → parent < low }
+    requires placed { AreWellPlaced (rows_of rows.now) row }
     ensures { result ≡ row_fault (rows_of rows.now) row }
 {
     if !is_row_well_placed(rows, row) {

@@ -16,6 +16,9 @@ mod copies;
 mod ways;
 mod weights;
 
+/// How many bytes most paths have at most.
+const USUAL_PATH: usize = 64;
+
 /// A tree of at most 4,096 nodes, no deeper than 32, numbered in preorder.
 #[derive(Debug, Drop)]
 pub struct Tree {
@@ -161,7 +164,7 @@ impl Tree {
         ensures path { IfOk result (λ path. string_bytes path ≡ path_of self.now node) }
         ensures found { OnOk result (node_at self.now (path_of self.now node) ≡ Some node) }
     {
-        let mut path = String::new(alloc);
+        let mut path = String::with_capacity(alloc, USUAL_PATH)?;
         let mut at = &self.root;
         while let Some(child) = at.towards(node.number()) {
             path.push_str("/")?;

@@ -1,7 +1,17 @@
-use Rattle.std.proofs.Common.{sym, arith}
-use Rattle.grove_tree.proofs.RowTests.{less_to}
+use Rattle.std.proofs.Common.{suc, sym, arith}
+use Rattle.grove_tree.specs.BuiltRows.{rows_of}
+use Rattle.grove_tree.proofs.Siblings.{placed_rising, placed_next}
 use Rattle.grove_tree.proofs.rules.fault_of_row.Goals as goal
+
+pub is_row_well_placed-requires-clause-rising : goal.is_row_well_placed-requires-clause-rising
+is_row_well_placed-requires-clause-rising c = placed_rising (rows_of c.args.rows.now) c.args.row c.requires.placed
 
 pub depth_of_row-requires-clause-rising : goal.depth_of_row-requires-clause-rising
 depth_of_row-requires-clause-rising c = λ low parent le own.
-    less_to _ c.args.row c.requires.rising (sym c.if-not-is_row_well_placed.ensures) low parent (omega arith) own
+    placed_rising (rows_of c.args.rows.now) (suc c.args.row)
+    (placed_next (rows_of c.args.rows.now) c.args.row c.requires.placed (sym c.if-not-is_row_well_placed.ensures))
+    low parent (omega arith) own
+
+pub has_twin-requires-clause-placed : goal.has_twin-requires-clause-placed
+has_twin-requires-clause-placed c =
+    placed_next (rows_of c.args.rows.now) c.args.row c.requires.placed (sym c.if-not-is_row_well_placed.ensures)

@@ -12,7 +12,7 @@ loop-child-init c =
     let tree = subst (λ (rows : Rows). IsTree rows) c.self.view_is c.self.invariant.1 in
     let top : parent_of c.args.self.now c.self.inside.root.0 ≡ None = rw c.self.invariant.0 tree.root in (
       reached_root c.args.self.now c.self.inside.root c.args.node tree c.self.invariant.0 c.self.view_is c.requires,
-      c.new-path.ensures.bytes ∙ sym (names_root c.args.self.now c.self.inside.root.0 top),
+      c.in_ok-path.ensures.bytes ∙ sym (names_root c.args.self.now c.self.inside.root.0 top),
     )
 
 pub loop-child-preserved : goal.loop-child-preserved
