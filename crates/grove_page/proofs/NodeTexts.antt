@@ -1,6 +1,7 @@
 -- The text of what is told of nodes.
 use Rattle.std.proofs.Common.{◌≡◌, ◌↔◌, ◌+◌, ℕ, ℤ, pos, negsuc, suc, Bool, true, false, List, [], ◌∷◌, ◌++◌, map}
-use Rattle.std.proofs.Common.{codes, decimal, IsTrue, refl, sym, ap, ◌∙◌, append_assoc, append-nil, subst, arith, inl, inr}
+use Rattle.std.proofs.Common.{codes, decimal, IsTrue, refl, sym, ap, ◌∙◌, append_assoc, append-nil, subst, arith, inl}
+use Rattle.std.proofs.Common.{inr}
 use Rattle.std.proofs.Common.{◌<◌, length, Some, option_map, slice_get, get_or}
 use Rattle.std.proofs.lemmas.Bool.{cases_Bool}
 use Rattle.std.proofs.lemmas.Option.{slice_get-map, slice_get-get_or, same_Some}
@@ -27,7 +28,8 @@ use Rattle.grove_page.specs.NodeTexts.{entry_start, entry_end, entries_text, has
 
 -- nodes more, after others that have a comma before the first
 later_more : (rows : Rows) (records : List ℤ) (waits nodes more : List ℕ)
-    → entries_text rows records waits true (nodes ++ more) ≡ entries_text rows records waits true nodes ++ entries_text rows records waits true more
+    → entries_text rows records waits true (nodes ++ more) ≡ entries_text rows records waits true nodes
+    ++ entries_text rows records waits true more
 later_more rows records waits [] more = refl
 later_more rows records waits (node ∷ nodes) more =
     let entry = compact_text (node_data rows records waits node) in
@@ -38,7 +40,8 @@ later_more rows records waits (node ∷ nodes) more =
 
 -- nodes more
 entries_more : (rows : Rows) (records : List ℤ) (waits nodes more : List ℕ)
-    → entries_text rows records waits false (nodes ++ more) ≡ entries_text rows records waits false nodes ++ entries_text rows records waits (has_some nodes) more
+    → entries_text rows records waits false (nodes ++ more) ≡ entries_text rows records waits false nodes
+    ++ entries_text rows records waits (has_some nodes) more
 entries_more rows records waits [] more = refl
 entries_more rows records waits (node ∷ nodes) more =
     let entry = compact_text (node_data rows records waits node) in
@@ -57,7 +60,8 @@ or_true true = refl
 or_true false = refl
 
 -- the next node is told of
-pub one_told : (rows : Rows) (records : List ℤ) (waits : List ℕ) (test : ℕ → Bool) (node next : ℕ) (later : Bool) (old before parted after : List ℕ)
+pub one_told : (rows : Rows) (records : List ℤ) (waits : List ℕ) (test : ℕ → Bool) (node next : ℕ) (later : Bool)
+    (old before parted after : List ℕ)
     → next ≡ node → test next ≡ true → later ≡ has_some (passing_below node test)
     → before ≡ old ++ entries_text rows records waits false (passing_below node test)
     → parted ≡ before ++ comma_if later → after ≡ parted ++ compact_text (node_data rows records waits next)
@@ -69,8 +73,10 @@ one_told rows records waits test node next later old before parted after same to
     let here : test node ≡ true = rw same at told in
     let entry = compact_text (node_data rows records waits node) in
     let said = entries_text rows records waits false nodes in
-    let longer : entries_text rows records waits false (nodes ++ alone (test node) node) ≡ said ++ (comma_if (has_some nodes) ++ (entry ++ [])) =
-    ap (λ (b : Bool). entries_text rows records waits false (nodes ++ alone b node)) here ∙ entries_more rows records waits nodes (node ∷ []) in
+    let longer : entries_text rows records waits false (nodes ++ alone (test node) node) ≡ said
+    ++ (comma_if (has_some nodes) ++ (entry ++ [])) =
+    ap (λ (b : Bool). entries_text rows records waits false (nodes ++ alone b node)) here
+    ∙ entries_more rows records waits nodes (node ∷ []) in
     let texts : after ≡ old ++ entries_text rows records waits false (nodes ++ alone (test node) node) =
     more ∙ ap (λ (text : List ℕ). text ++ compact_text (node_data rows records waits next)) comma
     ∙ append_assoc before (comma_if later) (compact_text (node_data rows records waits next))
@@ -87,7 +93,8 @@ one_told rows records waits test node next later old before parted after same to
     )
 
 -- or isn't
-pub none_told : (rows : Rows) (records : List ℤ) (waits : List ℕ) (test : ℕ → Bool) (node next : ℕ) (later : Bool) (old before : List ℕ)
+pub none_told : (rows : Rows) (records : List ℤ) (waits : List ℕ) (test : ℕ → Bool) (node next : ℕ) (later : Bool)
+    (old before : List ℕ)
     → next ≡ node → test next ≡ false → later ≡ has_some (passing_below node test)
     → before ≡ old ++ entries_text rows records waits false (passing_below node test)
     → (before ≡ old ++ entries_text rows records waits false (passing_below (node + 1) test))
@@ -104,7 +111,8 @@ none_told rows records waits test node next later old before same told has is =
 
 -- the items of an array, and what closes it
 items_are : (rows : Rows) (records : List ℤ) (waits : List ℕ) (later : Bool) (nodes : List ℕ)
-    → items_text later (items_of (map (node_data rows records waits) nodes)) ≡ entries_text rows records waits later nodes ++ 93 ∷ []
+    → items_text later (items_of (map (node_data rows records waits) nodes)) ≡ entries_text rows records waits later
+    nodes ++ 93 ∷ []
 items_are rows records waits later [] = refl
 items_are rows records waits later (node ∷ nodes) =
     let entry = compact_text (node_data rows records waits node) in
@@ -115,22 +123,31 @@ items_are rows records waits later (node ∷ nodes) =
 
 -- the whole text
 pub whole_text : (rows : Rows) (records : List ℤ) (waits nodes : List ℕ) (round : ℕ)
-    → compact_text (object (member (codes "nodes") (array_of (node_data rows records waits) nodes) (member (codes "round") (count_data round) no_members))) ++ 10 ∷ []
-    ≡ codes "{\"nodes\":[" ++ (entries_text rows records waits false nodes ++ (codes "],\"round\":" ++ (decimal round ++ codes "}\n")))
+    → compact_text (object
+    (member (codes "nodes") (array_of (node_data rows records waits) nodes)
+    (member (codes "round") (count_data round) no_members))) ++ 10 ∷ []
+    ≡ codes "{\"nodes\":["
+    ++ (entries_text rows records waits false nodes ++ (codes "],\"round\":" ++ (decimal round ++ codes "}\n")))
 unfolding escape_byte
 whole_text rows records waits nodes round =
     let told = entries_text rows records waits false nodes in
     let count = decimal round in
-    ap (λ (text : List ℕ). codes "{\"nodes\":[" ++ (text ++ (codes ",\"round\":" ++ (count ++ codes "}"))) ++ 10 ∷ []) (items_are rows records waits false nodes)
-    ∙ ap (λ (text : List ℕ). codes "{\"nodes\":[" ++ text ++ 10 ∷ []) (append_assoc told (93 ∷ []) (codes ",\"round\":" ++ (count ++ codes "}")))
-    ∙ ap (λ (text : List ℕ). codes "{\"nodes\":[" ++ text) (append_assoc told (codes "],\"round\":" ++ (count ++ codes "}")) (10 ∷ []))
-    ∙ ap (λ (text : List ℕ). codes "{\"nodes\":[" ++ (told ++ (codes "],\"round\":" ++ text))) (append_assoc count (codes "}") (10 ∷ []))
+    ap (λ (text : List ℕ). codes "{\"nodes\":[" ++ (text ++ (codes ",\"round\":" ++ (count ++ codes "}"))) ++ 10 ∷ [])
+    (items_are rows records waits false nodes)
+    ∙ ap (λ (text : List ℕ). codes "{\"nodes\":[" ++ text ++ 10 ∷ [])
+    (append_assoc told (93 ∷ []) (codes ",\"round\":" ++ (count ++ codes "}")))
+    ∙ ap (λ (text : List ℕ). codes "{\"nodes\":[" ++ text)
+    (append_assoc told (codes "],\"round\":" ++ (count ++ codes "}")) (10 ∷ []))
+    ∙ ap (λ (text : List ℕ). codes "{\"nodes\":[" ++ (told ++ (codes "],\"round\":" ++ text)))
+    (append_assoc count (codes "}") (10 ∷ []))
 
 -- what was written in five parts
 pub all_written : (none begun told more counted whole opening nodes between count ending : List ℕ) → none ≡ []
-    → begun ≡ none ++ opening → told ≡ begun ++ nodes → more ≡ told ++ between → counted ≡ more ++ count → whole ≡ counted ++ ending
+    → begun ≡ none ++ opening → told ≡ begun ++ nodes → more ≡ told ++ between → counted ≡ more ++ count
+    → whole ≡ counted ++ ending
     → whole ≡ opening ++ (nodes ++ (between ++ (count ++ ending)))
-all_written none begun told more counted whole opening nodes between count ending is_none is_begun is_told is_more is_counted is_whole =
+all_written none begun told more counted whole opening nodes between count ending is_none is_begun is_told is_more
+    is_counted is_whole =
     is_whole ∙ ap (λ (text : List ℕ). text ++ ending)
     (is_counted ∙ ap (λ (text : List ℕ). text ++ count) (is_more ∙ ap (λ (text : List ℕ). text ++ between)
     (is_told ∙ ap (λ (text : List ℕ). text ++ nodes) (is_begun ∙ ap (λ (text : List ℕ). text ++ opening) is_none))))
@@ -151,12 +168,16 @@ unfolding escape_byte
 entry_parts rows records waits node =
     let rest = entry_end (record_at records node) (slice_index waits node) (weight_of rows node) in
     ap (λ (digits : List ℕ). codes "{\"path\":" ++ (quoted (path_of rows node) ++ (codes ",\"record\":" ++ (digits
-    ++ (codes ",\"waits\":" ++ (decimal (slice_index waits node) ++ (codes ",\"weight\":" ++ (decimal (weight_of rows node) ++ 125 ∷ []))))))))
+    ++ (codes ",\"waits\":"
+    ++ (decimal (slice_index waits node)
+    ++ (codes ",\"weight\":" ++ (decimal (weight_of rows node) ++ 125 ∷ []))))))))
     (text_of_integer (record_at records node))
-    ∙ ap (λ (text : List ℕ). codes "{\"path\":" ++ text) (sym (append_assoc (quoted (path_of rows node)) (codes ",\"record\":") rest))
+    ∙ ap (λ (text : List ℕ). codes "{\"path\":" ++ text)
+    (sym (append_assoc (quoted (path_of rows node)) (codes ",\"record\":") rest))
 
 -- an entry that was written in its two parts
-pub entry_written : (rows : Rows) (records : List ℤ) (waits : List ℕ) (node : ℕ) (old started new : List ℕ) (value : ℤ) (waited weight : ℕ)
+pub entry_written : (rows : Rows) (records : List ℤ) (waits : List ℕ) (node : ℕ) (old started new : List ℕ) (value : ℤ)
+    (waited weight : ℕ)
     → started ≡ old ++ entry_start rows node → new ≡ started ++ entry_end value waited weight
     → value ≡ record_at records node → waited ≡ slice_index waits node → weight ≡ weight_of rows node
     → new ≡ old ++ compact_text (node_data rows records waits node)
@@ -175,41 +196,49 @@ unfolding print_from
 text_of_string text = append-nil (quoted text)
 
 -- what a node's entry begins with, written in three parts
-pub start_written : (path before items whole : List ℕ) (none tokens : List Token) → before ≡ codes "{\"path\":" → none ≡ []
+pub start_written : (path before items whole : List ℕ) (none tokens : List Token)
+    → before ≡ codes "{\"path\":" → none ≡ []
     → tokens ≡ none ++ string path ∷ [] → items ≡ before ++ print tokens → whole ≡ items ++ codes ",\"record\":"
     → whole ≡ codes "{\"path\":" ++ (quoted path ++ codes ",\"record\":")
 start_written path before items whole none tokens is_before is_none is_tokens is_items is_whole =
     is_whole ∙ ap (λ (text : List ℕ). text ++ codes ",\"record\":")
     (is_items ∙ ap (λ (text : List ℕ). text ++ print tokens) is_before
-    ∙ ap (λ (ts : List Token). codes "{\"path\":" ++ print ts) (is_tokens ∙ ap (λ (ts : List Token). ts ++ string path ∷ []) is_none)
+    ∙ ap (λ (ts : List Token). codes "{\"path\":" ++ print ts)
+    (is_tokens ∙ ap (λ (ts : List Token). ts ++ string path ∷ []) is_none)
     ∙ ap (λ (text : List ℕ). codes "{\"path\":" ++ text) (text_of_string path))
     ∙ append_assoc (codes "{\"path\":") (quoted path) (codes ",\"record\":")
 
 -- as many entries begin as there are nodes
-pub starts_many : {T : Type 0} (text : T → List ℕ) (starts : List T) (rows : Rows) (count : ℕ) → AreStarts rows count (map text starts) → length starts ≡ count
+pub starts_many : {T : Type 0} (text : T → List ℕ) (starts : List T) (rows : Rows) (count : ℕ)
+    → AreStarts rows count (map text starts) → length starts ≡ count
 starts_many text starts rows count are =
-    sym (length-map starts text) ∙ ap length are ∙ length-map (numbers_below count) (entry_start rows) ∙ numbers_length count
+    sym (length-map starts text) ∙ ap length are ∙ length-map (numbers_below count) (entry_start rows)
+    ∙ numbers_length count
 
 -- each at its node's number
-pub start_at : {T : Type 0} (text : T → List ℕ) (starts : List T) (rows : Rows) (count node : ℕ) (start : T) → AreStarts rows count (map text starts)
+pub start_at : {T : Type 0} (text : T → List ℕ) (starts : List T) (rows : Rows) (count node : ℕ) (start : T)
+    → AreStarts rows count (map text starts)
     → node < count → start ≡ get_or starts node start → text start ≡ entry_start rows node
 start_at text starts rows count node start are few is =
     let many : length starts ≡ count = starts_many text starts rows count are in
     let there : slice_get (map text starts) node ≡ Some (text (get_or starts node start)) =
     slice_get-map text starts node ∙ ap (option_map text) (slice_get-get_or starts node start (omega arith)) in
     let own : slice_get (map (entry_start rows) (numbers_below count)) node ≡ Some (entry_start rows node) =
-    slice_get-map (entry_start rows) (numbers_below count) node ∙ ap (option_map (entry_start rows)) (numbers_get count node few) in
+    slice_get-map (entry_start rows) (numbers_below count) node
+    ∙ ap (option_map (entry_start rows)) (numbers_get count node few) in
     ap text is ∙ same_Some _ _ (sym there ∙ ap (λ (texts : List (List ℕ)). slice_get texts node) are ∙ own)
 
 -- one more
-pub starts_more : {T : Type 0} (text : T → List ℕ) (before after : List T) (rows : Rows) (node next : ℕ) (start : T) → next ≡ node
+pub starts_more : {T : Type 0} (text : T → List ℕ) (before after : List T) (rows : Rows) (node next : ℕ) (start : T)
+    → next ≡ node
     → text start ≡ entry_start rows next → AreStarts rows node (map text before) → after ≡ before ++ start ∷ []
     → AreStarts rows (node + 1) (map text after)
 starts_more text before after rows node next start same is are more =
     let step : suc node ≡ node + 1 = omega arith in
     ap (map text) more ∙ map-append text before (start ∷ [])
     ∙ ap (λ (texts : List (List ℕ)). texts ++ text start ∷ []) are
-    ∙ ap (λ (bytes : List ℕ). map (entry_start rows) (numbers_below node) ++ bytes ∷ []) (is ∙ ap (entry_start rows) same)
+    ∙ ap (λ (bytes : List ℕ). map (entry_start rows) (numbers_below node) ++ bytes ∷ [])
+    (is ∙ ap (entry_start rows) same)
     ∙ sym (map-append (entry_start rows) (numbers_below node) (node ∷ []))
     ∙ ap (λ (n : ℕ). map (entry_start rows) (numbers_below n)) step
 

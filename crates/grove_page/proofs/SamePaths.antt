@@ -13,16 +13,19 @@ below_same : (names others : ℕ → List ℕ) → ((node : ℕ) → names node 
 below_same names others same name None = refl
 below_same names others same name (Some parent) = ap (λ (front : List ℕ). front ++ 47 ∷ name) (same parent)
 
-names_same : (rows others : Rows) → unweighed rows ≡ unweighed others → (n node : ℕ) → names_within rows n node ≡ names_within others n node
+names_same : (rows others : Rows) → unweighed rows ≡ unweighed others → (n node : ℕ)
+    → names_within rows n node ≡ names_within others n node
 names_same rows others same zero node = refl
 names_same rows others same (suc n) node =
     let (parent, name) = (unweighed_same rows others same).1 node in
-    below_same (names_within rows n) (names_within others n) (names_same rows others same n) (name_of rows node) (parent_of rows node)
+    below_same (names_within rows n) (names_within others n) (names_same rows others same n) (name_of rows node)
+    (parent_of rows node)
     ∙ ap (λ (bytes : List ℕ). name_below (names_within others n) bytes (parent_of rows node)) name
     ∙ ap (λ (above : Option ℕ). name_below (names_within others n) (name_of others node) above) parent
 
 -- so their entries begin the same
-pub start_same : (rows others : Rows) → unweighed rows ≡ unweighed others → (node : ℕ) → entry_start rows node ≡ entry_start others node
+pub start_same : (rows others : Rows) → unweighed rows ≡ unweighed others → (node : ℕ)
+    → entry_start rows node ≡ entry_start others node
 start_same rows others same node =
     let long = (unweighed_same rows others same).0 in
     ap (λ (names : List ℕ). codes "{\"path\":" ++ (quoted (or_slash names) ++ codes ",\"record\":"))

@@ -19,7 +19,8 @@ AreStarts rows count starts = starts ≡ map (entry_start rows) (numbers_below c
 -- and what an entry goes on with
 abbrev pub entry_end : ℤ → ℕ → ℕ → List ℕ
 entry_end value waits weight =
-    signed_decimal value ++ (codes ",\"waits\":" ++ (decimal waits ++ (codes ",\"weight\":" ++ (decimal weight ++ 125 ∷ []))))
+    signed_decimal value
+    ++ (codes ",\"waits\":" ++ (decimal waits ++ (codes ",\"weight\":" ++ (decimal weight ++ 125 ∷ []))))
 
 -- one node's entry after the other, with commas between them, and before the first if others stand there
 abbrev pub entries_text : Rows → List ℤ → List ℕ → Bool → List ℕ → List ℕ

@@ -8,8 +8,11 @@ pub returns : goal.returns
 returns c =
     let nodes = nodes_told c.args.tree.now c.args.part.now in
     let told = entries_text c.args.tree.now c.args.records.now c.args.waits.now false nodes in
-    all_written c.in_ok-line.line.items c.extend_from_slice.new.self.items c.write_nodes.new.line.items c.extend_from_slice-2.new.self.items
-    c.write_number.new.line.items c.extend_from_slice-3.new.self.items (codes "{\"nodes\":[") told (codes "],\"round\":") (decimal c.args.round) (codes "}\n")
-    c.in_ok-line.ensures.items c.in_ok-extend_from_slice.ensures.items c.in_ok-write_nodes.ensures c.in_ok-extend_from_slice-2.ensures.items
+    all_written c.in_ok-line.line.items c.extend_from_slice.new.self.items c.write_nodes.new.line.items
+    c.extend_from_slice-2.new.self.items
+    c.write_number.new.line.items c.extend_from_slice-3.new.self.items
+    (codes "{\"nodes\":[") told (codes "],\"round\":") (decimal c.args.round) (codes "}\n")
+    c.in_ok-line.ensures.items c.in_ok-extend_from_slice.ensures.items c.in_ok-write_nodes.ensures
+    c.in_ok-extend_from_slice-2.ensures.items
     c.in_ok-write_number.ensures c.in_ok-extend_from_slice-3.ensures.items
     ∙ sym (whole_text c.args.tree.now c.args.records.now c.args.waits.now nodes c.args.round)

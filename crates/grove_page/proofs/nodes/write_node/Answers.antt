@@ -11,8 +11,10 @@ returns c =
     let waited : c.from-waited.result ≡ slice_index c.args.waits.now c.args.node = search rules in
     let weight : c.from-weight.result ≡ weight_of c.args.tree.now c.args.node = search rules in
     let fits : FitsSigned w64 c.get-value.result = search rules in
-    let ends : c.write_end.new.line.items ≡ c.write_start.new.line.items ++ entry_end c.get-value.result c.from-waited.result c.from-weight.result =
-    c.in_ok-write_end.ensures ∙ ap (λ n. c.write_start.new.line.items ++ entry_end n c.from-waited.result c.from-weight.result)
+    let ends : c.write_end.new.line.items ≡ c.write_start.new.line.items
+    ++ entry_end c.get-value.result c.from-waited.result c.from-weight.result =
+    c.in_ok-write_end.ensures
+    ∙ ap (λ n. c.write_start.new.line.items ++ entry_end n c.from-waited.result c.from-weight.result)
     (to_z-of_z w64 c.get-value.result fits) in
     entry_written c.args.tree.now c.args.records.now c.args.waits.now c.args.node c.args.line.now.items
     c.write_start.new.line.items c.write_end.new.line.items c.get-value.result c.from-waited.result c.from-weight.result

@@ -10,12 +10,16 @@ loop-number-preserved c =
     let test = is_told rows c.args.part.now in
     elim c.if-is_told.branch [
       | then-is_told+in_ok-write_comma+in_ok-write_node w ↦
-          let (text, some) = one_told rows c.args.records.now c.args.waits.now test c.loop-number.number c.new-node.result c.loop-number.later
-          c.args.line.now.items c.loop-number.line.items w.write_comma.new.line.items w.write_node.new.line.items c.new-node.ensures
-          (sym c.is_told.ensures ∙ w.if-is_told.true) c.loop-number.invariant.1 c.loop-number.invariant.0 w.in_ok-write_comma.ensures w.in_ok-write_node.ensures in
+          let (text, some) = one_told rows c.args.records.now c.args.waits.now test c.loop-number.number
+          c.new-node.result c.loop-number.later
+          c.args.line.now.items c.loop-number.line.items w.write_comma.new.line.items w.write_node.new.line.items
+          c.new-node.ensures
+          (sym c.is_told.ensures ∙ w.if-is_told.true) c.loop-number.invariant.1 c.loop-number.invariant.0
+          w.in_ok-write_comma.ensures w.in_ok-write_node.ensures in
           (ap (λ line. line.items) w.line-is ∙ text, w.later-is ∙ some)
       | else-is_told w ↦
-          let (text, some) = none_told rows c.args.records.now c.args.waits.now test c.loop-number.number c.new-node.result c.loop-number.later
+          let (text, some) = none_told rows c.args.records.now c.args.waits.now test c.loop-number.number
+          c.new-node.result c.loop-number.later
           c.args.line.now.items c.loop-number.line.items c.new-node.ensures
           (sym c.is_told.ensures ∙ w.if-is_told.false) c.loop-number.invariant.1 c.loop-number.invariant.0 in
           (ap (λ line. line.items) w.line-is ∙ text, w.later-is ∙ some)
