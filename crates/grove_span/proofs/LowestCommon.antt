@@ -1,11 +1,11 @@
 -- Climbing to the lowest node above two others.
-use Rattle.std.proofs.Common.{◌≡◌, ℕ, zero, suc, ◌<◌, ◌≤◌, List, length, slice_get, Some, None, sym, ◌∙◌, subst, inl, inr, arith}
-use Rattle.std.proofs.lemmas.Option.{none-some, same_Some, slice_get_within}
-use Rattle.std.proofs.lemmas.Bool.{cases_eq}
+use Rattle.std.proofs.Common.{◌≡◌, ℕ, zero, suc, ◌<◌, ◌≤◌, List, length, slice_get, get_or, Some, None, sym, ◌∙◌, arith}
+use Rattle.std.proofs.lemmas.Option.{none-some, slice_get_within, slice_get-get_or}
 use Rattle.grove_tree.specs.Trees.{Rows, IsAbove, IsTree, parent_of}
-use Rattle.grove_tree.proofs.Above.{above_trans, root_above}
-use Rattle.grove_access.specs.Forced.{IsCommon}
-use Rattle.grove_span.specs.Ways.{IsLowestCommon}
+use Rattle.grove_tree.proofs.Above.{above_le, root_above}
+use Rattle.grove_access.specs.Lists.{AreNodes}
+use Rattle.grove_span.specs.Ways.{AreAscending, IsAscending, IsLowestCommon}
+use Rattle.grove_span.proofs.ForcedWays.{above_between}
 
 -- a node without a parent is above every node
 pub top_above : (rows : Rows) → IsTree rows → (v w : ℕ) → v < length rows → w < length rows → parent_of rows v ≡ None → IsAbove rows v w
@@ -14,37 +14,35 @@ top_above rows tree (suc u) w lt within none =
     let place : (parent : ℕ) × (parent_of rows (suc u) ≡ Some parent) × IsAbove rows parent u = tree.preorder u lt in
     absurd (none-some place.0 (sym none ∙ place.1))
 
--- a node is the lowest above the accessed nodes so far
-pub record IsLowestTo (rows : Rows) (nodes : List ℕ) (n top : ℕ) : Type 0 where
-  pub within : top < length rows
-  pub common : (access target : ℕ) → access < n → slice_get nodes access ≡ Some target → IsAbove rows top target
-  pub lowest : (node : ℕ) → IsCommon rows nodes node → IsAbove rows node top
-
--- the first accessed node, before any access
-pub lowest_first : (rows : Rows) (nodes : List ℕ) (first : ℕ) → slice_get nodes 0 ≡ Some first → first < length rows → IsLowestTo rows nodes 0 first
-lowest_first rows nodes first at within = record {
-  within = within;
-  common = λ access target lt h. absurd (omega arith);
-  lowest = λ node all. all 0 first at;
+-- the lowest node above the first and the last of ascending targets is the lowest above all
+pub lowest_of_ends : (rows : Rows) (targets : List ℕ) (end first last top : ℕ) → IsTree rows → AreNodes rows targets → IsAscending targets
+    → length targets ≡ suc end → slice_get targets 0 ≡ Some first → slice_get targets end ≡ Some last → IsAbove rows top first → IsAbove rows top last
+    → ((node : ℕ) → IsAbove rows node first → IsAbove rows node last → IsAbove rows node top) → IsLowestCommon rows targets top
+lowest_of_ends rows targets end first last top tree within ascending size first_at last_at over_first over_last least = record {
+  common = λ place target at.
+      let least_one : first ≤ target = ascending 0 place first target (omega arith) first_at at in
+      let inside : place < length targets = slice_get_within targets place target at in
+      let most : target ≤ last = ascending place end target last (omega arith) at last_at in
+      let low : top ≤ first = above_le rows tree top first over_first in
+      above_between rows tree top target last (within end last last_at) (omega arith) most over_last;
+  lowest = λ node all. least node (all 0 first first_at) (all end last last_at);
 }
 
--- one more access: the lowest node above both
-pub lowest_next : (rows : Rows) (nodes : List ℕ) (n old target new : ℕ) → slice_get nodes n ≡ Some target → IsLowestTo rows nodes n old
-    → IsAbove rows new target → IsAbove rows new old → new < length rows
-    → ((node : ℕ) → IsAbove rows node old → IsAbove rows node target → IsAbove rows node new) → IsLowestTo rows nodes (suc n) new
-lowest_next rows nodes n old target new at so_far over_target over_old within least = record {
-  within = within;
-  common = λ access other lt h. elim (cases_eq access n) [
-    | inl e ↦ subst (λ (t : ℕ). IsAbove rows new t) (same_Some target other (sym at ∙ subst (λ (k : ℕ). slice_get nodes k ≡ Some other) e h)) over_target
-    | inr ne ↦ above_trans rows new old other over_old (so_far.common access other (omega arith) h)
-  ];
-  lowest = λ node all. least node (so_far.lowest node all) (all n target at);
-}
-
--- the same after all accesses
-pub lowest_last : (rows : Rows) (nodes : List ℕ) (n top : ℕ) → length nodes ≤ n → IsLowestTo rows nodes n top
+-- a lowest node above the targets is one above the accessed nodes that they are
+pub lowest_of_targets : (rows : Rows) (nodes targets : List ℕ) (top : ℕ) → AreAscending nodes targets → IsLowestCommon rows targets top
     → IsLowestCommon rows nodes top
-lowest_last rows nodes n top all so_far = record {
-  common = λ access target h. so_far.common access target (let lt : access < length nodes = slice_get_within nodes access target h in omega arith) h;
-  lowest = so_far.lowest;
+lowest_of_targets rows nodes targets top are is = record {
+  common = λ access target at. let (i, there) = are.all access target at in is.common i target there;
+  lowest = λ node all. is.lowest node (λ i target at. let (access, there) = are.named i target at in all access target there);
 }
+
+-- accessed nodes give targets
+pub targets_some : (nodes targets : List ℕ) → AreAscending nodes targets → 0 < length nodes → 0 < length targets
+targets_some nodes targets are some =
+    let (i, there) = are.all 0 (get_or nodes 0 0) (slice_get-get_or nodes 0 0 some) in
+    let inside : i < length targets = slice_get_within targets i (get_or nodes 0 0) there in
+    omega arith
+
+-- which are nodes where these are
+pub targets_fit : (rows : Rows) (nodes targets : List ℕ) → AreAscending nodes targets → AreNodes rows nodes → AreNodes rows targets
+targets_fit rows nodes targets are fits i target at = let (access, named) = are.named i target at in fits access target named

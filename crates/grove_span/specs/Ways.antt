@@ -12,12 +12,16 @@ pub record IsLowestCommon (rows : Rows) (nodes : List ℕ) (top : ℕ) : Type 0 
   pub common : IsCommon rows nodes top
   pub lowest : (node : ℕ) → IsCommon rows nodes node → IsAbove rows node top
 
+-- numbers that don't fall
+abbrev pub IsAscending : List ℕ → Type 0
+IsAscending targets = (i j first second : ℕ) → i ≤ j → slice_get targets i ≡ Some first
+    → slice_get targets j ≡ Some second → first ≤ second
+
 -- the accessed nodes, ascending
 pub record AreAscending (nodes targets : List ℕ) : Type 0 where
   pub named : (i target : ℕ) → slice_get targets i ≡ Some target → (access : ℕ) × (slice_get nodes access ≡ Some target)
   pub all : (access target : ℕ) → slice_get nodes access ≡ Some target → (i : ℕ) × (slice_get targets i ≡ Some target)
-  pub rising : (i j first second : ℕ) → i ≤ j → slice_get targets i ≡ Some first → slice_get targets j ≡ Some second
-      → first ≤ second
+  pub rising : IsAscending targets
 
 -- from a number up to a target, just the nodes above the target are forced
 abbrev pub AreForcedTo : Rows → List ℕ → ℕ → ℕ → Type 0

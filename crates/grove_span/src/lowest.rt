@@ -1,9 +1,8 @@
 ghost use Rattle.std.specs.Prelude.{ℕ, ◌<◌, length};
 ghost use Rattle.grove_tree.specs.Trees.{IsAbove, IsTree};
-ghost use Rattle.grove_access.specs.Lists.{nodes_of, AreNodes};
-ghost use Rattle.grove_span.specs.Ways.{IsLowestCommon};
+ghost use Rattle.grove_access.specs.Lists.{AreNodes};
+ghost use Rattle.grove_span.specs.Ways.{IsAscending, IsLowestCommon};
 
-use grove_access::AccessList;
 use grove_tree::{Node, Tree};
 
 /// The lowest node at or above `from` that is above `target` too.
@@ -26,17 +25,17 @@ fn climb(tree: &Tree, from: Node, target: Node) -> Node
     }
 }
 
-/// The lowest node that is above all accessed ones.
-pub fn lowest_common(tree: &Tree, list: &AccessList) -> Node
+/// The lowest node that is above all targets. Nodes are numbered in preorder, so what is above the first and the last
+/// of them is above all.
+pub fn lowest_common(tree: &Tree, targets: &[u32]) -> Node
     requires tree { IsTree tree.now }
-    requires fits { AreNodes tree.now (nodes_of list.now) }
-    requires some { 0 < length list.now }
-    ensures lowest { IsLowestCommon tree.now (nodes_of list.now) result }
+    requires within { AreNodes tree.now targets.now }
+    requires ascending { IsAscending targets.now }
+    requires some { 0 < length targets.now }
+    ensures lowest { IsLowestCommon tree.now targets.now result }
     ensures within { result < length tree.now }
 {
-    let mut top = list.get(0).node;
-    for access in 0..list.len() {
-        top = climb(tree, top, list.get(access).node);
-    }
-    top
+    let first = Node::new(targets[0]);
+    let last = Node::new(targets[targets.len() - 1]);
+    climb(tree, first, last)
 }

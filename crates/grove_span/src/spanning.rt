@@ -27,5 +27,6 @@ pub fn span(alloc: Global, tree: &Tree, list: &AccessList) -> Result<Vec<SpanRow
     // That the rows are a tree's is told with their number.
     let _nodes = tree.len();
     let targets = targets_of(alloc, list)?;
-    forced_rows(alloc, tree, list, lowest_common(tree, list), &targets)
+    let top = lowest_common(tree, &targets);
+    forced_rows(alloc, tree, list, top, &targets)
 }

@@ -1,27 +1,16 @@
-use Rattle.std.proofs.Common.{◌≡◌, ◌≤◌, add-one, arith, length}
-use Rattle.grove_access.specs.Lists.{nodes_of}
-use Rattle.grove_access.proofs.Lists.{node_at, nodes_length}
-use Rattle.grove_span.proofs.Accesses.{access_within}
-use Rattle.grove_span.proofs.LowestCommon.{lowest_first, lowest_next, lowest_last}
+use Rattle.std.proofs.Common.{◌≡◌, ◌-◌, ◌<◌, suc, length, arith, Some, sym, ap, ◌∙◌, ℕ}
+use Rattle.std.proofs.lemmas.Option.{slice_get-get_or}
+use Rattle.grove_span.proofs.LowestCommon.{lowest_of_ends}
 use Rattle.grove_span.proofs.lowest.lowest_common.Goals as goal
-
-pub loop-access-init : goal.loop-access-init
-loop-access-init c =
-    lowest_first c.args.tree.now (nodes_of c.args.list.now) c.get-top.result.node (node_at c.args.list.now 0 c.get-top.result c.get-top.ensures)
-    (access_within c.args.tree.now c.args.list.now 0 c.get-top.result c.requires.fits c.get-top.ensures)
-
-pub climb-top-requires-clause-target : goal.climb-top-requires-clause-target
-climb-top-requires-clause-target c = access_within c.args.tree.now c.args.list.now c.loop-access.access c.get.result c.requires.fits c.get.ensures
-
-pub loop-access-preserved : goal.loop-access-preserved
-loop-access-preserved c = rw add-one
-    (lowest_next c.args.tree.now (nodes_of c.args.list.now) c.loop-access.access c.loop-access.top c.get.result.node c.climb-top.result
-    (node_at c.args.list.now c.loop-access.access c.get.result c.get.ensures) c.loop-access.invariant
-    c.climb-top.ensures.target c.climb-top.ensures.from c.climb-top.ensures.within c.climb-top.ensures.lowest)
 
 pub returns-clause-lowest : goal.returns-clause-lowest
 returns-clause-lowest c =
-    let done : c.len-access-end.result ≤ c.loop-access.access = c.loop-access-test.false in
-    let size : c.len-access-end.result ≡ length c.args.list.now = c.len-access-end.ensures.number in
-    lowest_last c.args.tree.now (nodes_of c.args.list.now) c.loop-access.access c.loop-access.top
-    (omega (arith, nodes_length c.args.list.now)) c.loop-access.invariant
+    let targets = c.args.targets.now in
+    let some : 0 < length targets = c.requires.some in
+    let end = length targets - 1 in
+    let size : length targets ≡ suc end = omega arith in
+    let inside : end < length targets = omega arith in
+    lowest_of_ends c.args.tree.now targets end c.new-first.result c.new-last.result c.climb.result c.requires.tree c.requires.within c.requires.ascending size
+    (slice_get-get_or targets 0 0 some ∙ ap (λ (v : ℕ). Some v) (sym c.new-first.ensures))
+    (slice_get-get_or targets end 0 inside ∙ ap (λ (v : ℕ). Some v) (sym c.new-last.ensures))
+    c.climb.ensures.from c.climb.ensures.target c.climb.ensures.lowest
