@@ -1,49 +1,48 @@
 -- What the visits of a node tell of its slots.
-use Rattle.std.proofs.Common.{◌≡◌, ℕ, suc, ◌+◌, ◌-◌, ◌<◌, Bool, true, false, cond, List, length, Some, None, refl, sym, ap, arith}
-use Rattle.std.proofs.lemmas.Option.{none-some, same_Some}
-use Rattle.grove_base.proofs.Counting.{least_is, last_is}
+use Rattle.std.proofs.Common.{◌≡◌, ℕ, suc, ◌+◌, ◌-◌, ◌<◌, Bool, true, false, cond, List, length, Option, Some, None, refl, sym, ◌∙◌, ap, inl, inr, unwrap_or, arith}
+use Rattle.std.specs.Prelude.{option_map}
+use Rattle.std.proofs.lemmas.Bool.{cases_Bool}
+use Rattle.grove_base.proofs.Counting.{last_is}
 use Rattle.grove_access.specs.Forced.{names_at, is_accessed, first_access, last_end}
 use Rattle.grove_access.specs.Slots.{slots_before}
+use Rattle.grove_span.specs.declared.visit.Visits.{Visits}
 use Rattle.grove_span.specs.SpanRows.{from_of, until_of}
-use Rattle.grove_span.specs.Ways.{first_below, last_below_of}
+use Rattle.grove_span.specs.Ways.{first_below, last_below_of, HaveSlots}
 
--- a number that was chosen by a test
-chosen : (b : Bool) (x y : ℕ) → cond b (Some x) None ≡ Some y → (b ≡ true) × (x ≡ y)
-chosen true x y h = (refl, same_Some x y h)
-chosen false x y h = absurd (none-some y h)
+mapped : (b : Bool) (x : ℕ) (f : ℕ → ℕ) → option_map f (cond b (Some x) None) ≡ cond b (Some (f x)) None
+mapped true x f = refl
+mapped false x f = refl
 
-not_chosen : (b : Bool) (x : ℕ) → cond b (Some x) None ≡ None → b ≡ false
-not_chosen true x h = absurd (none-some x (sym h))
-not_chosen false x h = refl
+-- the slots before the first access are those that a row is to tell
+pub first_told : (nodes lengths : List ℕ) (node : ℕ) → option_map (slots_before lengths) (first_below nodes (length nodes) node) ≡ from_of nodes lengths node
+first_told nodes lengths node = mapped (is_accessed nodes node) (first_access nodes node) (slots_before lengths)
 
--- the first access is one of the list, and its slots are those that a row is to tell
-pub first_told : (nodes lengths : List ℕ) (node access : ℕ) → Some access ≡ first_below nodes (length nodes) node
-    → (access < length nodes) × (Some (slots_before lengths access) ≡ from_of nodes lengths node)
-first_told nodes lengths node access h =
-    let is = chosen (is_accessed nodes node) (first_access nodes node) access (sym h) in
-    let found : (first_access nodes node < length nodes) × (names_at nodes node (first_access nodes node) ≡ true) × ((k : ℕ) → k < first_access nodes node → names_at nodes node k ≡ false) =
-    least_is (length nodes) (names_at nodes node) is.0 in
-    let lt : first_access nodes node < length nodes = found.0 in
-    let e : first_access nodes node ≡ access = is.1 in
-    (omega arith, rw is.0 (ap (λ (k : ℕ). Some (slots_before lengths k)) (sym e)))
+-- and so are those before the end of the last one
+pub last_told : (nodes lengths : List ℕ) (node : ℕ)
+    → option_map (λ access. slots_before lengths (access + 1)) (last_below_of nodes (length nodes) node) ≡ until_of nodes lengths node
+last_told nodes lengths node = elim (cases_Bool (is_accessed nodes node)) [
+  | inl h ↦
+      let found : (k : ℕ) × (last_end nodes node ≡ suc k) × (k < length nodes) × (names_at nodes node k ≡ true) × ((j : ℕ) → k < j → j < length nodes → names_at nodes node j ≡ false) =
+      last_is (length nodes) (names_at nodes node) h in
+      let end : last_end nodes node ≡ suc found.0 = found.1 in
+      let after : last_end nodes node - 1 + 1 ≡ last_end nodes node = omega arith in
+      mapped (is_accessed nodes node) (last_end nodes node - 1) (λ access. slots_before lengths (access + 1))
+      ∙ ap (λ (k : ℕ). cond (is_accessed nodes node) (Some (slots_before lengths k)) None) after
+  | inr h ↦
+      ap (λ (b : Bool). option_map (λ access. slots_before lengths (access + 1)) (cond b (Some (last_end nodes node - 1)) None)) h
+      ∙ sym (ap (λ (b : Bool). cond b (Some (slots_before lengths (last_end nodes node))) None) h)
+]
 
--- and so is the last one
-pub last_told : (nodes lengths : List ℕ) (node access : ℕ) → Some access ≡ last_below_of nodes (length nodes) node
-    → (access < length nodes) × (Some (slots_before lengths (access + 1)) ≡ until_of nodes lengths node)
-last_told nodes lengths node access h =
-    let is = chosen (is_accessed nodes node) (last_end nodes node - 1) access (sym h) in
-    let found : (k : ℕ) × (last_end nodes node ≡ suc k) × (k < length nodes) × (names_at nodes node k ≡ true) × ((j : ℕ) → k < j → j < length nodes → names_at nodes node j ≡ false) =
-    last_is (length nodes) (names_at nodes node) is.0 in
-    let end : last_end nodes node ≡ suc found.0 = found.1 in
-    let lt : found.0 < length nodes = found.2 in
-    let e : last_end nodes node - 1 ≡ access = is.1 in
-    let after : access + 1 ≡ last_end nodes node = omega arith in
-    (omega arith, rw is.0 (ap (λ (k : ℕ). Some (slots_before lengths k)) after))
+-- one more access: its slots are the first where it is the first
+first_slots : (f : ℕ → ℕ) (first : Option ℕ) (access : ℕ) → unwrap_or (option_map f first) (f access) ≡ f (unwrap_or first access)
+first_slots f None access = refl
+first_slots f (Some earlier) access = refl
 
--- a node without accesses has no slots of its own
-pub none_first : (nodes lengths : List ℕ) (node : ℕ) → None ≡ first_below nodes (length nodes) node → None ≡ from_of nodes lengths node
-none_first nodes lengths node h = rw (not_chosen (is_accessed nodes node) (first_access nodes node) (sym h)) refl
-
--- neither at the end
-pub none_last : (nodes lengths : List ℕ) (node : ℕ) → None ≡ last_below_of nodes (length nodes) node → None ≡ until_of nodes lengths node
-none_last nodes lengths node h = rw (not_chosen (is_accessed nodes node) (last_end nodes node - 1) (sym h)) refl
+pub slots_hit : (lengths : List ℕ) (access before after : ℕ) (old new : Visits) → HaveSlots lengths old → before ≡ slots_before lengths access
+    → after ≡ slots_before lengths (access + 1) → new.first ≡ Some (unwrap_or old.first access) → new.last ≡ Some access
+    → new.from ≡ Some (unwrap_or old.from before) → new.until ≡ Some after → HaveSlots lengths new
+slots_hit lengths access before after old new so_far begin end first last from until = record {
+  from = from ∙ ap (λ (n : ℕ). Some (unwrap_or old.from n)) begin ∙ ap (λ (o : Option ℕ). Some (unwrap_or o (slots_before lengths access))) so_far.from
+      ∙ ap (λ (n : ℕ). Some n) (first_slots (slots_before lengths) old.first access) ∙ ap (option_map (slots_before lengths)) (sym first);
+  until = until ∙ ap (λ (n : ℕ). Some n) end ∙ ap (option_map (λ k. slots_before lengths (k + 1))) (sym last);
+}

@@ -1,7 +1,9 @@
 -- For the proofs alone: what the tables say while a span is found.
-use Rattle.std.specs.Prelude.{◌≡◌, ◌≢◌, ℕ, ◌-◌, ◌<◌, ◌≤◌, ◌↔◌, List, map, slice_get, Option, Some, None, if◌then◌else◌}
+use Rattle.std.specs.Prelude.{◌≡◌, ◌≢◌, ℕ, ◌+◌, ◌-◌, ◌<◌, ◌≤◌, ◌↔◌, List, map, slice_get, Option, Some, None}
+use Rattle.std.specs.Prelude.{option_map, if◌then◌else◌}
 use Rattle.grove_base.specs.Numbers.{any_below, passing_below, least_below, last_below}
 use Rattle.grove_tree.specs.Trees.{Rows, IsAbove}
+use Rattle.grove_access.specs.Slots.{slots_before}
 use Rattle.grove_access.specs.Forced.{names_at, IsCommon, IsForcedByTree, is_forced}
 use Rattle.grove_span.specs.SpanRows.{node_of_row, HaveParents, HaveWeights, HaveAccesses}
 use Rattle.grove_span.specs.declared.row.SpanRow.{SpanRow}
@@ -61,3 +63,8 @@ last_below_of nodes n node = if any_below n (names_at nodes node) then Some (las
 pub record TellsOf (nodes : List ℕ) (n node : ℕ) (visits : Visits) : Type 0 where
   pub first : visits.first ≡ first_below nodes n node
   pub last : visits.last ≡ last_below_of nodes n node
+
+-- the slots before the first access and before the end of the last one
+pub record HaveSlots (lengths : List ℕ) (visits : Visits) : Type 0 where
+  pub from : visits.from ≡ option_map (slots_before lengths) visits.first
+  pub until : visits.until ≡ option_map (λ access. slots_before lengths (access + 1)) visits.last

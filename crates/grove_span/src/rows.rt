@@ -4,7 +4,7 @@ ghost use Rattle.grove_access.specs.Forced.{forced_nodes};
 ghost use Rattle.grove_span.specs.SpanRows.{node_of_row, find_place, HaveParents, HaveWeights, HaveAccesses};
 ghost use Rattle.grove_span.specs.SpanRows.{IsAccessedSo};
 ghost use Rattle.grove_span.specs.Ways.{IsLowestCommon, AreAscending, AreForcedTo, IsFirstFrom, IsListedTo, IsRising};
-ghost use Rattle.grove_span.specs.Ways.{TellsOf};
+ghost use Rattle.grove_span.specs.Ways.{HaveSlots, TellsOf};
 
 use crate::SpanRow;
 use crate::visit::{Visits, visits_at};
@@ -99,29 +99,27 @@ fn place_of(number: u32, numbers: &[u32]) -> Option<u32>
 
 /// The row of a node with these visits.
 fn row_of(list: &AccessList, step: &WayNode, parent: Option<u32>, visits: Visits) -> SpanRow
-    requires { TellsOf (nodes_of list.now) (length (nodes_of list.now)) step.now.node visits }
+    requires tells { TellsOf (nodes_of list.now) (length (nodes_of list.now)) step.now.node visits }
+    requires slots { HaveSlots (lengths_of list.now) visits }
     ensures node { result.node ≡ step.now.node }
     ensures parent { result.parent ≡ parent }
     ensures weight { result.weight ≡ step.now.weight }
     ensures accesses { IsAccessedSo (nodes_of list.now) (lengths_of list.now) result }
 {
-    // The limits that hold of every list are told with its length.
-    let _accesses = list.len();
-    let Visits { first, last } = visits;
+    let Visits {
+        first,
+        last,
+        from,
+        until,
+    } = visits;
     SpanRow {
         node: step.node,
         parent,
         weight: step.weight,
         first,
         last,
-        from: match first {
-            Some(access) => Some(list.slots_before(access)),
-            None => None,
-        },
-        until: match last {
-            Some(access) => Some(list.slots_before(access + 1)),
-            None => None,
-        },
+        from,
+        until,
     }
 }
 
