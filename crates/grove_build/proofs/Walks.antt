@@ -7,6 +7,7 @@ use Rattle.std.proofs.lemmas.List.{take_all, drop_all, at_drop_more, get_or_push
 use Rattle.std.proofs.lemmas.Int.{ints}
 use Rattle.std.proofs.Math.ListN.{get_or-append}
 use borrow.Author.Differences.{up}
+use Rattle.grove_access.specs.Slots.{slots_before}
 use Rattle.grove_flow.specs.Networks.{place}
 use Rattle.std.proofs.lemmas.List.Edits.{map_over_more}
 use Rattle.std.proofs.lemmas.Bool.{cases_eq, and_right, and_from}
@@ -126,6 +127,15 @@ gaps_more slots places gaps i gap size so_far between lt at =
       within = lt;
       at = ap (λ (n : ℕ). pos n) (at ∙ sym (ap up (between.1).at)) ∙ (between.1).at;
     })
+
+-- the slots before one more gap
+pub slots_pushed : (lengths slots : List ℕ) (n after : ℕ) → length slots ≡ suc n
+    → ((gap : ℕ) → gap ≤ n → slice_index slots gap ≡ slots_before lengths gap) → after ≡ slots_before lengths (suc n)
+    → (gap : ℕ) → gap ≤ suc n → slice_index (slots ++ after ∷ []) gap ≡ slots_before lengths gap
+slots_pushed lengths slots n after size so_far is gap le = elim (cases_eq gap (suc n)) [
+  | inl e ↦ rw e (get_or_push slots after 0 (suc n) size ∙ is)
+  | inr ne ↦ get_or-append slots (after ∷ []) 0 gap (omega arith) ∙ so_far gap (omega arith)
+]
 
 -- the stay of one more row
 pub stay_more : (rows : List SpanRow) (gaps : List ℕ) (needed : List Bool) (stays more whole : List Stay) (k : ℕ)

@@ -23,9 +23,12 @@ pub fn lower(places: &mut [i64], slots: u32)
 pub fn slots_of(alloc: Global, list: &AccessList) -> Result<Vec<u32>, NoMemory>
     ensures { IfOk result (λ slots. AreSlots (lengths_of list.now) (length list.now) slots.items) }
 {
-    let mut slots = Vec::new(alloc);
-    for gap in 0..list.len() + 1 {
-        slots.push(list.slots_before(gap))?;
+    let mut slots = Vec::with_capacity(alloc, list.len() as usize + 1)?;
+    let mut before = 0;
+    slots.push(before)?;
+    for access in 0..list.len() {
+        before += list.get(access).length;
+        slots.push(before)?;
     }
     Ok(slots)
 }

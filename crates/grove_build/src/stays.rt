@@ -49,7 +49,7 @@ pub fn stays_of(
     requires needed { length needed.now ≡ length rows.now }
     ensures { IfOk result (λ stays. stays.items ≡ stays_from gaps.now needed.now 0 rows.now) }
 {
-    let mut stays = Vec::new(alloc);
+    let mut stays = Vec::with_capacity(alloc, rows.len())?;
     for (k, row) in rows.iter().enumerate() {
         stays.push(stay_of(row, gaps, needed, k))?;
     }
