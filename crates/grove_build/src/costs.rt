@@ -1,252 +1,211 @@
-use crate::slopes::{Own, Slopes};
+use crate::seats::Seats;
 use grove_span::SpanRow;
 use grove_tree::NoMemory;
 use std::alloc::Global;
 
-/// What rows cost, each with all that hangs below it, by the gaps of its lock and its release. The costs are
-/// convex, and told by their slopes.
+/// What rows cost, each with all that hangs below it, by the gaps of its lock and its release.
 ///
-/// Tables of slopes are kept of the rows that have several children, or a child and accesses. The others are the ends
-/// of chains, or have one child and no access.
+/// A lock that goes to a later gap makes no child's lock go anywhere else, up to the gap before the first access at or
+/// below its row. Up to there the cost falls evenly, if the release goes where it is best. So that gap and that fall
+/// are all that a row tells its parent.
 #[derive(Drop)]
 pub struct Costs {
-    tables: Vec<Vec<Slopes>>,
     rows: Vec<RowCost>,
+    /// What the children of all rows tell, those of each row together, and the latest of them first.
+    told: Vec<Fall>,
+    seats: Seats,
 }
 
-/// A row's slopes, by those of a row at or below it.
+/// By how much a row's cost falls where its lock goes a gap later, and the last gap up to which it does.
 #[derive(Clone, Copy)]
-struct RowCost {
-    base: Base,
-    /// The least slope is nowhere less.
-    floor: i64,
-    chain: Option<Link>,
+pub struct Fall {
+    pub latest: usize,
+    pub by: i64,
 }
 
-/// The slopes of the lowest row of a chain.
-#[derive(Clone, Copy)]
-enum Base {
-    /// It has no children.
-    End(Own),
-    /// The number of its table.
-    Table(usize),
+impl Fall {
+    const NONE: Fall = Fall { latest: 0, by: 0 };
 }
 
-/// A row with one child and no access.
+/// What a row costs.
 #[derive(Clone, Copy)]
-struct Link {
-    weight: i64,
-    /// The child's floor.
-    below: i64,
+pub struct RowCost {
+    pub weight: i64,
+    /// The gap after its own last access, where it has one.
+    earliest: Option<usize>,
+    pub fall: Fall,
+    /// By how much its children's costs fall together.
+    pub below: i64,
 }
 
 impl RowCost {
-    fn new(base: Base) -> RowCost {
+    const NONE: RowCost = RowCost {
+        weight: 0,
+        earliest: None,
+        fall: Fall::NONE,
+        below: 0,
+    };
+
+    fn new(row: &SpanRow, weight: i64) -> RowCost {
         RowCost {
-            base,
-            floor: i64::MIN,
-            chain: None,
+            weight,
+            earliest: row.last.map(|last| last as usize + 1),
+            fall: Fall {
+                latest: row.first.map_or(usize::MAX, |first| first as usize),
+                by: weight,
+            },
+            below: 0,
         }
     }
 
-    /// What a parent in a chain costs, whose only child costs this.
-    fn of_parent(self, weight: i64) -> RowCost {
-        RowCost {
-            base: self.base,
-            floor: self.floor.max(0i64.saturating_sub(weight)),
-            chain: Some(Link {
-                weight,
-                below: self.floor,
-            }),
-        }
+    /// Adds a child.
+    fn add(&mut self, child: Fall) {
+        self.fall.latest = self.fall.latest.min(child.latest);
+        self.below = self.below.saturating_add(child.by);
     }
 
-    /// The row's slopes where those of its base are these.
-    fn slopes(self, base: Slopes) -> Slopes {
-        match self.chain {
-            None => base,
-            Some(link) => {
-                let child = base.least.max(link.below);
-                Slopes {
-                    lock: child.max(0).saturating_sub(link.weight),
-                    release: child.min(0).saturating_add(link.weight),
-                    least: base.least.max(self.floor),
-                }
+    /// What the row tells its parent when all its children are added. The release of a row without accesses goes with
+    /// its lock, or stays and lets its children go.
+    fn settle(&mut self) -> Fall {
+        if self.earliest.is_none() {
+            self.fall.by = self.weight.min(self.below);
+        }
+        self.fall
+    }
+
+    /// The first gap from the lock on at which the cost of the release rises, and by how much it rises there. It rises
+    /// by the row's weight less the falls of the children that may be locked later.
+    pub fn release(self, children: &[Fall], lock: usize) -> Release {
+        let least = lock.max(self.earliest.unwrap_or(0));
+        let mut gap = usize::MAX;
+        let mut behind = self.weight;
+        let mut rise = self.weight;
+        for child in children {
+            if child.latest <= least {
+                break;
+            }
+            if child.latest < gap {
+                gap = child.latest;
+                behind = rise;
+            }
+            rise = rise.saturating_sub(child.by);
+            if rise <= 0 {
+                return Release { gap, rise: behind };
             }
         }
+        Release { gap: least, rise }
     }
 }
 
-/// The slopes of a row on each step.
+/// Where a row is released best, and by how much its cost rises behind.
 #[derive(Clone, Copy)]
-pub struct RowSlopes<'a> {
-    cost: RowCost,
-    table: &'a [Slopes],
-}
-
-impl RowSlopes<'_> {
-    /// The slopes on the step that ends at the gap.
-    pub fn at(self, gap: usize) -> Slopes {
-        self.cost.slopes(self.base_at(gap))
-    }
-
-    /// The least slope on that step.
-    pub fn least_at(self, gap: usize) -> i64 {
-        let base = match self.cost.base {
-            Base::End(own) => own.least_alone(gap),
-            Base::Table(_) => self.in_table(gap).least,
-        };
-        base.max(self.cost.floor)
-    }
-
-    /// The last gap up to which the cost doesn't rise, between these two.
-    pub fn lock(self, from: usize, to: usize) -> usize {
-        if let Base::End(own) = self.cost.base {
-            return own.first.min(to).max(from);
-        }
-        for gap in from..to {
-            if self.least_at(gap + 1) > 0 {
-                return gap;
-            }
-        }
-        from.max(to)
-    }
-
-    fn base_at(self, gap: usize) -> Slopes {
-        match self.cost.base {
-            Base::End(own) => own.slopes(Slopes::FLAT, gap),
-            Base::Table(_) => self.in_table(gap),
-        }
-    }
-
-    fn in_table(self, gap: usize) -> Slopes {
-        self.table.get(gap).copied().unwrap_or(Slopes::FLAT)
-    }
-
-    /// Puts the row's slopes into those of its parent.
-    fn add_to(self, sum: &mut [Slopes]) {
-        let floor = self.cost.floor;
-        match self.cost.base {
-            Base::End(own) => {
-                for (gap, slopes) in sum.iter_mut().enumerate() {
-                    *slopes = slopes.with_child(own.least_alone(gap).max(floor));
-                }
-            }
-            Base::Table(_) => {
-                for (slopes, base) in sum.iter_mut().zip(self.table) {
-                    *slopes = slopes.with_child(base.least.max(floor));
-                }
-            }
-        }
-    }
+pub struct Release {
+    pub gap: usize,
+    pub rise: i64,
 }
 
 impl Costs {
-    /// Adds up the slopes from the last row to the first. A row's release needs its weight.
+    /// Adds up the falls from the last row to the first. A row's release needs its weight.
     pub fn new(
         alloc: Global,
         rows: &[SpanRow],
         needs: &[i64],
         accesses: usize,
     ) -> Result<Costs, NoMemory> {
-        let mut costs = Costs {
-            tables: Vec::new(alloc),
-            rows: Vec::with_capacity(alloc, rows.len())?,
-        };
-        for (k, row) in rows.iter().enumerate() {
-            let own = Own::new(row, weight_at(needs, k));
-            costs.rows.push(RowCost::new(Base::End(own)))?;
-        }
-        let mut sums = sums_of(alloc, rows, accesses)?;
-        for (k, row) in rows.iter().enumerate().rev() {
-            if let Some(sum) = sums.pop() {
-                costs.keep(k, sum)?;
-            }
-            if let Some(parent) = row.parent {
-                costs.hand_up(k, parent as usize, needs, &mut sums);
-            }
-        }
-        Ok(costs)
+        let mut costs = costs_of(alloc, rows, needs)?;
+        add_up(rows, &mut costs);
+        let order = order_of(alloc, &costs, accesses)?;
+        let (told, seats) = told_of(alloc, rows, &costs, &order)?;
+        Ok(Costs {
+            rows: costs,
+            told,
+            seats,
+        })
     }
 
-    /// Keeps the table of a row that has one, when all its children are in it.
-    fn keep(&mut self, k: usize, sum: Vec<Slopes>) -> Result<(), NoMemory> {
-        if let Some(cost) = self.rows.get_mut(k)
-            && let Base::End(own) = cost.base
-            && !sum.is_empty()
-        {
-            let mut table = sum;
-            for (gap, slopes) in table.iter_mut().enumerate() {
-                *slopes = own.slopes(*slopes, gap);
-            }
-            cost.base = Base::Table(self.tables.len());
-            self.tables.push(table)?;
-        }
-        Ok(())
-    }
-
-    /// Puts the row into its parent's slopes.
-    fn hand_up(&mut self, k: usize, parent: usize, needs: &[i64], sums: &mut [Vec<Slopes>]) {
-        if let Some(sum) = sums.get_mut(parent) {
-            let row = self.of(k);
-            if !sum.is_empty() {
-                row.add_to(sum);
-                return;
-            }
-            let chained = row.cost.of_parent(weight_at(needs, parent));
-            if let Some(cost) = self.rows.get_mut(parent) {
-                *cost = chained;
-            }
-        }
-    }
-
-    /// The slopes of the row.
-    pub fn of(&self, k: usize) -> RowSlopes<'_> {
-        let cost = match self.rows.get(k) {
+    /// What the row costs.
+    pub fn of(&self, k: usize) -> RowCost {
+        match self.rows.get(k) {
             Some(cost) => *cost,
-            None => RowCost::new(Base::Table(self.tables.len())),
-        };
-        let table = match cost.base {
-            Base::End(_) => None,
-            Base::Table(number) => self.tables.get(number),
-        };
-        RowSlopes {
-            cost,
-            table: match table {
-                Some(table) => table,
-                None => &[],
-            },
+            None => RowCost::NONE,
+        }
+    }
+
+    /// What its children tell the row, the latest of them first.
+    pub fn told(&self, k: usize) -> &[Fall] {
+        match self.told.get(self.seats.of(k)) {
+            Some(told) => told,
+            None => &[],
         }
     }
 }
 
-/// Flat slopes for each row that has a table, and none for the others.
-fn sums_of(alloc: Global, rows: &[SpanRow], accesses: usize) -> Result<Vec<Vec<Slopes>>, NoMemory> {
-    let children = children_of(alloc, rows)?;
-    let mut sums = Vec::with_capacity(alloc, rows.len())?;
-    for (row, children) in rows.iter().zip(&children) {
-        let has_table = *children > 1 || (*children == 1 && row.first.is_some());
-        let steps = if has_table {
-            accesses.saturating_add(2)
-        } else {
-            0
-        };
-        sums.push(vec![in alloc; Slopes::FLAT; steps]?)?;
+/// What each row costs alone.
+fn costs_of(alloc: Global, rows: &[SpanRow], needs: &[i64]) -> Result<Vec<RowCost>, NoMemory> {
+    let mut costs = Vec::with_capacity(alloc, rows.len())?;
+    for (k, row) in rows.iter().enumerate() {
+        costs.push(RowCost::new(row, weight_at(needs, k)))?;
     }
-    Ok(sums)
+    Ok(costs)
 }
 
-/// How many children each row has.
-fn children_of(alloc: Global, rows: &[SpanRow]) -> Result<Vec<u32>, NoMemory> {
-    let mut children = vec![in alloc; 0u32; rows.len()]?;
-    for row in rows {
+/// Adds what each row costs to what its parent does.
+fn add_up(rows: &[SpanRow], costs: &mut [RowCost]) {
+    for (k, row) in rows.iter().enumerate().rev() {
+        let fall = match costs.get_mut(k) {
+            Some(cost) => cost.settle(),
+            None => Fall::NONE,
+        };
         if let Some(parent) = row.parent
-            && let Some(count) = children.get_mut(parent as usize)
+            && let Some(cost) = costs.get_mut(parent as usize)
         {
-            *count = count.saturating_add(1);
+            cost.add(fall);
         }
     }
-    Ok(children)
+}
+
+/// The rows, those first that may be locked latest.
+fn order_of(alloc: Global, costs: &[RowCost], accesses: usize) -> Result<Vec<usize>, NoMemory> {
+    let mut seats = Seats::new(alloc, accesses.saturating_add(1))?;
+    for cost in costs {
+        seats.count(accesses.saturating_sub(cost.fall.latest));
+    }
+    seats.begin();
+    let mut order = vec![in alloc; 0usize; costs.len()]?;
+    for (k, cost) in costs.iter().enumerate() {
+        let seat = seats.seat(accesses.saturating_sub(cost.fall.latest));
+        if let Some(place) = order.get_mut(seat) {
+            *place = k;
+        }
+    }
+    Ok(order)
+}
+
+/// What the children of each row tell it, in this order, and where they sit.
+fn told_of(
+    alloc: Global,
+    rows: &[SpanRow],
+    costs: &[RowCost],
+    order: &[usize],
+) -> Result<(Vec<Fall>, Seats), NoMemory> {
+    let mut seats = Seats::new(alloc, rows.len())?;
+    for row in rows {
+        if let Some(parent) = row.parent {
+            seats.count(parent as usize);
+        }
+    }
+    seats.begin();
+    let mut told = vec![in alloc; Fall::NONE; rows.len()]?;
+    for k in order {
+        if let Some(row) = rows.get(*k)
+            && let Some(parent) = row.parent
+            && let Some(cost) = costs.get(*k)
+            && let Some(place) = told.get_mut(seats.seat(parent as usize))
+        {
+            *place = cost.fall;
+        }
+    }
+    Ok((told, seats))
 }
 
 fn weight_at(needs: &[i64], k: usize) -> i64 {

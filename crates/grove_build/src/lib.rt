@@ -19,7 +19,7 @@ mod network;
 mod places;
 mod planning;
 mod proposing;
-mod slopes;
+mod seats;
 mod solving;
 mod stays;
 mod steps;

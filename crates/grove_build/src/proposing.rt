@@ -1,10 +1,11 @@
-use crate::costs::{Costs, RowSlopes};
+use crate::costs::{Costs, Fall, Release, RowCost};
 use crate::network::{RowArcs, RowsNetwork};
 use grove_flow::Solution;
 use grove_proof::FlowRow;
 use grove_span::SpanRow;
 use grove_tree::NoMemory;
 use std::alloc::Global;
+use std::cmp::Ordering;
 
 /// Where a row is locked and released, and what these still have to send to its children.
 #[derive(Clone, Copy)]
@@ -49,7 +50,7 @@ fn go_down(
     let end = slots.len().saturating_sub(1);
     let mut stands: Vec<Stand> = Vec::with_capacity(alloc, rows.len())?;
     for (k, row) in rows.iter().enumerate() {
-        let (stand, flow) = stand_of(costs.of(k), row, end, &mut stands);
+        let (stand, flow) = stand_of(costs.of(k), costs.told(k), row, end, &mut stands);
         if let Some(name) = named.names.get(k) {
             send(&mut solution.amounts, name, &flow);
         }
@@ -71,7 +72,8 @@ struct Share {
 
 /// Where the row stands, and its row of the flow.
 fn stand_of(
-    slopes: RowSlopes<'_>,
+    cost: RowCost,
+    told: &[Fall],
     row: &SpanRow,
     end: usize,
     stands: &mut [Stand],
@@ -81,16 +83,16 @@ fn stand_of(
         to,
         above,
         held,
-    } = share_of(slopes, row, end, stands);
-    let lock = slopes.lock(from, to);
-    let release = release_of(slopes, lock, end);
+    } = share_of(cost.fall, row, end, stands);
+    let lock = cost.fall.latest.min(to).max(from);
+    let Release { gap, rise } = cost.release(told, lock);
     let mut stand = Stand {
         lock,
-        release,
+        release: gap,
         above: above.saturating_sub(held),
-        held: 0,
+        held: rise,
     };
-    let own = stand.send_own(slopes);
+    let own = stand.send_own(cost);
     let flow = FlowRow {
         node: row.node,
         above: above.unsigned_abs(),
@@ -103,15 +105,15 @@ fn stand_of(
 }
 
 /// What the row's parent leaves to it. The topmost row has all gaps.
-fn share_of(slopes: RowSlopes<'_>, row: &SpanRow, end: usize, stands: &mut [Stand]) -> Share {
+fn share_of(fall: Fall, row: &SpanRow, end: usize, stands: &mut [Stand]) -> Share {
     if let Some(parent) = row.parent
         && let Some(parent) = stands.get_mut(parent as usize)
     {
         Share {
             from: parent.lock,
             to: parent.release,
-            above: parent.share_above(slopes),
-            held: parent.share_held(slopes),
+            above: parent.share_above(fall),
+            held: parent.share_held(fall),
         }
     } else {
         Share {
@@ -124,21 +126,18 @@ fn share_of(slopes: RowSlopes<'_>, row: &SpanRow, end: usize, stands: &mut [Stan
 }
 
 impl Stand {
-    /// What the row's lock sends to its own release. What is left to each for the children and the accesses is worked
-    /// out from their slopes.
-    fn send_own(&mut self, slopes: RowSlopes<'_>) -> i64 {
-        let here = slopes.at(self.lock);
+    /// What the row's lock sends to its own release. What is left to each is for the children and the accesses.
+    fn send_own(&mut self, cost: RowCost) -> i64 {
+        let above = self.above.saturating_add(cost.weight);
         let mut own = 0;
         if self.lock == self.release {
-            let after = slopes.at(self.lock.saturating_add(1));
-            own = here
-                .release
-                .max(self.above.saturating_sub(after.lock))
-                .max(0);
+            own = cost.weight.saturating_sub(cost.below).max(0);
+            if self.lock < cost.fall.latest {
+                own = own.max(above);
+            }
         }
-        let behind = slopes.at(self.release.saturating_add(1));
-        self.above = self.above.saturating_sub(own).saturating_sub(here.lock);
-        self.held = behind.release.saturating_sub(own);
+        self.above = above.saturating_sub(own);
+        self.held = self.held.saturating_sub(own);
         own
     }
 
@@ -164,18 +163,22 @@ impl Stand {
         }
     }
 
-    /// What the row's lock sends to that of its child.
-    fn share_above(&mut self, child: RowSlopes<'_>) -> i64 {
-        let least = child.least_at(self.lock).max(0);
-        let most = child.least_at(self.lock.saturating_add(1)).max(0);
-        least.saturating_add(take_up_to(&mut self.above, most.saturating_sub(least)))
+    /// What the row's lock sends to that of its child: all that is left, where the child can't be locked later.
+    fn share_above(&mut self, child: Fall) -> i64 {
+        if child.latest > self.lock {
+            return 0;
+        }
+        let left = self.above;
+        take_up_to(&mut self.above, left)
     }
 
-    /// What the child's lock sends to the row's release.
-    fn share_held(&mut self, child: RowSlopes<'_>) -> i64 {
-        let least = child.least_at(self.release.saturating_add(1)).min(0);
-        let most = child.least_at(self.release).min(0);
-        take_up_to(&mut self.held, least.saturating_sub(most)).saturating_sub(least)
+    /// What the child's lock sends to the row's release, which keeps it from where it could be.
+    fn share_held(&mut self, child: Fall) -> i64 {
+        match child.latest.cmp(&self.release) {
+            Ordering::Less => 0,
+            Ordering::Equal => take_up_to(&mut self.held, child.by),
+            Ordering::Greater => child.by,
+        }
     }
 }
 
@@ -184,16 +187,6 @@ fn take_up_to(left: &mut i64, most: i64) -> i64 {
     let more = most.min(*left);
     *left = left.saturating_sub(more);
     more
-}
-
-/// The last gap up to which the cost of the row's release doesn't rise.
-fn release_of(slopes: RowSlopes<'_>, lock: usize, end: usize) -> usize {
-    for gap in lock..end {
-        if slopes.at(gap + 1).release > 0 {
-            return gap;
-        }
-    }
-    lock.max(end)
 }
 
 /// Sends the amounts along the row's arcs.
