@@ -58,7 +58,7 @@ fn slot_of(place: i64) -> u32
     place as u32
 }
 
-/// The gap before which there are so many slots.
+/// The gap before which there are so many slots. Where the accesses before it are a slot long each, it has that number.
 fn gap_of(slots: &[u32], before: u32) -> u32
     requires few { length slots.now ≤ 65 }
     requires rising { AreRising slots.now }
@@ -66,6 +66,10 @@ fn gap_of(slots: &[u32], before: u32) -> u32
     ensures within { result < length slots.now }
     ensures at { slice_index slots.now result ≡ before }
 {
+    let guess = before as usize;
+    if guess < slots.len() && slots[guess] == before {
+        return before;
+    }
     match slots.binary_search(&before) {
         Ok(gap) => gap as u32,
         Err(_) => unreachable!(),
