@@ -6,7 +6,7 @@ use Rattle.std.proofs.lemmas.Bool.{cases_eq, cases_lt, cases_Bool}
 use Rattle.grove_base.specs.Numbers.{passing_below}
 use Rattle.grove_base.proofs.Lists.{get_map, map_length}
 use Rattle.grove_base.proofs.Counting.{passing_got, passing_rises}
-use Rattle.grove_tree.specs.Trees.{Rows, IsTree, IsAbove, parent_of, is_above}
+use Rattle.grove_tree.specs.Trees.{Rows, IsTree, IsAbove, parent_of, weight_of, is_above}
 use Rattle.grove_tree.specs.Ways.{way_of, node_on_way, IsRowOf}
 use Rattle.grove_tree.specs.declared.way.WayNode.{WayNode}
 use Rattle.grove_tree.proofs.Above.{above_self, above_le, above_trans, above_either, above_parent}
@@ -179,6 +179,27 @@ down_lists rows nodes lengths start target i next after numbers more items grown
       to = omega arith;
       past = past_next (way_of rows target) i step.node after at (omega arith) (λ j other lt there. let less : other < next = so_far.past j other lt there in omega arith);
     }
+
+-- a target is listed whose parent isn't among the nodes from the next one on
+pub child_lists : (rows : Rows) (nodes lengths : List ℕ) (target parent next after : ℕ) (numbers more : List ℕ) (items grown : List SpanRow) (row : SpanRow)
+    → IsTree rows → AreNodes rows nodes → target < length rows → parent_of rows target ≡ Some parent → parent < next → next ≤ target
+    → AreForcedTo rows nodes next target → row.node ≡ target → row.weight ≡ weight_of rows target → row.parent ≡ find_place parent numbers
+    → IsAccessedSo nodes lengths row → after ≡ suc row.node → more ≡ numbers ++ row.node ∷ [] → grown ≡ items ++ row ∷ []
+    → IsListedTo rows nodes lengths next numbers items → IsListedTo rows nodes lengths after more grown
+child_lists rows nodes lengths target parent next after numbers more items grown row tree fits within own less ahead forced is heavy place visited past_it counted listed so_far =
+    let hit : is_forced rows nodes target ≡ true = forced_get rows nodes target tree ((forced target ahead (omega arith)).1 (above_self rows target)) in
+    let under : row.parent ≡ option_and_then (λ p. find_place p numbers) (parent_of rows target) =
+    place ∙ ap (λ (o : Option ℕ). option_and_then (λ p. find_place p numbers) o) (sym own) in
+    let end : after ≡ suc target = past_it ∙ ap suc is in
+    let same : more ≡ numbers ++ target ∷ [] = counted ∙ ap (λ (v : ℕ). numbers ++ v ∷ []) is in
+    let one_more : IsListedTo rows nodes lengths (suc target) (numbers ++ target ∷ []) (items ++ row ∷ []) =
+    list_hit rows nodes lengths target numbers items row tree within hit is heavy under visited
+    (list_misses rows nodes lengths tree fits next target numbers items ahead (λ node from to other.
+    let over : IsAbove rows node target = (forced node from (omega arith)).0 other in
+    let up : IsAbove rows node parent = above_parent rows node target parent own (λ e. omega arith) over in
+    let low : node ≤ parent = above_le rows tree node parent up in
+    omega arith) so_far) in
+    rw (end, same, listed) one_more
 
 -- at the end of the way the target is the last that was looked at
 pub down_ends : (rows : Rows) (nodes lengths : List ℕ) (start target i next : ℕ) (numbers : List ℕ) (items : List SpanRow) → IsTree rows → length (way_of rows target) ≤ i

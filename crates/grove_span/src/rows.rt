@@ -1,4 +1,6 @@
-ghost use Rattle.std.specs.Prelude.{◌≡◌, suc, ◌<◌, ◌≤◌, ◌++◌, ◌∷◌, [], length, IfOk, OnOk, map, option_and_then};
+ghost use Rattle.std.specs.Prelude.{◌≡◌, suc, ◌<◌, ◌≤◌, ◌++◌, ◌∷◌, [], length, IfOk, OnOk, map, Some};
+ghost use Rattle.std.specs.Prelude.{option_and_then};
+ghost use Rattle.grove_tree.specs.Trees.{parent_of};
 ghost use Rattle.grove_access.specs.Lists.{nodes_of, lengths_of, AreNodes};
 ghost use Rattle.grove_access.specs.Forced.{forced_nodes};
 ghost use Rattle.grove_span.specs.SpanRows.{node_of_row, find_place, HaveParents, HaveWeights, HaveAccesses};
@@ -7,7 +9,7 @@ ghost use Rattle.grove_span.specs.Ways.{IsLowestCommon, AreAscending, AreForcedT
 ghost use Rattle.grove_span.specs.Ways.{HaveSlots, TellsOf};
 
 use crate::SpanRow;
-use crate::visit::{Visits, visits_at};
+use crate::visit::{Visits, visits_at, visits_of};
 use grove_access::AccessList;
 use grove_tree::{NoMemory, Node, Tree, WayNode};
 use std::alloc::Global;
@@ -21,6 +23,69 @@ struct Listed {
 }
 
 impl Listed {
+    /// Lists the nodes down to the target that aren't listed yet. Often there is none between it and a listed one.
+    fn push_target(
+        &mut self,
+        alloc: Global,
+        tree: &Tree,
+        list: &AccessList,
+        target: Node,
+    ) -> Result<(), NoMemory>
+        requires fits { AreNodes tree.now (nodes_of list.now) }
+        requires target { target < length tree.now }
+        requires ahead { self.old.next ≤ target }
+        requires first { IsFirstFrom (nodes_of list.now) self.old.next target }
+        requires forced { AreForcedTo tree.now (nodes_of list.now) self.old.next target }
+        requires listed { IsListedTo tree.now (nodes_of list.now) (lengths_of list.now) self.old.next
+            self.old.numbers.items self.old.rows.items }
+        ensures next { OnOk result (self.new.next ≡ suc target) }
+        ensures listed { OnOk result
+            (IsListedTo tree.now (nodes_of list.now) (lengths_of list.now) self.new.next self.new.numbers.items
+            self.new.rows.items) }
+    {
+        if let Some(parent) = tree.parent(target)
+            && parent.number() < self.next
+        {
+            self.push_child(tree, list, target, parent)
+        } else {
+            self.push_way(alloc, tree, list, target)
+        }
+    }
+
+    /// Lists the target, whose parent isn't among the nodes still to be listed.
+    fn push_child(
+        &mut self,
+        tree: &Tree,
+        list: &AccessList,
+        target: Node,
+        parent: Node,
+    ) -> Result<(), NoMemory>
+        requires fits { AreNodes tree.now (nodes_of list.now) }
+        requires target { target < length tree.now }
+        requires ahead { self.old.next ≤ target }
+        requires forced { AreForcedTo tree.now (nodes_of list.now) self.old.next target }
+        requires parent { parent_of tree.now target ≡ Some parent }
+        requires listed_parent { parent < self.old.next }
+        requires listed { IsListedTo tree.now (nodes_of list.now) (lengths_of list.now) self.old.next
+            self.old.numbers.items self.old.rows.items }
+        ensures next { OnOk result (self.new.next ≡ suc target) }
+        ensures listed { OnOk result
+            (IsListedTo tree.now (nodes_of list.now) (lengths_of list.now) self.new.next self.new.numbers.items
+            self.new.rows.items) }
+    {
+        // The limits that hold of every tree are told with its length.
+        let _nodes = tree.len();
+        let step = WayNode {
+            node: target,
+            parent: Some(parent),
+            weight: tree.weight(target),
+        };
+        let place = place_of(parent.number(), &self.numbers);
+        let row = row_of(list, &step, place, visits_of(list, target));
+        self.push(row)?;
+        Ok(())
+    }
+
     /// Lists the nodes on the way down to the target that aren't listed yet. Only the target has accesses among them.
     fn push_way(
         &mut self,
@@ -142,14 +207,16 @@ pub fn forced_rows(
 {
     // That the rows are a tree's is told with their number.
     let _nodes = tree.len();
+    let rows = Vec::with_capacity(alloc, targets.len())?;
+    let numbers = Vec::with_capacity(alloc, targets.len())?;
     let mut listed = Listed {
-        rows: Vec::new(alloc),
-        numbers: Vec::new(alloc),
+        rows,
+        numbers,
         next: top.number(),
     };
     for target in targets {
         if *target >= listed.next {
-            listed.push_way(alloc, tree, list, Node::new(*target))?;
+            listed.push_target(alloc, tree, list, Node::new(*target))?;
         }
     }
     Ok(listed.rows)

@@ -54,7 +54,7 @@ pub fn visits_at(list: &AccessList, node: Node, accessed: bool) -> Visits
 }
 
 /// The first and the last access of the node.
-fn visits_of(list: &AccessList, node: Node) -> Visits
+pub fn visits_of(list: &AccessList, node: Node) -> Visits
     ensures tells { TellsOf (nodes_of list.now) (length (nodes_of list.now)) node result }
     ensures slots { HaveSlots (lengths_of list.now) result }
 {
