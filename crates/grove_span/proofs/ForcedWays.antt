@@ -181,13 +181,19 @@ down_lists rows nodes lengths start target i next after numbers more items grown
     }
 
 -- a target is listed whose parent isn't among the nodes from the next one on
-pub child_lists : (rows : Rows) (nodes lengths : List ℕ) (target parent next after : ℕ) (numbers more : List ℕ) (items grown : List SpanRow) (row : SpanRow)
-    → IsTree rows → AreNodes rows nodes → target < length rows → parent_of rows target ≡ Some parent → parent < next → next ≤ target
-    → AreForcedTo rows nodes next target → row.node ≡ target → row.weight ≡ weight_of rows target → row.parent ≡ find_place parent numbers
-    → IsAccessedSo nodes lengths row → after ≡ suc row.node → more ≡ numbers ++ row.node ∷ [] → grown ≡ items ++ row ∷ []
+pub child_lists : (rows : Rows) (nodes lengths : List ℕ) (target parent next after : ℕ) (numbers more : List ℕ)
+    (items grown : List SpanRow) (row : SpanRow)
+    → IsTree rows → AreNodes rows nodes → target < length rows → parent_of rows target ≡ Some parent → parent < next
+    → next ≤ target
+    → AreForcedTo rows nodes next target → row.node ≡ target → row.weight ≡ weight_of rows target
+    → row.parent ≡ find_place parent numbers
+    → IsAccessedSo nodes lengths row → after ≡ suc row.node → more ≡ numbers ++ row.node ∷ []
+    → grown ≡ items ++ row ∷ []
     → IsListedTo rows nodes lengths next numbers items → IsListedTo rows nodes lengths after more grown
-child_lists rows nodes lengths target parent next after numbers more items grown row tree fits within own less ahead forced is heavy place visited past_it counted listed so_far =
-    let hit : is_forced rows nodes target ≡ true = forced_get rows nodes target tree ((forced target ahead (omega arith)).1 (above_self rows target)) in
+child_lists rows nodes lengths target parent next after numbers more items grown row tree fits within own less ahead
+    forced is heavy place visited past_it counted listed so_far =
+    let hit : is_forced rows nodes target ≡ true =
+    forced_get rows nodes target tree ((forced target ahead (omega arith)).1 (above_self rows target)) in
     let under : row.parent ≡ option_and_then (λ p. find_place p numbers) (parent_of rows target) =
     place ∙ ap (λ (o : Option ℕ). option_and_then (λ p. find_place p numbers) o) (sym own) in
     let end : after ≡ suc target = past_it ∙ ap suc is in

@@ -15,25 +15,31 @@ top_above rows tree (suc u) w lt within none =
     absurd (none-some place.0 (sym none ∙ place.1))
 
 -- the lowest node above the first and the last of ascending targets is the lowest above all
-pub lowest_of_ends : (rows : Rows) (targets : List ℕ) (end first last top : ℕ) → IsTree rows → AreNodes rows targets → IsAscending targets
-    → length targets ≡ suc end → slice_get targets 0 ≡ Some first → slice_get targets end ≡ Some last → IsAbove rows top first → IsAbove rows top last
-    → ((node : ℕ) → IsAbove rows node first → IsAbove rows node last → IsAbove rows node top) → IsLowestCommon rows targets top
-lowest_of_ends rows targets end first last top tree within ascending size first_at last_at over_first over_last least = record {
-  common = λ place target at.
-      let least_one : first ≤ target = ascending 0 place first target (omega arith) first_at at in
-      let inside : place < length targets = slice_get_within targets place target at in
-      let most : target ≤ last = ascending place end target last (omega arith) at last_at in
-      let low : top ≤ first = above_le rows tree top first over_first in
-      above_between rows tree top target last (within end last last_at) (omega arith) most over_last;
-  lowest = λ node all. least node (all 0 first first_at) (all end last last_at);
-}
+pub lowest_of_ends : (rows : Rows) (targets : List ℕ) (end first last top : ℕ) → IsTree rows → AreNodes rows targets
+    → IsAscending targets
+    → length targets ≡ suc end → slice_get targets 0 ≡ Some first → slice_get targets end ≡ Some last
+    → IsAbove rows top first → IsAbove rows top last
+    → ((node : ℕ) → IsAbove rows node first → IsAbove rows node last → IsAbove rows node top)
+    → IsLowestCommon rows targets top
+lowest_of_ends rows targets end first last top tree within ascending size first_at last_at over_first over_last least =
+    record {
+      common = λ place target at.
+          let least_one : first ≤ target = ascending 0 place first target (omega arith) first_at at in
+          let inside : place < length targets = slice_get_within targets place target at in
+          let most : target ≤ last = ascending place end target last (omega arith) at last_at in
+          let low : top ≤ first = above_le rows tree top first over_first in
+          above_between rows tree top target last (within end last last_at) (omega arith) most over_last;
+      lowest = λ node all. least node (all 0 first first_at) (all end last last_at);
+    }
 
 -- a lowest node above the targets is one above the accessed nodes that they are
-pub lowest_of_targets : (rows : Rows) (nodes targets : List ℕ) (top : ℕ) → AreAscending nodes targets → IsLowestCommon rows targets top
+pub lowest_of_targets : (rows : Rows) (nodes targets : List ℕ) (top : ℕ) → AreAscending nodes targets
+    → IsLowestCommon rows targets top
     → IsLowestCommon rows nodes top
 lowest_of_targets rows nodes targets top are is = record {
   common = λ access target at. let (i, there) = are.all access target at in is.common i target there;
-  lowest = λ node all. is.lowest node (λ i target at. let (access, there) = are.named i target at in all access target there);
+  lowest = λ node all. is.lowest node
+      (λ i target at. let (access, there) = are.named i target at in all access target there);
 }
 
 -- accessed nodes give targets
@@ -44,5 +50,7 @@ targets_some nodes targets are some =
     omega arith
 
 -- which are nodes where these are
-pub targets_fit : (rows : Rows) (nodes targets : List ℕ) → AreAscending nodes targets → AreNodes rows nodes → AreNodes rows targets
-targets_fit rows nodes targets are fits i target at = let (access, named) = are.named i target at in fits access target named
+pub targets_fit : (rows : Rows) (nodes targets : List ℕ) → AreAscending nodes targets → AreNodes rows nodes
+    → AreNodes rows targets
+targets_fit rows nodes targets are fits i target at = let (access, named) =
+    are.named i target at in fits access target named

@@ -10,7 +10,8 @@ returns-clause-lowest c =
     let end = length targets - 1 in
     let size : length targets ≡ suc end = omega arith in
     let inside : end < length targets = omega arith in
-    lowest_of_ends c.args.tree.now targets end c.new-first.result c.new-last.result c.climb.result c.requires.tree c.requires.within c.requires.ascending size
+    lowest_of_ends c.args.tree.now targets end c.new-first.result c.new-last.result c.climb.result c.requires.tree
+    c.requires.within c.requires.ascending size
     (slice_get-get_or targets 0 0 some ∙ ap (λ (v : ℕ). Some v) (sym c.new-first.ensures))
     (slice_get-get_or targets end 0 inside ∙ ap (λ (v : ℕ). Some v) (sym c.new-last.ensures))
     c.climb.ensures.from c.climb.ensures.target c.climb.ensures.lowest

@@ -7,29 +7,40 @@ use Rattle.grove_span.proofs.rows.forced_rows.Goals as goal
 
 pub loop-target-init : goal.loop-target-init
 loop-target-init c =
-    subst (λ (n : ℕ). IsSpannedTo c.args.tree.now (nodes_of c.args.list.now) (lengths_of c.args.list.now) c.args.targets.now c.args.top 0 n c.in_ok-numbers.numbers.items c.in_ok-rows.rows.items) (sym c.number.ensures.is_it)
-    (span_begins c.args.tree.now (nodes_of c.args.list.now) (lengths_of c.args.list.now) c.args.targets.now c.args.top c.in_ok-numbers.numbers.items c.in_ok-rows.rows.items
-    c.len-nodes.ensures.tree c.requires.fits c.requires.top c.requires.within c.in_ok-rows.ensures.items c.in_ok-numbers.ensures.items)
+    subst (λ (n : ℕ). IsSpannedTo c.args.tree.now (nodes_of c.args.list.now)
+    (lengths_of c.args.list.now) c.args.targets.now c.args.top 0 n c.in_ok-numbers.numbers.items
+    c.in_ok-rows.rows.items) (sym c.number.ensures.is_it)
+    (span_begins c.args.tree.now (nodes_of c.args.list.now)
+    (lengths_of c.args.list.now) c.args.targets.now c.args.top c.in_ok-numbers.numbers.items c.in_ok-rows.rows.items
+    c.len-nodes.ensures.tree c.requires.fits c.requires.top c.requires.within c.in_ok-rows.ensures.items
+    c.in_ok-numbers.ensures.items)
 
 pub push_target-requires-clause-target : goal.push_target-requires-clause-target
 push_target-requires-clause-target c =
     let at : slice_get c.args.targets.now c.loop-target.target-index ≡ Some c.new.result =
-    slice_get-get_or c.args.targets.now c.loop-target.target-index 0 c.loop-target-test.true ∙ ap (λ (v : ℕ). Some v) (sym c.new.ensures) in
+    slice_get-get_or c.args.targets.now c.loop-target.target-index 0 c.loop-target-test.true
+    ∙ ap (λ (v : ℕ). Some v) (sym c.new.ensures) in
     let (access, named) = c.requires.targets.named c.loop-target.target-index c.new.result at in
     c.requires.fits access c.new.result named
 
 pub push_target-requires-clause-first : goal.push_target-requires-clause-first
 push_target-requires-clause-first c =
     let at : slice_get c.args.targets.now c.loop-target.target-index ≡ Some c.new.result =
-    slice_get-get_or c.args.targets.now c.loop-target.target-index 0 c.loop-target-test.true ∙ ap (λ (v : ℕ). Some v) (sym c.new.ensures) in
-    first_from c.args.tree.now (nodes_of c.args.list.now) (lengths_of c.args.list.now) c.args.targets.now c.args.top c.loop-target.target-index c.loop-target.listed.next c.new.result
+    slice_get-get_or c.args.targets.now c.loop-target.target-index 0 c.loop-target-test.true
+    ∙ ap (λ (v : ℕ). Some v) (sym c.new.ensures) in
+    first_from c.args.tree.now (nodes_of c.args.list.now)
+    (lengths_of c.args.list.now) c.args.targets.now c.args.top c.loop-target.target-index c.loop-target.listed.next
+    c.new.result
     c.loop-target.listed.numbers.items c.loop-target.listed.rows.items c.requires.targets at c.loop-target.invariant
 
 pub push_target-requires-clause-forced : goal.push_target-requires-clause-forced
 push_target-requires-clause-forced c =
     let at : slice_get c.args.targets.now c.loop-target.target-index ≡ Some c.new.result =
-    slice_get-get_or c.args.targets.now c.loop-target.target-index 0 c.loop-target-test.true ∙ ap (λ (v : ℕ). Some v) (sym c.new.ensures) in
-    forced_to c.args.tree.now (nodes_of c.args.list.now) (lengths_of c.args.list.now) c.args.targets.now c.args.top c.loop-target.target-index c.loop-target.listed.next c.new.result
+    slice_get-get_or c.args.targets.now c.loop-target.target-index 0 c.loop-target-test.true
+    ∙ ap (λ (v : ℕ). Some v) (sym c.new.ensures) in
+    forced_to c.args.tree.now (nodes_of c.args.list.now)
+    (lengths_of c.args.list.now) c.args.targets.now c.args.top c.loop-target.target-index c.loop-target.listed.next
+    c.new.result
     c.loop-target.listed.numbers.items c.loop-target.listed.rows.items c.len-nodes.ensures.tree c.requires.fits c.requires.top c.requires.targets at c.loop-target.invariant
 
 pub loop-target-preserved : goal.loop-target-preserved
@@ -40,9 +51,11 @@ loop-target-preserved c =
     let within = c.requires.fits access (get_or c.args.targets.now c.loop-target.target-index 0) named in
     elim c.if-target-listed.branch [
       | then-target-listed+in_ok-push_target w ↦
-          let end : w.push_target.new.self.next ≡ suc (get_or c.args.targets.now c.loop-target.target-index 0) = w.in_ok-push_target.ensures.next ∙ ap suc w.new.ensures in
+          let end : w.push_target.new.self.next ≡ suc (get_or c.args.targets.now c.loop-target.target-index 0) =
+          w.in_ok-push_target.ensures.next ∙ ap suc w.new.ensures in
           rw (add-one, w.listed-is, end) (span_next c.args.tree.now (nodes_of c.args.list.now) (lengths_of c.args.list.now) c.args.targets.now c.args.top c.loop-target.target-index c.loop-target.listed.next
-          (get_or c.args.targets.now c.loop-target.target-index 0) c.loop-target.listed.numbers.items w.push_target.new.self.numbers.items c.loop-target.listed.rows.items w.push_target.new.self.rows.items
+          (get_or c.args.targets.now c.loop-target.target-index 0) c.loop-target.listed.numbers.items
+          w.push_target.new.self.numbers.items c.loop-target.listed.rows.items w.push_target.new.self.rows.items
           at within w.if-target-listed.true (rw (← end) w.in_ok-push_target.ensures.listed) c.loop-target.invariant)
       | else-target-listed w ↦
           rw (add-one, w.listed-is) (span_skips c.args.tree.now (nodes_of c.args.list.now) (lengths_of c.args.list.now) c.args.targets.now c.args.top c.loop-target.target-index c.loop-target.listed.next

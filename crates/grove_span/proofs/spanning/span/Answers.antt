@@ -18,14 +18,17 @@ lowest_common-top-requires-clause-some c =
     let size : c.len.result ≡ length c.args.list.now = c.len.ensures.number in
     let some : 0 < length (nodes_of c.args.list.now) = omega (arith, nodes_length c.args.list.now) in
     targets_some (nodes_of c.args.list.now) c.deref.result.now
-    (subst (λ (xs : List ℕ). AreAscending (nodes_of c.args.list.now) xs) (sym c.deref.ensures.value) c.in_ok-targets.ensures) some
+    (subst (λ (xs : List ℕ). AreAscending (nodes_of c.args.list.now) xs)
+    (sym c.deref.ensures.value) c.in_ok-targets.ensures) some
 
 pub lowest_common-top-requires-clause-within : goal.lowest_common-top-requires-clause-within
 lowest_common-top-requires-clause-within c =
     targets_fit c.args.tree.now (nodes_of c.args.list.now) c.deref.result.now
-    (subst (λ (xs : List ℕ). AreAscending (nodes_of c.args.list.now) xs) (sym c.deref.ensures.value) c.in_ok-targets.ensures) c.requires.fits
+    (subst (λ (xs : List ℕ). AreAscending (nodes_of c.args.list.now) xs)
+    (sym c.deref.ensures.value) c.in_ok-targets.ensures) c.requires.fits
 
 pub forced_rows-requires-clause-top : goal.forced_rows-requires-clause-top
 forced_rows-requires-clause-top c =
     lowest_of_targets c.args.tree.now (nodes_of c.args.list.now) c.deref.result.now c.lowest_common-top.result
-    (subst (λ (xs : List ℕ). AreAscending (nodes_of c.args.list.now) xs) (sym c.deref.ensures.value) c.in_ok-targets.ensures) c.lowest_common-top.ensures.lowest
+    (subst (λ (xs : List ℕ). AreAscending (nodes_of c.args.list.now) xs)
+    (sym c.deref.ensures.value) c.in_ok-targets.ensures) c.lowest_common-top.ensures.lowest

@@ -14,13 +14,15 @@ place_of-place-requires-clause-few c =
     let numbers = c.args.self.now.numbers.items in
     let items = c.args.self.now.rows.items in
     subst (λ (xs : List ℕ). length xs ≤ 4096) (sym c.deref.ensures.value)
-    (numbers_few c.args.tree.now nodes lengths next c.args.target 0 next numbers items c.requires.target c.len-nodes.ensures.limits.few
+    (numbers_few c.args.tree.now nodes lengths next c.args.target 0 next numbers items c.requires.target
+    c.len-nodes.ensures.limits.few
     (down_begins c.args.tree.now nodes lengths next c.args.target numbers items c.requires.ahead c.requires.listed))
 
 pub place_of-place-requires-clause-rising : goal.place_of-place-requires-clause-rising
 place_of-place-requires-clause-rising c =
     subst (λ (xs : List ℕ). IsRising xs) (sym c.deref.ensures.value)
-    (numbers_rise c.args.tree.now (nodes_of c.args.list.now) c.args.self.now.next c.args.self.now.numbers.items c.requires.listed.counted)
+    (numbers_rise c.args.tree.now
+    (nodes_of c.args.list.now) c.args.self.now.next c.args.self.now.numbers.items c.requires.listed.counted)
 
 pub push-requires : goal.push-requires
 push-requires c =
@@ -31,9 +33,14 @@ push-requires c =
 
 pub returns-clause-listed : goal.returns-clause-listed
 returns-clause-listed c =
-    child_lists c.args.tree.now (nodes_of c.args.list.now) (lengths_of c.args.list.now) c.args.target c.args.parent c.args.self.now.next c.push.new.self.next
-    c.args.self.now.numbers.items c.push.new.self.numbers.items c.args.self.now.rows.items c.push.new.self.rows.items c.row_of-row.result
-    c.len-nodes.ensures.tree c.requires.fits c.requires.target c.requires.parent c.requires.listed_parent c.requires.ahead c.requires.forced
+    child_lists c.args.tree.now (nodes_of c.args.list.now)
+    (lengths_of c.args.list.now) c.args.target c.args.parent c.args.self.now.next c.push.new.self.next
+    c.args.self.now.numbers.items c.push.new.self.numbers.items c.args.self.now.rows.items c.push.new.self.rows.items
+    c.row_of-row.result
+    c.len-nodes.ensures.tree c.requires.fits c.requires.target c.requires.parent c.requires.listed_parent
+    c.requires.ahead c.requires.forced
     c.row_of-row.ensures.node (c.row_of-row.ensures.weight ∙ c.weight.ensures)
-    (c.row_of-row.ensures.parent ∙ c.place_of-place.ensures ∙ ap (find_place c.number.result) c.deref.ensures.value ∙ ap (λ (p : ℕ). find_place p c.args.self.now.numbers.items) c.number.ensures.is_it)
-    c.row_of-row.ensures.accesses c.in_ok-push.ensures.next c.in_ok-push.ensures.numbers c.in_ok-push.ensures.rows c.requires.listed
+    (c.row_of-row.ensures.parent ∙ c.place_of-place.ensures ∙ ap (find_place c.number.result) c.deref.ensures.value
+    ∙ ap (λ (p : ℕ). find_place p c.args.self.now.numbers.items) c.number.ensures.is_it)
+    c.row_of-row.ensures.accesses c.in_ok-push.ensures.next c.in_ok-push.ensures.numbers c.in_ok-push.ensures.rows
+    c.requires.listed
