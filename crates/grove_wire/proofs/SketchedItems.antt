@@ -15,7 +15,6 @@ use Rattle.grove_base.proofs.Lists.{map_length}
 use Rattle.grove_tree.specs.Trees.{Rows}
 use Rattle.grove_access.specs.declared.access.Op.{Op}
 use Rattle.grove_access.specs.declared.access.Op.TheVariants.{Get, Set, Add, Take}
-use Rattle.grove_plan.specs.declared.step.Step.{Step}
 use Rattle.grove_wire.specs.declared.fault.WireFault.{WireFault}
 use Rattle.grove_wire.specs.declared.fault.WireFault.TheVariants.{Shape, Limit}
 use Rattle.grove_wire.specs.declared.place.Place.{Place}

@@ -2,7 +2,7 @@
 use Rattle.std.proofs.Common.{◌≡◌, ℕ, Bool, true, false, cond, List, [], ◌∷◌, take, Option, Some}
 use Rattle.std.proofs.Common.{None, option_and_then, refl, ap, ◌∙◌, codes}
 use Rattle.std.specs.Prelude.{Result, Ok, Err, nat_lt, ◌^◌}
-use Rattle.serde_json.specs.Data.{Data, null, number, array, no_items, item}
+use Rattle.serde_json.specs.Data.{Data, null, array, no_items, item}
 use Rattle.serde_json.specs.Find.{as_number, as_str, as_u64}
 use Rattle.grove_tree.specs.Trees.{Rows}
 use Rattle.grove_plan.specs.declared.step.Step.{Step}

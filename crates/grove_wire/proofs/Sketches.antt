@@ -10,7 +10,7 @@ use Rattle.std.proofs.lemmas.Option.{same_Some}
 use Rattle.std.proofs.lemmas.Map.Text.{is_eq-slice_cmp}
 use Rattle.std.proofs.lemmas.Slice.Eq.{bytes_eq-Decides}
 use Rattle.json.specs.Json as json
-use Rattle.serde_json.specs.Data.{Data, null, boolean, number, string, array, object, Members, no_members}
+use Rattle.serde_json.specs.Data.{Data, null, boolean, string, object, Members, no_members}
 use Rattle.serde_json.specs.Data.{member, put}
 use Rattle.serde_json.specs.Find.{as_object}
 use Rattle.serde_json.specs.Read.{number_of, of_json, of_items, of_members}

@@ -1,5 +1,5 @@
 -- For the proofs alone: what is kept of a value of which no more is looked at than a form says.
-use Rattle.std.specs.Prelude.{◌≡◌, ℕ, suc, nat_lt, Bool, true, false, length, take, codes, bytes_eq, is_some}
+use Rattle.std.specs.Prelude.{◌≡◌, ℕ, suc, nat_lt, Bool, true, length, take, codes, bytes_eq, is_some}
 use Rattle.std.specs.Prelude.{List, [], ◌∷◌, Option, Some, None, option_and_then, Result, Ok, Err, if◌then◌else◌}
 use Rattle.json.specs.Token.{Token}
 use Rattle.json.specs.Json as json
