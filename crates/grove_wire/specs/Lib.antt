@@ -12,3 +12,4 @@ pub mod Replies
 pub mod Documents
 pub mod Names
 pub mod Sketches
+pub mod FoundPaths

@@ -1,77 +1,120 @@
 ghost use Rattle.std.specs.Prelude.{◌≡◌, ◌<◌, ◌^◌, map, option_map, IfOk, length, vec_len};
 ghost use Rattle.serde_json.specs.View.{view};
 ghost use Rattle.grove_wire.specs.Forms.{amount_of, flow_form};
+ghost use Rattle.grove_wire.specs.FoundPaths.{plan_and_flow_in};
 ghost use Rattle.grove_wire.specs.Outcomes.{Gives, each_on};
 ghost use Rattle.grove_wire.specs.Places.{whole_of};
 ghost use Rattle.grove_wire.specs.Reading.{flow_row_at, flow_in};
 ghost use Rattle.grove_wire.specs.RowParts.{flow_with};
-ghost use Rattle.grove_wire.specs.Sketches.{row_with_node};
 
 use crate::document::{MOST_ITEMS, items_in};
-use crate::paths::node_on;
+use crate::finder::Finder;
+use crate::plans::plan_found;
 use crate::{Part, Place, WireFault};
+use grove_plan::Plan;
 use grove_proof::{Flow, FlowRow};
-use grove_tree::Tree;
+use grove_tree::{Node, Tree};
 use serde_json::Value;
 use std::alloc::Global;
 
 /// The rows of the document's `flow`, over the tree. More than 4,294,967,295 are `Limit`; then they are read in order,
 /// each first for its `Shape` and then for its `NoPath`.
-#[tactic(auto, unfolding(crate::specs::Reading::flow_in))]
 pub fn read_flow(alloc: Global, tree: &Tree, document: &Value) -> Result<Flow, WireFault>
     ensures { Gives (λ flow. flow) result (flow_in tree.now (view document.now)) }
+{
+    let mut finder = Finder::new(alloc, tree, 0)?;
+    flow_found(alloc, &mut finder, document)
+}
+
+/// The document's `plan` and then its `flow`, over the tree. The flow's paths are mostly known from the plan.
+#[tactic(auto, unfolding(crate::specs::Reading::plan_in))]
+pub fn read_plan_and_flow(
+    alloc: Global,
+    tree: &Tree,
+    document: &Value,
+) -> Result<(Plan, Flow), WireFault>
+    ensures { Gives (λ read. (read.0, read.1)) result (plan_and_flow_in tree.now (view document.now)) }
+{
+    let steps = items_in(document, Part::Plan)?;
+    let mut finder = Finder::new(alloc, tree, steps.len())?;
+    let plan = plan_found(alloc, &mut finder, Place::whole(Part::Plan), steps)?;
+    let flow = flow_found(alloc, &mut finder, document)?;
+    Ok((plan, flow))
+}
+
+/// The flow, by what is known of its paths.
+#[tactic(auto, unfolding(crate::specs::Reading::flow_in))]
+fn flow_found<'v>(
+    alloc: Global,
+    finder: &mut Finder<'_, 'v>,
+    document: &'v Value,
+) -> Result<Flow, WireFault>
+    ensures read { Gives (λ flow. flow) result (flow_in finder.old (view document.now)) }
+    ensures tree { finder.new ≡ finder.old }
 {
     let items = items_in(document, Part::Flow)?;
     if items.len() > MOST_ITEMS {
         return Err(WireFault::Limit(Place::whole(Part::Flow)));
     }
-    let rows = read_flow_rows(alloc, tree, items)?;
+    let rows = read_flow_rows(alloc, finder, items)?;
     Ok(Flow::new(rows))
 }
 
 /// The rows of a flow, of which there are few enough.
-fn read_flow_rows(alloc: Global, tree: &Tree, items: &[Value]) -> Result<Vec<FlowRow>, WireFault>
+fn read_flow_rows<'v>(
+    alloc: Global,
+    finder: &mut Finder<'_, 'v>,
+    items: &'v [Value],
+) -> Result<Vec<FlowRow>, WireFault>
     requires { length items.now < 2 ^ 32 }
     ensures read { Gives (λ rows. rows.items) result
-        (each_on (flow_row_at tree.now) (whole_of Part.Flow) (map view items.now)) }
+        (each_on (flow_row_at finder.old) (whole_of Part.Flow) (map view items.now)) }
     ensures few { IfOk result (λ rows. vec_len rows < 2 ^ 32) }
+    ensures tree { finder.new ≡ finder.old }
 {
     let mut rows = Vec::new(alloc);
     for (at, item) in items.iter().enumerate() {
-        let row = flow_row_at(tree, Place::item(Part::Flow, at as u32), item)?;
+        let row = flow_row_at(finder, Place::item(Part::Flow, at as u32), item)?;
         rows.push(row)?;
     }
     Ok(rows)
 }
 
 #[tactic(auto, unfolding(crate::specs::Reading::flow_row_at))]
-fn flow_row_at(tree: &Tree, place: Place, value: &Value) -> Result<FlowRow, WireFault>
-    ensures { result ≡ flow_row_at tree.now place (view value.now) }
+fn flow_row_at<'v>(
+    finder: &mut Finder<'_, 'v>,
+    place: Place,
+    value: &'v Value,
+) -> Result<FlowRow, WireFault>
+    ensures read { result ≡ flow_row_at finder.old place (view value.now) }
+    ensures tree { finder.new ≡ finder.old }
 {
     let Some(form) = flow_form(value) else {
         return Err(WireFault::Shape(place));
     };
-    flow_row_of(tree, place, &form)
+    let node = finder.node_on(place, form.path)?;
+    Ok(row_at(node, &form))
 }
 
-/// What stands in a flow row, with the node of its path.
-pub(crate) fn flow_row_of(
-    tree: &Tree,
-    place: Place,
-    form: &FlowForm<'_>,
-) -> Result<FlowRow, WireFault>
-    ensures { result ≡ row_with_node tree.now place
-        (flow_with form.now.path.now form.now.above form.now.held form.now.first form.now.last form.now.own) }
+/// What stands in a flow row, at the node of its path.
+pub(crate) fn row_at(node: Node, form: &FlowForm<'_>) -> FlowRow
+    ensures { result ≡ record {
+      node = node;
+      above = form.now.above;
+      held = form.now.held;
+      first = form.now.first;
+      last = form.now.last;
+      own = form.now.own;
+    } }
 {
-    let node = node_on(tree, place, form.path)?;
-    Ok(FlowRow {
+    FlowRow {
         node,
         above: form.above,
         held: form.held,
         first: form.first,
         last: form.last,
         own: form.own,
-    })
+    }
 }
 
 /// What stands in a flow row.

@@ -6,19 +6,19 @@ ghost use Rattle.serde_json.specs.View.{view};
 ghost use Rattle.grove_wire.specs.Forms.{as_list, flow_form};
 ghost use Rattle.grove_wire.specs.Outcomes.{Gives, each_on};
 ghost use Rattle.grove_wire.specs.Places.{whole_of};
+ghost use Rattle.grove_wire.specs.Reading.{path_at};
 ghost use Rattle.grove_wire.specs.RowParts.{flow_with};
 ghost use Rattle.grove_wire.specs.Sketches.{text_kept, count_kept, operand_kept, step_kept, row_kept, kept_form_of};
 ghost use Rattle.grove_wire.specs.Sketches.{unlock_on, kept_step_at, kept_row_at, kept_plan_in, kept_flow_in};
 
 use crate::document::{MOST_ITEMS, items_in};
-use crate::flows::{FlowForm, flow_form, flow_row_of};
+use crate::flows::{FlowForm, flow_form, row_at};
 use crate::forms::{is_word, list_items, short_number};
 use crate::paths::node_on;
-use crate::plans::path_at;
 use crate::{Part, Place, WireFault};
 use grove_plan::{Plan, Step};
 use grove_proof::{Flow, FlowRow};
-use grove_tree::Tree;
+use grove_tree::{Node, Tree};
 use serde_json::Value;
 use std::alloc::{AllocError, Global};
 
@@ -133,6 +133,15 @@ fn unlock_on(tree: &Tree, place: Place, items: &[Value]) -> Result<Step, WireFau
     }
 }
 
+fn path_at(tree: &Tree, place: Place, value: &Value) -> Result<Node, WireFault>
+    ensures { result ≡ path_at tree.now place (view value.now) }
+{
+    match value.as_str() {
+        Some(path) => node_on(tree, place, path),
+        None => Err(WireFault::Shape(place)),
+    }
+}
+
 /// The flow of a check of which this is kept, read as a document's is.
 pub(crate) fn kept_flow(alloc: Global, tree: &Tree, check: &Value) -> Result<Flow, WireFault>
     ensures { Gives (λ flow. flow) result (kept_flow_in tree.now (view check.now)) }
@@ -165,7 +174,8 @@ fn kept_row_at(tree: &Tree, place: Place, kept: &Value) -> Result<FlowRow, WireF
     let Some(form) = kept_form(kept) else {
         return Err(WireFault::Shape(place));
     };
-    flow_row_of(tree, place, &form)
+    let node = node_on(tree, place, form.path)?;
+    Ok(row_at(node, &form))
 }
 
 /// What stood in a flow row of which this is kept.

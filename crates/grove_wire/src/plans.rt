@@ -4,8 +4,8 @@ ghost use Rattle.grove_wire.specs.Outcomes.{Gives, each_on, few_on};
 ghost use Rattle.grove_wire.specs.Reading.{path_at, step_of, step_at, plan_in};
 
 use crate::document::{MOST_ITEMS, items_in};
+use crate::finder::Finder;
 use crate::forms::{is_word, list_items, short_number};
-use crate::paths::node_on;
 use crate::{Part, Place, WireFault};
 use grove_plan::{Plan, Step};
 use grove_tree::{Node, Tree};
@@ -31,53 +31,79 @@ pub(crate) fn plan_of(
 ) -> Result<Plan, WireFault>
     ensures { Gives (λ plan. plan) result (few_on 4294967295 (step_at tree.now) place (map view items.now)) }
 {
+    let mut finder = Finder::new(alloc, tree, items.len())?;
+    plan_found(alloc, &mut finder, place, items)
+}
+
+/// The same, by what is known of its paths.
+pub(crate) fn plan_found<'v>(
+    alloc: Global,
+    finder: &mut Finder<'_, 'v>,
+    place: Place,
+    items: &'v [Value],
+) -> Result<Plan, WireFault>
+    ensures read { Gives (λ plan. plan) result (few_on 4294967295 (step_at finder.old) place (map view items.now)) }
+    ensures tree { finder.new ≡ finder.old }
+{
     if items.len() > MOST_ITEMS {
         return Err(WireFault::Limit(place));
     }
-    let steps = read_steps(alloc, tree, place, items)?;
+    let steps = read_steps(alloc, finder, place, items)?;
     Ok(Plan::new(steps))
 }
 
 /// The steps of a plan, of which there are few enough.
-fn read_steps(
+fn read_steps<'v>(
     alloc: Global,
-    tree: &Tree,
+    finder: &mut Finder<'_, 'v>,
     place: Place,
-    items: &[Value],
+    items: &'v [Value],
 ) -> Result<Vec<Step>, WireFault>
     requires { length items.now < 2 ^ 32 }
-    ensures read { Gives (λ steps. steps.items) result (each_on (step_at tree.now) place (map view items.now)) }
+    ensures read { Gives (λ steps. steps.items) result (each_on (step_at finder.old) place (map view items.now)) }
     ensures few { IfOk result (λ steps. vec_len steps < 2 ^ 32) }
+    ensures tree { finder.new ≡ finder.old }
 {
     let mut steps = Vec::new(alloc);
     for (at, item) in items.iter().enumerate() {
-        let step = step_at(tree, place.within(at as u32), item)?;
+        let step = step_at(finder, place.within(at as u32), item)?;
         steps.push(step)?;
     }
     Ok(steps)
 }
 
 #[tactic(auto, unfolding(crate::specs::Reading::step_at))]
-fn step_at(tree: &Tree, place: Place, value: &Value) -> Result<Step, WireFault>
-    ensures { result ≡ step_at tree.now place (view value.now) }
+fn step_at<'v>(
+    finder: &mut Finder<'_, 'v>,
+    place: Place,
+    value: &'v Value,
+) -> Result<Step, WireFault>
+    ensures read { result ≡ step_at finder.old place (view value.now) }
+    ensures tree { finder.new ≡ finder.old }
 {
     let Some(items) = list_items(value) else {
         return Err(WireFault::Shape(place));
     };
     match items {
-        [word, operand] => step_of(tree, place, word, operand),
+        [word, operand] => step_of(finder, place, word, operand),
         _ => Err(WireFault::Shape(place)),
     }
 }
 
 #[tactic(auto, unfolding(crate::specs::Reading::step_of))]
-fn step_of(tree: &Tree, place: Place, word: &Value, operand: &Value) -> Result<Step, WireFault>
-    ensures { result ≡ step_of tree.now place (view word.now) (view operand.now) }
+fn step_of<'v>(
+    finder: &mut Finder<'_, 'v>,
+    place: Place,
+    word: &Value,
+    operand: &'v Value,
+) -> Result<Step, WireFault>
+    ensures read { result ≡ step_of finder.old place (view word.now) (view operand.now) }
+    ensures tree { finder.new ≡ finder.old }
 {
     if is_word(word, "lock") {
-        Ok(Step::Lock(path_at(tree, place, operand)?))
+        Ok(Step::Lock(path_at(finder, place, operand)?))
     } else if is_word(word, "unlock") {
-        Ok(Step::Unlock(path_at(tree, place, operand)?))
+        Ok(Step::Unlock(path_at(finder, place, operand)?))
     } else if is_word(word, "access") {
         let access = short_number(operand).ok_or(WireFault::Shape(place))?;
         Ok(Step::Access(access))
@@ -86,11 +112,16 @@ fn step_of(tree: &Tree, place: Place, word: &Value, operand: &Value) -> Result<S
     }
 }
 
-pub(crate) fn path_at(tree: &Tree, place: Place, value: &Value) -> Result<Node, WireFault>
-    ensures { result ≡ path_at tree.now place (view value.now) }
+fn path_at<'v>(
+    finder: &mut Finder<'_, 'v>,
+    place: Place,
+    value: &'v Value,
+) -> Result<Node, WireFault>
+    ensures read { result ≡ path_at finder.old place (view value.now) }
+    ensures tree { finder.new ≡ finder.old }
 {
     match value.as_str() {
-        Some(path) => node_on(tree, place, path),
+        Some(path) => finder.node_on(place, path),
         None => Err(WireFault::Shape(place)),
     }
 }

@@ -1,4 +1,4 @@
-use Rattle.std.proofs.Common.{◌∙◌, ◌+◌, sym, ap}
+use Rattle.std.proofs.Common.{◌∙◌, ◌+◌, refl, sym, ap}
 use Rattle.grove_wire.proofs.Turns.{step_in}
 use Rattle.grove_wire.proofs.Each.{with_front-none, each_goes, each_stops, each_ends, fails_so, passes_on}
 use Rattle.grove_wire.proofs.plans.read_steps.Goals as goal
@@ -7,20 +7,29 @@ pub loop-at-init : goal.loop-at-init
 loop-at-init c = record {
   read = rw c.new-steps.ensures.items (with_front-none _);
   few = c.new-steps.ensures.len;
+  same = refl;
 }
 
 pub returns-in_err-step-clause-read : goal.returns-in_err-step-clause-read
 returns-in_err-step-clause-read c =
-    let stop = sym c.loop-at.invariant.read ∙ each_stops (step_in c.args.tree.now c.args.place) c.loop-at.steps.items c.args.items.now c.loop-at.at c.index-items-at.result c.in_err-step.field-0.0 c.loop-at-test.true c.index-items-at.is (cc (c.step_at.ensures, c.within.ensures, c.in_err-step.was)) in
-    passes_on _ c.from_residual.result _ c.in_err-step.field-0.0 c.from_residual.ensures.1 (fails_so c.in_err-step.field-0.0 _ stop)
+    let stop = sym c.loop-at.invariant.read ∙ each_stops (step_in c.args.finder.now c.args.place) c.loop-at.steps.items
+    c.args.items.now c.loop-at.at c.index-items-at.result c.in_err-step.field-0.0 c.loop-at-test.true
+    c.index-items-at.is
+    (cc (c.step_at.ensures.read, c.loop-at.invariant.same, c.within.ensures, c.in_err-step.was)) in
+    passes_on _ c.from_residual.result _ c.in_err-step.field-0.0 c.from_residual.ensures.1
+    (fails_so c.in_err-step.field-0.0 _ stop)
 
 pub loop-at-preserved : goal.loop-at-preserved
 loop-at-preserved c =
-    let go = each_goes (step_in c.args.tree.now c.args.place) c.loop-at.steps.items c.args.items.now c.loop-at.at c.index-items-at.result c.in_ok-step.step c.loop-at-test.true c.index-items-at.is (cc (c.step_at.ensures, c.within.ensures, c.in_ok-step.was)) in
+    let go = each_goes (step_in c.args.finder.now c.args.place) c.loop-at.steps.items c.args.items.now c.loop-at.at
+    c.index-items-at.result c.in_ok-step.step c.loop-at-test.true c.index-items-at.is
+    (cc (c.step_at.ensures.read, c.loop-at.invariant.same, c.within.ensures, c.in_ok-step.was)) in
     record {
       read = rw c.in_ok-push.ensures.items (sym go ∙ c.loop-at.invariant.read);
       few = c.in_ok-push.ensures.len ∙ ap (λ n. n + 1) c.loop-at.invariant.few;
+      same = c.step_at.ensures.tree ∙ c.loop-at.invariant.same;
     }
 
 pub returns-clause-read : goal.returns-clause-read
-returns-clause-read c = sym c.loop-at.invariant.read ∙ each_ends (step_in c.args.tree.now c.args.place) _ c.args.items.now c.loop-at.at c.loop-at-test.false
+returns-clause-read c = sym c.loop-at.invariant.read
+    ∙ each_ends (step_in c.args.finder.now c.args.place) _ c.args.items.now c.loop-at.at c.loop-at-test.false

@@ -9,6 +9,8 @@ use Rattle.grove_wire.proofs.plans.read_steps.Given as goal
 -- what is read so far, and then what is left, is what the whole reads as
 abbrev pub invariant-loop-at : goal.invariant-loop-at
 invariant-loop-at l = record {
-  read : with_front l.steps.items (rest_read (step_in l.tree l.place) l.items l.at) ≡ each_from (step_in l.tree l.place) 0 (map view l.items);
+  read : with_front l.steps.items (rest_read (step_in l.fn.finder l.place) l.items l.at)
+      ≡ each_from (step_in l.fn.finder l.place) 0 (map view l.items);
   few : vec_len l.steps ≡ l.at;
+  same : l.finder ≡ l.fn.finder;
 }
