@@ -9,4 +9,3 @@ pub mod SameReplies
 pub mod Saying
 pub mod OneLine
 pub mod PlannedDocuments
-pub mod Tokens

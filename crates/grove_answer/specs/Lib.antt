@@ -3,5 +3,4 @@ pub mod Faults
 pub mod Says
 pub mod PlannedDocuments
 pub mod Laws
-pub mod Tokens
 pub mod MadePaths

@@ -3,7 +3,7 @@ ghost use Rattle.json.specs.Token.{key, number};
 ghost use Rattle.json.specs.Tree.{json_tokens};
 ghost use Rattle.serde_json.specs.Written.{compact_text, outline};
 ghost use Rattle.grove_wire.specs.Writing.{FlowFits, flow_row_data, flow_data};
-ghost use Rattle.grove_answer.specs.Tokens.{tokens_of};
+ghost use Rattle.grove_wire.specs.Tokens.{tokens_of};
 
 use crate::paths::Paths;
 use crate::texts::text_of;

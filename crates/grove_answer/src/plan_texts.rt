@@ -4,7 +4,7 @@ ghost use Rattle.serde_json.specs.Data.{string};
 ghost use Rattle.serde_json.specs.Written.{compact_text, outline};
 ghost use Rattle.grove_tree.specs.Paths.{path_of};
 ghost use Rattle.grove_wire.specs.Writing.{StepFits, PlanFits, count_data, pair_data, step_data, plan_data};
-ghost use Rattle.grove_answer.specs.Tokens.{tokens_of};
+ghost use Rattle.grove_wire.specs.Tokens.{tokens_of};
 
 use crate::paths::Paths;
 use crate::texts::text_of;

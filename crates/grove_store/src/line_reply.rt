@@ -42,15 +42,23 @@ impl LineReply {
         })
     }
 
+    /// The reply to a line that isn't refused, with this text.
+    pub(crate) fn accepted(text: Vec<u8>) -> LineReply
+        requires { is_refusal text.items ≡ false }
+        ensures { result ≡ text.items }
+    {
+        LineReply {
+            text,
+            refusal: None,
+        }
+    }
+
     /// The reply to a line that isn't refused, with a copy of this text.
     pub(crate) fn copied(alloc: Global, text: &[u8]) -> Result<LineReply, NoMemory>
         requires { is_refusal text.now ≡ false }
         ensures { IfOk result (λ reply. reply ≡ text.now) }
     {
-        Ok(LineReply {
-            text: Vec::from_slice(alloc, text)?,
-            refusal: None,
-        })
+        Ok(LineReply::accepted(Vec::from_slice(alloc, text)?))
     }
 
     /// The reply to a line that is refused.

@@ -20,7 +20,7 @@ use grove_proof::{Flow, ProofFault, check};
 use grove_run::RunFault;
 use grove_tree::{NoMemory, Tree};
 use grove_wire::{
-    Fault, WireFault, changed_value, cost_value, planned_value, round_value, weights_value,
+    Fault, WireFault, changed_value, cost_value, planned_value, round_text, weights_value,
 };
 use std::alloc::Global;
 
@@ -155,7 +155,7 @@ pub fn changed_text(alloc: Global, changed: u32) -> Result<LineReply, NoMemory>
     LineReply::new(alloc, &changed_value(alloc, changed)?)
 }
 
-fn round_text(
+fn round_reply(
     alloc: Global,
     round: u64,
     places: &[u32],
@@ -164,7 +164,8 @@ fn round_text(
     ensures { IfOk result
         (λ reply. reply ≡ compact_text (round_data round places.now (map (λ list. list.now) replies.now))) }
 {
-    LineReply::new(alloc, &round_value(alloc, round, places, replies)?)
+    let text = round_text(alloc, round, places, replies)?;
+    Ok(LineReply::accepted(text))
 }
 
 /// What the lines of a round are answered: each has the next places and replies, as many as are its own.
@@ -184,7 +185,7 @@ pub fn round_texts(
     let mut at = 0;
     for count in counts {
         let end = at + *count;
-        let text = round_text(alloc, round, &places[at..end], &replies[at..end])?;
+        let text = round_reply(alloc, round, &places[at..end], &replies[at..end])?;
         texts.push(text)?;
         at = end;
     }

@@ -57,8 +57,5 @@ lists_have_no_float replies = array_has_no_float (array_of reply_data) replies_h
 pub planned_has_no_float : (tree : Rows) (cost : ℕ) (plan : List Step) (flow : List FlowRow) → has_float (planned_data tree cost plan flow) ≡ false
 planned_has_no_float tree cost plan flow = rw (flow_has_no_float tree flow, plan_has_no_float tree plan) refl
 
-pub round_has_no_float : (round : ℕ) (places : List ℕ) (replies : List (List Reply)) → has_float (round_data round places replies) ≡ false
-round_has_no_float round places replies = rw (counts_have_no_float places, lists_have_no_float replies) refl
-
 pub weights_have_no_float : (waits weights : List ℕ) → has_float (weights_data waits weights) ≡ false
 weights_have_no_float waits weights = rw (counts_have_no_float waits, counts_have_no_float weights) refl

@@ -20,3 +20,5 @@ pub mod SketchedMembers
 pub mod Sketches
 pub mod LeastFits
 pub mod Feedless
+pub mod Tokens
+mod RoundTexts

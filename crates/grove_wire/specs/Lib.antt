@@ -13,3 +13,4 @@ pub mod Documents
 pub mod Names
 pub mod Sketches
 pub mod FoundPaths
+pub mod Tokens

@@ -21,6 +21,7 @@ pub use reply_values::{
     weights_value,
 };
 pub use request::{Request, read_request, request_laws};
+pub use round_texts::round_text;
 pub use standing::{Standing, read_standing};
 pub use tree_values::{document_text, document_value};
 
@@ -47,6 +48,7 @@ mod replay_texts;
 mod replies;
 mod reply_values;
 mod request;
+mod round_texts;
 mod sketch;
 mod standing;
 mod tree_values;

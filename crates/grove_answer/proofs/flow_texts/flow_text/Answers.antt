@@ -1,7 +1,7 @@
 use Rattle.std.proofs.Common.{◌∙◌, ap}
 use Rattle.serde_json.specs.Written.{compact_text}
 use Rattle.grove_wire.specs.Writing.{flow_row_data, flow_data}
-use Rattle.grove_answer.proofs.Tokens.{array_written}
+use Rattle.grove_wire.proofs.Tokens.{array_written}
 use Rattle.grove_answer.proofs.flow_texts.flow_text.Goals as goal
 
 pub text_of-requires : goal.text_of-requires

@@ -1,7 +1,7 @@
 use Rattle.std.proofs.Common.{ℕ, List, ◌∷◌, ◌++◌, [], codes, decimal}
 use Rattle.json.specs.Token.{Token, begin_object, key, string, number}
 use Rattle.grove_tree.specs.Paths.{path_of}
-use Rattle.grove_answer.proofs.Tokens.{then_more}
+use Rattle.grove_wire.proofs.Tokens.{then_more}
 use Rattle.grove_answer.proofs.flow_texts.write_row.Goals as goal
 
 -- a member that is a count

@@ -3,7 +3,7 @@ use Rattle.json.specs.Tree.{json_tokens}
 use Rattle.serde_json.specs.Written.{outline}
 use Rattle.grove_tree.specs.Trees.{Rows}
 use Rattle.grove_wire.specs.Writing.{flow_row_data}
-use Rattle.grove_answer.proofs.Tokens.{one_more, all_written}
+use Rattle.grove_wire.proofs.Tokens.{one_more, all_written}
 use Rattle.grove_answer.proofs.flow_texts.write_rows.Goals as goal
 
 pub loop-row-preserved : goal.loop-row-preserved

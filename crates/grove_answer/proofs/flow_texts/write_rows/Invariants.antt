@@ -1,6 +1,6 @@
 use Rattle.std.proofs.Common.{◌≡◌, ◌++◌, take}
 use Rattle.grove_wire.specs.Writing.{flow_row_data}
-use Rattle.grove_answer.specs.Tokens.{tokens_of}
+use Rattle.grove_wire.specs.Tokens.{tokens_of}
 use Rattle.grove_answer.proofs.flow_texts.write_rows.Given as goal
 
 -- the tokens of the rows so far

@@ -3,7 +3,7 @@ use Rattle.json.specs.Tree.{json_tokens}
 use Rattle.serde_json.specs.Written.{outline}
 use Rattle.grove_tree.specs.Trees.{Rows}
 use Rattle.grove_wire.specs.Writing.{step_data}
-use Rattle.grove_answer.proofs.Tokens.{one_more, all_written}
+use Rattle.grove_wire.proofs.Tokens.{one_more, all_written}
 use Rattle.grove_answer.proofs.plan_texts.write_steps.Goals as goal
 
 pub loop-step-preserved : goal.loop-step-preserved

@@ -1,6 +1,6 @@
 use Rattle.std.proofs.Common.{◌≡◌, ◌++◌, take}
 use Rattle.grove_wire.specs.Writing.{step_data}
-use Rattle.grove_answer.specs.Tokens.{tokens_of}
+use Rattle.grove_wire.specs.Tokens.{tokens_of}
 use Rattle.grove_answer.proofs.plan_texts.write_steps.Given as goal
 
 -- the tokens of the steps so far

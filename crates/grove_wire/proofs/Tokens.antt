@@ -11,7 +11,7 @@ use Rattle.serde_json.specs.View.{items_of}
 use Rattle.serde_json.specs.Written.{outline, items_outline, compact_text}
 use Rattle.serde_json.proofs.Texts.{print-outline}
 use Rattle.grove_wire.specs.Writing.{array_of}
-use Rattle.grove_answer.specs.Tokens.{tokens_of}
+use Rattle.grove_wire.specs.Tokens.{tokens_of}
 
 -- tokens more behind those that were written
 pub then_more : (old front before after next : List Token) → before ≡ old ++ front → after ≡ before ++ next
@@ -44,16 +44,23 @@ module _ {A : Type 0} (data_of : A → Data) where
       ap (λ rest. first ++ rest) (items_written xs)
       ∙ sym (append_assoc first (tokens_of data_of xs) (token.end_array ∷ []))
 
-  -- the text of an array that was written in three parts
+  -- an array that was written in three parts
+  pub array_told : (xs : List A) (old begun told all : List Token) → begun ≡ old ++ token.begin_array ∷ []
+      → told ≡ begun ++ tokens_of data_of xs → all ≡ told ++ token.end_array ∷ []
+      → all ≡ old ++ json_tokens (outline (array_of data_of xs))
+  array_told xs old begun told all begins tells ends =
+      let tokens = tokens_of data_of xs in
+      let opening = token.begin_array ∷ [] in
+      let ending = token.end_array ∷ [] in
+      let filled = then_more old opening begun told tokens begins tells in
+      let closed = then_more old (opening ++ tokens) told all ending filled ends in
+      closed ∙ ap (λ ts. old ++ token.begin_array ∷ ts) (sym (items_written xs))
+
+  -- its text, if nothing was written before
   pub array_written : (xs : List A) (before begun told all : List Token) → before ≡ []
       → begun ≡ before ++ token.begin_array ∷ [] → told ≡ begun ++ tokens_of data_of xs
       → all ≡ told ++ token.end_array ∷ [] → print all ≡ compact_text (array_of data_of xs)
   array_written xs before begun told all none begins tells ends =
-      let tokens = tokens_of data_of xs in
-      let opening = token.begin_array ∷ [] in
-      let ending = token.end_array ∷ [] in
-      let opened = begins ∙ ap (λ ts. ts ++ opening) none in
-      let filled = tells ∙ ap (λ ts. ts ++ tokens) opened in
-      let closed = ends ∙ ap (λ ts. ts ++ ending) filled ∙ append_assoc opening tokens ending in
-      ap print (closed ∙ ap (λ ts. token.begin_array ∷ ts) (sym (items_written xs)))
+      let array = json_tokens (outline (array_of data_of xs)) in
+      ap print (array_told xs before begun told all begins tells ends ∙ ap (λ ts. ts ++ array) none)
       ∙ print-outline (array_of data_of xs)
