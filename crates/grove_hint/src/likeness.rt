@@ -8,6 +8,9 @@ use serde_json::Value;
 use std::alloc::{AllocError, Global};
 use strsim::osa_distance;
 
+/// How many members each row of a tree has.
+const NEEDED: usize = 3;
+
 /// Is the name likely meant to be the wanted one? It is where only its letters' cases differ, and where few letters are
 /// wrong, missing, too many or exchanged with the next: one in three, at most.
 pub(crate) fn resembles(alloc: Global, wanted: &str, name: &str) -> Result<bool, AllocError> {
@@ -49,6 +52,12 @@ pub(crate) fn near_member<'v>(
     Ok(None)
 }
 
+/// Has a row of a tree more members than it needs?
+fn has_more(row: &Value) -> bool {
+    row.as_object()
+        .is_some_and(|members| members.len() > NEEDED)
+}
+
 /// The first member that nothing uses and that resembles one that the command would use, but that isn't there.
 pub(crate) fn stray_member(alloc: Global, asked: Asked, document: &Value) -> Found {
     let (_, names, other) = asked.reads();
@@ -66,6 +75,9 @@ pub(crate) fn stray_member(alloc: Global, asked: Asked, document: &Value) -> Fou
     };
     let rows = subject.items(Part::Nodes, None);
     for (at, row) in rows.iter().enumerate() {
+        if !has_more(row) {
+            continue;
+        }
         if let Some(near) = near_member(alloc, Form::Row, row, "value")? {
             return Ok(Some(format!(in alloc;
                 "nothing uses {near} of nodes {at}, which resembles \"value\""
