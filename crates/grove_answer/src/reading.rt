@@ -15,8 +15,8 @@ use grove_plan::Plan;
 use grove_proof::Flow;
 use grove_tree::Tree;
 use grove_wire::{
-    Standing, WireFault, read_events, read_flow, read_jobs, read_list, read_lists, read_plan,
-    read_standing, read_tree,
+    Standing, WireFault, read_events, read_jobs, read_list, read_lists, read_plan,
+    read_plan_and_flow, read_standing, read_tree,
 };
 use serde_json::Value;
 use std::alloc::Global;
@@ -64,13 +64,13 @@ pub fn read_trial(alloc: Global, document: &Value) -> Result<(Task, Plan), WireF
 }
 
 /// The document's tree, list and plan, and a flow that is to prove the plan least.
-#[tactic(auto, unfolding(crate::specs::Outcomes::claim_in))]
+#[tactic(auto, unfolding(crate::specs::Outcomes::claim_in, crate::specs::Outcomes::trial_in))]
 pub fn read_claim(alloc: Global, document: &Value) -> Result<(Task, Plan, Flow), WireFault>
     ensures read { Gives (λ claim. (claim.0, claim.1, claim.2)) result (claim_in (view document.now)) }
     ensures fits { IfOk result (λ claim. IsFitting claim.0) }
 {
-    let (task, plan) = read_trial(alloc, document)?;
-    let flow = read_flow(alloc, &task.tree, document)?;
+    let task = read_task(alloc, document)?;
+    let (plan, flow) = read_plan_and_flow(alloc, &task.tree, document)?;
     Ok((task, plan, flow))
 }
 
@@ -85,8 +85,7 @@ pub fn read_claim_over(
     ensures fits { IfOk result (λ claim. AreNodes tree.now (nodes_of claim.0)) }
 {
     let list = read_list(alloc, tree, document)?;
-    let plan = read_plan(alloc, tree, document)?;
-    let flow = read_flow(alloc, tree, document)?;
+    let (plan, flow) = read_plan_and_flow(alloc, tree, document)?;
     Ok((list, plan, flow))
 }
 
