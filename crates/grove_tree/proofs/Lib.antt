@@ -21,3 +21,4 @@ pub mod SameOutlines
 pub mod WaysDown
 pub mod Standings
 pub mod Siblings
+pub mod RowMarks

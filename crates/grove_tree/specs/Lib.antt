@@ -10,4 +10,5 @@ pub mod PathRests
 pub mod Ways
 pub mod Standings
 pub mod Siblings
+pub mod RowMarks
 pub mod BuiltRows

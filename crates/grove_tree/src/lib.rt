@@ -19,6 +19,7 @@ mod finding;
 mod gate;
 mod growing;
 mod likeness;
+mod marks;
 mod name;
 mod node;
 mod outline;

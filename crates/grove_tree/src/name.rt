@@ -83,7 +83,7 @@ pub(crate) fn next_mark(path: &[u8]) -> u32
 }
 
 /// A mark of the bytes before the first slash.
-fn mark_of(bytes: &[u8]) -> u32
+pub(crate) fn mark_of(bytes: &[u8]) -> u32
     ensures { result ≡ mark_of bytes.now }
 {
     let mut mark = 0u32;

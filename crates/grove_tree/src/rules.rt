@@ -6,7 +6,9 @@ ghost use Rattle.grove_tree.specs.Rules.{is_name_byte, is_name, is_well_placed, 
 ghost use Rattle.grove_tree.specs.Rules.{is_weight, row_fault, rows_fault, tree_fault_of};
 ghost use Rattle.grove_tree.specs.BuiltRows.{rows_of};
 ghost use Rattle.grove_tree.specs.Siblings.{AreWellPlaced, HasNoChild};
+ghost use Rattle.grove_tree.specs.RowMarks.{AreNoted};
 
+use crate::marks::Marks;
 use crate::{Row, TreeFault};
 
 const MOST_ROWS: usize = 4096;
@@ -144,6 +146,16 @@ fn has_twin(rows: &[Row], row: u32) -> bool
     false
 }
 
+/// The same, with the siblings gone through only where the row's mark is there.
+fn is_twice_named(marks: &Marks, rows: &[Row], row: u32) -> bool
+    requires within { row < length rows.now }
+    requires placed { AreWellPlaced (rows_of rows.now) (suc row) }
+    requires noted { AreNoted marks.now.words (rows_of rows.now) row }
+    ensures { result ≡ any_below row (is_twin (rows_of rows.now) row) }
+{
+    marks.may_have_twin(rows, row) && has_twin(rows, row)
+}
+
 fn is_row_well_weighed(rows: &[Row], row: u32) -> bool
     requires { row < length rows.now }
     ensures { result ≡ is_weight (weight_of (rows_of rows.now) row) }
@@ -153,9 +165,10 @@ fn is_row_well_weighed(rows: &[Row], row: u32) -> bool
 }
 
 /// The first rule that the row breaks.
-fn fault_of_row(rows: &[Row], row: u32) -> Option<TreeFault>
+fn fault_of_row(marks: &Marks, rows: &[Row], row: u32) -> Option<TreeFault>
     requires within { row < length rows.now }
     requires placed { AreWellPlaced (rows_of rows.now) row }
+    requires noted { AreNoted marks.now.words (rows_of rows.now) row }
     ensures { result ≡ row_fault (rows_of rows.now) row }
 {
     if !is_row_well_placed(rows, row) {
@@ -164,7 +177,7 @@ fn fault_of_row(rows: &[Row], row: u32) -> Option<TreeFault>
         Some(TreeFault::TooDeep(row))
     } else if !is_row_well_named(rows, row) {
         Some(TreeFault::BadName(row))
-    } else if has_twin(rows, row) {
+    } else if is_twice_named(marks, rows, row) {
         Some(TreeFault::TwiceNamed(row))
     } else if !is_row_well_weighed(rows, row) {
         Some(TreeFault::BadWeight(row))
@@ -178,11 +191,13 @@ fn fault_of_rows(rows: &[Row]) -> Option<TreeFault>
     requires { length rows.now ≤ 4096 }
     ensures { result ≡ rows_fault (rows_of rows.now) (length rows.now) }
 {
+    let mut marks = Marks::new();
     for row in 0..rows.len() as u32 {
-        let fault = fault_of_row(rows, row);
+        let fault = fault_of_row(&marks, rows, row);
         if fault.is_some() {
             return fault;
         }
+        marks.note(rows, row);
     }
     None
 }

@@ -12,6 +12,6 @@ depth_of_row-requires-clause-rising c = λ low parent le own.
     (placed_next (rows_of c.args.rows.now) c.args.row c.requires.placed (sym c.if-not-is_row_well_placed.ensures))
     low parent (omega arith) own
 
-pub has_twin-requires-clause-placed : goal.has_twin-requires-clause-placed
-has_twin-requires-clause-placed c =
+pub is_twice_named-requires-clause-placed : goal.is_twice_named-requires-clause-placed
+is_twice_named-requires-clause-placed c =
     placed_next (rows_of c.args.rows.now) c.args.row c.requires.placed (sym c.if-not-is_row_well_placed.ensures)

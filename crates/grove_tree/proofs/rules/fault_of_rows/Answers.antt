@@ -5,12 +5,17 @@ use Rattle.grove_tree.proofs.rules.fault_of_rows.Goals as goal
 
 pub fault_of_row-fault-requires-clause-placed : goal.fault_of_row-fault-requires-clause-placed
 fault_of_row-fault-requires-clause-placed c = λ row lt.
-    (rows_ruled (rows_of c.args.rows.now) c.loop-row.row c.loop-row.invariant row lt).placed
+    (rows_ruled (rows_of c.args.rows.now) c.loop-row.row c.loop-row.invariant.0 row lt).placed
 
 pub returns-then-is_some : goal.returns-then-is_some
 returns-then-is_some c =
-    fault_found (rows_of c.args.rows.now) c.loop-row.row _ _ c.loop-row-test.true c.loop-row.invariant c.fault_of_row-fault.ensures (sym c.if-is_some.ensures)
+    fault_found (rows_of c.args.rows.now) c.loop-row.row _ _ c.loop-row-test.true c.loop-row.invariant.0
+    c.fault_of_row-fault.ensures (sym c.if-is_some.ensures)
 
 pub loop-row-preserved : goal.loop-row-preserved
 loop-row-preserved c =
-    rw add-one (fault_not_found (rows_of c.args.rows.now) c.loop-row.row _ c.loop-row.invariant c.fault_of_row-fault.ensures (sym c.if-is_some.ensures))
+    rw add-one (
+      fault_not_found (rows_of c.args.rows.now) c.loop-row.row _ c.loop-row.invariant.0 c.fault_of_row-fault.ensures
+          (sym c.if-is_some.ensures),
+      c.note.ensures,
+    )
