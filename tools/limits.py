@@ -155,8 +155,19 @@ LIMITS = [
         "MOST_LINES",
         [("docs/SESSIONS.md", "- At most {} callers wait with their lines;")],
     ),
-    ("crates/grove_desk/src/board.rt", "MOST_AHEAD", [("docs/SESSIONS.md", "and at most {} of all sessions.")]),
-    ("crates/grove_desk/src/ahead.rt", "MOST_OF_VISITOR", [("docs/SESSIONS.md", "up to {} are put before their turn")]),
+    (
+        "crates/grove_desk/src/pipeline.rt",
+        "MOST_TOGETHER",
+        [
+            ("docs/SESSIONS.md", "are put together, up to {} with"),
+            ("docs/DECISIONS.md", "are put together,** up to {} with"),
+        ],
+    ),
+    (
+        "crates/grove_desk/src/pipeline.rt",
+        "MOST_BYTES",
+        [("docs/SESSIONS.md", "with at most {} bytes. They are answered")],
+    ),
     ("crates/grove_page/src/service.rt", "MOST_LINES", [("docs/PAGE.md", "a body of more than {} line feeds")]),
     ("crates/grove_page/src/service.rt", "MOST_KEPT", [("docs/PAGE.md", "After a body of more than {} bytes")]),
     ("crates/grove_page/src/serving.rt", "MOST_BODY", [("docs/PAGE.md", "the body has more than {} bytes |")]),

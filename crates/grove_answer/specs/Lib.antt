@@ -3,4 +3,3 @@ pub mod Faults
 pub mod Says
 pub mod PlannedDocuments
 pub mod Laws
-pub mod MadePaths

@@ -6,16 +6,13 @@ ghost use Rattle.grove_wire.specs.Reading.{list_in};
 ghost use Rattle.grove_answer.specs.Says.{Says};
 ghost use Rattle.grove_answer.specs.Outcomes.{ThenSays, task_in, plan_lines, IsPlannedOver, IsPlannedTask};
 
-use crate::flow_texts::flow_text;
-use crate::paths::Paths;
-use crate::plan_texts::plan_text;
 use crate::reading::read_task;
 use crate::refusal::{Refusal, or_refuse};
 use grove_access::AccessList;
 use grove_base::NoMemory;
 use grove_build::{Planned, plan};
 use grove_tree::Tree;
-use grove_wire::read_list;
+use grove_wire::{Paths, flow_text, plan_text, read_list};
 use serde_json::Value;
 use std::alloc::Global;
 

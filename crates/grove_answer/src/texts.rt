@@ -1,5 +1,4 @@
-ghost use Rattle.std.specs.Prelude.{◌≡◌, [], length, map, IfOk, string_bytes};
-ghost use Rattle.json.specs.Print.{print};
+ghost use Rattle.std.specs.Prelude.{◌≡◌, length, map, IfOk, string_bytes};
 ghost use Rattle.serde_json.specs.Written.{compact_text};
 ghost use Rattle.grove_wire.specs.Writing.{array_of, count_data, number_data, reply_data};
 
@@ -7,7 +6,6 @@ use grove_access::{Records, Reply};
 use grove_base::NoMemory;
 use grove_tree::{Node, Tree};
 use grove_wire::{counts_value, lists_value, numbers_value, replies_value};
-use json::Writer;
 use std::alloc::{AllocError, Global};
 
 /// The replies of a list, as JSON.
@@ -53,12 +51,4 @@ pub fn lists_text(alloc: Global, lists: &[&[Reply]]) -> Result<String, NoMemory>
         (λ text. string_bytes text ≡ compact_text (array_of (array_of reply_data) (map (λ list. list.now) lists.now))) }
 {
     Ok(lists_value(alloc, lists)?.to_string(alloc)?)
-}
-
-/// What was written, as a text.
-pub fn text_of(writer: Writer) -> String
-    requires { writer.before ≡ [] }
-    ensures { string_bytes result ≡ print writer.tokens }
-{
-    String::from_utf8(writer.into_inner()).unwrap()
 }

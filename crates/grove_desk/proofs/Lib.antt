@@ -3,3 +3,4 @@ pub mod Noting
 pub mod Keeping
 pub mod Places
 pub mod Sharing
+pub mod Slots

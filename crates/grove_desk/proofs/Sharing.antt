@@ -1,10 +1,15 @@
 -- Threads may share a desk.
 use denote.RattleType.{RattleType}
-use denote.Builtin.{u64}
+use denote.Builtin.{u8, u64}
 use denote.Struct.Declared.{shape}
 use denote.Param.Send.{IsSend, IsSync, AllSend, AllSync, sendable, struct_send, struct_sync, recorded_send, recorded_sync, view_send, view_sync}
 use Rattle.std.proofs.Crossing.{crosses, Vec-send}
+use Rattle.std.proofs.MapsCrossing.{String-send, BTreeMap-send}
 use Rattle.grove_tree.proofs.outline.Outline.TheLaws.TheKnot.{send-Outline, sync-Outline}
+use Rattle.serde_json.proofs.value.Value.TheLaws.TheKnot.{send-Value}
+use Rattle.grove_wire.specs.contracts.line.Kept as Kept
+use Rattle.grove_wire.specs.contracts.line.Line as Line
+use Rattle.grove_wire.specs.contracts.line.Line.TheInside as LineInside
 use Rattle.grove_tree.specs.contracts.name.Name as Name
 use Rattle.grove_tree.specs.contracts.outline.Outline as Outline
 use Rattle.grove_desk.specs.declared.opening.Opening as opening
@@ -59,8 +64,20 @@ Inside-send B picked send sync =
 Ledger-send : (B : RattleType) (picked : opening.Ghosts B.Denot) → IsSend B → IsSync B → IsSend (Ledger.the_row B picked)
 Ledger-send B picked send sync = view_send _ _ _ _ _ (Inside-send B picked send sync)
 
+-- a line with what was read of it does too
+Kept-send : IsSend (Kept.the_field).row
+Kept-send = search (sendable, crosses, String-send, BTreeMap-send, send-Value) depth 80 fits 8000
+
+LineInside-send : IsSend LineInside.the_row
+LineInside-send =
+    let each : AllSend (shape LineInside.the_type).fields = (Vec-send u8 (search (sendable, crosses)), (Kept-send, tt)) in
+    recorded_send _ _ _ LineInside.the_type.to_one (struct_send (shape LineInside.the_type) each)
+
+Line-send : IsSend Line.the_row
+Line-send = view_send _ _ _ _ _ LineInside-send
+
 Slot-send : IsSend Slot.the_row
-Slot-send = search (sendable, crosses) depth 60 fits 4000
+Slot-send = search (sendable, crosses, Line-send) depth 60 fits 4000
 
 Slots-send : IsSend (Vec.the_row Slot.the_row Heap.the_row ghosts)
 Slots-send = Vec-send Slot.the_row Slot-send

@@ -4,7 +4,7 @@ use Rattle.std.specs.Prelude.{length, map, take, drop, All, IsSome, Result, IfOk
 use Rattle.grove_store.specs.StoreStates.{StoreState}
 use Rattle.grove_desk.specs.Receipts.{ReceiptState, AreNumberedFrom}
 use Rattle.grove_desk.specs.Histories.{RoundState, Leads, Led, store_before, receipts_in}
-use Rattle.grove_desk.specs.declared.slot.Asked.{Asked}
+use Rattle.grove_desk.specs.declared.asked.Asked.{Asked}
 
 -- every round since the opening, and the number of their lines, held at the greatest
 pub record JournalState : Type 0 where

@@ -4,7 +4,7 @@ ghost use Rattle.grove_desk.specs.Receipts.{AreNumberedFrom, number_at};
 ghost use Rattle.grove_desk.specs.Histories.{IsRound};
 
 use crate::Receipt;
-use crate::slot::{Asked, lines_of};
+use crate::asked::{Asked, lines_of};
 use grove_store::Store;
 use grove_tree::{Gate, NoMemory};
 use std::alloc::Global;
@@ -23,7 +23,7 @@ pub(crate) fn answer_taken<R: Threads + Wait + Sync, G: Gate + Sync>(
 ) -> Result<Vec<Receipt>, NoMemory>
     requires { (0 < length taken.old.items) × (length taken.old.items ≤ 16) }
     ensures lines { IfOk result (λ receipts. map (λ receipt. receipt.line) receipts.items
-        ≡ take (length receipts.items) (map (λ asked. asked.line.bytes.items) taken.old.items)) }
+        ≡ take (length receipts.items) (map (λ asked. asked.line) taken.old.items)) }
     ensures round { IfOk result (λ receipts. IsRound store.old receipts.items store.new) }
     ensures numbered { IfOk result (λ receipts. AreNumberedFrom first receipts.items) }
     ensures left { IfOk result (λ receipts. drop (length receipts.items) taken.new.items

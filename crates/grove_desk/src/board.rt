@@ -5,25 +5,25 @@ ghost use Rattle.std.specs.Vec.{vec_capacity};
 ghost use Rattle.grove_store.specs.StoreStates.{StoreState};
 ghost use Rattle.grove_desk.specs.Receipts.{IsDeskReceipt};
 ghost use Rattle.grove_desk.specs.Histories.{Led};
-ghost use Rattle.grove_desk.specs.Boards.{KeepsState, SlotHolds};
+ghost use Rattle.grove_desk.specs.Boards.{KeepsState, Holds, SlotHolds, Takes};
 
-use crate::ahead::Ahead;
+use crate::asked::Asked;
 use crate::bells::Rings;
 use crate::ledger::Ledger;
-use crate::line::Line;
-use crate::slot::{Asked, Caller, Slot, State};
+use crate::pipeline::Pipeline;
+use crate::slot::Slot;
+use crate::state::State;
+use crate::turn::Turn;
 use crate::{Opening, Receipt};
 use grove_build::PlanCounts;
 use grove_store::Store;
 use grove_tree::NoMemory;
+use grove_wire::Line;
 use std::alloc::Global;
 use std::marker::Model;
 
-/// How many lines may wait, and the most that leave with the store at once.
+/// How many callers may wait with their lines, and the most lines that leave with the store at once.
 pub(crate) const MOST_LINES: usize = 16;
-
-/// So many lines at most are on the board that were put ahead, and whose visitors haven't come to them yet.
-const MOST_AHEAD: usize = 64;
 
 /// What lies behind a desk's lock: the store with its journal, unless they are out, and the lines that were put and not
 /// yet taken, in the order in which they were put.
@@ -78,67 +78,27 @@ impl<B: Opening> Board<B> {
         ledger
     }
 
-    /// Puts a line behind all others, and gives its ticket.
-    pub(crate) fn put(&mut self, line: Line) -> Result<u64, NoMemory> {
+    /// Puts lines behind all others, and gives their ticket.
+    pub(crate) fn put(&mut self, lines: Pipeline) -> Result<u64, NoMemory>
+        requires { Holds B.store B.kept lines }
+    {
         let ticket = self.tickets;
-        self.push(line, ticket, Caller::Here)?;
-        Ok(ticket)
-    }
-
-    /// Puts the next of a visitor's lines ahead, behind all others, if there is room and memory for it and nobody waits
-    /// for room. Gives whether it is put.
-    pub(crate) fn put_ahead(&mut self, line: Line, ahead: &mut Ahead) -> bool {
-        let ticket = self.tickets;
-        let visitor = ahead.visitor().unwrap_or(ticket);
-        if !self.has_room_ahead(visitor) || self.push(line, visitor, Caller::Later).is_err() {
-            return false;
-        }
-        if ahead.note(visitor, ticket).is_err() {
-            self.withdraw(ticket);
-            return false;
-        }
-        true
-    }
-
-    /// May a further line of this visitor be put ahead? None is behind one that memory was refused for.
-    fn has_room_ahead(&self, visitor: u64) -> bool {
-        let ahead = self.slots.iter().filter(|slot| slot.is_ahead()).count();
-        self.outside == 0 && ahead < MOST_AHEAD && !has_refused(&self.slots, visitor)
-    }
-
-    /// Puts a line under the next ticket.
-    fn push(&mut self, line: Line, visitor: u64, caller: Caller) -> Result<(), NoMemory> {
-        self.slots.push(Slot {
-            ticket: self.tickets,
-            visitor,
-            caller,
-            state: State::Waiting(line),
-        })?;
+        self.slots.push(Slot { ticket, lines })?;
         self.tickets = self.tickets.wrapping_add(1);
-        Ok(())
-    }
-
-    /// Takes back the line of this ticket, for which nobody comes. If it is out with the store, it goes once that is
-    /// back.
-    pub(crate) fn withdraw(&mut self, ticket: u64) {
-        let Some(place) = place_of(&self.slots, ticket) else {
-            return;
-        };
-        if self.slots[place].is_running() {
-            note_caller(&mut self.slots, place, Caller::Gone);
-        } else {
-            self.slots.remove(place);
-        }
+        Ok(ticket)
     }
 
     /// How many lines wait.
     pub(crate) fn waiting(&self) -> usize {
-        self.slots.iter().filter(|slot| slot.is_waiting()).count()
+        self.slots.iter().fold(0usize, |sum, slot| sum.saturating_add(slot.lines.waiting()))
     }
 
     /// How many callers wait for their lines to be taken.
     fn callers(&self) -> usize {
-        self.slots.iter().filter(|slot| slot.awaits_round()).count()
+        self.slots
+            .iter()
+            .filter(|slot| slot.lines.is_waiting())
+            .count()
     }
 
     pub(crate) fn is_full(&self) -> bool {
@@ -183,18 +143,18 @@ impl<B: Opening> Board<B> {
         }
     }
 
-    /// Whom to wake: the callers whose lines are answered, those who waited for a round that is done and, where the
-    /// store is here, all who want a copy of it; or else the first caller whose line waits, who is to lead. A line that
-    /// nobody has come to yet calls nobody: its visitor comes, or takes it back.
+    /// Whom to wake: the callers whose lines are settled, those who waited for a round that is done and, where the
+    /// store is here, all who want a copy of it; or else the first caller whose lines wait, who is to lead.
     pub(crate) fn rings(&self) -> Rings {
         let is_here = self.ledger.is_some();
         let mut rings = Rings::new(is_here && self.copies > 0);
         let mut is_led = !is_here || self.copies > 0;
         for slot in &self.slots {
-            if slot.awaits_call() || slot.awaits_round() && !is_led {
+            let waits = slot.lines.is_waiting();
+            if slot.lines.is_settled() || waits && !is_led {
                 rings.add(slot.ticket);
             }
-            is_led |= slot.awaits_round();
+            is_led |= waits;
         }
         self.add_rounds(&mut rings);
         rings
@@ -224,24 +184,42 @@ impl<B: Opening> Board<B> {
         Some(copy)
     }
 
-    /// What the line of this ticket was answered, if it was. If not, its caller has come, and waits.
-    pub(crate) fn collect(&mut self, ticket: u64) -> Option<Result<Receipt, NoMemory>>
-        ensures { IfSome result (λ done. IfOk done (IsDeskReceipt B.store B.kept)) }
+    /// What the caller of this ticket does next: it leaves where all of its lines are settled, or one is and it may go
+    /// then; it takes the store with the first lines that wait, where both are here; and else it waits.
+    pub(crate) fn turn(
+        &mut self,
+        ticket: u64,
+        may_go: bool,
+        taken: &mut Vec<Asked>,
+    ) -> Turn<Ledger<B>>
+        requires { taken.old.items ≡ [] }
+        ensures lines { Takes B.store B.kept result taken.new.items }
+        ensures room { vec_capacity taken.new ≡ vec_capacity taken.old }
     {
-        let place = place_of(&self.slots, ticket)?;
-        if !self.slots[place].is_done() {
-            note_caller(&mut self.slots, place, Caller::Here);
-            return None;
+        if let Some(lines) = self.collect(ticket, may_go) {
+            return Turn::Leave(lines);
         }
-        let Slot { state, .. } = self.slots.remove(place);
-        match state {
-            State::Done(done) => Some(done),
-            State::Waiting(_) | State::Running => None,
+        match self.take(taken) {
+            Some(ledger) => Turn::Lead(ledger),
+            None => Turn::Wait,
         }
     }
 
-    /// Takes the store with the first lines that wait, one of each visitor, where both are here.
-    pub(crate) fn take(&mut self, taken: &mut Vec<Asked>) -> Option<Ledger<B>>
+    /// Takes the lines of this ticket off the board, where all are settled, or one is and their caller may go then.
+    fn collect(&mut self, ticket: u64, may_go: bool) -> Option<Pipeline>
+        ensures { IfSome result (Holds B.store B.kept) }
+    {
+        let place = place_of(&self.slots, ticket)?;
+        let lines = &self.slots[place].lines;
+        if !lines.is_settled() && !(may_go && lines.has_settled()) {
+            return None;
+        }
+        let Slot { lines, .. } = self.slots.remove(place);
+        Some(lines)
+    }
+
+    /// Takes the store with the first lines that wait, one of each caller, where both are here.
+    fn take(&mut self, taken: &mut Vec<Asked>) -> Option<Ledger<B>>
         requires { taken.old.items ≡ [] }
         ensures some { IfSome result (λ _. 0 < length taken.new.items) }
         ensures none { IfNone result (taken.new.items ≡ []) }
@@ -254,11 +232,7 @@ impl<B: Opening> Board<B> {
             if taken.len() == taken.capacity() {
                 break;
             }
-            if !has_line_of(taken, self.slots[place].visitor) {
-                if let Some(asked) = self.slots[place].start() {
-                    taken.push_reserved(asked);
-                }
-            }
+            take_line(&mut self.slots, place, taken);
         }
         if taken.is_empty() {
             return None;
@@ -267,8 +241,7 @@ impl<B: Opening> Board<B> {
     }
 
     /// Puts the store back, and leaves to the callers of the lines what they were answered: those of the first lines,
-    /// as many as there are receipts, or all of them a refusal. The other lines wait again, where they were. No line
-    /// stays that its visitor put behind a refused one.
+    /// as many as there are receipts, or all of them a refusal. The other lines wait again, where they were.
     pub(crate) fn put_back(
         &mut self,
         ledger: Ledger<B>,
@@ -281,8 +254,7 @@ impl<B: Opening> Board<B> {
     {
         while let Some(asked) = taken.pop() {
             let state = state_after(&mut answered, taken.len(), asked.line);
-            restore(&mut self.slots, asked.ticket, state);
-            drop_lines_behind(&mut self.slots, asked.visitor);
+            settle(&mut self.slots, asked.ticket, state);
         }
         self.rounds = ledger.rounds();
         self.plans = ledger.plan_counts();
@@ -290,66 +262,35 @@ impl<B: Opening> Board<B> {
     }
 }
 
-/// Where the line of this ticket has got to now. It goes if nobody comes for it.
-fn restore(slots: &mut Vec<Slot>, ticket: u64, state: State)
+/// Takes the next line of the slot at this place, where it waits.
+fn take_line(slots: &mut Vec<Slot>, place: usize, taken: &mut Vec<Asked>)
+    requires place { place < length slots.old.items }
+    requires room { length taken.old.items < vec_capacity taken.old }
+    ensures held { (opening : StoreState) → (kept : Bool)
+        → All (SlotHolds opening kept) slots.old.items → All (SlotHolds opening kept) slots.new.items }
+    ensures length { length slots.new.items ≡ length slots.old.items }
+    ensures room { vec_capacity taken.new ≡ vec_capacity taken.old }
+{
+    let slot = &mut slots[place];
+    if let Some(line) = slot.lines.start() {
+        taken.push_reserved(Asked {
+            ticket: slot.ticket,
+            line,
+        });
+    }
+}
+
+/// Where the line that left under this ticket has got to now.
+fn settle(slots: &mut Vec<Slot>, ticket: u64, state: State)
     ensures held { (opening : StoreState) → (kept : Bool) → KeepsState opening kept state
         → All (SlotHolds opening kept) slots.old.items → All (SlotHolds opening kept) slots.new.items }
 {
-    let Some(place) = place_of(slots, ticket) else {
-        return;
-    };
-    if slots[place].caller == Caller::Gone {
-        slots.remove(place);
-    } else {
-        slots[place].state = state;
+    if let Some(place) = place_of(slots, ticket) {
+        slots[place].lines.settle(state);
     }
 }
 
-/// Whether anybody is there now for the line at this place.
-fn note_caller(slots: &mut Vec<Slot>, place: usize, caller: Caller)
-    requires { place < length slots.old.items }
-    ensures held { (opening : StoreState) → (kept : Bool)
-        → All (SlotHolds opening kept) slots.old.items → All (SlotHolds opening kept) slots.new.items }
-{
-    slots[place].caller = caller;
-}
-
-/// Takes back the lines that wait behind a refused one of this visitor.
-fn drop_lines_behind(slots: &mut Vec<Slot>, visitor: u64)
-    ensures held { (opening : StoreState) → (kept : Bool)
-        → All (SlotHolds opening kept) slots.old.items → All (SlotHolds opening kept) slots.new.items }
-{
-    if !has_refused(slots, visitor) {
-        return;
-    }
-    while let Some(place) = slots.iter().position(|slot| slot.waits_behind(visitor)) {
-        take_off(slots, place);
-    }
-}
-
-/// Takes the line at this place off the board.
-fn take_off(slots: &mut Vec<Slot>, place: usize)
-    requires { place < length slots.old.items }
-    ensures held { (opening : StoreState) → (kept : Bool)
-        → All (SlotHolds opening kept) slots.old.items → All (SlotHolds opening kept) slots.new.items }
-    ensures fewer { length slots.new.items < length slots.old.items }
-{
-    slots.remove(place);
-}
-
-/// Was memory refused for a line of this visitor?
-fn has_refused(slots: &[Slot], visitor: u64) -> bool {
-    slots
-        .iter()
-        .any(|slot| slot.visitor == visitor && slot.is_refused())
-}
-
-/// Is one of the lines this visitor's?
-fn has_line_of(taken: &[Asked], visitor: u64) -> bool {
-    taken.iter().any(|asked| asked.visitor == visitor)
-}
-
-/// Where the line of a ticket stands among the slots.
+/// Where the slot of a ticket stands.
 fn place_of(slots: &[Slot], ticket: u64) -> Option<usize>
     ensures { IfSome result (λ place. place < length slots.now) }
 {

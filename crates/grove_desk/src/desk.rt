@@ -1,15 +1,17 @@
-ghost use Rattle.std.specs.Prelude.{◌≡◌, ◌<◌, ◌≤◌, false, [], length, All, Err, IfOk};
+ghost use Rattle.std.specs.Prelude.{◌≡◌, ◌≤◌, Bool, false, length, None, Err, IfOk, IfSome};
 ghost use Rattle.std.specs.Option.{option_copied};
-ghost use Rattle.std.specs.Vec.{vec_capacity};
+ghost use Rattle.grove_store.specs.StoreStates.{StoreState};
 ghost use Rattle.grove_session.specs.declared.answers.TheConstants.{LINE_LIMIT};
 ghost use Rattle.grove_tree.specs.Weights.{unweighed};
+ghost use Rattle.grove_desk.specs.Boards.{Holds};
 ghost use Rattle.grove_desk.specs.Histories.{Led};
 ghost use Rattle.grove_desk.specs.Receipts.{ReceiptState, IsAllowed, IsDeskReceipt, IsForeignReceipt, ComesAfter};
 
 use crate::bells::Bells;
 use crate::board::{Board, MOST_LINES};
 use crate::ledger::Ledger;
-use crate::slot::Asked;
+use crate::pipeline::Pipeline;
+use crate::turn::Leading;
 use crate::{DeskFault, Opening, Receipt, RoundWatch, Unwatched};
 pub use closing::Closed;
 use grove_session::LINE_LIMIT;
@@ -22,11 +24,11 @@ use std::thread::Threads;
 
 mod closing;
 mod counting;
-mod putting;
+mod leading;
 mod waiting;
 
 /// A line with more bytes than this is put once no other such line is being answered.
-pub(crate) const LARGE_LINE: usize = 64 * 1024;
+const LARGE_LINE: usize = 64 * 1024;
 
 /// A store that many callers share. Each puts a line and waits for its receipt; one of them, whoever finds the store
 /// there, takes it with the first lines that wait, answers them as one round, and puts it back. What it was opened with
@@ -89,22 +91,35 @@ impl<B: Opening> Desk<B> {
             → (receipt : ReceiptState) × IsDeskReceipt self.now.opening self.now.kept receipt
             × IsForeignReceipt self.now.kept line.now (option_copied seen.entry) receipt }
     {
-        self.answer_watched(rt, alloc, None, seen, line, gate, &Unwatched)
+        let mut lines = None;
+        self.answer_next(
+            rt,
+            alloc,
+            &mut lines,
+            Leading::Once,
+            seen,
+            line,
+            gate,
+            &Unwatched,
+        )
     }
 
-    /// The same of a line that may have been put ahead, under this ticket. Of the rounds that this caller runs is
-    /// learned.
-    pub(crate) fn answer_watched<R: Threads + Wait + Sync, G: Gate + Sync, W: RoundWatch<R>>(
+    /// The same of the next line of a visitor. If lines of it are left that were put together, it is the first of them.
+    /// Of the rounds that this caller leads is learned.
+    pub(crate) fn answer_next<R: Threads + Wait + Sync, G: Gate + Sync, W: RoundWatch<R>>(
         &self,
         rt: &R,
         alloc: Global,
-        ahead: Option<u64>,
+        lines: &mut Option<Pipeline>,
+        leading: Leading,
         seen: Option<&Receipt>,
         line: &[u8],
         gate: &G,
         watch: &W,
     ) -> Result<Receipt, DeskFault>
-        requires { length line.now ≤ LINE_LIMIT }
+        requires limit { length line.now ≤ LINE_LIMIT }
+        requires held { IfSome lines.old (Holds B.store B.kept) }
+        ensures held { IfSome lines.new (Holds B.store B.kept) }
         ensures line { IfOk result (λ receipt. receipt.line ≡ line.now) }
         ensures allowed { IfOk result (IsAllowed (unweighed self.now.opening.rows)) }
         ensures follows { IfOk result (ComesAfter self.now.kept (option_copied seen.entry)) }
@@ -113,19 +128,45 @@ impl<B: Opening> Desk<B> {
             → (receipt : ReceiptState) × IsDeskReceipt self.now.opening self.now.kept receipt
             × IsForeignReceipt self.now.kept line.now (option_copied seen.entry) receipt }
     {
+        let receipt = match settled_first(lines) {
+            Some(done) => done?,
+            None => self.put_next(rt, alloc, lines, leading, line, gate, watch)?,
+        };
+        if receipt.is_of(line) && receipt.follows(seen, self.kept) {
+            Ok(receipt)
+        } else {
+            Err(DeskFault::Foreign)
+        }
+    }
+
+    /// Puts the lines that are left, or this one if there are none, and gives what the first of them was answered.
+    fn put_next<R: Threads + Wait + Sync, G: Gate + Sync, W: RoundWatch<R>>(
+        &self,
+        rt: &R,
+        alloc: Global,
+        lines: &mut Option<Pipeline>,
+        leading: Leading,
+        line: &[u8],
+        gate: &G,
+        watch: &W,
+    ) -> Result<Receipt, DeskFault>
+        requires limit { length line.now ≤ LINE_LIMIT }
+        requires held { IfSome lines.old (Holds B.store B.kept) }
+        ensures held { IfSome lines.new (Holds B.store B.kept) }
+        ensures receipt { IfOk result (IsDeskReceipt B.store B.kept) }
+        ensures foreign { result ≡ Err DeskFault.Foreign → ⊥ }
+    {
         let _turn = if line.len() > LARGE_LINE {
             Some(self.large.lock(rt))
         } else {
             None
         };
         let mut taken = Vec::with_capacity(alloc, MOST_LINES)?;
-        let ticket = self.ticket_of(rt, alloc, ahead, line)?;
-        let receipt = self.attend(rt, alloc, ticket, &mut taken, gate, watch)?;
-        if receipt.is_of(line) && receipt.follows(seen, self.kept) {
-            Ok(receipt)
-        } else {
-            Err(DeskFault::Foreign)
-        }
+        let put = lines_to_put(alloc, lines, line)?;
+        let ticket = self.put(rt, put)?;
+        let (first, rest) = self.attend(rt, alloc, ticket, leading, &mut taken, gate, watch);
+        *lines = Some(rest);
+        Ok(first?)
     }
 
     /// How many lines wait: they were put, and are in no round yet.
@@ -151,62 +192,34 @@ impl<B: Opening> Desk<B> {
         }
         unreachable!()
     }
+}
 
-    /// Waits for what the line of this ticket was answered; whenever it finds the store there, answers the first lines
-    /// that wait itself, outside the lock, and puts back the store and what they were answered.
-    fn attend<R: Threads + Wait + Sync, G: Gate + Sync, W: RoundWatch<R>>(
-        &self,
-        rt: &R,
-        alloc: Global,
-        ticket: u64,
-        taken: &mut Vec<Asked>,
-        gate: &G,
-        watch: &W,
-    ) -> Result<Receipt, NoMemory>
-        requires { (taken.old.items ≡ []) × (vec_capacity taken.old ≡ 16) }
-        ensures { IfOk result (IsDeskReceipt B.store B.kept) }
-    {
-        for _ in rt.forever() {
-            let mut board = self.board.lock(rt);
-            if let Some(done) = board.collect(ticket) {
-                return done;
-            }
-            match board.take(taken) {
-                Some(mut ledger) => {
-                    let room = board.room();
-                    drop(board);
-                    self.bells.let_in(room);
-                    let began = watch.begin(rt);
-                    let answered = ledger.answer(rt, alloc, taken, gate);
-                    if let Ok(receipts) = &answered {
-                        watch.end(rt, began, receipts);
-                    }
-                    self.put_back(rt, ledger, taken, answered);
-                }
-                None => {
-                    let _again = self.bells.of(ticket).wait(rt, board);
-                }
-            }
-        }
-        unreachable!()
+/// What the first of the lines was answered, if it is settled.
+fn settled_first(lines: &mut Option<Pipeline>) -> Option<Result<Receipt, NoMemory>>
+    ensures first { (opening : StoreState) → (kept : Bool) → IfSome lines.old (Holds opening kept)
+        → IfSome result (λ done. IfOk done (IsDeskReceipt opening kept)) }
+    ensures rest { (opening : StoreState) → (kept : Bool) → IfSome lines.old (Holds opening kept)
+        → IfSome lines.new (Holds opening kept) }
+{
+    match lines {
+        Some(lines) => lines.take_first(),
+        None => None,
     }
+}
 
-    /// Puts back the store and what the lines were answered, and wakes those who wait for that.
-    fn put_back<R: Wait>(
-        &self,
-        rt: &R,
-        ledger: Ledger<B>,
-        taken: &mut Vec<Asked>,
-        answered: Result<Vec<Receipt>, NoMemory>,
-    )
-        requires { IfOk answered (λ receipts. All (IsDeskReceipt B.store B.kept) receipts.items) }
-        ensures taken { taken.new.items ≡ [] }
-        ensures room { vec_capacity taken.new ≡ vec_capacity taken.old }
-    {
-        let mut board = self.board.lock(rt);
-        board.put_back(ledger, taken, answered);
-        let rings = board.rings();
-        drop(board);
-        self.bells.ring(&rings);
+/// The lines that are left, or else a copy of this one.
+fn lines_to_put(
+    alloc: Global,
+    lines: &mut Option<Pipeline>,
+    line: &[u8],
+) -> Result<Pipeline, NoMemory>
+    requires { length line.now ≤ LINE_LIMIT }
+    ensures put { (opening : StoreState) → (kept : Bool) → IfSome lines.old (Holds opening kept)
+        → IfOk result (Holds opening kept) }
+    ensures none { lines.new ≡ None }
+{
+    match lines.take() {
+        Some(left) if !left.is_empty() => Ok(left),
+        _ => Pipeline::of_line(alloc, line),
     }
 }

@@ -7,7 +7,7 @@ ghost use Rattle.grove_desk.specs.Ledgers.{noted_in, LeavesOthers};
 
 use crate::Receipt;
 use crate::answering::answer_taken;
-use crate::slot::Asked;
+use crate::asked::Asked;
 use crate::standing::{ascend, stand};
 use grove_store::Store;
 use grove_tree::{Gate, NoMemory};
@@ -83,7 +83,7 @@ impl Journal {
     ) -> Result<Vec<Receipt>, NoMemory>
         requires { (0 < length taken.old.items) × (length taken.old.items ≤ 16) }
         ensures lines { IfOk result (λ receipts. map (λ receipt. receipt.line) receipts.items
-            ≡ take (length receipts.items) (map (λ asked. asked.line.bytes.items) taken.old.items)) }
+            ≡ take (length receipts.items) (map (λ asked. asked.line) taken.old.items)) }
         ensures round { IfOk result (λ receipts. IsRound store.old receipts.items store.new) }
         ensures numbered { IfOk result (λ receipts. AreNumberedFrom (Some self.old.lines) receipts.items) }
         ensures left { LeavesOthers result (λ receipts. receipts.items) taken.old.items taken.new.items }

@@ -6,8 +6,8 @@ ghost use Rattle.grove_desk.specs.Histories.{IsRound, Led};
 ghost use Rattle.grove_desk.specs.Ledgers.{noted_in, IsJournalOf, LeavesOthers};
 
 use crate::answering::answer_taken;
+use crate::asked::Asked;
 use crate::journal::Journal;
-use crate::slot::Asked;
 use crate::{Opening, Receipt};
 use grove_build::PlanCounts;
 use grove_store::Store;
@@ -89,7 +89,7 @@ impl<B: Opening> Ledger<B> {
     ) -> Result<Vec<Receipt>, NoMemory>
         requires { (0 < length taken.old.items) × (length taken.old.items ≤ 16) }
         ensures lines { IfOk result (λ receipts. map (λ receipt. receipt.line) receipts.items
-            ≡ take (length receipts.items) (map (λ asked. asked.line.bytes.items) taken.old.items)) }
+            ≡ take (length receipts.items) (map (λ asked. asked.line) taken.old.items)) }
         ensures round { IfOk result (λ receipts. IsRound self.old.store receipts.items self.new.store) }
         ensures journal { IfOk result
             (λ receipts. self.new.journal

@@ -5,8 +5,9 @@ ghost use Rattle.grove_session.specs.Sessions.{SessionEnds, is_read, is_write};
 ghost use Rattle.grove_tree.specs.Weights.{unweighed};
 ghost use Rattle.grove_desk.specs.Desks.{VisitState, IsShared};
 
-use crate::ahead::Ahead;
 use crate::fault::answer_fault;
+use crate::pipeline::Pipeline;
+use crate::turn::Leading;
 use crate::{Desk, Opening, Receipt, RoundWatch, Told, Unwatched};
 use grove_session::{AnswerFault, Answers, SessionFault, Sink, Source, session};
 use grove_tree::OpenGate;
@@ -24,12 +25,15 @@ pub struct Visit<'a, B: Opening, W = Unwatched> {
     /// What the last line was answered.
     seen: Option<Receipt>,
     told: Told,
-    /// The lines that were put ahead, once one could be.
-    ahead: Option<Ahead>,
+    /// The lines that come next, with what the first of them were answered, as far as they were put together.
+    lines: Option<Pipeline>,
+    leading: Leading,
 }
 
 impl<'a, B: Opening, W> Model for Visit<'a, B, W> {
+    ghost use Rattle.std.specs.Prelude.{IfSome};
     ghost use Rattle.grove_tree.specs.Weights.{unweighed};
+    ghost use Rattle.grove_desk.specs.Boards.{Holds};
     ghost use Rattle.grove_desk.specs.Desks.{VisitState, rounds_seen};
 
     ghost Value = { VisitState };
@@ -39,6 +43,8 @@ impl<'a, B: Opening, W> Model for Visit<'a, B, W> {
       rounds = rounds_seen visit.seen;
       told = visit.told;
     } };
+
+    ghost invariant = { λ visit. IfSome visit.lines (Holds B.store B.kept) };
 }
 
 impl<'a, B: Opening> Visit<'a, B> {
@@ -60,7 +66,19 @@ impl<'a, B: Opening, W> Visit<'a, B, W> {
             watch,
             seen: None,
             told: Told::Nothing,
-            ahead: None,
+            lines: None,
+            leading: Leading::Once,
+        }
+    }
+
+    /// The same visitor, whose lines that are read together are answered together, also with nobody else at the desk:
+    /// then lines may have had their effects when the reply to one before them finds no memory.
+    pub fn together(self) -> Self
+        ensures { result ≡ self.entry }
+    {
+        Visit {
+            leading: Leading::Through,
+            ..self
         }
     }
 
@@ -86,12 +104,17 @@ impl<'a, B: Opening, R: Threads + Wait + Sync + AllocGlobal, W: RoundWatch<R>> A
 
     fn answer(&mut self, rt: &R, line: &[u8]) -> Result<Vec<u8>, AnswerFault> {
         let alloc = rt.alloc();
-        let ahead = next_ahead(&self.ahead);
-        let seen = self.seen.as_ref();
-        match self
-            .desk
-            .answer_watched(rt, alloc, ahead, seen, line, &OpenGate, self.watch)
-        {
+        let answered = self.desk.answer_next(
+            rt,
+            alloc,
+            &mut self.lines,
+            self.leading,
+            self.seen.as_ref(),
+            line,
+            &OpenGate,
+            self.watch,
+        );
+        match answered {
             Ok(
                 Receipt {
                     number,
@@ -101,9 +124,6 @@ impl<'a, B: Opening, R: Threads + Wait + Sync + AllocGlobal, W: RoundWatch<R>> A
                     ..
                 },
             ) => {
-                if let Some(ahead) = &mut self.ahead {
-                    ahead.pass();
-                }
                 self.told = match refusal {
                     Some(refusal) => Told::Refused(refusal),
                     None => Told::Accepted,
@@ -119,7 +139,7 @@ impl<'a, B: Opening, R: Threads + Wait + Sync + AllocGlobal, W: RoundWatch<R>> A
                 Ok(reply)
             }
             Err(fault) => {
-                self.desk.withdraw(rt, &mut self.ahead);
+                self.lines = None;
                 Err(answer_fault(fault))
             }
         }
@@ -130,25 +150,24 @@ impl<'a, B: Opening, R: Threads + Wait + Sync + AllocGlobal, W: RoundWatch<R>> A
     }
 
     fn look_ahead(&mut self, rt: &R, bytes: &[u8]) {
-        let alloc = rt.alloc();
-        if self.ahead.is_none() {
-            self.ahead = Some(Ahead::new(alloc));
+        if has_lines(&self.lines) {
+            return;
         }
-        if let Some(ahead) = &mut self.ahead {
-            self.desk.put_ahead(rt, alloc, ahead, bytes);
+        if let Ok(lines) = Pipeline::of_bytes(rt.alloc(), bytes) {
+            self.lines = Some(lines);
         }
     }
 
-    fn leave(&mut self, rt: &R) {
-        self.desk.withdraw(rt, &mut self.ahead);
+    fn leave(&mut self, _rt: &R) {
+        self.lines = None;
     }
 }
 
-/// The ticket of the line that is asked for next, if it was put ahead.
-fn next_ahead(ahead: &Option<Ahead>) -> Option<u64> {
-    match ahead {
-        Some(ahead) => ahead.next(),
-        None => None,
+/// Are lines left that were to be put together?
+fn has_lines(lines: &Option<Pipeline>) -> bool {
+    match lines {
+        Some(lines) => !lines.is_empty(),
+        None => false,
     }
 }
 
@@ -176,6 +195,6 @@ pub fn desk_session<B: Opening, R: Threads + Wait + Sync + AllocGlobal, I: Sourc
     ensures turns { result ≡ Err Turns → I.read_count source.new ≡ I.read_count source.old + 2 ^ 32 }
     ensures few { I.read_count source.new ≤ I.read_count source.old + 2 ^ 32 }
 {
-    let mut visit = Visit::new(desk);
+    let mut visit = Visit::new(desk).together();
     session(rt, &mut visit, source, sink)
 }

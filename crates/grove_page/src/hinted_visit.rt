@@ -55,6 +55,16 @@ impl<'a, B: Opening, W> HintedVisit<'a, B, W> {
         }
     }
 
+    /// The same visitor, whose lines that are read together are answered together.
+    pub fn together(self) -> Self
+        ensures { result ≡ self.entry }
+    {
+        HintedVisit {
+            visit: self.visit.together(),
+            ..self
+        }
+    }
+
     /// What the visitor was told last.
     pub fn told(&self) -> Told
         ensures { result ≡ self.now.visit.told }

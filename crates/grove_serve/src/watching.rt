@@ -47,6 +47,16 @@ impl<'a, B: Opening> WatchedVisit<'a, B> {
         }
     }
 
+    /// The same visitor, whose lines that are read together are answered together.
+    fn together(self) -> Self
+        ensures { result ≡ self.entry }
+    {
+        WatchedVisit {
+            visit: self.visit.together(),
+            ..self
+        }
+    }
+
     /// What the visitor was told last.
     fn told(&self) -> Told
         ensures { result ≡ self.now.visit.told }
@@ -139,7 +149,8 @@ pub fn session_at<'a, B: Opening, R: Host, I: Source, O: Sink>(
         × SessionEnds true IsCallerReply (caller hints desk.now.opening) result (I.remaining source.new)
         input out new }
 {
-    session(rt, &mut WatchedVisit::new(desk, guest, hints), source, sink)
+    let mut visitor = WatchedVisit::new(desk, guest, hints).together();
+    session(rt, &mut visitor, source, sink)
 }
 
 /// A desk to which the requests of a guest go. Of all guests' long bodies one at a time is answered: so only that one's

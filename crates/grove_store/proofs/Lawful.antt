@@ -58,6 +58,11 @@ round_lawful before after line others first lists counts replies store here few 
       subst (λ (n : ℕ). IsLawfulRound before (take n (line ∷ others)) replies after) (sym all) lawful,
     )
 
+-- what the first of some lines asks for, as it is taken out of them
+pub read_first : (rows : Rows) (lines : List (Bor (List ℕ))) (line : Bor (List ℕ)) (asked : Result Asked WireFault)
+    → line ≡ get_or lines 0 line → request_of rows line.now ≡ asked → request_of rows (get_or lines 0 line).now ≡ asked
+read_first rows lines line asked at read = subst (λ (l : Bor (List ℕ)). request_of rows l.now ≡ asked) at read
+
 -- the same of lines as they are handed in
 pub first_alone : (before after : StoreState) (rows : Rows) (lines : List (Bor (List ℕ))) (d : Bor (List ℕ)) (asked : Result Asked WireFault) (reply : Data) (text : List ℕ) (replies : List (List ℕ)) (n : ℕ) → IsStore before
     → rows ≡ before.rows → 0 < length lines → request_of rows (get_or lines 0 d).now ≡ asked → lists_asked asked ≡ None → RepliesAlone before asked reply after → text ≡ compact_text reply → replies ≡ text ∷ []

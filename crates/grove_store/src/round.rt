@@ -5,7 +5,7 @@ ghost use Rattle.grove_store.specs.Parts.{IsRoundOf, FitsRoom, NoneFits};
 
 use grove_access::AccessList;
 use grove_tree::{NoMemory, Tree};
-use grove_wire::{MOST_LISTS, Request, WireFault, read_request};
+use grove_wire::{Line, MOST_LISTS, Request, WireFault};
 use std::alloc::Global;
 
 /// Batches that are run as one: their lists, in order, and how many are each line's.
@@ -20,11 +20,10 @@ pub fn round_of(
     alloc: Global,
     tree: &Tree,
     first: Vec<AccessList>,
-    others: &[&[u8]],
+    others: &[&Line],
 ) -> Result<Round, NoMemory>
     requires few { length first.items ≤ 256 }
     requires fit { All (λ list. AreNodes tree.now (nodes_of list)) first.items }
-    requires limit { All (λ line. length line.now ≤ 1048576) others.now }
     ensures { IfOk result
         (λ round. IsRoundOf tree.now first.items (map (λ line. line.now) others.now) round.counts.items
         round.lists.items) }
@@ -46,17 +45,16 @@ pub fn round_of(
 fn batch_within(
     alloc: Global,
     tree: &Tree,
-    line: &[u8],
+    line: &Line,
     room: usize,
 ) -> Result<Option<Vec<AccessList>>, NoMemory>
-    requires { length line.now ≤ 1048576 }
     ensures lists { IfOk result
         (λ found. MatchOption found (NoneFits (lists_in tree.now line.now) room)
         (λ lists. FitsRoom (lists_in tree.now line.now) room lists.items)) }
     ensures fit { IfOk result
         (λ found. IfSome found (λ lists. All (λ list. AreNodes tree.now (nodes_of list)) lists.items)) }
 {
-    match read_request(alloc, tree, line) {
+    match line.request(alloc, tree) {
         Ok(Request::Batch(lists)) => {
             if lists.len() <= room {
                 Ok(Some(lists))

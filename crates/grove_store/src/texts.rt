@@ -20,7 +20,7 @@ use grove_proof::{Flow, ProofFault, check};
 use grove_run::RunFault;
 use grove_tree::{NoMemory, Tree};
 use grove_wire::{
-    Fault, WireFault, changed_value, cost_value, planned_value, round_text, weights_value,
+    Fault, WireFault, changed_value, cost_value, planned_text, round_text, weights_value,
 };
 use std::alloc::Global;
 
@@ -66,14 +66,14 @@ pub fn plan_text(
         plans.note_given();
         return LineReply::copied(alloc, text);
     }
-    let reply = planned_text(alloc, tree, plans, list)?;
+    let reply = planned_reply(alloc, tree, plans, list)?;
     let text = Vec::from_slice(alloc, reply.text())?;
     texts.keep(targets, text)?;
     Ok(reply)
 }
 
 /// The same, written from the plan that is kept.
-fn planned_text(
+fn planned_reply(
     alloc: Global,
     tree: &Tree,
     plans: &mut KeptPlans,
@@ -85,8 +85,8 @@ fn planned_text(
     ensures kept { AreSettledFor tree.now plans.new }
 {
     let planned = plans.plan(alloc, tree, list)?;
-    let value = planned_value(alloc, tree, planned.cost, &planned.plan, &planned.flow)?;
-    LineReply::new(alloc, &value)
+    let text = planned_text(alloc, tree, planned.cost, &planned.plan, &planned.flow)?;
+    Ok(LineReply::accepted(text))
 }
 
 /// The cost of a plan that the flow certifies, else the first fault.

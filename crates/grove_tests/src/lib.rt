@@ -31,7 +31,7 @@ mod kept;
 #[cfg(test)]
 mod leftovers;
 #[cfg(test)]
-mod lines_ahead;
+mod lines_together;
 #[cfg(test)]
 mod lists;
 #[cfg(test)]

@@ -4,15 +4,10 @@ use Rattle.std.specs.Prelude.{map}
 use Rattle.serde_json.specs.Data.{Data, array}
 use Rattle.serde_json.specs.View.{items_of}
 use Rattle.serde_json.specs.Written.{has_float}
-use Rattle.grove_tree.specs.Trees.{Rows}
 use Rattle.grove_access.specs.declared.reply.Reply.{Reply}
 use Rattle.grove_access.specs.declared.reply.Reply.TheVariants.{Value, Done, Range, Short}
-use Rattle.grove_plan.specs.declared.step.Step.{Step}
-use Rattle.grove_plan.specs.declared.step.Step.TheVariants.{Lock, Unlock, Access}
-use Rattle.grove_proof.specs.declared.flow.FlowRow.{FlowRow}
-use Rattle.grove_wire.specs.Writing.{number_data, reply_data, count_data, step_data, plan_data, flow_row_data}
-use Rattle.grove_wire.specs.Writing.{flow_data, array_of}
-use Rattle.grove_wire.specs.Replies.{planned_data, round_data, weights_data}
+use Rattle.grove_wire.specs.Writing.{number_data, reply_data, count_data, array_of}
+use Rattle.grove_wire.specs.Replies.{weights_data}
 
 -- an array has none where no item has one
 pub array_has_no_float : {A : Type 0} (data_of : A → Data) → ((x : A) → has_float (data_of x) ≡ false) → (xs : List A) → has_float (array (items_of (map data_of xs))) ≡ false
@@ -29,22 +24,11 @@ reply_is_no_float Done = refl
 reply_is_no_float Range = refl
 reply_is_no_float Short = refl
 
-step_is_no_float : (tree : Rows) (step : Step) → has_float (step_data tree step) ≡ false
-step_is_no_float tree (Lock node) = refl
-step_is_no_float tree (Unlock node) = refl
-step_is_no_float tree (Access access) = refl
-
 pub numbers_have_no_float : (numbers : List ℤ) → has_float (array_of number_data numbers) ≡ false
 numbers_have_no_float numbers = array_has_no_float number_data number_is_no_float numbers
 
 pub replies_have_no_float : (replies : List Reply) → has_float (array_of reply_data replies) ≡ false
 replies_have_no_float replies = array_has_no_float reply_data reply_is_no_float replies
-
-pub plan_has_no_float : (tree : Rows) (plan : List Step) → has_float (plan_data tree plan) ≡ false
-plan_has_no_float tree plan = array_has_no_float (step_data tree) (step_is_no_float tree) plan
-
-pub flow_has_no_float : (tree : Rows) (flow : List FlowRow) → has_float (flow_data tree flow) ≡ false
-flow_has_no_float tree flow = array_has_no_float (flow_row_data tree) (λ row. refl) flow
 
 pub counts_have_no_float : (counts : List ℕ) → has_float (array_of count_data counts) ≡ false
 counts_have_no_float counts = array_has_no_float count_data (λ count. refl) counts
@@ -53,9 +37,6 @@ pub lists_have_no_float : (replies : List (List Reply)) → has_float (array_of 
 lists_have_no_float replies = array_has_no_float (array_of reply_data) replies_have_no_float replies
 
 -- replies to lines
-
-pub planned_has_no_float : (tree : Rows) (cost : ℕ) (plan : List Step) (flow : List FlowRow) → has_float (planned_data tree cost plan flow) ≡ false
-planned_has_no_float tree cost plan flow = rw (flow_has_no_float tree flow, plan_has_no_float tree plan) refl
 
 pub weights_have_no_float : (waits weights : List ℕ) → has_float (weights_data waits weights) ≡ false
 weights_have_no_float waits weights = rw (counts_have_no_float waits, counts_have_no_float weights) refl

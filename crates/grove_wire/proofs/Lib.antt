@@ -22,3 +22,4 @@ pub mod LeastFits
 pub mod Feedless
 pub mod Tokens
 mod RoundTexts
+mod PlannedTexts

@@ -1,5 +1,5 @@
 -- A round's reply, written part after part.
-use Rattle.std.proofs.Common.{◌≡◌, ℕ, List, [], ◌∷◌, ◌++◌, codes, decimal, ap, ◌∙◌, append_assoc}
+use Rattle.std.proofs.Common.{◌≡◌, ℕ, List, [], ◌∷◌, ◌++◌, codes, decimal, ap, ◌∙◌}
 use Rattle.json.specs.Token.{Token, begin_object, end_object, key, number}
 use Rattle.json.specs.Tree.{json_tokens}
 use Rattle.json.specs.Print.{print}
@@ -8,12 +8,7 @@ use Rattle.serde_json.proofs.Texts.{print-outline}
 use Rattle.grove_access.specs.declared.reply.Reply.{Reply}
 use Rattle.grove_wire.specs.Replies.{round_data}
 use Rattle.grove_wire.specs.Writing.{array_of, count_data, reply_data}
-use Rattle.grove_wire.proofs.Tokens.{then_more}
-
--- five lists joined from the left are joined from the right
-joined : {A : Type 0} (a b c d e : List A) → (((a ++ b) ++ c) ++ d) ++ e ≡ a ++ (b ++ (c ++ (d ++ e)))
-joined a b c d e =
-    append_assoc ((a ++ b) ++ c) d e ∙ append_assoc (a ++ b) c (d ++ e) ∙ append_assoc a b (c ++ (d ++ e))
+use Rattle.grove_wire.proofs.Tokens.{then_more, joined}
 
 module _ (round : ℕ) (places : List ℕ) (lists : List (List Reply)) where
   counts : List Token

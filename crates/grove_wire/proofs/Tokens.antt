@@ -1,4 +1,4 @@
--- The tokens of an array's items, written one after the other, print as the array's text.
+-- The tokens of an array's items, written one after the other, are the array's, and a value's tokens print as its text.
 use Rattle.std.proofs.Common.{◌≡◌, ℕ, ◌+◌, ◌<◌, ◌≤◌, List, [], ◌∷◌, ◌++◌, length, get_or, take, map}
 use Rattle.std.proofs.Common.{refl, sym, ap, ◌∙◌, append_assoc}
 use Rattle.std.proofs.lemmas.List.{take_more, take_all, flat_map_more}
@@ -17,6 +17,17 @@ use Rattle.grove_wire.specs.Tokens.{tokens_of}
 pub then_more : (old front before after next : List Token) → before ≡ old ++ front → after ≡ before ++ next
     → after ≡ old ++ (front ++ next)
 then_more old front before after next is more = more ∙ ap (λ ts. ts ++ next) is ∙ append_assoc old front next
+
+-- five lists joined from the left are joined from the right
+pub joined : {A : Type 0} (a b c d e : List A) → (((a ++ b) ++ c) ++ d) ++ e ≡ a ++ (b ++ (c ++ (d ++ e)))
+joined a b c d e =
+    append_assoc ((a ++ b) ++ c) d e ∙ append_assoc (a ++ b) c (d ++ e) ∙ append_assoc a b (c ++ (d ++ e))
+
+-- the text of a value, if nothing was written before
+pub value_written : (d : Data) (before all : List Token) → before ≡ [] → all ≡ before ++ json_tokens (outline d)
+    → print all ≡ compact_text d
+value_written d before all none written =
+    ap print (written ∙ ap (λ ts. ts ++ json_tokens (outline d)) none) ∙ print-outline d
 
 module _ {A : Type 0} (data_of : A → Data) where
   -- an item more is written
@@ -55,12 +66,3 @@ module _ {A : Type 0} (data_of : A → Data) where
       let filled = then_more old opening begun told tokens begins tells in
       let closed = then_more old (opening ++ tokens) told all ending filled ends in
       closed ∙ ap (λ ts. old ++ token.begin_array ∷ ts) (sym (items_written xs))
-
-  -- its text, if nothing was written before
-  pub array_written : (xs : List A) (before begun told all : List Token) → before ≡ []
-      → begun ≡ before ++ token.begin_array ∷ [] → told ≡ begun ++ tokens_of data_of xs
-      → all ≡ told ++ token.end_array ∷ [] → print all ≡ compact_text (array_of data_of xs)
-  array_written xs before begun told all none begins tells ends =
-      let array = json_tokens (outline (array_of data_of xs)) in
-      ap print (array_told xs before begun told all begins tells ends ∙ ap (λ ts. ts ++ array) none)
-      ∙ print-outline (array_of data_of xs)

@@ -13,4 +13,5 @@ pub mod Documents
 pub mod Names
 pub mod Sketches
 pub mod FoundPaths
+pub mod MadePaths
 pub mod Tokens

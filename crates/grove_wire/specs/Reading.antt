@@ -150,3 +150,7 @@ flow_row_at tree place d = do
 
 unfoldable pub flow_in : Rows → Data → Result (List FlowRow) WireFault
 flow_in tree d = items_in part.Flow d >>= few_on 4294967295 (flow_row_at tree) (whole_of part.Flow)
+
+-- a plan, and then a flow
+abbrev pub plan_and_flow_in : Rows → Data → Result (List Step × List FlowRow) WireFault
+plan_and_flow_in tree d = plan_in tree d >>= λ plan. flow_in tree d >>= λ flow. Ok (plan, flow)

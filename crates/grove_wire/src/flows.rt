@@ -1,10 +1,9 @@
 ghost use Rattle.std.specs.Prelude.{◌≡◌, ◌<◌, ◌^◌, map, option_map, IfOk, length, vec_len};
 ghost use Rattle.serde_json.specs.View.{view};
 ghost use Rattle.grove_wire.specs.Forms.{amount_of, flow_form};
-ghost use Rattle.grove_wire.specs.FoundPaths.{plan_and_flow_in};
 ghost use Rattle.grove_wire.specs.Outcomes.{Gives, each_on};
 ghost use Rattle.grove_wire.specs.Places.{whole_of};
-ghost use Rattle.grove_wire.specs.Reading.{flow_row_at, flow_in};
+ghost use Rattle.grove_wire.specs.Reading.{flow_row_at, flow_in, plan_and_flow_in};
 ghost use Rattle.grove_wire.specs.RowParts.{flow_with};
 
 use crate::document::{MOST_ITEMS, items_in};

@@ -128,12 +128,12 @@ fn unlock_on(tree: &Tree, place: Place, items: &[Value]) -> Result<Step, WireFau
     ensures { result ≡ unlock_on tree.now place (map view items.now) }
 {
     match items {
-        [path] => Ok(Step::Unlock(path_at(tree, place, path)?)),
+        [path] => Ok(Step::Unlock(kept_path_at(tree, place, path)?)),
         _ => Err(WireFault::Shape(place)),
     }
 }
 
-fn path_at(tree: &Tree, place: Place, value: &Value) -> Result<Node, WireFault>
+fn kept_path_at(tree: &Tree, place: Place, value: &Value) -> Result<Node, WireFault>
     ensures { result ≡ path_at tree.now place (view value.now) }
 {
     match value.as_str() {

@@ -1,9 +1,10 @@
-ghost use Rattle.std.specs.Prelude.{◌≡◌, IfOk, option_map};
+ghost use Rattle.std.specs.Prelude.{◌≡◌, ℕ, List, IfOk, option_map};
 ghost use Rattle.serde_json.specs.View.{view};
 ghost use Rattle.grove_wire.specs.Outcomes.{Gives};
 ghost use Rattle.grove_wire.specs.RequestLaws.{AskedFits, RequestsFit, ReadingNeedsNoRoom};
 ghost use Rattle.grove_wire.specs.Requests.{asked_of, only_member, plan_of, batch_of, request_of};
-ghost use Rattle.grove_wire.specs.Sketches.{kept_check_of, kept_named_of};
+ghost use Rattle.grove_wire.specs.Reading.{value_of};
+ghost use Rattle.grove_wire.specs.Sketches.{Draft, kept_check_of, kept_named_of};
 
 use crate::forms::list_items;
 use crate::kept::{kept_flow, kept_plan};
@@ -41,7 +42,17 @@ pub fn read_request(alloc: Global, tree: &Tree, line: &[u8]) -> Result<Request, 
     ensures fits { IfOk result (λ request. AskedFits tree.now (asked_of request)) }
 {
     let value = sketch_of(alloc, line)?;
-    match only_member(&value) {
+    request_in(alloc, tree, &value)
+}
+
+/// The request of a line of whose value this is kept.
+pub(crate) fn request_in(alloc: Global, tree: &Tree, kept: &Value) -> Result<Request, WireFault>
+    ensures read { (line : List ℕ) → Draft (value_of line) (view kept.now)
+        → Gives asked_of result (request_of tree.now line) }
+    ensures fits { (line : List ℕ) → Draft (value_of line) (view kept.now)
+        → IfOk result (λ request. AskedFits tree.now (asked_of request)) }
+{
+    match only_member(kept) {
         Some((name, asked)) => named_request(alloc, tree, name, asked),
         None => Err(WireFault::Shape(Place::whole(Part::Whole))),
     }

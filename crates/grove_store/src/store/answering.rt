@@ -5,6 +5,7 @@ use crate::begun::Begun;
 use crate::crew::Workers;
 use crate::{LineReply, Store};
 use grove_tree::{Gate, NoMemory, OpenGate};
+use grove_wire::Line;
 use std::alloc::Global;
 use std::sync::Wait;
 use std::thread::Threads;
@@ -21,9 +22,10 @@ impl Store {
         ensures lawful { IfOk result (λ reply. IsLawfulAnswer self.old line.now reply.items self.new) }
         ensures err { OnErr result (self.new ≡ self.old) }
     {
-        let mut replies = self.answer_round(rt, alloc, &[line], &OpenGate)?;
+        let line = Line::copied(alloc, line)?;
+        let mut replies = self.reply_round(rt, alloc, &[&line], &OpenGate)?;
         match replies.pop() {
-            Some(reply) => Ok(reply),
+            Some(reply) => Ok(reply.into_text()),
             None => unreachable!(),
         }
     }
@@ -34,7 +36,8 @@ impl Store {
         ensures lawful { IfOk result (λ reply. IsLawfulAnswer self.old line.now reply.items self.new) }
         ensures err { OnErr result (self.new ≡ self.old) }
     {
-        let mut replies = self.reply_round_alone(alloc, &[line])?;
+        let line = Line::copied(alloc, line)?;
+        let mut replies = self.reply_round_alone(alloc, &[&line])?;
         match replies.pop() {
             Some(reply) => Ok(reply.into_text()),
             None => unreachable!(),
@@ -61,7 +64,7 @@ impl Store {
         ensures err { OnErr result (self.new ≡ self.old) }
     {
         let mut texts = Vec::with_capacity(alloc, lines.len())?;
-        let replies = self.reply_round(rt, alloc, lines, gate)?;
+        let replies = self.reply_copies(rt, alloc, lines, gate)?;
         for reply in replies {
             texts.push_reserved(reply.into_text());
         }
@@ -69,7 +72,7 @@ impl Store {
     }
 
     /// As `answer_round`, and each reply tells why its line is refused, if it is.
-    pub fn reply_round<R: Threads + Wait + Sync, G: Gate + Sync>(
+    fn reply_copies<R: Threads + Wait + Sync, G: Gate + Sync>(
         &mut self,
         rt: &R,
         alloc: Global,
@@ -85,9 +88,53 @@ impl Store {
             (take (length replies.items) (map (λ line. line.now) lines.now)) replies.items self.new) }
         ensures err { OnErr result (self.new ≡ self.old) }
     {
+        let copies = copies_of(alloc, lines)?;
+        let each = lines_in(alloc, &copies)?;
+        self.reply_round(rt, alloc, &each, gate)
+    }
+
+    /// As `answer_round`, of lines that may have been read before. Each reply tells why its line is refused, if it is.
+    pub fn reply_round<R: Threads + Wait + Sync, G: Gate + Sync>(
+        &mut self,
+        rt: &R,
+        alloc: Global,
+        lines: &[&Line],
+        gate: &G,
+    ) -> Result<Vec<LineReply>, NoMemory>
+        requires count { (0 < length lines.now) × (length lines.now ≤ 16) }
+        ensures length { IfOk result
+            (λ replies. length replies.items ≡ round_length self.old.rows (map (λ line. line.now) lines.now)) }
+        ensures round { IfOk result
+            (λ replies. IsLawfulRound self.old
+            (take (length replies.items) (map (λ line. line.now) lines.now)) replies.items self.new) }
+        ensures err { OnErr result (self.new ≡ self.old) }
+    {
         match self.begin_round(&Workers { rt }, alloc, lines)? {
             Begun::Answered(replies) => Ok(replies),
             Begun::Jobs(jobs, counts) => self.do_jobs(rt, alloc, &jobs, &counts, gate),
         }
     }
+}
+
+/// Copies of the lines.
+fn copies_of(alloc: Global, lines: &[&[u8]]) -> Result<Vec<Line>, NoMemory>
+    requires { All (λ line. length line.now ≤ 1048576) lines.now }
+    ensures { IfOk result (λ copies. copies.items ≡ map (λ line. line.now) lines.now) }
+{
+    let mut copies = Vec::with_capacity(alloc, lines.len())?;
+    for line in lines {
+        copies.push(Line::copied(alloc, line)?)?;
+    }
+    Ok(copies)
+}
+
+/// The lines, each by itself.
+fn lines_in(alloc: Global, lines: &[Line]) -> Result<Vec<&Line>, NoMemory>
+    ensures { IfOk result (λ each. map (λ line. line.now) each.items ≡ lines.now) }
+{
+    let mut each = Vec::with_capacity(alloc, lines.len())?;
+    for line in lines {
+        each.push(line)?;
+    }
+    Ok(each)
 }

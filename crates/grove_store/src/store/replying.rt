@@ -7,7 +7,7 @@ use crate::round::round_of;
 use crate::texts::{alone, check_text, plan_text, weights_text, wire_refusal};
 use crate::{LineReply, Store};
 use grove_tree::NoMemory;
-use grove_wire::{Request, read_request};
+use grove_wire::{Line, Request};
 use std::alloc::Global;
 
 impl Store {
@@ -16,17 +16,16 @@ impl Store {
         &mut self,
         crew: &C,
         alloc: Global,
-        lines: &[&[u8]],
+        lines: &[&Line],
     ) -> Result<Begun, NoMemory>
         requires asks { C.asks }
         requires count { (0 < length lines.now) × (length lines.now ≤ 16) }
-        requires limit { All (λ line. length line.now ≤ 1048576) lines.now }
         ensures begun { IfOk result
             (λ begun. Begins (AnswersFirst self.old (map (λ line. line.now) lines.now)) self.old begun self.new) }
         ensures err { OnErr result (self.new ≡ self.old) }
     {
         let first = lines[0];
-        match read_request(alloc, &self.tree, first) {
+        match first.request(alloc, &self.tree) {
             Ok(Request::Batch(lists)) => {
                 let round = round_of(alloc, &self.tree, lists, &lines[1..])?;
                 self.begin_batch(crew, alloc, round)
@@ -62,10 +61,9 @@ impl Store {
     pub(crate) fn reply_round_alone(
         &mut self,
         alloc: Global,
-        lines: &[&[u8]],
+        lines: &[&Line],
     ) -> Result<Vec<LineReply>, NoMemory>
         requires count { (0 < length lines.now) × (length lines.now ≤ 16) }
-        requires limit { All (λ line. length line.now ≤ 1048576) lines.now }
         ensures answers { IfOk result
             (λ replies. AnswersFirst self.old (map (λ line. line.now) lines.now) replies.items self.new) }
         ensures err { OnErr result (self.new ≡ self.old) }

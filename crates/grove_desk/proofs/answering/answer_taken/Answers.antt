@@ -1,7 +1,7 @@
 use Rattle.std.proofs.Common.{◌≡◌, ℕ, ◌+◌, ◌<◌, [], ◌∷◌, ◌++◌, length, map, take, drop, get_or, refl, sym, ap, subst, ◌∙◌, arith, rules}
 use Rattle.std.proofs.lemmas.List.{length-set, drop-set-lt}
 use Rattle.std.proofs.Math.Seq.{map-set_same}
-use Rattle.grove_desk.specs.declared.slot.Asked.{Asked}
+use Rattle.grove_desk.specs.declared.asked.Asked.{Asked}
 use Rattle.grove_desk.specs.Ledgers.{AreReceiptsOf}
 use Rattle.grove_desk.proofs.Keeping.{few_replies}
 use Rattle.grove_desk.proofs.Moving.{drop_step, same_next, drop_on}
@@ -11,9 +11,10 @@ use Rattle.grove_desk.proofs.answering.answer_taken.Goals as goal
 pub loop-reply-init : goal.loop-reply-init
 loop-reply-init g c =
     let given = c.into_iter-reply-iterator.ensures.into_iter_gives.0 in
-    let few = few_replies (λ (asked : Asked). asked.line.bytes.items) c.args.store.now c.reply_round.new.self
+    let few = few_replies (λ (asked : Asked). asked.line) c.args.store.now c.reply_round.new.self
     (map (λ line. line.now) c.deref-2.result.now) c.args.taken.now.items c.in_ok-replies.replies.items
-    (ap (map (λ line. line.now)) c.deref-2.ensures.value ∙ c.in_ok-lines.ensures.lines ∙ ap (map (λ (asked : Asked). asked.line.bytes.items)) c.deref.ensures.value)
+    (ap (map (λ line. line.now)) c.deref-2.ensures.value ∙ c.in_ok-lines.ensures
+    ∙ ap (map (λ (asked : Asked). asked.line)) c.deref.ensures.value)
     c.in_ok-replies.ensures.round in
     rw c.in_ok-receipts.ensures.items record {
       next = tt;
@@ -58,11 +59,11 @@ loop-reply-preserved g c =
     let asked : c.index_mut.result.now ≡ get_or c.args.taken.now.items c.len-place.result c.index_mut.result.now =
     c.index_mut.ensures.value ∙ same_next c.loop-reply.taken.items c.args.taken.now.items i c.len-place.result c.index_mut.result.now place c.loop-reply.invariant.left in
     let next = noted_more
-    (λ (a : Asked). a.line.bytes.items) c.args.first c.args.taken.now.items replies c.reply_round.new.self.rounds
+    (λ (a : Asked). a.line) c.args.first c.args.taken.now.items replies c.reply_round.new.self.rounds
     c.loop-reply.receipts.items c.push_reserved.new.self.items i c.len-place.result
     c.number_of.result c.take.result.items c.into_text.result.items c.index_mut.result.now c.in-Some.reply within few
     refl place c.loop-reply.invariant.noted
-    (c.take.ensures ∙ ap (λ (a : Asked). a.line.bytes.items) asked) c.into_text.ensures step.1 c.number_of.ensures
+    (c.take.ensures ∙ ap (λ (a : Asked). a.line) asked) c.into_text.ensures step.1 c.number_of.ensures
     (c.push_reserved.ensures.items
     ∙ ap (λ (n : ℕ). c.loop-reply.receipts.items ++ record
     { number = c.number_of.result; line = c.take.result.items; reply = c.into_text.result.items; rounds = n } ∷ [])
@@ -75,7 +76,7 @@ loop-reply-preserved g c =
       rest = step.2 ∙ sym (ap (λ (n : ℕ). drop n replies) more);
       within = omega arith;
       noted = subst (λ (n : ℕ). AreReceiptsOf c.args.first
-          (map (λ (a : Asked). a.line.bytes.items) c.args.taken.now.items)
+          (map (λ (a : Asked). a.line) c.args.taken.now.items)
           (take n replies) c.reply_round.new.self.rounds c.push_reserved.new.self.items) (sym more) next.1;
       room = c.push_reserved.ensures.capacity ∙ c.loop-reply.invariant.room;
       long = length-set c.loop-reply.taken.items c.len-place.result _ ∙ long;
@@ -89,20 +90,22 @@ loop-reply-preserved g c =
 
 pub returns-clause-lines : goal.returns-clause-lines
 returns-clause-lines g c =
-    (noted_round (λ (asked : Asked). asked.line.bytes.items) c.args.first c.args.taken.now.items
+    (noted_round (λ (asked : Asked). asked.line) c.args.first c.args.taken.now.items
     c.in_ok-replies.replies.items c.into_iter-reply-iterator.result.rest.items
     c.loop-reply.reply-iterator.rest.items
     (map (λ line. line.now) c.deref-2.result.now) c.loop-reply.receipts.items c.args.store.now c.reply_round.new.self
     (omega (arith, c.in-None.ensures.steps.0, c.loop-reply.reply-iterator.rest.ok.0)) c.loop-reply.invariant.rest c.loop-reply.invariant.within c.into_iter-reply-iterator.ensures.into_iter_gives.0
-    (ap (map (λ line. line.now)) c.deref-2.ensures.value ∙ c.in_ok-lines.ensures.lines ∙ ap (map (λ (asked : Asked). asked.line.bytes.items)) c.deref.ensures.value)
+    (ap (map (λ line. line.now)) c.deref-2.ensures.value ∙ c.in_ok-lines.ensures
+    ∙ ap (map (λ (asked : Asked). asked.line)) c.deref.ensures.value)
     c.in_ok-replies.ensures.round c.loop-reply.invariant.noted).0
 
 pub returns-clause-round : goal.returns-clause-round
 returns-clause-round g c =
-    (noted_round (λ (asked : Asked). asked.line.bytes.items) c.args.first c.args.taken.now.items
+    (noted_round (λ (asked : Asked). asked.line) c.args.first c.args.taken.now.items
     c.in_ok-replies.replies.items c.into_iter-reply-iterator.result.rest.items
     c.loop-reply.reply-iterator.rest.items
     (map (λ line. line.now) c.deref-2.result.now) c.loop-reply.receipts.items c.args.store.now c.reply_round.new.self
     (omega (arith, c.in-None.ensures.steps.0, c.loop-reply.reply-iterator.rest.ok.0)) c.loop-reply.invariant.rest c.loop-reply.invariant.within c.into_iter-reply-iterator.ensures.into_iter_gives.0
-    (ap (map (λ line. line.now)) c.deref-2.ensures.value ∙ c.in_ok-lines.ensures.lines ∙ ap (map (λ (asked : Asked). asked.line.bytes.items)) c.deref.ensures.value)
+    (ap (map (λ line. line.now)) c.deref-2.ensures.value ∙ c.in_ok-lines.ensures
+    ∙ ap (map (λ (asked : Asked). asked.line)) c.deref.ensures.value)
     c.in_ok-replies.ensures.round c.loop-reply.invariant.noted).1

@@ -10,7 +10,7 @@ invariant-loop-reply g l = record {
   few : length l.initial.reply-iterator.rest.items ≤ length l.initial.taken.items;
   rest : l.reply-iterator.rest.items ≡ drop (length l.receipts.items) l.initial.reply-iterator.rest.items;
   within : length l.receipts.items ≤ length l.initial.reply-iterator.rest.items;
-  noted : AreReceiptsOf l.first (map (λ asked. asked.line.bytes.items) l.initial.taken.items)
+  noted : AreReceiptsOf l.first (map (λ asked. asked.line) l.initial.taken.items)
       (take (length l.receipts.items) l.initial.reply-iterator.rest.items) l.store.rounds l.receipts.items;
   room : vec_capacity l.receipts ≡ vec_capacity l.initial.receipts;
   long : length l.taken.items ≡ length l.initial.taken.items;

@@ -1,4 +1,4 @@
-use Rattle.std.proofs.Common.{true, subst}
+use Rattle.std.proofs.Common.{◌∙◌, true, subst}
 use Rattle.grove_session.specs.Sessions.{SessionEnds}
 use Rattle.grove_desk.specs.Desks.{VisitState, IsShared}
 use Rattle.grove_desk.proofs.visit.desk_session.Goals as goal
@@ -12,5 +12,6 @@ returns-clause-text g c =
       consumed,
       appended,
       subst (λ (visited : VisitState). SessionEnds true IsShared visited c.session.result
-          (g.I.Source.remaining c.session.new.source) input out c.session.new.answers) c.new-visit.ensures ends,
+          (g.I.Source.remaining c.session.new.source) input out c.session.new.answers)
+          (c.together-visit.ensures ∙ c.new.ensures) ends,
     )

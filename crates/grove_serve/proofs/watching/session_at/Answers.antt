@@ -1,4 +1,4 @@
-use Rattle.std.proofs.Common.{true, subst}
+use Rattle.std.proofs.Common.{◌∙◌, true, subst}
 use Rattle.grove_session.specs.Sessions.{SessionEnds}
 use Rattle.grove_page.specs.Hints.{CallerState, IsCallerReply}
 use Rattle.grove_serve.proofs.watching.session_at.Goals as goal
@@ -12,5 +12,6 @@ returns g c =
       consumed,
       appended,
       subst (λ (before : CallerState). SessionEnds true IsCallerReply before c.session.result
-          (g.I.Source.remaining c.session.new.source) input out c.session.new.answers) c.new.ensures ends,
+          (g.I.Source.remaining c.session.new.source) input out c.session.new.answers)
+          (c.together-visitor.ensures ∙ c.new.ensures) ends,
     )

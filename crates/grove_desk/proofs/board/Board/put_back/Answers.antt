@@ -7,8 +7,7 @@ loop-asked-preserved g c =
     let kept = g.B.Opening.kept in
     record {
       answered = c.state_after-state.ensures.left opening kept c.loop-asked.invariant.answered;
-      held = c.drop_lines_behind.ensures.held opening kept
-          (c.restore.ensures.held opening kept
-          (c.state_after-state.ensures.state opening kept c.loop-asked.invariant.answered) c.loop-asked.invariant.held);
+      held = c.settle.ensures.held opening kept
+          (c.state_after-state.ensures.state opening kept c.loop-asked.invariant.answered) c.loop-asked.invariant.held;
       room = c.pop.ensures.capacity ∙ c.loop-asked.invariant.room;
     }

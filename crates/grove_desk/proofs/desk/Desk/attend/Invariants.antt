@@ -1,7 +1,9 @@
-use Rattle.std.proofs.Common.{◌≡◌, []}
+use Rattle.std.proofs.Common.{◌≡◌}
 use Rattle.std.specs.Vec.{vec_capacity}
+use Rattle.grove_desk.specs.Boards.{Takes}
 use Rattle.grove_desk.proofs.desk.Desk.attend.Given as goal
 
 abbrev pub invariant-loop : goal.invariant-loop
 invariant-loop g l =
-    (goal.iterator-loop g).can_next l.iterator' × (goal.iterator-loop g).is_finite l.iterator' × (l.taken.items ≡ []) × (vec_capacity l.taken ≡ 16)
+    (goal.iterator-loop g).can_next l.iterator' × (goal.iterator-loop g).is_finite l.iterator'
+    × Takes g.B.Opening.store g.B.Opening.kept l.turn l.taken.items × (vec_capacity l.taken ≡ 16)

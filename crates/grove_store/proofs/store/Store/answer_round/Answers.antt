@@ -61,7 +61,7 @@ returns-clause-length g c =
     (taken_all (λ text. text.items) c.loop-reply.texts.items c.loop-reply.reply-iterator.rest.items
     c.into_iter-reply-iterator.result.rest.items c.in_ok-replies.replies.items
     (map (λ line. line.now) c.args.lines.now)
-    c.args.self.now c.reply_round.new.self
+    c.args.self.now c.reply_copies.new.self
     (omega (arith, c.in-None.ensures.steps.0, c.loop-reply.reply-iterator.rest.ok.0)) c.loop-reply.invariant.all
     c.into_iter-reply-iterator.ensures.into_iter_gives.0
     c.in_ok-replies.ensures.round).0 ∙ c.in_ok-replies.ensures.length
@@ -71,7 +71,7 @@ returns-clause-round g c =
     (taken_all (λ text. text.items) c.loop-reply.texts.items c.loop-reply.reply-iterator.rest.items
     c.into_iter-reply-iterator.result.rest.items c.in_ok-replies.replies.items
     (map (λ line. line.now) c.args.lines.now)
-    c.args.self.now c.reply_round.new.self
+    c.args.self.now c.reply_copies.new.self
     (omega (arith, c.in-None.ensures.steps.0, c.loop-reply.reply-iterator.rest.ok.0)) c.loop-reply.invariant.all
     c.into_iter-reply-iterator.ensures.into_iter_gives.0
     c.in_ok-replies.ensures.round).1

@@ -11,7 +11,7 @@ use Rattle.grove_store.specs.Parts.{AnswersFirst, AnswersRound}
 use Rattle.grove_store.proofs.Beginning.{begins_for}
 use Rattle.grove_store.proofs.Together.{counts_all}
 use Rattle.grove_store.proofs.Telling.{text_made}
-use Rattle.grove_store.proofs.Lawful.{first_alone, first_kept, first_round, fails_so}
+use Rattle.grove_store.proofs.Lawful.{first_alone, first_kept, first_round, read_first, fails_so}
 use Rattle.grove_store.proofs.store.Store.begin_round.Goals as goal
 
 pub begin_batch-requires-clause-counts : goal.begin_batch-requires-clause-counts
@@ -20,7 +20,8 @@ begin_batch-requires-clause-counts g c = counts_all _ _ _ _ _ c.in_ok-round-in-O
 pub returns-in_ok-round-in-Ok-Batch-clause-begun : goal.returns-in_ok-round-in-Ok-Batch-clause-begun
 returns-in_ok-round-in-Ok-Batch-clause-begun g c =
     let fits = rw c.in-Ok-Batch.field-0-is at c.in-Ok-Batch.ensures.fits in
-    let read = rw c.in-Ok-Batch.field-0-is at c.in-Ok-Batch.ensures.read in
+    let asked = rw c.in-Ok-Batch.field-0-is at c.in-Ok-Batch.ensures.read in
+    let read = read_first _ c.args.lines.now c.index-lines-0.result _ c.index-lines-0.is asked in
     let now = c.args.self.now in
     let round = c.in_ok-round-in-Ok-Batch.round in
     let some : 0 < length c.args.lines.now = c.requires.count.0 in
@@ -35,7 +36,8 @@ returns-in_ok-round-in-Ok-Batch-clause-begun g c =
 
 pub returns-in_ok-replies-in-Ok-Plan-clause-begun : goal.returns-in_ok-replies-in-Ok-Plan-clause-begun
 returns-in_ok-replies-in-Ok-Plan-clause-begun g c =
-    let read = rw c.in-Ok-Plan.field-0-is at c.in-Ok-Plan.ensures.read in
+    let asked = rw c.in-Ok-Plan.field-0-is at c.in-Ok-Plan.ensures.read in
+    let read = read_first _ c.args.lines.now c.index-lines-0.result _ c.index-lines-0.is asked in
     let now = c.args.self.now in
     let replies = c.in_ok-replies-in-Ok-Plan.replies.items in
     let some : 0 < length c.args.lines.now = c.requires.count.0 in
@@ -49,7 +51,8 @@ returns-in_ok-replies-in-Ok-Plan-clause-begun g c =
 
 pub returns-in_ok-replies-in-Ok-Weights-clause-begun : goal.returns-in_ok-replies-in-Ok-Weights-clause-begun
 returns-in_ok-replies-in-Ok-Weights-clause-begun g c =
-    let read = rw c.in-Ok-Weights.field-0-is at c.in-Ok-Weights.ensures.read in
+    let asked = rw c.in-Ok-Weights.field-0-is at c.in-Ok-Weights.ensures.read in
+    let read = read_first _ c.args.lines.now c.index-lines-0.result _ c.index-lines-0.is asked in
     let replies = c.in_ok-replies-in-Ok-Weights.replies.items in
     let some : 0 < length c.args.lines.now = c.requires.count.0 in
     let made = text_made c.weights_text-text.result replies c.weights_text-text.ensures
@@ -62,7 +65,8 @@ returns-in_ok-replies-in-Ok-Weights-clause-begun g c =
 
 pub returns-in_ok-replies-in-Ok-Reweigh-clause-begun : goal.returns-in_ok-replies-in-Ok-Reweigh-clause-begun
 returns-in_ok-replies-in-Ok-Reweigh-clause-begun g c =
-    let read = rw c.in-Ok-Reweigh.field-0-is at c.in-Ok-Reweigh.ensures.read in
+    let asked = rw c.in-Ok-Reweigh.field-0-is at c.in-Ok-Reweigh.ensures.read in
+    let read = read_first _ c.args.lines.now c.index-lines-0.result _ c.index-lines-0.is asked in
     let now = c.args.self.now in
     let replies = c.in_ok-replies-in-Ok-Reweigh.replies.items in
     let answers = c.in_ok-replies-in-Ok-Reweigh.ensures.reply in
@@ -80,4 +84,5 @@ returns-in_ok-replies-in-Err-clause-begun g c =
     c.in_ok-replies-in-Err.ensures in
     first_kept _ c.args.self.now c.args.lines.now _ (Err c.in-Err.fault) (error_data (wire_name c.in-Err.fault)) made.0
     replies (length replies) c.self.view_is c.self.invariant.0 some
-    (fails_so c.in-Err.fault _ made.1.0 c.in-Err.ensures.read) refl (refl, refl) made.1.1 made.2 refl
+    (read_first _ c.args.lines.now c.index-lines-0.result _ c.index-lines-0.is
+    (fails_so c.in-Err.fault _ made.1.0 c.in-Err.ensures.read)) refl (refl, refl) made.1.1 made.2 refl

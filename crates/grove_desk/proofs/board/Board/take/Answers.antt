@@ -1,0 +1,10 @@
+use Rattle.std.proofs.Common.{◌∙◌}
+use Rattle.grove_desk.proofs.board.Board.take.Goals as goal
+
+pub loop-place-preserved : goal.loop-place-preserved
+loop-place-preserved g c = record {
+  ledger = c.loop-place.invariant.ledger;
+  length = c.take_line.ensures.length ∙ c.loop-place.invariant.length;
+  held = c.take_line.ensures.held g.B.Opening.store g.B.Opening.kept c.loop-place.invariant.held;
+  room = c.take_line.ensures.room ∙ c.loop-place.invariant.room;
+}

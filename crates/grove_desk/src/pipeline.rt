@@ -1,0 +1,160 @@
+ghost use Rattle.std.specs.Prelude.{◌<◌, ◌≤◌, ◌↔◌, length, Bool, All, IsTrue, IfOk, IfSome};
+ghost use Rattle.grove_store.specs.StoreStates.{StoreState};
+ghost use Rattle.grove_session.specs.declared.answers.TheConstants.{LINE_LIMIT};
+ghost use Rattle.grove_desk.specs.Receipts.{IsDeskReceipt};
+ghost use Rattle.grove_desk.specs.Boards.{KeepsState, Holds};
+
+use crate::Receipt;
+use crate::state::State;
+use grove_tree::NoMemory;
+use grove_wire::Line;
+use memchr::memchr;
+use std::alloc::Global;
+use std::mem;
+
+/// So many lines of a visitor at most are put together.
+const MOST_TOGETHER: usize = 16;
+
+/// They have no more bytes together, with a line feed each.
+const MOST_BYTES: usize = 64 * 1024;
+
+/// Lines of a visitor that are put together, in order. Each is answered after those before it, and none after one that
+/// memory was refused for.
+#[derive(Drop)]
+pub(crate) struct Pipeline {
+    lines: Vec<State>,
+    /// So many of the first ones are settled.
+    settled: usize,
+}
+
+impl Pipeline {
+    /// A copy of one line.
+    pub(crate) fn of_line(alloc: Global, line: &[u8]) -> Result<Pipeline, NoMemory>
+        requires { length line.now ≤ LINE_LIMIT }
+        ensures { (opening : StoreState) → (kept : Bool) → IfOk result (Holds opening kept) }
+    {
+        let mut lines = Vec::with_capacity(alloc, 1)?;
+        lines.push(State::Waiting(read_line(alloc, line)?))?;
+        Ok(Pipeline { lines, settled: 0 })
+    }
+
+    /// Copies of the whole lines at the front of the bytes: as many as are put together, up to the first that is too
+    /// long for that.
+    pub(crate) fn of_bytes(alloc: Global, bytes: &[u8]) -> Result<Pipeline, NoMemory>
+        ensures { (opening : StoreState) → (kept : Bool) → IfOk result (Holds opening kept) }
+    {
+        Ok(Pipeline {
+            lines: copies_of_lines(alloc, bytes)?,
+            settled: 0,
+        })
+    }
+
+    /// Are there none?
+    pub(crate) fn is_empty(&self) -> bool {
+        self.lines.is_empty()
+    }
+
+    /// Does a line wait to be taken?
+    pub(crate) fn is_waiting(&self) -> bool
+        ensures { IsTrue result → self.now.settled < length self.now.lines.items }
+    {
+        matches!(self.lines.get(self.settled), Some(State::Waiting(_)))
+    }
+
+    /// How many of the lines wait.
+    pub(crate) fn waiting(&self) -> usize {
+        self.lines
+            .iter()
+            .filter(|state| matches!(state, State::Waiting(_)))
+            .count()
+    }
+
+    /// Is every line settled?
+    pub(crate) fn is_settled(&self) -> bool
+        ensures { IsTrue result ↔ (length self.now.lines.items ≤ self.now.settled) }
+    {
+        self.settled >= self.lines.len()
+    }
+
+    /// Is any?
+    pub(crate) fn has_settled(&self) -> bool {
+        self.settled > 0
+    }
+
+    /// The first line that isn't settled, where it waits. It leaves then.
+    pub(crate) fn start(&mut self) -> Option<Line>
+        ensures { (opening : StoreState) → (kept : Bool) → Holds opening kept self.old → Holds opening kept self.new }
+    {
+        if !self.is_waiting() {
+            return None;
+        }
+        match mem::replace(&mut self.lines[self.settled], State::Running) {
+            State::Waiting(line) => Some(line),
+            State::Running | State::Done(_) => None,
+        }
+    }
+
+    /// Where the line that left has got to. No line stays behind one that memory was refused for.
+    pub(crate) fn settle(&mut self, state: State)
+        ensures { (opening : StoreState) → (kept : Bool) → KeepsState opening kept state
+            → Holds opening kept self.old → Holds opening kept self.new }
+    {
+        if self.is_settled() {
+            return;
+        }
+        let is_done = state.is_done();
+        let is_refused = state.is_refused();
+        self.lines[self.settled] = state;
+        if is_done {
+            self.settled += 1;
+        }
+        if is_refused {
+            self.lines.truncate(self.settled);
+        }
+    }
+
+    /// Takes what the first line was answered, where it is settled.
+    pub(crate) fn take_first(&mut self) -> Option<Result<Receipt, NoMemory>>
+        ensures first { (opening : StoreState) → (kept : Bool) → Holds opening kept self.old
+            → IfSome result (λ done. IfOk done (IsDeskReceipt opening kept)) }
+        ensures rest { (opening : StoreState) → (kept : Bool) → Holds opening kept self.old
+            → Holds opening kept self.new }
+    {
+        if self.settled == 0 || self.lines.is_empty() {
+            return None;
+        }
+        self.settled -= 1;
+        match self.lines.remove(0) {
+            State::Done(done) => Some(done),
+            State::Waiting(_) | State::Running => None,
+        }
+    }
+}
+
+/// A copy of the line, read as far as that takes no tree: so who leads has less to do.
+fn read_line(alloc: Global, line: &[u8]) -> Result<Line, NoMemory>
+    requires { length line.now ≤ LINE_LIMIT }
+{
+    let mut copy = Line::copied(alloc, line)?;
+    copy.read(alloc);
+    Ok(copy)
+}
+
+/// Copies of the whole lines at the front of the bytes.
+fn copies_of_lines(alloc: Global, bytes: &[u8]) -> Result<Vec<State>, NoMemory>
+    ensures { (opening : StoreState) → (kept : Bool)
+        → IfOk result (λ lines. All (KeepsState opening kept) lines.items) }
+{
+    let mut lines = Vec::new(alloc);
+    let mut room = MOST_BYTES;
+    let mut rest = bytes;
+    while let Some(length) = memchr(b'\n', rest) {
+        if lines.len() >= MOST_TOGETHER || length >= room {
+            break;
+        }
+        lines.push(State::Waiting(read_line(alloc, &rest[..length])?))?;
+        room -= length + 1;
+        rest = &rest[length + 1..];
+    }
+    Ok(lines)
+}
