@@ -4,6 +4,7 @@ ghost use Rattle.grove_store.specs.Rounds.{lists_in};
 ghost use Rattle.grove_store.specs.Parts.{IsRoundOf, FitsRoom, NoneFits};
 
 use grove_access::AccessList;
+use grove_line::LineReader;
 use grove_tree::{NoMemory, Tree};
 use grove_wire::{Line, MOST_LISTS, Request, WireFault};
 use std::alloc::Global;
@@ -18,6 +19,7 @@ pub struct Round {
 /// The round of a first batch and of those of the other lines that follow it without a gap, as long as there is room.
 pub fn round_of(
     alloc: Global,
+    reader: &mut LineReader,
     tree: &Tree,
     first: Vec<AccessList>,
     others: &[&Line],
@@ -32,7 +34,8 @@ pub fn round_of(
     counts.push(first.len())?;
     let mut lists = first;
     for line in others {
-        let Some(mut more) = batch_within(alloc, tree, line, MOST_LISTS - lists.len())? else {
+        let Some(mut more) = batch_within(alloc, reader, tree, line, MOST_LISTS - lists.len())?
+        else {
             break;
         };
         counts.push(more.len())?;
@@ -44,6 +47,7 @@ pub fn round_of(
 /// The lists of a line that is a batch without fault, where they have room.
 fn batch_within(
     alloc: Global,
+    reader: &mut LineReader,
     tree: &Tree,
     line: &Line,
     room: usize,
@@ -54,7 +58,7 @@ fn batch_within(
     ensures fit { IfOk result
         (λ found. IfSome found (λ lists. All (λ list. AreNodes tree.now (nodes_of list)) lists.items)) }
 {
-    match line.request(alloc, tree) {
+    match reader.read(alloc, tree, line) {
         Ok(Request::Batch(lists)) => {
             if lists.len() <= room {
                 Ok(Some(lists))

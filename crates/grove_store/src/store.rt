@@ -6,6 +6,7 @@ use crate::kept_texts::KeptTexts;
 use crate::same::{same_records, same_trees};
 use grove_access::Records;
 use grove_build::{KeptPlans, PlanCounts};
+use grove_line::LineReader;
 use grove_tree::{NoMemory, Tree};
 use std::alloc::Global;
 use std::marker::Model;
@@ -28,6 +29,8 @@ pub struct Store {
     plans: KeptPlans,
     /// The replies that told of it.
     texts: KeptTexts,
+    /// It keeps the memory in which it reads a line for the next.
+    reader: LineReader,
 }
 
 impl Model for Store {
@@ -75,6 +78,7 @@ impl Store {
                 rounds: 0,
                 plans: KeptPlans::new(alloc),
                 texts: KeptTexts::new(alloc),
+                reader: LineReader::new(),
             }),
             Err(_) => Err(NoStore { tree, records }),
         }
@@ -140,6 +144,7 @@ impl Store {
             rounds: self.rounds,
             plans: KeptPlans::new(alloc),
             texts: KeptTexts::new(alloc),
+            reader: LineReader::new(),
         })
     }
 }

@@ -64,6 +64,11 @@ impl Line {
         }
     }
 
+    /// Is it read?
+    pub fn is_read(&self) -> bool {
+        !matches!(self.kept, Kept::Nothing)
+    }
+
     /// What `read_request` reads of it.
     pub fn request(&self, alloc: Global, tree: &Tree) -> Result<Request, WireFault>
         ensures read { Gives asked_of result (request_of tree.now self.now) }

@@ -25,9 +25,9 @@ impl Store {
         ensures err { OnErr result (self.new ≡ self.old) }
     {
         let first = lines[0];
-        match first.request(alloc, &self.tree) {
+        match self.reader.read(alloc, &self.tree, first) {
             Ok(Request::Batch(lists)) => {
-                let round = round_of(alloc, &self.tree, lists, &lines[1..])?;
+                let round = round_of(alloc, &mut self.reader, &self.tree, lists, &lines[1..])?;
                 self.begin_batch(crew, alloc, round)
             }
             Ok(Request::Plan(list)) => {

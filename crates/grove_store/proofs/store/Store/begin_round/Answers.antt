@@ -1,5 +1,5 @@
 use Rattle.std.proofs.Common.{◌<◌, refl, length, map, sym, ap, subst}
-use Rattle.std.specs.Prelude.{Ok, Err}
+use Rattle.std.specs.Prelude.{Ok, Err, IfOk}
 use Rattle.std.proofs.lemmas.List.{take_rest}
 use Rattle.std.proofs.lemmas.Result.{IfOk-weaker}
 use Rattle.grove_meter.specs.Waits.{reweighed}
@@ -7,7 +7,7 @@ use Rattle.grove_wire.specs.Names.{wire_name}
 use Rattle.grove_wire.specs.Replies.{error_data, weights_data, weights_in_rows, changed_data}
 use Rattle.grove_wire.specs.Requests.{Plan, Weights, Reweigh}
 use Rattle.grove_store.specs.StoreStates.{StoreState, IsStore, changes}
-use Rattle.grove_store.specs.Parts.{AnswersFirst, AnswersRound}
+use Rattle.grove_store.specs.Parts.{AnswersFirst, AnswersReweigh, AnswersRound, Begins}
 use Rattle.grove_store.proofs.Beginning.{begins_for}
 use Rattle.grove_store.proofs.Together.{counts_all}
 use Rattle.grove_store.proofs.Telling.{text_made}
@@ -25,6 +25,9 @@ returns-in_ok-round-in-Ok-Batch-clause-begun g c =
     let now = c.args.self.now in
     let round = c.in_ok-round-in-Ok-Batch.round in
     let some : 0 < length c.args.lines.now = c.requires.count.0 in
+    let begun = subst (λ (store : StoreState). IfOk c.begin_batch.result
+    (λ begun. Begins (AnswersRound store round.lists.items round.counts.items) store begun c.begin_batch.new.self))
+    c.self.view_is c.begin_batch.ensures.begun in
     IfOk-weaker c.begin_batch.result _ _
     (λ begun begins. begins_for (AnswersFirst now (map (λ line. line.now) c.args.lines.now))
     (AnswersRound now round.lists.items round.counts.items) now begun c.begin_batch.new.self
@@ -32,7 +35,7 @@ returns-in_ok-round-in-Ok-Batch-clause-begun g c =
     c.in-Ok-Batch.lists.items _ _
     replies (length replies) (subst IsStore c.self.view_is c.self.invariant.0)
     (ap (λ (s : StoreState). s.rows) c.self.view_is) some (take_rest c.args.lines.now 1)
-    read fits.0 c.in_ok-round-in-Ok-Batch.ensures answers refl) begins) c.begin_batch.ensures.begun
+    read fits.0 c.in_ok-round-in-Ok-Batch.ensures answers refl) begins) begun
 
 pub returns-in_ok-replies-in-Ok-Plan-clause-begun : goal.returns-in_ok-replies-in-Ok-Plan-clause-begun
 returns-in_ok-replies-in-Ok-Plan-clause-begun g c =
@@ -57,11 +60,13 @@ returns-in_ok-replies-in-Ok-Weights-clause-begun g c =
     let some : 0 < length c.args.lines.now = c.requires.count.0 in
     let made = text_made c.weights_text-text.result replies c.weights_text-text.ensures
     c.in_ok-replies-in-Ok-Weights.ensures in
-    first_kept _ c.args.self.now c.args.lines.now _ (Ok Weights)
+    subst (λ (after : StoreState). AnswersFirst c.args.self.now (map (λ line. line.now) c.args.lines.now) replies after)
+    (sym c.self.view_is)
+    (first_kept _ c.args.self.now c.args.lines.now _ (Ok Weights)
     (weights_data c.deref.result.now (weights_in_rows c.self.inside.tree)) made.0
     replies (length replies) c.self.view_is c.self.invariant.0 some read refl
     (ap (λ waits. weights_data waits (weights_in_rows c.self.inside.tree)) c.deref.ensures.value, refl) made.1 made.2
-    refl
+    refl)
 
 pub returns-in_ok-replies-in-Ok-Reweigh-clause-begun : goal.returns-in_ok-replies-in-Ok-Reweigh-clause-begun
 returns-in_ok-replies-in-Ok-Reweigh-clause-begun g c =
@@ -69,7 +74,8 @@ returns-in_ok-replies-in-Ok-Reweigh-clause-begun g c =
     let read = read_first _ c.args.lines.now c.index-lines-0.result _ c.index-lines-0.is asked in
     let now = c.args.self.now in
     let replies = c.in_ok-replies-in-Ok-Reweigh.replies.items in
-    let answers = c.in_ok-replies-in-Ok-Reweigh.ensures.reply in
+    let answers = subst (λ (store : StoreState). AnswersReweigh store replies c.reweigh.new.self) c.self.view_is
+    c.in_ok-replies-in-Ok-Reweigh.ensures.reply in
     let some : 0 < length c.args.lines.now = c.requires.count.0 in
     first_alone now c.reweigh.new.self c.self.inside.tree c.args.lines.now _ (Ok Reweigh)
     (changed_data (changes now.rows (reweighed now.waits now.rows))) _
@@ -82,7 +88,9 @@ returns-in_ok-replies-in-Err-clause-begun g c =
     let some : 0 < length c.args.lines.now = c.requires.count.0 in
     let made = text_made c.wire_refusal-text.result replies c.wire_refusal-text.ensures
     c.in_ok-replies-in-Err.ensures in
-    first_kept _ c.args.self.now c.args.lines.now _ (Err c.in-Err.fault) (error_data (wire_name c.in-Err.fault)) made.0
+    subst (λ (after : StoreState). AnswersFirst c.args.self.now (map (λ line. line.now) c.args.lines.now) replies after)
+    (sym c.self.view_is)
+    (first_kept _ c.args.self.now c.args.lines.now _ (Err c.in-Err.fault) (error_data (wire_name c.in-Err.fault)) made.0
     replies (length replies) c.self.view_is c.self.invariant.0 some
     (read_first _ c.args.lines.now c.index-lines-0.result _ c.index-lines-0.is
-    (fails_so c.in-Err.fault _ made.1.0 c.in-Err.ensures.read)) refl (refl, refl) made.1.1 made.2 refl
+    (fails_so c.in-Err.fault _ made.1.0 c.in-Err.ensures.read)) refl (refl, refl) made.1.1 made.2 refl)

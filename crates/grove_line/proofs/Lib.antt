@@ -1,0 +1,4 @@
+pub mod WholeNumbers
+pub mod AccessTokens
+pub mod Items
+pub mod Members

@@ -1,0 +1,2 @@
+pub mod AccessTokens
+pub mod Straight
