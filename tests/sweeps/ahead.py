@@ -24,8 +24,9 @@ TRIED = "lines that were sent ahead of the replies to the lines before"
 CLIENTS, LINES = 16, 200
 # So many lines of a client that waits for their replies are under way at once.
 BURST = 16
-# More bytes than a line may have, and than one has that is put without waiting for another long one.
-TOO_MANY, LARGE = 1_048_577, 70_000
+# More bytes than a line may have, than one has that is put without waiting for another long one, and than one has that
+# only who leads reads.
+TOO_MANY, LARGE, LONG = 1_048_577, 70_000, 1_025
 # Lines that are refused, and why.
 REFUSED = {
     b'{"batch":[[["add","/none",1]]]}': b'{"error":"no-path"}',
@@ -179,7 +180,7 @@ class Asking:
         return compact({"batch": [*lists, self.accesses_at("/shared"), [["add", "/all", 1]]]})
 
     def large(self) -> bytes:
-        return self.batch() + b" " * LARGE if self.random.random() < 0.1 else self.batch()
+        return self.batch() + b" " * self.random.choice([0, 0, 0, 0, LONG, LONG, LONG, LONG, LONG, LARGE])
 
     def plan(self) -> bytes:
         return compact({"plan": [["get", path] for path in self.paths]})

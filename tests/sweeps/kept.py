@@ -19,6 +19,8 @@ TRIED = "lines whose growths were counted"
 # As many plans are kept.
 MOST_KEPT = 1024
 MOST_LISTS = 256
+# Once a client has asked so many lines alone, long ones are read straight.
+ALONE = 16
 ROOT = {"parent": None, "name": "", "weight": 1}
 NODES = [ROOT] + [{"parent": 0, "name": f"n{number}", "weight": 1} for number in range(16)]
 DOCUMENT = json.dumps({"nodes": NODES}).encode()
@@ -56,9 +58,10 @@ def batch_line(lists: list) -> bytes:
 
 def ask_again(program: str, library: str, line_of, others: Iterable[bytes], tally: Tally) -> None:
     """Asks for a list twice, and once more after the others. What the server needs for a line of that length at all it
-    has from the line before."""
+    has from the lines before."""
     with asking(program, library) as ask:
-        ask(line_of(BEFORE), tally)
+        for _ in range(ALONE + 1):
+            ask(line_of(BEFORE), tally)
         at_first, again = ask(line_of(FIRST), tally), ask(line_of(FIRST), tally)
         for line in others:
             ask(line, tally)

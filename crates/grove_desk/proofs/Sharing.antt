@@ -118,7 +118,7 @@ DeskInside-sync B picked send sync =
     let board = Board-send B picked send sync in
     let lock : IsSync (Mutex.the_row (Board.the_row B picked)) = search (sendable, crosses, board) depth 60 fits 4000 in
     let each : AllSync (shape (DeskInside.the_type B picked)).fields =
-    (search (sendable, crosses), (lock, (Bells-sync, (search (sendable, crosses), tt)))) in
+    (search (sendable, crosses), (lock, (Bells-sync, (search (sendable, crosses), (search (sendable, crosses), tt))))) in
     recorded_sync _ _ _ (DeskInside.the_type B picked).to_one (struct_sync (shape (DeskInside.the_type B picked)) each)
 
 -- each part of a desk may be read by several threads at once, or stands behind its lock

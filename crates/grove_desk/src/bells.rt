@@ -27,6 +27,8 @@ pub(crate) struct Bells {
 /// Which bells are to ring.
 #[derive(Drop)]
 pub(crate) struct Rings {
+    /// Is there any?
+    any: bool,
     lines: [bool; LINE_BELLS],
     looks: bool,
     rounds: [bool; ROUND_BELLS],
@@ -53,6 +55,9 @@ impl Bells {
     }
 
     pub(crate) fn ring(&self, rings: &Rings) {
+        if !rings.any {
+            return;
+        }
         for place in 0..LINE_BELLS {
             if rings.lines[place] {
                 self.lines[place].notify_all();
@@ -84,6 +89,7 @@ impl Rings {
     /// No bell, or that of all who want a copy of the store.
     pub(crate) fn new(looks: bool) -> Rings {
         Rings {
+            any: looks,
             lines: [false; LINE_BELLS],
             looks,
             rounds: [false; ROUND_BELLS],
@@ -92,11 +98,13 @@ impl Rings {
 
     /// And the bell of this ticket.
     pub(crate) fn add(&mut self, ticket: u64) {
+        self.any = true;
         self.lines[place_of(ticket)] = true;
     }
 
     /// And the bell of those who wait for a round later than this one.
     pub(crate) fn add_round(&mut self, after: u64) {
+        self.any = true;
         self.rounds[round_place_of(after)] = true;
     }
 }

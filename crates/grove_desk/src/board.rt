@@ -88,6 +88,11 @@ impl<B: Opening> Board<B> {
         Ok(ticket)
     }
 
+    /// Are there lines?
+    pub(crate) fn has_lines(&self) -> bool {
+        !self.slots.is_empty()
+    }
+
     /// How many lines wait.
     pub(crate) fn waiting(&self) -> usize {
         self.slots.iter().fold(0usize, |sum, slot| sum.saturating_add(slot.lines.waiting()))

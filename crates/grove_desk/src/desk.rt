@@ -10,7 +10,7 @@ ghost use Rattle.grove_desk.specs.Receipts.{ReceiptState, IsAllowed, IsDeskRecei
 use crate::bells::Bells;
 use crate::board::{Board, MOST_LINES};
 use crate::ledger::Ledger;
-use crate::pipeline::Pipeline;
+use crate::pipeline::{Pipeline, WhoReads};
 use crate::turn::Leading;
 use crate::{DeskFault, Opening, Receipt, RoundWatch, Unwatched};
 pub use closing::Closed;
@@ -19,6 +19,7 @@ use grove_store::Store;
 use grove_tree::{Gate, NoMemory};
 use std::alloc::Global;
 use std::marker::Model;
+use std::sync::atomic::{AtomicU64, Ordering};
 use std::sync::{Mutex, Wait};
 use std::thread::Threads;
 
@@ -26,6 +27,9 @@ mod closing;
 mod counting;
 mod leading;
 mod waiting;
+
+/// A caller that put lines so many times in a row with none of others on the board seems to be the only one.
+const ALONE: u64 = 16;
 
 /// A line with more bytes than this is put once no other such line is being answered.
 const LARGE_LINE: usize = 64 * 1024;
@@ -40,6 +44,8 @@ pub struct Desk<B: Opening> {
     bells: Bells,
     /// Taken by the one large line that is answered.
     large: Mutex<()>,
+    /// So many times in a row lines were put with none of others on the board.
+    alone: AtomicU64,
 }
 
 impl<B: Opening> Model for Desk<B> {
@@ -66,14 +72,15 @@ impl<B: Opening> Desk<B> {
             board: Mutex::new(Board::new(alloc, ledger)),
             bells: Bells::new(),
             large: Mutex::new(()),
+            alone: AtomicU64::new(0),
         }
     }
 
     /// Answers a line of at most 1,048,576 bytes, alone or in a round with others that wait, and gives its receipt. It
-    /// may wait for others, and while 16 lines wait it puts none; one of more than 65,536 bytes waits until none such
-    /// is answered, so that no line waits for several of them. `seen` is a receipt that the new one has to come after.
-    /// This caller's gate is called only in a round that it runs itself. `Memory`: the line had no effect. `Foreign`:
-    /// it may have had one.
+    /// may wait for others, and while lines of 16 callers wait it puts none; one of more than 65,536 bytes waits until
+    /// none such is answered, so that no line waits for several of them. `seen` is a receipt that the new one has to
+    /// come after. This caller's gate is called only in a round that it runs itself. `Memory`: the line had no effect.
+    /// `Foreign`: it may have had one.
     pub fn answer<R: Threads + Wait + Sync, G: Gate + Sync>(
         &self,
         rt: &R,
@@ -162,11 +169,20 @@ impl<B: Opening> Desk<B> {
             None
         };
         let mut taken = Vec::with_capacity(alloc, MOST_LINES)?;
-        let put = lines_to_put(alloc, lines, line)?;
-        let ticket = self.put(rt, put)?;
-        let (first, rest) = self.attend(rt, alloc, ticket, leading, &mut taken, gate, watch);
+        let put = lines_to_put(alloc, lines, line, self.who_reads())?;
+        let (ticket, turn) = self.put(rt, put, &mut taken)?;
+        let (first, rest) = self.attend(rt, alloc, ticket, turn, leading, &mut taken, gate, watch);
         *lines = Some(rest);
         Ok(first?)
+    }
+
+    /// Who reads lines that are put now: their caller, unless it seems to be the only one.
+    pub(crate) fn who_reads(&self) -> WhoReads {
+        if self.alone.load(Ordering::Relaxed) < ALONE {
+            WhoReads::Caller
+        } else {
+            WhoReads::Leader
+        }
     }
 
     /// How many lines wait: they were put, and are in no round yet.
@@ -212,6 +228,7 @@ fn lines_to_put(
     alloc: Global,
     lines: &mut Option<Pipeline>,
     line: &[u8],
+    reads: WhoReads,
 ) -> Result<Pipeline, NoMemory>
     requires { length line.now ≤ LINE_LIMIT }
     ensures put { (opening : StoreState) → (kept : Bool) → IfSome lines.old (Holds opening kept)
@@ -220,6 +237,6 @@ fn lines_to_put(
 {
     match lines.take() {
         Some(left) if !left.is_empty() => Ok(left),
-        _ => Pipeline::of_line(alloc, line),
+        _ => Pipeline::of_line(alloc, line, reads),
     }
 }

@@ -18,40 +18,65 @@ const MOST_TOGETHER: usize = 16;
 /// They have no more bytes together, with a line feed each.
 const MOST_BYTES: usize = 64 * 1024;
 
+/// A line with no more bytes is read by who leads: about as fast as it could look up the paths of what was read ahead.
+const SHORT_LINE: usize = 1024;
+
+/// Who reads a line that isn't short.
+#[derive(Clone, Copy, Debug, PartialEq, Eq)]
+pub(crate) enum WhoReads {
+    /// Its caller does before it puts it, as far as that takes no tree. So who leads has less to do.
+    Caller,
+    /// Who leads does, in the line's turn.
+    Leader,
+}
+
 /// Lines of a visitor that are put together, in order. Each is answered after those before it, and none after one that
 /// memory was refused for.
 #[derive(Drop)]
 pub(crate) struct Pipeline {
     lines: Vec<State>,
+    /// What so many of the first ones were answered is taken.
+    taken: usize,
     /// So many of the first ones are settled.
     settled: usize,
 }
 
 impl Pipeline {
     /// A copy of one line.
-    pub(crate) fn of_line(alloc: Global, line: &[u8]) -> Result<Pipeline, NoMemory>
+    pub(crate) fn of_line(alloc: Global, line: &[u8], reads: WhoReads) -> Result<Pipeline, NoMemory>
         requires { length line.now ≤ LINE_LIMIT }
         ensures { (opening : StoreState) → (kept : Bool) → IfOk result (Holds opening kept) }
     {
         let mut lines = Vec::with_capacity(alloc, 1)?;
-        lines.push(State::Waiting(read_line(alloc, line)?))?;
-        Ok(Pipeline { lines, settled: 0 })
-    }
-
-    /// Copies of the whole lines at the front of the bytes: as many as are put together, up to the first that is too
-    /// long for that.
-    pub(crate) fn of_bytes(alloc: Global, bytes: &[u8]) -> Result<Pipeline, NoMemory>
-        ensures { (opening : StoreState) → (kept : Bool) → IfOk result (Holds opening kept) }
-    {
+        lines.push(State::Waiting(read_line(alloc, line, reads)?))?;
         Ok(Pipeline {
-            lines: copies_of_lines(alloc, bytes)?,
+            lines,
+            taken: 0,
             settled: 0,
         })
     }
 
-    /// Are there none?
-    pub(crate) fn is_empty(&self) -> bool {
-        self.lines.is_empty()
+    /// Copies of the whole lines at the front of the bytes: as many as are put together, up to the first that is too
+    /// long for that.
+    pub(crate) fn of_bytes(
+        alloc: Global,
+        bytes: &[u8],
+        reads: WhoReads,
+    ) -> Result<Pipeline, NoMemory>
+        ensures { (opening : StoreState) → (kept : Bool) → IfOk result (Holds opening kept) }
+    {
+        Ok(Pipeline {
+            lines: copies_of_lines(alloc, bytes, reads)?,
+            taken: 0,
+            settled: 0,
+        })
+    }
+
+    /// Is every line's answer taken?
+    pub(crate) fn is_empty(&self) -> bool
+        ensures { IsTrue result ↔ (length self.now.lines.items ≤ self.now.taken) }
+    {
+        self.taken >= self.lines.len()
     }
 
     /// Does a line wait to be taken?
@@ -76,9 +101,9 @@ impl Pipeline {
         self.settled >= self.lines.len()
     }
 
-    /// Is any?
+    /// Is any whose answer isn't taken?
     pub(crate) fn has_settled(&self) -> bool {
-        self.settled > 0
+        self.settled > self.taken
     }
 
     /// The first line that isn't settled, where it waits. It leaves then.
@@ -113,35 +138,38 @@ impl Pipeline {
         }
     }
 
-    /// Takes what the first line was answered, where it is settled.
+    /// Takes what the first line was answered whose answer isn't taken yet, where it is settled.
     pub(crate) fn take_first(&mut self) -> Option<Result<Receipt, NoMemory>>
         ensures first { (opening : StoreState) → (kept : Bool) → Holds opening kept self.old
             → IfSome result (λ done. IfOk done (IsDeskReceipt opening kept)) }
         ensures rest { (opening : StoreState) → (kept : Bool) → Holds opening kept self.old
             → Holds opening kept self.new }
     {
-        if self.settled == 0 || self.lines.is_empty() {
+        if !self.has_settled() || self.is_empty() {
             return None;
         }
-        self.settled -= 1;
-        match self.lines.remove(0) {
+        let first = mem::replace(&mut self.lines[self.taken], State::Running);
+        self.taken += 1;
+        match first {
             State::Done(done) => Some(done),
             State::Waiting(_) | State::Running => None,
         }
     }
 }
 
-/// A copy of the line, read as far as that takes no tree: so who leads has less to do.
-fn read_line(alloc: Global, line: &[u8]) -> Result<Line, NoMemory>
+/// A copy of the line, and what was read of it, if it is read ahead.
+fn read_line(alloc: Global, line: &[u8], reads: WhoReads) -> Result<Line, NoMemory>
     requires { length line.now ≤ LINE_LIMIT }
 {
     let mut copy = Line::copied(alloc, line)?;
-    copy.read(alloc);
+    if reads == WhoReads::Caller && line.len() > SHORT_LINE {
+        copy.read(alloc);
+    }
     Ok(copy)
 }
 
 /// Copies of the whole lines at the front of the bytes.
-fn copies_of_lines(alloc: Global, bytes: &[u8]) -> Result<Vec<State>, NoMemory>
+fn copies_of_lines(alloc: Global, bytes: &[u8], reads: WhoReads) -> Result<Vec<State>, NoMemory>
     ensures { (opening : StoreState) → (kept : Bool)
         → IfOk result (λ lines. All (KeepsState opening kept) lines.items) }
 {
@@ -152,7 +180,7 @@ fn copies_of_lines(alloc: Global, bytes: &[u8]) -> Result<Vec<State>, NoMemory>
         if lines.len() >= MOST_TOGETHER || length >= room {
             break;
         }
-        lines.push(State::Waiting(read_line(alloc, &rest[..length])?))?;
+        lines.push(State::Waiting(read_line(alloc, &rest[..length], reads)?))?;
         room -= length + 1;
         rest = &rest[length + 1..];
     }

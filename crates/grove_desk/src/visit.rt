@@ -153,7 +153,7 @@ impl<'a, B: Opening, R: Threads + Wait + Sync + AllocGlobal, W: RoundWatch<R>> A
         if has_lines(&self.lines) {
             return;
         }
-        if let Ok(lines) = Pipeline::of_bytes(rt.alloc(), bytes) {
+        if let Ok(lines) = Pipeline::of_bytes(rt.alloc(), bytes, self.desk.who_reads()) {
             self.lines = Some(lines);
         }
     }

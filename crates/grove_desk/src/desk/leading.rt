@@ -4,20 +4,31 @@ ghost use Rattle.std.specs.Vec.{vec_capacity};
 ghost use Rattle.grove_desk.specs.Receipts.{IsDeskReceipt};
 ghost use Rattle.grove_desk.specs.Boards.{Holds, Takes};
 
+use super::ALONE;
 use crate::asked::Asked;
+use crate::board::Board;
 use crate::ledger::Ledger;
 use crate::pipeline::Pipeline;
 use crate::turn::{Leading, Turn};
 use crate::{Desk, Opening, Receipt, RoundWatch};
 use grove_tree::{Gate, NoMemory};
 use std::alloc::Global;
-use std::sync::Wait;
+use std::sync::atomic::Ordering;
+use std::sync::{MutexGuard, Wait};
 use std::thread::Threads;
 
 impl<B: Opening> Desk<B> {
-    /// Puts lines once there is room for them, and gives their ticket.
-    pub(super) fn put<R: Wait>(&self, rt: &R, lines: Pipeline) -> Result<u64, NoMemory>
-        requires { Holds B.store B.kept lines }
+    /// Puts lines once there is room for them, and gives their ticket and what their caller does next.
+    pub(super) fn put<R: Wait>(
+        &self,
+        rt: &R,
+        lines: Pipeline,
+        taken: &mut Vec<Asked>,
+    ) -> Result<(u64, Turn<Ledger<B>>), NoMemory>
+        requires held { Holds B.store B.kept lines }
+        requires none { taken.old.items ≡ [] }
+        ensures lines { IfOk result (λ put. Takes B.store B.kept put.1 taken.new.items) }
+        ensures room { vec_capacity taken.new ≡ vec_capacity taken.old }
     {
         let mut board = self.board.lock(rt);
         board.stay_outside();
@@ -26,33 +37,38 @@ impl<B: Opening> Desk<B> {
             .room
             .wait_while(rt, board, |board| board.is_full());
         board.come_in();
-        let put = board.put(lines);
-        drop(board);
-        if put.is_err() {
-            // The room that they leave is another one's.
-            self.bells.let_in(1);
+        self.note_others(board.has_lines());
+        match board.put(lines) {
+            Ok(ticket) => Ok((ticket, self.await_turn(rt, board, ticket, taken))),
+            Err(NoMemory) => {
+                drop(board);
+                // The room that they leave is another one's.
+                self.bells.let_in(1);
+                Err(NoMemory)
+            }
         }
-        put
     }
 
-    /// Waits for what the lines of this ticket were answered, and gives the first answer and the rest. Whenever it finds
-    /// the store there, it leads: it answers the first lines that wait itself, outside the lock, and puts back the
-    /// store and what they were answered.
+    /// Waits for what the lines of this ticket were answered, and gives the first answer and the rest. Whenever it
+    /// finds the store there, it leads: it answers the first lines that wait itself, outside the lock, and puts back
+    /// the store and what they were answered.
     pub(super) fn attend<R: Threads + Wait + Sync, G: Gate + Sync, W: RoundWatch<R>>(
         &self,
         rt: &R,
         alloc: Global,
         ticket: u64,
+        turn: Turn<Ledger<B>>,
         leading: Leading,
         taken: &mut Vec<Asked>,
         gate: &G,
         watch: &W,
     ) -> (Result<Receipt, NoMemory>, Pipeline)
-        requires { (taken.old.items ≡ []) × (vec_capacity taken.old ≡ 16) }
+        requires lines { Takes B.store B.kept turn taken.old.items }
+        requires room { vec_capacity taken.old ≡ 16 }
         ensures first { IfOk result.0 (IsDeskReceipt B.store B.kept) }
         ensures rest { Holds B.store B.kept result.1 }
     {
-        let mut turn: Turn<Ledger<B>> = Turn::Wait;
+        let mut turn = turn;
         for _ in rt.forever() {
             turn = match turn {
                 Turn::Leave(mut lines) => match lines.take_first() {
@@ -67,35 +83,44 @@ impl<B: Opening> Desk<B> {
                     }
                     self.put_back(rt, ledger, ticket, leading, taken, answered)
                 }
-                Turn::Wait => self.await_turn(rt, ticket, taken),
+                Turn::Wait => self.await_turn(rt, self.board.lock(rt), ticket, taken),
             };
         }
         unreachable!()
     }
 
+    /// Notes whether lines are put beside those of others.
+    fn note_others(&self, are_there: bool) {
+        let alone = self.alone.load(Ordering::Relaxed);
+        if are_there && alone > 0 {
+            self.alone.store(0, Ordering::Relaxed);
+        } else if !are_there && alone < ALONE {
+            self.alone.store(alone + 1, Ordering::Relaxed);
+        }
+    }
+
     /// What the caller of this ticket does next. If it is to wait, it looks once more after it was woken.
-    fn await_turn<R: Wait>(&self, rt: &R, ticket: u64, taken: &mut Vec<Asked>) -> Turn<Ledger<B>>
+    fn await_turn<R: Wait>(
+        &self,
+        rt: &R,
+        board: MutexGuard<'_, Board<B>>,
+        ticket: u64,
+        taken: &mut Vec<Asked>,
+    ) -> Turn<Ledger<B>>
         requires { taken.old.items ≡ [] }
         ensures lines { Takes B.store B.kept result taken.new.items }
         ensures room { vec_capacity taken.new ≡ vec_capacity taken.old }
     {
-        let mut board = self.board.lock(rt);
-        match board.turn(ticket, false, taken) {
-            Turn::Wait => {
-                let mut board = self.bells.of(ticket).wait(rt, board);
-                let turn = board.turn(ticket, false, taken);
-                let room = board.room();
-                drop(board);
-                self.bells.let_in(room);
-                turn
-            }
-            turn => {
-                let room = board.room();
-                drop(board);
-                self.bells.let_in(room);
-                turn
-            }
+        let mut board = board;
+        let mut turn = board.turn(ticket, false, taken);
+        if let Turn::Wait = turn {
+            board = self.bells.of(ticket).wait(rt, board);
+            turn = board.turn(ticket, false, taken);
         }
+        let room = board.room();
+        drop(board);
+        self.bells.let_in(room);
+        turn
     }
 
     /// Puts back the store and what the lines were answered, wakes those who wait for that, and says what the caller
