@@ -168,6 +168,15 @@ LIMITS = [
         "MOST_BYTES",
         [("docs/SESSIONS.md", "with at most {} bytes. They are answered")],
     ),
+    (
+        "crates/grove_desk/src/pipeline.rt",
+        "SHORT_LINE",
+        [
+            ("docs/ARCHITECTURE.md", "reads a line of more than {} bytes before it puts it"),
+            ("docs/DECISIONS.md", "if they have more than {} bytes."),
+        ],
+    ),
+    ("crates/grove_desk/src/desk.rt", "ALONE", [("docs/DECISIONS.md", "has put lines {} times in a row")]),
     ("crates/grove_page/src/service.rt", "MOST_LINES", [("docs/PAGE.md", "a body of more than {} line feeds")]),
     ("crates/grove_page/src/service.rt", "MOST_KEPT", [("docs/PAGE.md", "After a body of more than {} bytes")]),
     ("crates/grove_page/src/serving.rt", "MOST_BODY", [("docs/PAGE.md", "the body has more than {} bytes |")]),
