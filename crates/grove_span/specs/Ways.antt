@@ -1,5 +1,5 @@
 -- For the proofs alone: what the tables say while a span is found.
-use Rattle.std.specs.Prelude.{◌≡◌, ◌≢◌, ℕ, ◌+◌, ◌-◌, ◌<◌, ◌≤◌, ◌↔◌, List, map, slice_get, Option, Some, None}
+use Rattle.std.specs.Prelude.{◌≡◌, ◌≢◌, ℕ, ◌+◌, ◌-◌, ◌<◌, ◌≤◌, ◌↔◌, List, length, map, slice_get, Option, Some, None}
 use Rattle.std.specs.Prelude.{option_map, if◌then◌else◌}
 use Rattle.grove_base.specs.Numbers.{any_below, passing_below, least_below, last_below}
 use Rattle.grove_tree.specs.Trees.{Rows, IsAbove}
@@ -50,6 +50,15 @@ pub record IsListedTo (rows : Rows) (nodes lengths : List ℕ) (n : ℕ) (number
     pub parents : HaveParents rows nodes items
     pub weights : HaveWeights rows items
     pub accesses : HaveAccesses nodes lengths items
+
+-- all below a number are listed, and the next accessed node is this target
+pub record IsNextTarget (rows : Rows) (nodes lengths : List ℕ) (next target : ℕ) (numbers : List ℕ)
+    (items : List SpanRow) : Type 0 where
+  pub within : target < length rows
+  pub ahead : next ≤ target
+  pub first : IsFirstFrom nodes next target
+  pub forced : AreForcedTo rows nodes next target
+  pub listed : IsListedTo rows nodes lengths next numbers items
 
 -- the accesses of a node among the first n of a list
 abbrev pub first_below : List ℕ → ℕ → ℕ → Option ℕ

@@ -5,7 +5,7 @@ ghost use Rattle.grove_access.specs.Lists.{nodes_of, lengths_of, AreNodes};
 ghost use Rattle.grove_access.specs.Forced.{forced_nodes};
 ghost use Rattle.grove_span.specs.SpanRows.{node_of_row, find_place, HaveParents, HaveWeights, HaveAccesses};
 ghost use Rattle.grove_span.specs.SpanRows.{IsAccessedSo};
-ghost use Rattle.grove_span.specs.Ways.{IsLowestCommon, AreAscending, AreForcedTo, IsFirstFrom, IsListedTo, IsRising};
+ghost use Rattle.grove_span.specs.Ways.{IsLowestCommon, IsNextTarget, AreAscending, IsListedTo, IsRising};
 ghost use Rattle.grove_span.specs.Ways.{HaveSlots, TellsOf};
 
 use crate::SpanRow;
@@ -32,11 +32,7 @@ impl Listed {
         target: Node,
     ) -> Result<(), NoMemory>
         requires fits { AreNodes tree.now (nodes_of list.now) }
-        requires target { target < length tree.now }
-        requires ahead { self.old.next ≤ target }
-        requires first { IsFirstFrom (nodes_of list.now) self.old.next target }
-        requires forced { AreForcedTo tree.now (nodes_of list.now) self.old.next target }
-        requires listed { IsListedTo tree.now (nodes_of list.now) (lengths_of list.now) self.old.next
+        requires target { IsNextTarget tree.now (nodes_of list.now) (lengths_of list.now) self.old.next target
             self.old.numbers.items self.old.rows.items }
         ensures next { OnOk result (self.new.next ≡ suc target) }
         ensures listed { OnOk result
@@ -61,13 +57,10 @@ impl Listed {
         parent: Node,
     ) -> Result<(), NoMemory>
         requires fits { AreNodes tree.now (nodes_of list.now) }
-        requires target { target < length tree.now }
-        requires ahead { self.old.next ≤ target }
-        requires forced { AreForcedTo tree.now (nodes_of list.now) self.old.next target }
+        requires target { IsNextTarget tree.now (nodes_of list.now) (lengths_of list.now) self.old.next target
+            self.old.numbers.items self.old.rows.items }
         requires parent { parent_of tree.now target ≡ Some parent }
         requires listed_parent { parent < self.old.next }
-        requires listed { IsListedTo tree.now (nodes_of list.now) (lengths_of list.now) self.old.next
-            self.old.numbers.items self.old.rows.items }
         ensures next { OnOk result (self.new.next ≡ suc target) }
         ensures listed { OnOk result
             (IsListedTo tree.now (nodes_of list.now) (lengths_of list.now) self.new.next self.new.numbers.items
@@ -95,11 +88,7 @@ impl Listed {
         target: Node,
     ) -> Result<(), NoMemory>
         requires fits { AreNodes tree.now (nodes_of list.now) }
-        requires target { target < length tree.now }
-        requires ahead { self.old.next ≤ target }
-        requires first { IsFirstFrom (nodes_of list.now) self.old.next target }
-        requires forced { AreForcedTo tree.now (nodes_of list.now) self.old.next target }
-        requires listed { IsListedTo tree.now (nodes_of list.now) (lengths_of list.now) self.old.next
+        requires target { IsNextTarget tree.now (nodes_of list.now) (lengths_of list.now) self.old.next target
             self.old.numbers.items self.old.rows.items }
         ensures next { OnOk result (self.new.next ≡ suc target) }
         ensures listed { OnOk result

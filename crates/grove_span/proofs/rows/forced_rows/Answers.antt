@@ -1,7 +1,7 @@
-use Rattle.std.proofs.Common.{◌≡◌, ℕ, suc, get_or, Some, slice_get, sym, ◌∙◌, ap, add-one, subst}
+use Rattle.std.proofs.Common.{◌≡◌, ◌≤◌, ℕ, suc, get_or, Some, slice_get, sym, ◌∙◌, ap, add-one, subst, arith}
 use Rattle.std.proofs.lemmas.Option.{slice_get-get_or}
 use Rattle.grove_access.specs.Lists.{nodes_of, lengths_of}
-use Rattle.grove_span.proofs.ForcedWays.{IsSpannedTo, span_begins, first_from, forced_to, span_next, span_skips, span_ends}
+use Rattle.grove_span.proofs.ForcedWays.{IsSpannedTo, span_begins, next_target, span_next, span_skips, span_ends}
 use Rattle.grove_span.proofs.rows.forced_rows.Goals.{then-target-listed+in_ok-push_target, else-target-listed}
 use Rattle.grove_span.proofs.rows.forced_rows.Goals as goal
 
@@ -17,53 +17,46 @@ loop-target-init c =
 
 pub push_target-requires-clause-target : goal.push_target-requires-clause-target
 push_target-requires-clause-target c =
-    let at : slice_get c.args.targets.now c.loop-target.target-index ≡ Some c.new.result =
-    slice_get-get_or c.args.targets.now c.loop-target.target-index 0 c.loop-target-test.true
-    ∙ ap (λ (v : ℕ). Some v) (sym c.new.ensures) in
-    let (access, named) = c.requires.targets.named c.loop-target.target-index c.new.result at in
-    c.requires.fits access c.new.result named
-
-pub push_target-requires-clause-first : goal.push_target-requires-clause-first
-push_target-requires-clause-first c =
-    let at : slice_get c.args.targets.now c.loop-target.target-index ≡ Some c.new.result =
-    slice_get-get_or c.args.targets.now c.loop-target.target-index 0 c.loop-target-test.true
-    ∙ ap (λ (v : ℕ). Some v) (sym c.new.ensures) in
-    first_from c.args.tree.now (nodes_of c.args.list.now)
-    (lengths_of c.args.list.now) c.args.targets.now c.args.top c.loop-target.target-index c.loop-target.listed.next
-    c.new.result
-    c.loop-target.listed.numbers.items c.loop-target.listed.rows.items c.requires.targets at c.loop-target.invariant
-
-pub push_target-requires-clause-forced : goal.push_target-requires-clause-forced
-push_target-requires-clause-forced c =
-    let at : slice_get c.args.targets.now c.loop-target.target-index ≡ Some c.new.result =
-    slice_get-get_or c.args.targets.now c.loop-target.target-index 0 c.loop-target-test.true
-    ∙ ap (λ (v : ℕ). Some v) (sym c.new.ensures) in
-    forced_to c.args.tree.now (nodes_of c.args.list.now)
-    (lengths_of c.args.list.now) c.args.targets.now c.args.top c.loop-target.target-index c.loop-target.listed.next
-    c.new.result
-    c.loop-target.listed.numbers.items c.loop-target.listed.rows.items c.len-nodes.ensures.tree c.requires.fits c.requires.top c.requires.targets at c.loop-target.invariant
+    let targets = c.args.targets.now in
+    let i = c.loop-target.target-index in
+    let listed = c.loop-target.listed in
+    let is : c.new.result ≡ get_or targets i 0 = c.new.ensures in
+    let ahead : listed.next ≤ get_or targets i 0 = c.if-target-listed.true in
+    next_target c.args.tree.now (nodes_of c.args.list.now) (lengths_of c.args.list.now) targets c.args.top i listed.next
+    c.new.result listed.numbers.items listed.rows.items c.len-nodes.ensures.tree c.requires.fits c.requires.top
+    c.requires.targets (slice_get-get_or targets i 0 c.loop-target-test.true ∙ ap Some (sym is)) (omega arith)
+    c.loop-target.invariant
 
 pub loop-target-preserved : goal.loop-target-preserved
 loop-target-preserved c =
-    let at : slice_get c.args.targets.now c.loop-target.target-index ≡ Some (get_or c.args.targets.now c.loop-target.target-index 0) =
+    let at : slice_get c.args.targets.now c.loop-target.target-index ≡ Some
+    (get_or c.args.targets.now c.loop-target.target-index 0) =
     slice_get-get_or c.args.targets.now c.loop-target.target-index 0 c.loop-target-test.true in
-    let (access, named) = c.requires.targets.named c.loop-target.target-index (get_or c.args.targets.now c.loop-target.target-index 0) at in
+    let (access, named) = c.requires.targets.named c.loop-target.target-index
+    (get_or c.args.targets.now c.loop-target.target-index 0) at in
     let within = c.requires.fits access (get_or c.args.targets.now c.loop-target.target-index 0) named in
     elim c.if-target-listed.branch [
       | then-target-listed+in_ok-push_target w ↦
           let end : w.push_target.new.self.next ≡ suc (get_or c.args.targets.now c.loop-target.target-index 0) =
           w.in_ok-push_target.ensures.next ∙ ap suc w.new.ensures in
-          rw (add-one, w.listed-is, end) (span_next c.args.tree.now (nodes_of c.args.list.now) (lengths_of c.args.list.now) c.args.targets.now c.args.top c.loop-target.target-index c.loop-target.listed.next
+          rw (add-one, w.listed-is, end) (span_next c.args.tree.now (nodes_of c.args.list.now)
+          (lengths_of c.args.list.now) c.args.targets.now c.args.top c.loop-target.target-index
+          c.loop-target.listed.next
           (get_or c.args.targets.now c.loop-target.target-index 0) c.loop-target.listed.numbers.items
           w.push_target.new.self.numbers.items c.loop-target.listed.rows.items w.push_target.new.self.rows.items
           at within w.if-target-listed.true (rw (← end) w.in_ok-push_target.ensures.listed) c.loop-target.invariant)
       | else-target-listed w ↦
-          rw (add-one, w.listed-is) (span_skips c.args.tree.now (nodes_of c.args.list.now) (lengths_of c.args.list.now) c.args.targets.now c.args.top c.loop-target.target-index c.loop-target.listed.next
-          (get_or c.args.targets.now c.loop-target.target-index 0) c.loop-target.listed.numbers.items c.loop-target.listed.rows.items at w.if-target-listed.false c.loop-target.invariant)
+          rw (add-one, w.listed-is) (span_skips c.args.tree.now (nodes_of c.args.list.now)
+          (lengths_of c.args.list.now) c.args.targets.now c.args.top c.loop-target.target-index
+          c.loop-target.listed.next
+          (get_or c.args.targets.now c.loop-target.target-index 0) c.loop-target.listed.numbers.items
+          c.loop-target.listed.rows.items at w.if-target-listed.false c.loop-target.invariant)
     ]
 
 pub returns-clause-nodes : goal.returns-clause-nodes
 returns-clause-nodes c =
-    let all = span_ends c.args.tree.now (nodes_of c.args.list.now) (lengths_of c.args.list.now) c.args.targets.now c.args.top c.loop-target.target-index c.loop-target.listed.next
-    c.loop-target.listed.numbers.items c.loop-target.listed.rows.items c.len-nodes.ensures.tree c.requires.fits c.requires.targets c.loop-target-test.false c.loop-target.invariant in
+    let all = span_ends c.args.tree.now (nodes_of c.args.list.now)
+    (lengths_of c.args.list.now) c.args.targets.now c.args.top c.loop-target.target-index c.loop-target.listed.next
+    c.loop-target.listed.numbers.items c.loop-target.listed.rows.items c.len-nodes.ensures.tree c.requires.fits
+    c.requires.targets c.loop-target-test.false c.loop-target.invariant in
     all.listed ∙ all.counted
