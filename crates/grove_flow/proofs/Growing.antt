@@ -7,7 +7,7 @@ use borrow.Author.Differences.{ints, up}
 use Rattle.grove_flow.specs.declared.network.Arc.{Arc}
 use Rattle.grove_flow.specs.Networks.{arc_at, place, IsLawful, AreLawful, no_arc}
 use Rattle.grove_flow.specs.Reaches.{IsNew, IsStep, IsNoStep, AreNoSteps, IsLeastStep, IsRaised, IsAhead, IsBehind, IsGrown}
-use Rattle.grove_flow.specs.Trees.{IsKey, AreRaisedTo, AreEarly, IsLive, IsStateOf, IsTreeOf}
+use Rattle.grove_flow.specs.Trees.{IsKey, AreRaisedTo, IsLive, IsSearchTree, IsStateOf, IsTreeOf}
 use Rattle.std.proofs.lemmas.List.{ext_get_or, get_or_read, length-replicate}
 use Rattle.grove_flow.specs.declared.network.Network.{Network}
 use Rattle.grove_flow.specs.declared.state.State.{State}
@@ -163,8 +163,12 @@ module _ {network : Network} {state : State} {tree : Tree} {source count last : 
   pub farthest : slice_index tree.entries.items last ≤ 36028797018963968
   farthest = omega (arith, ints, state_of.near source, h.grown.state.near source, h.raised_to.moved source h.grown.reached.source_rank, h.first)
 
-  pub early : AreEarly tree
-  early v rank = omega (arith, farthest, h.raised_to.entered v rank)
+  pub search_tree : IsSearchTree network state tree
+  search_tree = record {
+    state_of = state_of;
+    tree_of = h.tree_of;
+    early = λ v rank. omega (arith, farthest, h.raised_to.entered v rank);
+  }
 
   -- some arc leads on, where the last variable lacks nothing
   pub never_empty : slice_index state.unmet.items last ≡ 0 → ((i key : ℕ) → IsLive network state tree i key → ⊥) → ⊥

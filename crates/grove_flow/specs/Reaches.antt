@@ -3,8 +3,9 @@ use Rattle.std.specs.Prelude.{◌≡◌, ◌≢◌, ℕ, zero, suc, ◌+◌, ◌
 use Rattle.std.specs.Prelude.{slice_set, ℤ, pos, ◌+ℤ◌, ◌≤ℤ◌}
 use Rattle.std.specs.List.{sum_by}
 use Rattle.grove_flow.specs.declared.network.Arc.{Arc}
+use Rattle.grove_flow.specs.declared.tree.Tree.{Tree}
 use Rattle.grove_flow.specs.Networks.{arc_at, place}
-use Rattle.grove_flow.specs.States.{IsState}
+use Rattle.grove_flow.specs.States.{IsMoved, IsState}
 
 -- An arc leads on from the reached variables, those with a rank: along it, or back where an amount is sent along it.
 pub record IsForward (arc : Arc) (places : List ℤ) (ranks : List ℕ) (slack : ℤ) : Type 0 where
@@ -124,6 +125,15 @@ abbrev pub AreAlong : List ℕ → List ℕ → List ℕ → List ℕ → ℕ �
 AreAlong ranks vias old new source =
     (i : ℕ) → (slice_index new i ≡ slice_index old i)
     ⊎ ((v : ℕ) × (0 < slice_index ranks v) × (v ≢ source) × (slice_index vias v ≡ i))
+
+-- `by` more is sent by a tree from its source to the target: as much as the way there has room for, `limit` at most
+pub record IsPushed (arcs : List Arc) (tree : Tree) (source target limit : ℕ) (old new : List ℕ) (by : ℕ) : Type 0 where
+  pub some : 0 < by
+  pub most : by ≤ limit
+  pub room : by ≤ slice_index tree.rooms.items source
+  pub moved : IsMoved arcs old new source target by
+  pub bounded : (i : ℕ) → slice_index new i ≤ slice_index old i + by
+  pub along : AreAlong tree.ranks.items tree.vias.items old new source
 
 -- more is sent along the arc that leads to v
 pub record IsSentOn (arc : Arc) (via v by before : ℕ) (old new : List ℕ) : Type 0 where

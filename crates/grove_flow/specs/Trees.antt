@@ -23,6 +23,12 @@ pub record IsTreeOf (n : ℕ) (tree : Tree) : Type 0 where
 abbrev pub AreEarly : Tree → Type 0
 AreEarly tree = (v : ℕ) → 0 < slice_index tree.ranks.items v → slice_index tree.entries.items v ≤ 36028797018963968
 
+-- a tree of a search over this state, where each arc's key can be found
+pub record IsSearchTree (network : Network) (state : State) (tree : Tree) : Type 0 where
+  pub state_of : IsStateOf network state
+  pub tree_of : IsTreeOf (length network.needs.items) tree
+  pub early : AreEarly tree
+
 -- an arc leads on, and its key is the distance of its end
 pub record IsKeyOn (arc : Arc) (places : List ℤ) (ranks entries : List ℕ) (key : ℕ) : Type 0 where
   pub leaves : 0 < slice_index ranks arc.from

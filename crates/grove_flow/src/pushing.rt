@@ -1,7 +1,6 @@
 ghost use Rattle.std.specs.Prelude.{◌≡◌, ◌≢◌, ℕ, ◌+◌, ◌<◌, ◌≤◌, ◌^◌, ◌⊎◌, length, slice_index};
 ghost use Rattle.grove_flow.specs.Networks.{arc_at};
-ghost use Rattle.grove_flow.specs.States.{IsMoved};
-ghost use Rattle.grove_flow.specs.Reaches.{AreAlong, AreWays, IsSentBack, IsSentOn};
+ghost use Rattle.grove_flow.specs.Reaches.{AreWays, IsPushed, IsSentBack, IsSentOn};
 ghost use Rattle.grove_flow.specs.Trees.{IsTreeOf};
 
 use crate::Arc;
@@ -23,12 +22,7 @@ pub fn push(
     requires reached { 0 < slice_index tree.now.ranks.items target }
     requires some { 0 < most }
     requires small { (i : ℕ) → slice_index amounts.old i + most < 2 ^ 64 }
-    ensures some { 0 < result }
-    ensures most { result ≤ most }
-    ensures room { result ≤ slice_index tree.now.rooms.items source }
-    ensures moved { IsMoved arcs.now amounts.old amounts.new source target result }
-    ensures bounded { (i : ℕ) → slice_index amounts.new i ≤ slice_index amounts.old i + result }
-    ensures along { AreAlong tree.now.ranks.items tree.now.vias.items amounts.old amounts.new source }
+    ensures { IsPushed arcs.now tree.now source target most amounts.old amounts.new result }
 {
     let by = tree.rooms[target].min(most);
     let mut v = target;

@@ -22,7 +22,7 @@ pub struct Queue {
 impl Queue {
     ghost use Rattle.grove_flow.specs.Networks.{arc_at};
     ghost use Rattle.grove_flow.specs.Fans.{AreFans, IsFan, end_of};
-    ghost use Rattle.grove_flow.specs.Trees.{AreEarly, IsLive, IsStateOf, IsTreeOf};
+    ghost use Rattle.grove_flow.specs.Trees.{IsLive, IsSearchTree};
     ghost use Rattle.grove_flow.specs.Queues.{AreQueued, AreQueuedPast, NamesArcsAlone, HasEntry, entries_of};
 
     pub fn new(alloc: Global) -> Self
@@ -64,9 +64,7 @@ impl Queue {
     /// Takes out the nearest arc that leads on, with its key. An arc that was put in no longer leads on once both its
     /// ends are reached.
     pub fn next(&mut self, network: &Network, state: &State, tree: &Tree) -> Option<(u64, usize)>
-        requires state { IsStateOf network.now state.now }
-        requires tree { IsTreeOf (length network.now.needs.items) tree.now }
-        requires early { AreEarly tree.now }
+        requires tree { IsSearchTree network.now state.now tree.now }
         requires queued { AreQueued network.now state.now tree.now self.old }
         requires within { NamesArcsAlone network.now self.old }
         ensures none { IfNone result ((i key : ℕ) → IsLive network.now state.now tree.now i key → ⊥) }
@@ -93,9 +91,7 @@ impl Queue {
         fans: &Fans,
         v: usize,
     ) -> Result<(), NoMemory>
-        requires state { IsStateOf network.now state.now }
-        requires tree { IsTreeOf (length network.now.needs.items) tree.now }
-        requires early { AreEarly tree.now }
+        requires tree { IsSearchTree network.now state.now tree.now }
         requires fans { AreFans network.now fans.now }
         requires v { v < length network.now.needs.items }
         requires past { AreQueuedPast v network.now state.now tree.now self.old }
@@ -116,9 +112,7 @@ impl Queue {
         fan: &Fan,
         v: usize,
     ) -> Result<(), NoMemory>
-        requires state { IsStateOf network.now state.now }
-        requires tree { IsTreeOf (length network.now.needs.items) tree.now }
-        requires early { AreEarly tree.now }
+        requires tree { IsSearchTree network.now state.now tree.now }
         requires fan { IsFan fan.now.end network.now fan.now }
         requires v { v < length network.now.needs.items }
         requires within { NamesArcsAlone network.now self.old }

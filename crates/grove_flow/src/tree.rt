@@ -2,7 +2,7 @@ ghost use Rattle.std.specs.Prelude.{◌≡◌, ℕ, ◌+◌, ◌<◌, ◌≤◌,
 ghost use Rattle.std.specs.Prelude.{IfOk, MatchOption};
 ghost use Rattle.grove_flow.specs.Networks.{IsArcOf, IsMet, arc_at, place};
 ghost use Rattle.grove_flow.specs.States.{AreNear};
-ghost use Rattle.grove_flow.specs.Trees.{AreEarly, AreRaisedTo, IsKey, IsLive, IsStateOf, IsTreeOf};
+ghost use Rattle.grove_flow.specs.Trees.{AreEarly, AreRaisedTo, IsKey, IsLive, IsSearchTree, IsTreeOf};
 ghost use Rattle.grove_flow.specs.Reaches.{IsAhead, IsBehind, IsNew, IsNoStep};
 
 use crate::state::State;
@@ -71,9 +71,7 @@ impl Tree {
 
     /// The key of the i-th arc, where it leads on from what is reached.
     pub fn key_at(&self, network: &Network, state: &State, i: usize) -> Option<u64>
-        requires state { IsStateOf network.now state.now }
-        requires tree { IsTreeOf (length network.now.needs.items) self.now }
-        requires early { AreEarly self.now }
+        requires tree { IsSearchTree network.now state.now self.now }
         requires within { i < length network.now.arcs.items }
         ensures { MatchOption result
             (IsNoStep (arc_at network.now.arcs.items i) (slice_index state.now.amounts.items i) self.now.ranks.items)

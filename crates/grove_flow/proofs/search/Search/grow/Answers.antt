@@ -1,10 +1,10 @@
 use Rattle.std.proofs.Common.{slice_index}
 use Rattle.grove_flow.specs.Networks.{arc_at}
-use Rattle.grove_flow.proofs.Growing.{arc_read, early, growing_more, never_empty, key_new}
+use Rattle.grove_flow.proofs.Growing.{arc_read, search_tree, growing_more, never_empty, key_new}
 use Rattle.grove_flow.proofs.search.Search.grow.Goals as goal
 
-pub next-requires-clause-early : goal.next-requires-clause-early
-next-requires-clause-early c = early c.requires.searched.state_of c.requires.searched.growing
+pub next-requires-clause-tree : goal.next-requires-clause-tree
+next-requires-clause-tree c = search_tree c.requires.searched.state_of c.requires.searched.growing
 
 pub unreachable-requires : goal.unreachable-requires
 unreachable-requires c = never_empty c.requires.searched.state_of c.requires.searched.growing c.requires.met c.in_default.ensures.none
@@ -21,8 +21,8 @@ reach-next-requires-clause-new c =
     (key_new (arc_at c.args.network.now.arcs.items c.in-Some.i) (slice_index c.args.state.now.amounts.items c.in-Some.i) c.args.state.now.places.items
     c.args.self.now.tree.ranks.items c.args.self.now.tree.entries.items c.in-Some.key c.in-Some.ensures.live.is)
 
-pub offer-requires-clause-early : goal.offer-requires-clause-early
-offer-requires-clause-early c = early c.requires.searched.state_of
+pub offer-requires-clause-tree : goal.offer-requires-clause-tree
+offer-requires-clause-tree c = search_tree c.requires.searched.state_of
     (growing_more c.requires.searched.state_of c.requires.searched.growing c.enter.new.self c.requires.met c.in-Some.ensures.live c.in-Some.ensures.least
     c.index.ensures c.index-2.ensures c.reach-next.ensures.within c.reach-next.ensures.entry c.enter.ensures.ranks c.enter.ensures.vias c.enter.ensures.rooms c.enter.ensures.entries)
 
