@@ -1,7 +1,7 @@
 -- What a core keeps, after each kind of event.
 use Rattle.std.proofs.Common.{◌≡◌, ◌≢◌, ℕ, suc, ◌+◌, ◌<◌, ◌≤◌, ℤ, true, false, cond, eqb, List, [], ◌∷◌, ◌++◌, length, set, Option, Some, None, refl, sym, ◌∙◌, ap, subst, inl, inr, arith, add-one, length-append}
 use Rattle.std.specs.List.{slice_get}
-use Rattle.std.specs.Prelude.{IfSome, IfNone, MatchOption}
+use Rattle.std.specs.Prelude.{IfSome, IfNone}
 use Rattle.smallvec.specs.SmallVec.{SmallVec}
 use Rattle.std.proofs.lemmas.List.{length-set}
 use Rattle.std.proofs.lemmas.Option.{same_Some, slice_get_within}
@@ -27,7 +27,7 @@ use Rattle.grove_core.specs.Orders.{lock_time, earlier}
 use Rattle.grove_core.specs.declared.owner.Owner.{Owner}
 use Rattle.grove_core.specs.declared.owner.Owner.TheVariants.{Nobody, Holder, Last}
 use Rattle.grove_core.specs.Owners.{holder_of}
-use Rattle.grove_core.specs.Cores.{time_in, IsFirst, HasProgress, Owns, IsLastAt, IsOwned, IsCore}
+use Rattle.grove_core.specs.Cores.{time_in, IsFirst, KeepsLock, HasProgress, Owns, IsLastAt, IsOwned, IsCore}
 use Rattle.grove_core.proofs.Precedence.{within_jobs}
 use Rattle.grove_core.proofs.CountChanges.{count_agree}
 use Rattle.grove_core.proofs.StepTimes.{time, steps_new, steps_other}
@@ -127,24 +127,31 @@ module _ (rows : Rows) (jobs : List Job) (opening : List ℤ) (past : List Event
   may_lock t node next free = (Lock node, next, λ n e. subst (λ (k : ℕ). IsFree jobs past t k) (lock_same node n e) free)
 
   -- a lock adds at most one to those that are kept
-  kept_size : (p q : Progress) (kept : Option Locked) → MatchOption kept (q.locked ≡ p.locked) (λ lock. q.locked.items ≡ p.locked.items ++ lock ∷ []) → length q.locked.items ≤ length p.locked.items + 1
-  kept_size p q None same = let e : length q.locked.items ≡ length p.locked.items = ap (λ (r : SmallVec Locked). length r.items) same in omega arith
-  kept_size p q (Some lock) added = let e : length q.locked.items ≡ length p.locked.items + 1 = ap length added ∙ length-append p.locked.items (lock ∷ []) in omega arith
+  kept_size : (p q : Progress) (kept : Option Locked) → KeepsLock p.locked q.locked kept
+      → length q.locked.items ≤ length p.locked.items + 1
+  kept_size p q None keeps =
+      let e : length q.locked.items ≡ length p.locked.items =
+      ap (λ (r : SmallVec Locked). length r.items) keeps.locked in omega arith
+  kept_size p q (Some lock) keeps =
+      let e : length q.locked.items ≡ length p.locked.items + 1 =
+      ap length keeps.locked ∙ length-append p.locked.items (lock ∷ []) in omega arith
 
   -- and the times are those of all nodes that some job locks first
   kept_times : (t node : ℕ) → next_step jobs past t ≡ Some (Lock node) → (p q : Progress) → slice_get progress t ≡ Some p
       → (kept : Option Locked) → IfSome kept (λ lock. lock ≡ record { node = node; time = length past }) → IfNone kept (IsFirst jobs node → ⊥)
-      → MatchOption kept (q.locked ≡ p.locked) (λ lock. q.locked.items ≡ p.locked.items ++ lock ∷ [])
+      → KeepsLock p.locked q.locked kept
       → (n : ℕ) → IsFirst jobs n → time_in q.locked.items n ≡ lock_time jobs (Take t ∷ past) t n
-  kept_times t node next p q at None is left same n first =
+  kept_times t node next p q at None is left keeps n first =
       let h : HasProgress rows jobs opening past t p = core.come t p at in
       let ne : node ≢ n = λ e. left (subst (λ (k : ℕ). IsFirst jobs k) (sym e) first) in
-      ap (λ (r : SmallVec Locked). time_in r.items n) same ∙ h.times n first ∙ sym (lock_time_kept jobs past t t n (locks_lock n node (next_step jobs past t) next ne))
-  kept_times t node next p q at (Some lock) is left added n first =
+      ap (λ (r : SmallVec Locked). time_in r.items n) keeps.locked ∙ h.times n first
+      ∙ sym (lock_time_kept jobs past t t n (locks_lock n node (next_step jobs past t) next ne))
+  kept_times t node next p q at (Some lock) is left keeps n first =
       let h : HasProgress rows jobs opening past t p = core.come t p at in
       let obeys : ObeysTreeProtocol rows (plan_of jobs t) = (core.legal t (within_jobs jobs t (steps_done past t) (Lock node) next)).obeys in
       let new : Locked = record { node = node; time = length past } in
-      ap (λ (ls : List Locked). time_in ls n) (added ∙ ap (λ (l : Locked). p.locked.items ++ l ∷ []) is) ∙ elim (cases_eq node n) [
+      ap (λ (ls : List Locked). time_in ls n) (keeps.locked ∙ ap (λ (l : Locked). p.locked.items ++ l ∷ []) is)
+      ∙ elim (cases_eq node n) [
         | inl e ↦ subst (λ (k : ℕ). IsFirst jobs k → time_in (p.locked.items ++ new ∷ []) k ≡ lock_time jobs (Take t ∷ past) t k) e
             (λ here. time_added p.locked.items new node refl (h.times node here ∙ none_before rows jobs past t node obeys next (lock_time jobs past t node) refl) ∙ sym (lock_time_new jobs past t node next)) first
         | inr ne ↦ time_kept p.locked.items new n ne ∙ h.times n first ∙ sym (lock_time_kept jobs past t t n (locks_lock n node (next_step jobs past t) next ne))
@@ -154,23 +161,22 @@ module _ (rows : Rows) (jobs : List Job) (opening : List ℤ) (past : List Event
   pub core_locked : (t node : ℕ) → next_step jobs past t ≡ Some (Lock node) → IsFree jobs past t node → (p q : Progress) → slice_get progress t ≡ Some p
       → q.steps_done ≡ p.steps_done + 1 → q.marked ≡ false → q.replies ≡ p.replies
       → (kept : Option Locked) → IfSome kept (λ lock. lock ≡ record { node = node; time = length past }) → IfNone kept (IsFirst jobs node → ⊥)
-      → MatchOption kept (q.locked ≡ p.locked) (λ lock. q.locked.items ≡ p.locked.items ++ lock ∷ []) → q.locked.capacity ≡ p.locked.capacity
-      → q.held_nodes ≡ p.held_nodes + 1
+      → KeepsLock p.locked q.locked kept → q.held_nodes ≡ p.held_nodes + 1
       → IsCore rows jobs opening (Take t ∷ past) records (set progress t q) (set owners node (Holder t)) waits
-  core_locked t node next free p q at moved marked replies kept is left locked spare more =
+  core_locked t node next free p q at moved marked replies kept is left keeps more =
       let h : HasProgress rows jobs opening past t p = core.come t p at in
       let within : node < length rows = locked_within t node next in
       let idle : deed_of t (list_of jobs t) (next_step jobs past t) ≡ [] = ap (deed_of t (list_of jobs t)) next in
       let obeys : ObeysTreeProtocol rows (plan_of jobs t) = (core.legal t (within_jobs jobs t (steps_done past t) (Lock node) next)).obeys in
-      let size : length q.locked.items ≤ length p.locked.items + 1 = kept_size p q kept locked in
+      let size : length q.locked.items ≤ length p.locked.items + 1 = kept_size p q kept keeps in
       let one : locks_below jobs t (suc (steps_done past t)) ≡ suc (locks_below jobs t (steps_done past t)) = count_hit (steps_done past t) (λ i. is_lock (slice_get (plan_of jobs t) i)) (ap is_lock next) in
       let le : length p.locked.items ≤ locks_below jobs t (steps_done past t) = h.locks in
       core_taken t (may_lock t node next free) records (core.recorded ∙ sym (idle_records jobs opening past t idle)) q
       (progress_taken rows jobs opening past t p q h moved marked
       (ap (λ (r : SmallVec Reply). r.items) replies ∙ h.answers ∙ sym (idle_replies jobs opening past t t idle))
       (ap (λ (r : SmallVec Reply). r.capacity) replies)
-      spare (omega arith)
-      (kept_times t node next p q at kept is left locked)
+      keeps.room (omega arith)
+      (kept_times t node next p q at kept is left keeps)
       (more ∙ add-one p.held_nodes ∙ ap suc h.holding ∙ sym (holding_locked rows jobs past t node (length rows) obeys next within)) (omega arith))
       (set owners node (Holder t)) (length-set owners node (Holder t) ∙ core.all_owners)
       (owned_after jobs past (Take t ∷ past) owners node (Holder t) core.owned (

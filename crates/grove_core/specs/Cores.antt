@@ -1,6 +1,7 @@
 -- For the proofs alone: what a core keeps of its history, job by job and node by node.
 use Rattle.std.specs.Prelude.{◌≡◌, ◌≢◌, ℕ, ◌^◌, ◌<◌, ◌≤◌, ◌==◌, ℤ, Bool, true, false, ⊤, List, [], ◌∷◌, length}
-use Rattle.std.specs.Prelude.{slice_get, Option, Some, None, if◌then◌else◌}
+use Rattle.std.specs.Prelude.{◌++◌, slice_get, Option, Some, None, MatchOption, if◌then◌else◌}
+use Rattle.smallvec.specs.SmallVec.{SmallVec}
 use Rattle.grove_base.specs.Numbers.{count_below}
 use Rattle.grove_tree.specs.Trees.{Rows, IsTree}
 use Rattle.grove_core.specs.declared.job.Job.{Job}
@@ -19,6 +20,11 @@ use Rattle.grove_core.specs.Owners.{holder_of, last_holder_of}
 abbrev pub time_in : List Locked → ℕ → Option ℕ
 time_in [] node = None
 time_in (lock ∷ locked) node = if lock.node == node then Some lock.time else time_in locked node
+
+-- a job's locks before and after one more, which is kept where it is given
+pub record KeepsLock (old new : SmallVec Locked) (kept : Option Locked) : Type 0 where
+  pub locked : MatchOption kept (new ≡ old) (λ lock. new.items ≡ old.items ++ lock ∷ [])
+  pub room : new.capacity ≡ old.capacity
 
 -- some job locks the node first
 abbrev pub IsFirst : List Job → ℕ → Type 0

@@ -1,5 +1,6 @@
-ghost use Rattle.std.specs.Prelude.{◌≡◌, ◌+◌, ◌^◌, ◌<◌, ◌≤◌, ◌++◌, ◌∷◌, [], false, true, MatchOption};
+ghost use Rattle.std.specs.Prelude.{◌≡◌, ◌+◌, ◌^◌, ◌<◌, ◌≤◌, ◌++◌, ◌∷◌, [], false, true};
 ghost use Rattle.smallvec.specs.SmallVec.{HasRoomFor};
+ghost use Rattle.grove_core.specs.Cores.{KeepsLock};
 
 use crate::locking::Locked;
 use grove_access::Reply;
@@ -32,9 +33,7 @@ impl Progress {
         ensures steps_done { self.new.steps_done ≡ self.old.steps_done + 1 }
         ensures marked { self.new.marked ≡ false }
         ensures replies { self.new.replies ≡ self.old.replies }
-        ensures locked { MatchOption kept (self.new.locked ≡ self.old.locked)
-            (λ lock. self.new.locked.items ≡ self.old.locked.items ++ lock ∷ []) }
-        ensures room { self.new.locked.capacity ≡ self.old.locked.capacity }
+        ensures locked { KeepsLock self.old.locked self.new.locked kept }
         ensures held_nodes { self.new.held_nodes ≡ self.old.held_nodes + 1 }
     {
         self.steps_done += 1;

@@ -66,4 +66,5 @@ invariant_of-self c =
     (closed _ _ _ c.self.inside.history.items c.push_reserved.new.self.items (Take c.args.txn) (vec_capacity c.self.inside.history) (vec_capacity c.push_reserved.new.self) _ _ _ _ _
     c.push_reserved.ensures.items c.push_reserved.ensures.capacity c.self.invariant.1 c.self.invariant.2
     (core_locked _ _ _ _ _ _ _ _ c.self.invariant.0 c.args.txn c.args.node next free c.index_mut-progress.result.now c.lock.new.self at
-    c.lock.ensures.steps_done c.lock.ensures.marked c.lock.ensures.replies c.lock_to_keep-kept.result is left c.lock.ensures.locked c.lock.ensures.room c.lock.ensures.held_nodes))
+    c.lock.ensures.steps_done c.lock.ensures.marked c.lock.ensures.replies
+    c.lock_to_keep-kept.result is left c.lock.ensures.locked c.lock.ensures.held_nodes))
