@@ -87,27 +87,10 @@ impl KeptPlans {
         ensures kept { OnOk result (IsKeptIn self.new list.now) }
         ensures known { IsKeptIn self.old list.now → self.new ≡ self.old }
     {
-        let planned = self.copy_for(alloc, tree, list)?;
+        let place = self.place(alloc, tree, list)?;
+        let planned = self.at(place).copy(alloc)?;
         self.note_given();
         Ok(planned)
-    }
-
-    /// A copy of what is kept for the list, which is planned first where nothing is.
-    fn copy_for(
-        &mut self,
-        alloc: Global,
-        tree: &Tree,
-        list: &AccessList,
-    ) -> Result<Planned, NoMemory>
-        requires fits { AreNodes tree.now (nodes_of list.now) }
-        requires settled { AreSettledFor tree.now self.old }
-        ensures planned { IfOk result (IsPlanned tree.now list.now) }
-        ensures settled { AreSettledFor tree.now self.new }
-        ensures kept { OnOk result (IsKeptIn self.new list.now) }
-        ensures known { IsKeptIn self.old list.now → self.new ≡ self.old }
-    {
-        let place = self.place(alloc, tree, list)?;
-        self.at(place).copy(alloc)
     }
 
     /// Where the list's plan stands, which is planned first where nothing is kept for the list.
