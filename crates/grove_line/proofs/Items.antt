@@ -34,7 +34,8 @@ pub record ItemsStart (depth turns : ℕ) (ts rest : List Token) (ds : List Data
   pub reads : of_items text ≡ Some whole
   pub items : list_items whole ≡ ds
 
-items_over : (depth turns : ℕ) (ts rest : List Token) → length ts ≤ turns → after_end_array ts ≡ Some rest → ItemsStart depth turns ts rest []
+items_over : (depth turns : ℕ) (ts rest : List Token) → length ts ≤ turns → after_end_array ts ≡ Some rest
+    → ItemsStart depth turns ts rest []
 items_over depth turns ts rest enough ends = record {
   text = json.no_items;
   is = items_end (json.value depth) turns ts rest enough ends;
@@ -43,22 +44,26 @@ items_over depth turns ts rest enough ends = record {
   items = refl;
 }
 
-item_before : (depth turns : ℕ) (Holds : Data → Type 0) (ts next rest : List Token) (ds : List Data) → 0 < turns → after_end_array ts ≡ None → (first : Starts depth ts next Holds)
+item_before : (depth turns : ℕ) (Holds : Data → Type 0) (ts next rest : List Token) (ds : List Data) → 0 < turns
+    → after_end_array ts ≡ None → (first : Starts depth ts next Holds)
     → ItemsStart depth (turns - 1) next rest ds → ItemsStart depth turns ts rest (first.whole ∷ ds)
 item_before depth turns Holds ts next rest ds some going first others = record {
   text = json.item first.text others.text;
-  is = items_more (json.value depth) turns ts next first.text some going first.is ∙ ap (parse_map (json.item first.text)) others.is;
+  is = items_more (json.value depth) turns ts next first.text some going first.is
+      ∙ ap (parse_map (json.item first.text)) others.is;
   whole = item first.whole others.whole;
   reads = rw (first.reads, others.reads) refl;
   items = ap (λ items. first.whole ∷ items) others.items;
 }
 
 -- of the items of an array these are read so far, and then come these tokens
-pub record ItemsSoFar {A : Type 0} (read : Place → Data → Result A WireFault) (depth : ℕ) (start ts : List Token) (xs : List A) : Type 0 where
+pub record ItemsSoFar {A : Type 0} (read : Place → Data → Result A WireFault) (depth : ℕ) (start ts : List Token)
+    (xs : List A) : Type 0 where
   pub turns : ℕ
   pub enough : length ts ≤ turns
   pub front : List Data
-  pub goes : (rest : List Token) (ds : List Data) → ItemsStart depth turns ts rest ds → ItemsStart depth (length start) start rest (front ++ ds)
+  pub goes : (rest : List Token) (ds : List Data) → ItemsStart depth turns ts rest ds
+      → ItemsStart depth (length start) start rest (front ++ ds)
   pub told : (place : Place) → each_on read place front ≡ Ok xs
 
 module _ {A : Type 0} (read : Place → Data → Result A WireFault) (depth : ℕ) (start : List Token) where
@@ -71,26 +76,33 @@ module _ {A : Type 0} (read : Place → Data → Result A WireFault) (depth : �
     told = λ place. refl;
   }
 
-  pub items_turn : (ts next : List Token) (xs : List A) (x : A) → ItemsSoFar read depth start ts xs → after_end_array ts ≡ None → Starts depth ts next (IsRead read x) → length next < length ts
+  pub items_turn : (ts next : List Token) (xs : List A) (x : A) → ItemsSoFar read depth start ts xs
+      → after_end_array ts ≡ None → Starts depth ts next (IsRead read x) → length next < length ts
       → ItemsSoFar read depth start next (xs ++ x ∷ [])
   items_turn ts next xs x so_far going first less = record {
     turns = so_far.turns - 1;
     enough = omega (arith, so_far.enough);
     front = so_far.front ++ first.whole ∷ [];
-    goes = λ rest ds others. rw append_assoc (so_far.goes rest (first.whole ∷ ds) (item_before depth so_far.turns (IsRead read x) ts next rest ds (omega (arith, so_far.enough)) going first others));
-    told = λ place. each_pushed (λ at. read (item_on place at)) first.whole x so_far.front xs (λ at. first.holds (item_on place at)) (so_far.told place);
+    goes = λ rest ds others. rw append_assoc (so_far.goes rest (first.whole ∷ ds)
+        (item_before depth so_far.turns (IsRead read x) ts next rest ds
+        (omega (arith, so_far.enough)) going first others));
+    told = λ place. each_pushed (λ at. read (item_on place at)) first.whole x so_far.front xs
+        (λ at. first.holds (item_on place at)) (so_far.told place);
   }
 
 -- ---- the whole array
 
 -- a value is an array of so few items that are read as these, wherever it stands
-pub record AreItems {A : Type 0} (read : Place → Data → Result A WireFault) (most : ℕ) (xs : List A) (d : Data) : Type 0 where
+pub record AreItems {A : Type 0} (read : Place → Data → Result A WireFault) (most : ℕ) (xs : List A)
+    (d : Data) : Type 0 where
   pub items : List Data
   pub array : as_list d ≡ Some items
   pub told : (place : Place) → few_on most read place items ≡ Ok xs
 
-pub array_read : {A : Type 0} (read : Place → Data → Result A WireFault) (most depth : ℕ) (whole start ts rest : List Token) (xs : List A)
-    → whole ≡ Token.begin_array ∷ start → 0 < depth → ItemsSoFar read (depth - 1) start ts xs → length xs ≤ most → after_end_array ts ≡ Some rest → Starts depth whole rest (AreItems read most xs)
+pub array_read : {A : Type 0} (read : Place → Data → Result A WireFault) (most depth : ℕ)
+    (whole start ts rest : List Token) (xs : List A)
+    → whole ≡ Token.begin_array ∷ start → 0 < depth → ItemsSoFar read (depth - 1) start ts xs → length xs ≤ most
+    → after_end_array ts ≡ Some rest → Starts depth whole rest (AreItems read most xs)
 array_read read most depth whole start ts rest xs is some so_far few ends =
     let inside = so_far.goes rest [] (items_over (depth - 1) so_far.turns ts rest so_far.enough ends) in
     record {
@@ -106,7 +118,8 @@ array_read read most depth whole start ts rest xs is some so_far few ends =
     }
 
 -- what holds of a value that the tokens begin with
-pub starts_weaker : (depth : ℕ) (ts rest : List Token) (P Q : Data → Type 0) → ((d : Data) → P d → Q d) → Starts depth ts rest P → Starts depth ts rest Q
+pub starts_weaker : (depth : ℕ) (ts rest : List Token) (P Q : Data → Type 0) → ((d : Data) → P d → Q d)
+    → Starts depth ts rest P → Starts depth ts rest Q
 starts_weaker depth ts rest P Q so starts = record {
   text = starts.text;
   is = starts.is;
@@ -115,11 +128,14 @@ starts_weaker depth ts rest P Q so starts = record {
   holds = so starts.whole starts.holds;
 }
 
-pub is_list : (tree : Rows) (list : List Access) (d : Data) → AreItems (access_at tree Second) 64 list d → IsList tree list d
+pub is_list : (tree : Rows) (list : List Access) (d : Data) → AreItems (access_at tree Second) 64 list d
+    → IsList tree list d
 unfolding list_on
-is_list tree list d are place = ap (λ items. or_fault (Shape place) items >>= list_of tree Second place) are.array ∙ are.told place
+is_list tree list d are place = ap (λ items. or_fault (Shape place) items >>= list_of tree Second place) are.array
+    ∙ are.told place
 
-pub are_lists : (tree : Rows) (lists : List (List Access)) (d : Data) → AreItems (list_on tree Second) 256 lists d → AreLists tree lists d
+pub are_lists : (tree : Rows) (lists : List (List Access)) (d : Data) → AreItems (list_on tree Second) 256 lists d
+    → AreLists tree lists d
 are_lists tree lists d are = record {
   items = are.items;
   array = are.array;

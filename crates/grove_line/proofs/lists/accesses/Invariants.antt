@@ -6,7 +6,8 @@ use Rattle.grove_line.proofs.lists.accesses.Given as goal
 
 abbrev pub invariant-loop-accesses : goal.invariant-loop-accesses
 invariant-loop-accesses l = record {
-  read : (depth : ℕ) → 1 ≤ depth → ItemsSoFar (access_at l.tree Second) depth l.initial.reader l.reader l.accesses.items;
+  read : (depth : ℕ) → 1 ≤ depth → ItemsSoFar
+      (access_at l.tree Second) depth l.initial.reader l.reader l.accesses.items;
   shorter : length l.reader ≤ length l.initial.reader;
   few : length l.accesses.items ≤ 64;
 }

@@ -9,4 +9,6 @@ pub returns-in-None : goal.returns-in-None
 returns-in-None c =
     let start = c.in_ok-reader.ensures.ok ∙ ap tokens c.in-Ok.ensures.cases.0 in
     IfSome_then c.in_ok-found.found c.in_ok-found.ensures
-    (λ request first. line_read c.args.tree.now (asked_of request) c.args.line.now c.in_ok-reader.reader c.only_request.new.reader c.in-Ok.ensures.cases.1 start first c.in-None.ensures.value.0)
+    (λ request first. line_read c.args.tree.now
+    (asked_of request) c.args.line.now c.in_ok-reader.reader c.only_request.new.reader c.in-Ok.ensures.cases.1 start
+    first c.in-None.ensures.value.0)
