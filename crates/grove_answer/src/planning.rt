@@ -12,7 +12,7 @@ use grove_access::AccessList;
 use grove_base::NoMemory;
 use grove_build::{Planned, plan};
 use grove_tree::Tree;
-use grove_wire::{Paths, flow_text, plan_text, read_list};
+use grove_wire::{PathCache, flow_text, plan_text, read_list};
 use serde_json::Value;
 use std::alloc::Global;
 
@@ -49,7 +49,7 @@ fn plan_lines(
     requires { IsPlannedList tree.now list.now planned.now }
     ensures { IfOk result (λ lines. string_bytes lines ≡ plan_lines tree.now planned.now) }
 {
-    let mut paths = Paths::new(alloc, tree)?;
+    let mut paths = PathCache::new(alloc, tree)?;
     let steps = plan_text(alloc, &mut paths, &planned.plan)?;
     let flow = flow_text(alloc, &mut paths, &planned.flow)?;
     let cost = planned.cost;

@@ -13,5 +13,5 @@ pub mod Documents
 pub mod Names
 pub mod Sketches
 pub mod FoundPaths
-pub mod MadePaths
+pub mod CachedPaths
 pub mod Tokens

@@ -4,7 +4,7 @@ ghost use Rattle.json.specs.Tree.{json_tokens};
 ghost use Rattle.serde_json.specs.Written.{outline};
 ghost use Rattle.grove_wire.specs.Writing.{FlowFits, flow_row_data, flow_data};
 
-use crate::made_paths::Paths;
+use crate::path_cache::PathCache;
 use grove_proof::FlowRow;
 use grove_tree::NoMemory;
 use json::Writer;
@@ -14,7 +14,7 @@ use std::alloc::{AllocError, Global};
 pub(crate) fn write_flow(
     writer: &mut Writer,
     alloc: Global,
-    paths: &mut Paths<'_>,
+    paths: &mut PathCache<'_>,
     rows: &[FlowRow],
 ) -> Result<(), NoMemory>
     requires { FlowFits paths.old rows.now }
@@ -34,7 +34,7 @@ pub(crate) fn write_flow(
 fn write_row(
     writer: &mut Writer,
     alloc: Global,
-    paths: &mut Paths<'_>,
+    paths: &mut PathCache<'_>,
     row: &FlowRow,
 ) -> Result<(), NoMemory>
     requires { row.now.node < length paths.old }

@@ -11,8 +11,8 @@ pub use flows::{read_flow, read_plan_and_flow};
 pub use jobs::{MOST_JOBS, read_jobs};
 pub use line::Line;
 pub use lists::{MOST_LISTS, read_list, read_lists};
-pub use made_paths::Paths;
 pub use nodes::read_tree;
+pub use path_cache::PathCache;
 pub use place::{Part, Place};
 pub use plan_values::{flow_value, plan_value};
 pub use planned_texts::{flow_text, plan_text, planned_text};
@@ -20,8 +20,7 @@ pub use plans::read_plan;
 pub use replay_texts::replay_fault_text;
 pub use replies::{numbers_value, replies_value};
 pub use reply_values::{
-    changed_value, cost_value, counts_value, error_value, lists_value, planned_value, round_value,
-    weights_value,
+    changed_value, cost_value, counts_value, error_value, lists_value, round_value, weights_value,
 };
 pub use request::{Request, read_request, request_laws};
 pub use round_texts::round_text;
@@ -43,9 +42,9 @@ mod jobs;
 mod kept;
 mod line;
 mod lists;
-mod made_paths;
 mod nodes;
 mod numbers;
+mod path_cache;
 mod paths;
 mod place;
 mod plan_texts;

@@ -5,7 +5,7 @@ ghost use Rattle.serde_json.specs.Written.{outline};
 ghost use Rattle.grove_tree.specs.Paths.{path_of};
 ghost use Rattle.grove_wire.specs.Writing.{StepFits, PlanFits, count_data, pair_data, step_data, plan_data};
 
-use crate::made_paths::Paths;
+use crate::path_cache::PathCache;
 use grove_plan::Step;
 use grove_tree::{NoMemory, Node};
 use json::Writer;
@@ -15,7 +15,7 @@ use std::alloc::{AllocError, Global};
 pub(crate) fn write_plan(
     writer: &mut Writer,
     alloc: Global,
-    paths: &mut Paths<'_>,
+    paths: &mut PathCache<'_>,
     steps: &[Step],
 ) -> Result<(), NoMemory>
     requires { PlanFits paths.old steps.now }
@@ -35,7 +35,7 @@ pub(crate) fn write_plan(
 fn write_step(
     writer: &mut Writer,
     alloc: Global,
-    paths: &mut Paths<'_>,
+    paths: &mut PathCache<'_>,
     step: Step,
 ) -> Result<(), NoMemory>
     requires { StepFits paths.old step }
@@ -55,7 +55,7 @@ fn write_step(
 fn write_of_node(
     writer: &mut Writer,
     alloc: Global,
-    paths: &mut Paths<'_>,
+    paths: &mut PathCache<'_>,
     word: &str,
     node: Node,
 ) -> Result<(), NoMemory>

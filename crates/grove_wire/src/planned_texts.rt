@@ -5,7 +5,7 @@ ghost use Rattle.grove_wire.specs.Replies.{planned_data};
 ghost use Rattle.grove_wire.specs.Writing.{PlanFits, FlowFits, plan_data, flow_data};
 
 use crate::flow_texts::{write_count, write_flow};
-use crate::made_paths::Paths;
+use crate::path_cache::PathCache;
 use crate::plan_texts::write_plan;
 use grove_plan::Plan;
 use grove_proof::Flow;
@@ -20,7 +20,7 @@ const STEP_BYTES: usize = 128;
 const ROW_BYTES: usize = 192;
 
 /// A plan's steps, as JSON.
-pub fn plan_text(alloc: Global, paths: &mut Paths<'_>, plan: &Plan) -> Result<String, NoMemory>
+pub fn plan_text(alloc: Global, paths: &mut PathCache<'_>, plan: &Plan) -> Result<String, NoMemory>
     requires { PlanFits paths.old plan.now }
     ensures text { IfOk result (λ text. string_bytes text ≡ compact_text (plan_data paths.old plan.now)) }
     ensures tree { paths.new ≡ paths.old }
@@ -32,7 +32,7 @@ pub fn plan_text(alloc: Global, paths: &mut Paths<'_>, plan: &Plan) -> Result<St
 }
 
 /// A flow's rows, as JSON.
-pub fn flow_text(alloc: Global, paths: &mut Paths<'_>, flow: &Flow) -> Result<String, NoMemory>
+pub fn flow_text(alloc: Global, paths: &mut PathCache<'_>, flow: &Flow) -> Result<String, NoMemory>
     requires { FlowFits paths.old flow.now }
     ensures text { IfOk result (λ text. string_bytes text ≡ compact_text (flow_data paths.old flow.now)) }
     ensures tree { paths.new ≡ paths.old }
@@ -51,7 +51,7 @@ fn text_of(writer: Writer) -> String
     String::from_utf8(writer.into_inner()).unwrap()
 }
 
-/// The text of `planned_value`, written straight.
+/// The reply to a line that asks for a plan, as JSON: the plan with its cost and its flow.
 pub fn planned_text(
     alloc: Global,
     tree: &Tree,
@@ -65,7 +65,7 @@ pub fn planned_text(
 {
     let steps = plan.steps();
     let rows = flow.rows();
-    let mut paths = Paths::new(alloc, tree)?;
+    let mut paths = PathCache::new(alloc, tree)?;
     let room = STEP_BYTES * steps.len() + ROW_BYTES * rows.len();
     let mut writer = Writer::new(Vec::with_capacity(alloc, room)?);
     writer.begin_object()?;

@@ -1,14 +1,11 @@
 ghost use Rattle.std.specs.Prelude.{◌≡◌, IfOk, map};
 ghost use Rattle.serde_json.specs.View.{view};
-ghost use Rattle.grove_wire.specs.Writing.{PlanFits, FlowFits, array_of, count_data, reply_data};
-ghost use Rattle.grove_wire.specs.Replies.{error_data, planned_data, cost_data, round_data, weights_in_rows};
+ghost use Rattle.grove_wire.specs.Writing.{array_of, count_data, reply_data};
+ghost use Rattle.grove_wire.specs.Replies.{error_data, cost_data, round_data, weights_in_rows};
 ghost use Rattle.grove_wire.specs.Replies.{weights_data, changed_data};
 
-use crate::plan_values::{flow_value, plan_value};
 use crate::replies::replies_value;
 use grove_access::Reply;
-use grove_plan::Plan;
-use grove_proof::Flow;
 use grove_tree::{NoMemory, Node, Tree};
 use serde_json::{Map, Value, json, put};
 use std::alloc::Global;
@@ -18,25 +15,6 @@ pub fn error_value(alloc: Global, name: &str) -> Result<Value, NoMemory>
     ensures { IfOk result (λ value. view value ≡ error_data name.now) }
 {
     Ok(json!(in alloc; {"error": name})?)
-}
-
-/// A plan with its cost and its flow.
-pub fn planned_value(
-    alloc: Global,
-    tree: &Tree,
-    cost: u64,
-    plan: &Plan,
-    flow: &Flow,
-) -> Result<Value, NoMemory>
-    requires plan { PlanFits tree.now plan.now }
-    requires flow { FlowFits tree.now flow.now }
-    ensures { IfOk result (λ value. view value ≡ planned_data tree.now cost plan.now flow.now) }
-{
-    let mut members = Map::new(alloc);
-    put(&mut members, alloc, "cost", Value::from(cost))?;
-    put(&mut members, alloc, "flow", flow_value(alloc, tree, flow)?)?;
-    put(&mut members, alloc, "plan", plan_value(alloc, tree, plan)?)?;
-    Ok(Value::Object(members))
 }
 
 /// The cost of a plan that its flow certifies.

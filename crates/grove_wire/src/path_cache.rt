@@ -9,15 +9,15 @@ use std::marker::Model;
 
 /// The paths of a tree's nodes, each made when it is first written.
 #[derive(Drop)]
-pub struct Paths<'a> {
+pub struct PathCache<'a> {
     tree: &'a Tree,
     /// By node number.
     made: Vec<Option<String>>,
 }
 
-impl<'a> Model for Paths<'a> {
+impl<'a> Model for PathCache<'a> {
     ghost use Rattle.grove_tree.specs.Trees.{Rows};
-    ghost use Rattle.grove_wire.specs.MadePaths.{AreMade};
+    ghost use Rattle.grove_wire.specs.CachedPaths.{AreMade};
 
     ghost Value = { Rows };
 
@@ -26,15 +26,15 @@ impl<'a> Model for Paths<'a> {
     ghost invariant = { λ paths. AreMade paths.tree.now paths.made.items };
 }
 
-impl<'a> Paths<'a> {
-    pub fn new(alloc: Global, tree: &'a Tree) -> Result<Paths<'a>, NoMemory>
+impl<'a> PathCache<'a> {
+    pub fn new(alloc: Global, tree: &'a Tree) -> Result<PathCache<'a>, NoMemory>
         ensures { IfOk result (λ paths. paths ≡ tree.now) }
     {
         let mut made = Vec::with_capacity(alloc, tree.len() as usize)?;
         for _ in 0..tree.len() {
             made.push(None)?;
         }
-        Ok(Paths { tree, made })
+        Ok(PathCache { tree, made })
     }
 
     /// Writes the node's path.

@@ -1,6 +1,6 @@
 use Rattle.std.proofs.Common.{◌≡◌, ℕ, length, Some, String, Global}
 use Rattle.std.specs.Prelude.{slice_get}
-use Rattle.grove_wire.proofs.made_paths.Paths.new.Given as goal
+use Rattle.grove_wire.proofs.path_cache.PathCache.new.Given as goal
 
 -- none is made so far
 abbrev pub invariant-loop : goal.invariant-loop
