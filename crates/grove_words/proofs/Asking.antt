@@ -182,6 +182,11 @@ found_is {A} {B} name below (Some a) word rows is at =
     let Q : B → Type 0 = λ r. ◌≡◌ {A = Option (Text × B)} (Some (name a, r)) (Some (name a, below a)) in
     subst P (sym one) (subst Q (sym two) refl)
 
+pub none_is : {A B : Type 0} (name : A → Text) (below : A → B) (found : Option A) → None ≡ option_map name found
+    → ◌≡◌ {A = Option (Text × B)} None (option_map {U = Text × B} (λ a. (name a, below a)) found)
+none_is name below None is = refl
+none_is name below (Some a) is = absurd (cc)
+
 -- a word that it finds is a command's
 abbrev FindsCommand : List Text → Type 0
 FindsCommand words = (word : Text) (rows : List Row) → subcommand_of grove_command words ≡ Some (word, rows)

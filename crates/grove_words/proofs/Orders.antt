@@ -16,11 +16,11 @@ use Rattle.grove_words.specs.declared.order.Order.TheVariants as order
 use Rattle.grove_words.specs.declared.order.Place.{Place}
 use Rattle.std.specs.declared.net.socket_addr.SocketAddr.{SocketAddr}
 use Rattle.grove_words.specs.CommandLines.{calls, grove_command, serves, text_given, texts_given, texts_in, Verb}
-use Rattle.grove_words.specs.CommandLines.{Judge, Check, Plan, Draw, Run, Audit, Tree, Serve, Page, Ask, Save, AskFor}
+use Rattle.grove_words.specs.CommandLines.{Judge, Ask, Save, AskFor}
 use Rattle.grove_words.specs.CommandLines.{AskToShow, AreWrong, Chooses, GoTogether, IsFor, IsPlace, IsServer}
 use Rattle.grove_words.specs.Invocations.{name_in, verb_of, AskForOrder, IsAskedBy, SaysOrder}
 use Rattle.grove_words.specs.Orders.{verb_for, SaysCommand}
-use Rattle.grove_words.specs.Steps.{verb_named, HasName, IsFound, IsFoundIn, IsPlaceless, IsRefusedFor, IsToldWords}
+use Rattle.grove_words.specs.Steps.{verb_named, HasName, IsFoundIn, IsRefusedFor, IsToldWords, IsUnplaced}
 use Rattle.grove_words.proofs.Documents.{document_in}
 use Rattle.grove_words.proofs.Asking.{is_one_of, word_of, finds_command}
 use Rattle.grove_words.proofs.TakenWords.{judges_bare}
@@ -196,7 +196,7 @@ module _ (words : List Text) (word : Text) (rows : List Row)
       }
 
 -- with none
-bare_asked : (words : List Text) → subcommand_of grove_command words ≡ None → fault_of grove_command words ≡ []
+pub bare_asked : (words : List Text) → subcommand_of grove_command words ≡ None → fault_of grove_command words ≡ []
     → (invocation : Invocation) → invocation.order ≡ order.Do command.Judge StandardInput → invocation.explain ≡ false
     → IsAskedBy words invocation
 bare_asked words at taken invocation is plain =
@@ -208,12 +208,6 @@ bare_asked words at taken invocation is plain =
       said = subst (SaysOrder (text_given words) (texts_given words)) (sym is) tt;
       explain = subst (λ (text : Option Text). Chooses true false text invocation.explain) (sym none) plain;
     }
-
-pub asked_for : (words : List Text) (found : Option (Text × List Row)) (invocation : Invocation)
-    → fault_of grove_command words ≡ []
-    → found ≡ subcommand_of grove_command words → IsFound found invocation → IsAskedBy words invocation
-asked_for words None invocation taken at is = bare_asked words (sym at) taken invocation is.0 is.1
-asked_for words (Some (word, rows)) invocation taken at is = found_asked words word rows (sym at) taken invocation is
 
 -- ---- what words are told that aren't an order
 
@@ -227,24 +221,23 @@ refused_told words IsWanted IsGiven error taken same none (inl memory) = inl (in
 refused_told {A} words IsWanted IsGiven error taken same none (inr (invalid, nothing)) =
     inr (invalid, taken, none (subst (λ (Is : A → Type 0). (a : A) → Is a → ⊥) same nothing))
 
-pub told_placeless : (words : List Text) (found : Option (Text × List Row)) (error : Error)
-    → fault_of grove_command words ≡ []
-    → found ≡ subcommand_of grove_command words → IsPlaceless found error → IsToldWords words error
-told_placeless words None error taken at memory = inl (inl memory)
-told_placeless words (Some (word, rows)) error taken at (inl (serving, refused)) =
+pub told_unplaced : (words : List Text) (word : Text) (rows : List Row)
+    → subcommand_of grove_command words ≡ Some (word, rows) → fault_of grove_command words ≡ [] → (error : Error)
+    → IsUnplaced word (λ name. one_of name rows) error → IsToldWords words error
+told_unplaced words word rows at taken error (inl (serving, refused)) =
     refused_told words (IsPlace (λ name. one_of name rows)) (IsPlace (text_given words)) error taken
-    (ap IsPlace (sym (texts_are words word rows (sym at))))
-    (wants_place words word rows (sym at) serving) refused
-told_placeless words (Some (word, rows)) error taken at (inr (inl (asking, refused))) =
+    (ap IsPlace (sym (texts_are words word rows at)))
+    (wants_place words word rows at serving) refused
+told_unplaced words word rows at taken error (inr (inl (asking, refused))) =
     refused_told words (IsServer (λ name. one_of name rows)) (IsServer (text_given words)) error taken
-    (ap IsServer (sym (texts_are words word rows (sym at))))
-    (wants_server words word rows (sym at) asking) refused
-told_placeless words (Some (word, rows)) error taken at (inr (inr (inl memory))) = inl (inl memory)
-told_placeless words (Some (word, rows)) error taken at (inr (inr (inr (invalid, apart)))) = inr (
+    (ap IsServer (sym (texts_are words word rows at)))
+    (wants_server words word rows at asking) refused
+told_unplaced words word rows at taken error (inr (inr (inl memory))) = inl (inl memory)
+told_unplaced words word rows at taken error (inr (inr (inr (invalid, apart)))) = inr (
   invalid,
   taken,
-  wants_fit words word rows (sym at)
-      (λ fits. apart (subst (GoTogether (verb_named word)) (texts_are words word rows (sym at)) fits)),
+  wants_fit words word rows at
+      (λ fits. apart (subst (GoTogether (verb_named word)) (texts_are words word rows at) fits)),
 )
 
 pub certain : (words : List Text) (verb : Verb) (name : Option Text) (error : Error) → AskFor words verb name

@@ -2,7 +2,6 @@
 use Rattle.std.proofs.Common.{◌≡◌, ◌≢◌, ◌∙◌, ap, refl, List, [], ◌∷◌, Option, Some, None, IfSome, Bor, codes, map}
 use Rattle.std.proofs.Common.{slice_get, slice_index, ℕ, arith}
 use Rattle.std.specs.Prelude.{unwrap_or}
-use Rattle.grove_words.specs.CommandLines.{log_word}
 use Rattle.grove_words.specs.Steps.{NamesLog}
 use Rattle.grove_words.specs.declared.order.LogForm.{LogForm}
 use Rattle.grove_words.specs.declared.order.LogForm.TheVariants as log

@@ -1,5 +1,5 @@
 -- For the proofs alone: what the steps of building and of reading a command line give.
-use Rattle.std.specs.Prelude.{◌≡◌, ◌≢◌, ◌⊎◌, Result, Ok, Err, ℕ, List, [], Option, None, Some, codes, true, false}
+use Rattle.std.specs.Prelude.{◌≡◌, ◌≢◌, ◌⊎◌, Result, Ok, Err, ℕ, List, [], Option, codes, true, false}
 use Rattle.std.specs.Prelude.{if◌then◌else◌}
 use Rattle.std.specs.Str.{bytes_eq}
 use Rattle.clap.specs.Words.{App, HasKind, Row, Rule, Shape, fault_of, first_of, new_app, one_of, rule_of, shape_of}
@@ -8,8 +8,6 @@ use Rattle.clap.specs.declared.builder.arg.Arg.{Arg}
 use Rattle.clap.specs.declared.builder.command.Command.{Command as ClapCommand, out-Command}
 use Rattle.clap.specs.declared.error.Error.{Error}
 use Rattle.clap.specs.declared.error.kind.ErrorKind.TheVariants.{InvalidValue, OutOfMemory}
-use Rattle.grove_words.specs.declared.order.Command.TheVariants as command
-use Rattle.grove_words.specs.declared.order.Document.TheVariants.{StandardInput}
 use Rattle.grove_words.specs.declared.order.Invocation.{Invocation}
 use Rattle.grove_words.specs.declared.order.LogForm.{LogForm}
 use Rattle.grove_words.specs.declared.order.Order.{Order}
@@ -68,11 +66,6 @@ pub record IsFoundIn (word : List ℕ) (rows : List Row) (invocation : Invocatio
   pub together : GoTogether (verb_named word) (λ name. one_of name rows)
   pub explain : Chooses true false (one_of (codes "explain") rows) invocation.explain
 
--- this was found, with a command's word or with none
-abbrev pub IsFound : Option (List ℕ × List Row) → Invocation → Type 0
-IsFound None invocation = (invocation.order ≡ order.Do command.Judge StandardInput) × (invocation.explain ≡ false)
-IsFound (Some (word, rows)) invocation = IsFoundIn word rows invocation
-
 -- there is no memory, or nothing is such as is wanted
 abbrev pub IsRefusedFor : {A : Type 0} → (A → Type 0) → Error → Type 0
 IsRefusedFor {A} IsWanted error =
@@ -88,10 +81,6 @@ abbrev pub IsUnplaced : List ℕ → (List ℕ → Option (List ℕ)) → Error 
 IsUnplaced word texts error = ((serves (verb_named word) ≡ true) × IsRefusedFor (IsPlace texts) error)
     ⊎ (((calls (verb_named word) ≡ true) × IsRefusedFor (IsServer texts) error)
     ⊎ AreApart (verb_named word) texts error)
-
-abbrev pub IsPlaceless : Option (List ℕ × List Row) → Error → Type 0
-IsPlaceless None error = kind_of error ≡ OutOfMemory
-IsPlaceless (Some (word, rows)) error = IsUnplaced word (λ name. one_of name rows) error
 
 -- words that clap takes, and that are no order all the same: they lack a place, or don't go together
 abbrev pub IsNowhere : List (List ℕ) → Error → Type 0

@@ -1,12 +1,11 @@
 ghost use Rattle.std.specs.Prelude.{◌≡◌, ℕ, List, Option, codes, map, IfOk, IfErr, IsErrAnd, OnOk, string_bytes};
-ghost use Rattle.clap.specs.Words.{rows_of, first_value, found_of, one_text, subcommand_rows_of};
+ghost use Rattle.clap.specs.Words.{rows_of, first_value, found_of, one_text};
 ghost use Rattle.grove_words.specs.CommandLines.{texts_in, Verb, Tree, AreWrong, AskFor, AskToShow, GoTogether};
 ghost use Rattle.grove_words.specs.CommandLines.{IsPlace};
 ghost use Rattle.grove_words.specs.Invocations.{name_in, verb_of, IsAskedBy, SaysOrder};
 ghost use Rattle.grove_words.specs.NoOrders.{HasText, TellsShown, TellsWrong};
 ghost use Rattle.grove_words.specs.Orders.{verb_for, SaysCommand, SaysServing};
-ghost use Rattle.grove_words.specs.Steps.{verb_named, HasName, IsFound, IsPlaceless, IsRefusedFor, IsToldWords};
-ghost use Rattle.grove_words.specs.Steps.{IsUnplaced};
+ghost use Rattle.grove_words.specs.Steps.{verb_named, HasName, IsRefusedFor, IsToldWords, IsUnplaced};
 
 use crate::definitions::command_line;
 use crate::no_order::{NoOrder, no_order};
@@ -50,28 +49,17 @@ fn is_file_name(word: &str) -> bool {
     !word.starts_with('-') && (word.contains('/') || word.contains('.'))
 }
 
-/// What clap finds in the words, or what they are told.
+/// What clap finds in the words, or what they are told. A place may have what is no address.
 fn invocation_among<'a>(alloc: Global, words: &'a [String]) -> Result<Invocation<'a>, Error>
     ensures asked { IfOk result (IsAskedBy (map string_bytes words.now)) }
     ensures refused { IfErr result (IsToldWords (map string_bytes words.now)) }
 {
     let matches = command_line(alloc)?.try_get_matches_from(words)?;
-    invocation_in(alloc, &matches)
-}
-
-/// What was found, but where a place has what is no address.
-fn invocation_in<'a>(alloc: Global, matches: &ArgMatches<'a>) -> Result<Invocation<'a>, Error>
-    ensures found { IfOk result (IsFound (subcommand_rows_of matches.now)) }
-    ensures refused { IfErr result (IsPlaceless (subcommand_rows_of matches.now)) }
-{
     match matches.subcommand() {
-        Some((word, given)) => match order_with(alloc, word, given) {
-            Ok(order) => Ok(Invocation {
-                order,
-                explain: is_set(given, "explain"),
-            }),
-            Err(error) => Err(error),
-        },
+        Some((word, given)) => Ok(Invocation {
+            order: order_with(alloc, word, given)?,
+            explain: is_set(given, "explain"),
+        }),
         None => Ok(Invocation {
             order: Order::Do {
                 command: Command::Judge,

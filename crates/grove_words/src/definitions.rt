@@ -132,18 +132,20 @@ fn serving<'a>(
     let hints = "Add a hint to the reply to each refused line: what is wrong, and where";
     clap::Command::new(alloc, name)
         .about(about)
-        .arg(document(alloc))?
-        .arg(port(alloc, "The port to listen on"))?
-        .arg(flag(alloc, "any-port", any_port))?
-        .arg(address(alloc, "bind", "The IP address to listen at"))?
-        .arg(explain(alloc))?
-        .arg(workers(alloc))?
-        .arg(idle(alloc))?
-        .arg(flag(alloc, "busy", busy))?
-        .arg(flag(alloc, "verbose", verbose))?
-        .arg(log(alloc))?
-        .arg(flag(alloc, "hints", hints))?
-        .arg(host(alloc))
+        .args(vec![in alloc;
+            document(alloc),
+            port(alloc, "The port to listen on"),
+            flag(alloc, "any-port", any_port),
+            address(alloc, "bind", "The IP address to listen at"),
+            explain(alloc),
+            workers(alloc),
+            idle(alloc),
+            flag(alloc, "busy", busy),
+            flag(alloc, "verbose", verbose),
+            log(alloc),
+            flag(alloc, "hints", hints),
+            host(alloc),
+        ]?)
 }
 
 /// The command that asks the server at a port.

@@ -60,15 +60,10 @@ pub fn no_order(alloc: Global, error: &Error, tip: &str) -> NoOrder
     }
 }
 
+/// The error's text with just one line end behind it, and then the tip.
 fn lines_of(alloc: Global, error: &Error, tip: &str) -> Result<String, AllocError>
     ensures { IfOk result (λ lines. string_bytes lines ≢ []) }
 {
-    whole_lines(alloc, &format!(in alloc; "{error}")?, tip)
-}
-
-/// The text with just one line end behind it, and then the tip.
-fn whole_lines(alloc: Global, text: &str, tip: &str) -> Result<String, AllocError>
-    ensures { IfOk result (λ lines. string_bytes lines ≢ []) }
-{
+    let text = format!(in alloc; "{error}")?;
     format!(in alloc; "{}\n{tip}", text.trim_end())
 }

@@ -1,4 +1,3 @@
-use Rattle.std.proofs.Common.{◌≡◌, Some}
 use Rattle.grove_words.proofs.Values.{not_json}
 use Rattle.grove_words.proofs.options.log_form_in.Goals as goal
 
