@@ -7,35 +7,28 @@ ghost use Rattle.grove_answer.specs.Outcomes.{ThenSays, trial_in, judge_lines, I
 use crate::reading::{Task, read_trial};
 use crate::refusal::{Refusal, or_refuse};
 use crate::texts::{numbers_of, numbers_text, replies_text};
-use grove_access::{Reply, run_alone};
+use grove_access::run_alone;
 use grove_base::NoMemory;
-use grove_plan::{Plan, judge};
+use grove_plan::judge;
 use grove_wire::Fault;
 use serde_json::Value;
 use std::alloc::Global;
 
 /// The lines that judge a document: the cost of its plan, and the replies and records of its list done alone.
+#[tactic(auto, using(crate::proofs::Faults::fault_fits))]
 pub fn judge_document(alloc: Global, document: &Value) -> Result<String, Refusal>
     ensures { Says (ThenSays (trial_in (view document.now)) IsJudged) result }
 {
     let (task, plan) = or_refuse(alloc, read_trial(alloc, document))?;
-    judge_trial(alloc, task, &plan)
-}
-
-#[tactic(auto, using(crate::proofs::Faults::fault_fits))]
-fn judge_trial(alloc: Global, task: Task, plan: &Plan) -> Result<String, Refusal>
-    requires { IsFitting task }
-    ensures { Says (IsJudged (task, plan.now)) result }
-{
-    match judge(alloc, &task.tree, &task.list, plan) {
-        Ok(cost) => Ok(lines_of(alloc, task, cost)?),
+    match judge(alloc, &task.tree, &task.list, &plan) {
+        Ok(cost) => Ok(judge_lines(alloc, task, cost)?),
         Err(fault) => Err(Refusal::of(alloc, &task.tree, Fault::Plan(fault))),
     }
 }
 
 /// Does the list alone on the records.
 #[tactic(auto, using(crate::proofs::Records::records_keep_number))]
-fn lines_of(alloc: Global, task: Task, cost: u64) -> Result<String, NoMemory>
+fn judge_lines(alloc: Global, task: Task, cost: u64) -> Result<String, NoMemory>
     requires { IsFitting task }
     ensures { IfOk result
         (λ lines. string_bytes lines ≡ judge_lines cost (replies_to task.list task.records)
@@ -48,18 +41,7 @@ fn lines_of(alloc: Global, task: Task, cost: u64) -> Result<String, NoMemory>
     } = task;
     let replies = run_alone(alloc, &mut records, &list)?;
     let numbers = numbers_of(alloc, &tree, &records)?;
-    judge_lines(alloc, cost, &replies, &numbers)
-}
-
-fn judge_lines(
-    alloc: Global,
-    cost: u64,
-    replies: &[Reply],
-    numbers: &[i64],
-) -> Result<String, NoMemory>
-    ensures { IfOk result (λ lines. string_bytes lines ≡ judge_lines cost replies.now numbers.now) }
-{
-    let replies = replies_text(alloc, replies)?;
-    let records = numbers_text(alloc, numbers)?;
+    let replies = replies_text(alloc, &replies)?;
+    let records = numbers_text(alloc, &numbers)?;
     Ok(format!(in alloc; "cost {cost}\nreplies {replies}\nrecords {records}\n")?)
 }
