@@ -14,11 +14,12 @@ use Rattle.grove_run.specs.Runs.{FinishedState, IsLegalRunFault, places_of}
 use Rattle.grove_run.specs.FinishedRuns.{IsFinishedRun}
 use Rattle.grove_wire.specs.Names.{run_name}
 use Rattle.grove_wire.specs.Replies.{error_text}
-use Rattle.grove_store.specs.StoreStates.{StoreState}
+use Rattle.grove_store.specs.StoreStates.{StoreState, IsStore}
 use Rattle.grove_store.specs.Rounds.{waits_after, round_texts, RunsRound, RefusesRound, FailsRound}
 use Rattle.grove_build.specs.SettledJobs.{AreSettledJobs}
 use Rattle.grove_core.specs.Runs.{replies_of}
-use Rattle.grove_store.specs.Parts.{LeavesRound, AnswersRound}
+use Rattle.grove_store.specs.Parts.{LeavesRound, AnswersRound, AnswersJobs}
+use Rattle.grove_store.proofs.Keeping.{left_keeps}
 use Rattle.grove_store.proofs.Telling.{texts_long}
 
 -- what a finished run tells is what the jobs leave
@@ -58,6 +59,22 @@ runs_round before after lists jobs counts replies records waits settled room lea
       ∙ ap (λ (rs : List ℤ). record before { records = rs; waits = waits; rounds = before.rounds + 1 }) leaves.recorded
       ∙ ap (λ (ws : List ℕ). record before { records = run_records jobs before.records leaves.past; waits = ws; rounds = before.rounds + 1 }) leaves.waited;
 })
+
+-- with that in place the store is one again, and has answered the jobs
+pub put_in_place : (before now : StoreState) (jobs : List Job) (counts : List ℕ) (replies : List (List ℕ))
+    (records : List ℤ) (waits : List ℕ)
+    → before ≡ now → IsStore before → now.rounds < 2 ^ 64 - 1 → LeavesRound before jobs counts replies records waits
+    → IsStore (record before { records = records; waits = waits; rounds = before.rounds + 1 })
+    × AnswersJobs now jobs counts replies
+    (record before { records = records; waits = waits; rounds = before.rounds + 1 })
+put_in_place before now jobs counts replies records waits same is free leaves =
+    let after : StoreState = record before { records = records; waits = waits; rounds = before.rounds + 1 } in
+    let room : before.rounds < 2 ^ 64 - 1 = subst (λ (s : StoreState). s.rounds < 2 ^ 64 - 1) (sym same) free in
+    let answers : AnswersJobs before jobs counts replies after = λ lists settled.
+    runs_round before after lists jobs counts replies records waits settled room leaves refl in (
+      left_keeps before jobs counts replies records waits is room leaves,
+      subst (λ (s : StoreState). AnswersJobs s jobs counts replies after) same answers,
+    )
 
 -- a refusal of each line
 refuses : (name : List ℕ) (before : StoreState) (counts : List ℕ) (batches : List (List (List Access))) (replies : List (List ℕ)) → map length batches ≡ counts

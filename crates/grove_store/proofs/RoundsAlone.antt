@@ -1,5 +1,5 @@
 -- A round of legal plans that its caller does alone leaves what a finished run of them leaves.
-use Rattle.std.proofs.Common.{◌≡◌, ℕ, ◌+◌, ◌<◌, ◌≤◌, ℤ, List, length, get_or, sym, ◌∙◌, ap, arith}
+use Rattle.std.proofs.Common.{◌≡◌, ℕ, ◌+◌, ◌<◌, ◌≤◌, ℤ, List, length, get_or, sym, ◌∙◌, ap, subst, arith}
 use Rattle.std.specs.Prelude.{All}
 use Rattle.std.proofs.lemmas.List.{ext_get_or, get_or-map}
 use Rattle.std.proofs.lemmas.Option.{slice_get-get_or}
@@ -39,23 +39,25 @@ waits_kept rows jobs legal waits few =
     (slice_get-get_or (numbers_below (length waits)) node 0 within)).0))
 
 -- jobs done alone, with what is told of them, are a round of the jobs
-pub leaves_done : (before : StoreState) (jobs : List Job) (counts : List ℕ) (done : DoneAlone)
+pub leaves_done : (before now : StoreState) (jobs : List Job) (counts : List ℕ) (done : DoneAlone)
     (replies : List (List ℕ)) (records : List ℤ)
-    → AllLegal before.rows jobs → All (λ n. n ≤ 1000) before.waits
+    → before ≡ now → AllLegal now.rows jobs → All (λ n. n ≤ 1000) before.waits
     → IsDoneFrom before.rows jobs before.records records done
     → replies
     ≡ round_texts (before.rounds + 1) counts (places_of done.order.items (length jobs))
     (own_replies jobs done.replies.items)
     → LeavesRound before jobs counts replies records before.waits
-leaves_done before jobs counts done replies records legal few is told = record {
-  past = alone jobs;
-  run = (jobs_alone before.rows jobs legal).is_run;
-  finished = (jobs_alone before.rows jobs legal).is_finished;
-  told = told
-      ∙ ap (λ (os : List ℕ). round_texts (before.rounds + 1) counts (places_of os (length jobs))
-      (own_replies jobs done.replies.items)) is.order
-      ∙ ap (λ (rs : List (List Reply)). round_texts (before.rounds + 1) counts
-      (places_of (placement_order before.rows jobs (alone jobs)) (length jobs)) rs) is.replies;
-  recorded = is.records;
-  waited = waits_kept before.rows jobs legal before.waits few;
-}
+leaves_done before now jobs counts done replies records same are_legal few is told =
+    let legal : AllLegal before.rows jobs =
+    subst (λ (s : StoreState). AllLegal s.rows jobs) (sym same) are_legal in record {
+      past = alone jobs;
+      run = (jobs_alone before.rows jobs legal).is_run;
+      finished = (jobs_alone before.rows jobs legal).is_finished;
+      told = told
+          ∙ ap (λ (os : List ℕ). round_texts (before.rounds + 1) counts (places_of os (length jobs))
+          (own_replies jobs done.replies.items)) is.order
+          ∙ ap (λ (rs : List (List Reply)). round_texts (before.rounds + 1) counts
+          (places_of (placement_order before.rows jobs (alone jobs)) (length jobs)) rs) is.replies;
+      recorded = is.records;
+      waited = waits_kept before.rows jobs legal before.waits few;
+    }

@@ -53,14 +53,6 @@ impl LineReply {
         }
     }
 
-    /// The reply to a line that isn't refused, with a copy of this text.
-    pub(crate) fn copied(alloc: Global, text: &[u8]) -> Result<LineReply, NoMemory>
-        requires { is_refusal text.now ≡ false }
-        ensures { IfOk result (λ reply. reply ≡ text.now) }
-    {
-        Ok(LineReply::accepted(Vec::from_slice(alloc, text)?))
-    }
-
     /// The reply to a line that is refused.
     pub(crate) fn refused(alloc: Global, refusal: Refusal) -> Result<LineReply, NoMemory>
         ensures { IfOk result (λ reply. reply ≡ error_text (refusal_name refusal)) }
@@ -76,13 +68,6 @@ impl LineReply {
         ensures tells { TellsRefusal result self.now }
     {
         self.refusal
-    }
-
-    /// The text, without a line feed.
-    pub(crate) fn text(&self) -> &[u8]
-        ensures { result.now ≡ self.now }
-    {
-        &self.text
     }
 
     /// The text, without a line feed.

@@ -4,7 +4,7 @@ ghost use Rattle.serde_json.specs.Written.{compact_text};
 ghost use Rattle.grove_access.specs.Lists.{nodes_of, AreNodes};
 ghost use Rattle.grove_build.specs.KeptPlans.{AreSettledFor};
 ghost use Rattle.grove_wire.specs.Names.{wire_name, proof_name, run_name};
-ghost use Rattle.grove_wire.specs.Replies.{error_text, round_data, weights_in_rows, weights_data, changed_data};
+ghost use Rattle.grove_wire.specs.Replies.{error_text, weights_in_rows, weights_data, changed_data};
 ghost use Rattle.grove_store.specs.Alone.{TellsPlan, TellsCheck};
 ghost use Rattle.grove_store.specs.KeptTexts.{RepliesFor};
 ghost use Rattle.grove_store.specs.Parts.{IsTextOfReply};
@@ -64,28 +64,12 @@ pub fn plan_text(
     let targets = targets_of(alloc, list)?;
     if let Some(text) = texts.get(&targets) {
         plans.note_given();
-        return LineReply::copied(alloc, text);
+        return Ok(LineReply::accepted(Vec::from_slice(alloc, text)?));
     }
-    let reply = planned_reply(alloc, tree, plans, list)?;
-    let text = Vec::from_slice(alloc, reply.text())?;
-    texts.keep(targets, text)?;
-    Ok(reply)
-}
-
-/// The same, written from the plan that is kept.
-fn planned_reply(
-    alloc: Global,
-    tree: &Tree,
-    plans: &mut KeptPlans,
-    list: &AccessList,
-) -> Result<LineReply, NoMemory>
-    requires fits { AreNodes tree.now (nodes_of list.now) }
-    requires kept { AreSettledFor tree.now plans.old }
-    ensures text { IfOk result (IsTextOfReply (TellsPlan tree.now list.now)) }
-    ensures kept { AreSettledFor tree.now plans.new }
-{
     let planned = plans.plan(alloc, tree, list)?;
     let text = planned_text(alloc, tree, planned.cost, &planned.plan, &planned.flow)?;
+    let copy = Vec::from_slice(alloc, &text)?;
+    texts.keep(targets, copy)?;
     Ok(LineReply::accepted(text))
 }
 
@@ -155,19 +139,6 @@ pub fn changed_text(alloc: Global, changed: u32) -> Result<LineReply, NoMemory>
     LineReply::new(alloc, &changed_value(alloc, changed)?)
 }
 
-fn round_reply(
-    alloc: Global,
-    round: u64,
-    places: &[u32],
-    replies: &[&[Reply]],
-) -> Result<LineReply, NoMemory>
-    ensures { IfOk result
-        (λ reply. reply ≡ compact_text (round_data round places.now (map (λ list. list.now) replies.now))) }
-{
-    let text = round_text(alloc, round, places, replies)?;
-    Ok(LineReply::accepted(text))
-}
-
 /// What the lines of a round are answered: each has the next places and replies, as many as are its own.
 pub fn round_texts(
     alloc: Global,
@@ -185,8 +156,8 @@ pub fn round_texts(
     let mut at = 0;
     for count in counts {
         let end = at + *count;
-        let text = round_reply(alloc, round, &places[at..end], &replies[at..end])?;
-        texts.push(text)?;
+        let text = round_text(alloc, round, &places[at..end], &replies[at..end])?;
+        texts.push(LineReply::accepted(text))?;
         at = end;
     }
     Ok(texts)

@@ -3,6 +3,7 @@ ghost use Rattle.grove_store.specs.Rounds.{round_length, IsLawfulRound, IsLawful
 
 use crate::begun::Begun;
 use crate::crew::Workers;
+use crate::worth::are_worth_threads;
 use crate::{LineReply, Store};
 use grove_tree::{Gate, NoMemory, OpenGate};
 use grove_wire::Line;
@@ -64,33 +65,13 @@ impl Store {
         ensures err { OnErr result (self.new ≡ self.old) }
     {
         let mut texts = Vec::with_capacity(alloc, lines.len())?;
-        let replies = self.reply_copies(rt, alloc, lines, gate)?;
+        let copies = copies_of(alloc, lines)?;
+        let each = lines_in(alloc, &copies)?;
+        let replies = self.reply_round(rt, alloc, &each, gate)?;
         for reply in replies {
             texts.push_reserved(reply.into_text());
         }
         Ok(texts)
-    }
-
-    /// As `answer_round`, and each reply tells why its line is refused, if it is.
-    fn reply_copies<R: Threads + Wait + Sync, G: Gate + Sync>(
-        &mut self,
-        rt: &R,
-        alloc: Global,
-        lines: &[&[u8]],
-        gate: &G,
-    ) -> Result<Vec<LineReply>, NoMemory>
-        requires count { (0 < length lines.now) × (length lines.now ≤ 16) }
-        requires limit { All (λ line. length line.now ≤ 1048576) lines.now }
-        ensures length { IfOk result
-            (λ replies. length replies.items ≡ round_length self.old.rows (map (λ line. line.now) lines.now)) }
-        ensures round { IfOk result
-            (λ replies. IsLawfulRound self.old
-            (take (length replies.items) (map (λ line. line.now) lines.now)) replies.items self.new) }
-        ensures err { OnErr result (self.new ≡ self.old) }
-    {
-        let copies = copies_of(alloc, lines)?;
-        let each = lines_in(alloc, &copies)?;
-        self.reply_round(rt, alloc, &each, gate)
     }
 
     /// As `answer_round`, of lines that may have been read before. Each reply tells why its line is refused, if it is.
@@ -111,7 +92,13 @@ impl Store {
     {
         match self.begin_round(&Workers { rt }, alloc, lines)? {
             Begun::Answered(replies) => Ok(replies),
-            Begun::Jobs(jobs, counts) => self.do_jobs(rt, alloc, &jobs, &counts, gate),
+            Begun::Jobs(jobs, counts) => {
+                if are_worth_threads(&jobs, gate) {
+                    self.run_together(rt, alloc, &jobs, &counts, gate)
+                } else {
+                    self.run_alone(alloc, &jobs, &counts)
+                }
+            }
         }
     }
 }

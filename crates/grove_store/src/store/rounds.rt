@@ -8,7 +8,6 @@ use crate::crew::Crew;
 use crate::round::Round;
 use crate::running::{RoundOutcome, alone_texts, outcome_of};
 use crate::texts::{refusals, run_refusals};
-use crate::worth::are_worth_threads;
 use crate::{LineReply, Refusal, Store};
 use grove_core::{Job, do_alone};
 use grove_run::run_legal;
@@ -42,32 +41,9 @@ impl Store {
         Ok(Begun::Jobs(jobs, counts))
     }
 
-    /// Does the jobs of a round, and puts what they leave in place once its replies are made. A run that fails is told
-    /// to each line.
-    pub(crate) fn do_jobs<R: Threads + Wait + Sync, G: Gate + Sync>(
-        &mut self,
-        rt: &R,
-        alloc: Global,
-        jobs: &[Job],
-        counts: &[usize],
-        gate: &G,
-    ) -> Result<Vec<LineReply>, NoMemory>
-        requires room { self.old.rounds < 2 ^ 64 - 1 }
-        requires counts { sum counts.now ≡ length jobs.now }
-        requires few { length jobs.now ≤ 256 }
-        requires legal { AllLegal self.old.rows jobs.now }
-        ensures round { IfOk result (λ replies. AnswersJobs self.old jobs.now counts.now replies.items self.new) }
-        ensures err { OnErr result (self.new ≡ self.old) }
-    {
-        if are_worth_threads(jobs, gate) {
-            self.run_together(rt, alloc, jobs, counts, gate)
-        } else {
-            self.run_alone(alloc, jobs, counts)
-        }
-    }
-
-    /// Has workers do the jobs over copies of the records.
-    fn run_together<R: Threads + Wait + Sync, G: Gate + Sync>(
+    /// Has workers do the jobs over copies of the records, and puts what they leave in place once the replies are made.
+    /// A run that fails is told to each line.
+    pub(crate) fn run_together<R: Threads + Wait + Sync, G: Gate + Sync>(
         &mut self,
         rt: &R,
         alloc: Global,

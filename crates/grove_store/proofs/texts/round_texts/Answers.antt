@@ -1,7 +1,12 @@
 use Rattle.std.proofs.Common.{◌++◌, ◌+◌, ◌∙◌, ap, refl, arith, map, drop, get_or}
+use Rattle.grove_store.specs.Refusals.{is_refusal}
 use Rattle.grove_store.specs.Rounds.{round_texts}
+use Rattle.grove_store.proofs.Accepted.{round_accepted}
 use Rattle.grove_store.proofs.Telling.{texts_more, text_told, sum_more}
 use Rattle.grove_store.proofs.texts.round_texts.Goals as goal
+
+pub accepted-requires : goal.accepted-requires
+accepted-requires c = ap is_refusal c.in_ok-text.ensures ∙ round_accepted c.args.round _ _
 
 pub loop-count-preserved : goal.loop-count-preserved
 loop-count-preserved c = record {
@@ -11,10 +16,10 @@ loop-count-preserved c = record {
       (drop (c.loop-count.at + get_or c.args.counts.now c.loop-count.count-index 0) (map (λ list. list.now) c.args.replies.now))) c.in_ok-push.ensures.items
       ∙ texts_more c.args.round c.args.counts.now c.args.places.now
       (map (λ list. list.now) c.args.replies.now) c.loop-count.texts.items _ c.loop-count.count-index c.loop-count.at _
-      c.in_ok-text.text (omega arith) refl
+      c.accepted.result (omega arith) refl
       (text_told c.args.round (get_or c.args.counts.now c.loop-count.count-index 0) c.loop-count.at
       (c.loop-count.at + get_or c.args.counts.now c.loop-count.count-index 0) c.args.places.now c.args.replies.now
-      c.in_ok-text.text refl c.in_ok-text.ensures)
+      c.accepted.result refl (c.accepted.ensures ∙ c.in_ok-text.ensures))
       c.loop-count.invariant.all;
   within = sum_more c.args.counts.now c.loop-count.count-index c.loop-count.at _ _ (omega arith) refl c.loop-count.invariant.within;
 }

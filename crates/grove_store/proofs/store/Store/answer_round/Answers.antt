@@ -1,5 +1,7 @@
-use Rattle.std.proofs.Common.{◌≡◌, ℕ, ◌+◌, List, ◌∷◌, [], ◌++◌, length, map, refl, sym, ap, ◌∙◌, arith, append_assoc, length-append}
+use Rattle.std.proofs.Common.{◌≡◌, ℕ, ◌+◌, List, ◌∷◌, [], ◌++◌, length, map, take, refl, sym, ap, subst, ◌∙◌, arith}
+use Rattle.std.proofs.Common.{append_assoc, length-append}
 use Rattle.std.proofs.lemmas.List.{length-map, map_push}
+use Rattle.grove_store.specs.Rounds.{round_length, IsLawfulRound}
 use Rattle.grove_store.proofs.Longest.{rounds_are_within}
 use Rattle.grove_store.proofs.Taking.{taken_all}
 use Rattle.grove_store.proofs.store.Store.answer_round.Goals as goal
@@ -11,13 +13,21 @@ loop-reply-init g c =
     length-map c.args.lines.now (λ line. line.now) in
     let within = rounds_are_within c.args.self.now.rows (map (λ line. line.now) c.args.lines.now)
     (omega (arith, c.requires.count.0)) in
+    let same : map (λ line. line.now) c.deref-2.result.now ≡ map (λ line. line.now) c.args.lines.now =
+    ap (map (λ line. line.now)) c.deref-2.ensures.value ∙ c.in_ok-each.ensures ∙ c.deref.ensures.value
+    ∙ c.in_ok-copies.ensures in
     let long : length c.into_iter-reply-iterator.result.rest.items ≡ length c.in_ok-replies.replies.items =
     ap length given in
     rw c.in_ok-texts.ensures.items record {
       next = tt;
       ends = tt;
       all = refl;
-      few = omega (arith, within.1, c.in_ok-replies.ensures.length, c.in_ok-texts.ensures.capacity);
+      few = omega (
+        arith,
+        within.1,
+        c.in_ok-replies.ensures.length ∙ ap (round_length c.args.self.now.rows) same,
+        c.in_ok-texts.ensures.capacity,
+      );
       room = refl;
     }
 
@@ -56,22 +66,22 @@ loop-reply-preserved g c = record {
   room = c.push_reserved.ensures.capacity ∙ c.loop-reply.invariant.room;
 }
 
-pub returns-clause-length : goal.returns-clause-length
-returns-clause-length g c =
-    (taken_all (λ text. text.items) c.loop-reply.texts.items c.loop-reply.reply-iterator.rest.items
+pub returns : goal.returns
+returns g c =
+    let same : map (λ line. line.now) c.deref-2.result.now ≡ map (λ line. line.now) c.args.lines.now =
+    ap (map (λ line. line.now)) c.deref-2.ensures.value ∙ c.in_ok-each.ensures ∙ c.deref.ensures.value
+    ∙ c.in_ok-copies.ensures in
+    let (long, round) = taken_all (λ text. text.items) c.loop-reply.texts.items c.loop-reply.reply-iterator.rest.items
     c.into_iter-reply-iterator.result.rest.items c.in_ok-replies.replies.items
     (map (λ line. line.now) c.args.lines.now)
-    c.args.self.now c.reply_copies.new.self
+    c.args.self.now c.reply_round.new.self
     (omega (arith, c.in-None.ensures.steps.0, c.loop-reply.reply-iterator.rest.ok.0)) c.loop-reply.invariant.all
     c.into_iter-reply-iterator.ensures.into_iter_gives.0
-    c.in_ok-replies.ensures.round).0 ∙ c.in_ok-replies.ensures.length
-
-pub returns-clause-round : goal.returns-clause-round
-returns-clause-round g c =
-    (taken_all (λ text. text.items) c.loop-reply.texts.items c.loop-reply.reply-iterator.rest.items
-    c.into_iter-reply-iterator.result.rest.items c.in_ok-replies.replies.items
-    (map (λ line. line.now) c.args.lines.now)
-    c.args.self.now c.reply_copies.new.self
-    (omega (arith, c.in-None.ensures.steps.0, c.loop-reply.reply-iterator.rest.ok.0)) c.loop-reply.invariant.all
-    c.into_iter-reply-iterator.ensures.into_iter_gives.0
-    c.in_ok-replies.ensures.round).1
+    (subst (λ (lines : List (List ℕ)). IsLawfulRound c.args.self.now
+    (take (length c.in_ok-replies.replies.items) lines) c.in_ok-replies.replies.items c.reply_round.new.self)
+    same c.in_ok-replies.ensures.round) in
+    record {
+      length = long ∙ c.in_ok-replies.ensures.length ∙ ap (round_length c.args.self.now.rows) same;
+      round = round;
+      err = tt;
+    }
