@@ -1,5 +1,7 @@
 -- A round more: rounds, noted or not, go on leading from the opening store to the last.
-use Rattle.std.proofs.Common.{◌≡◌, ℕ, ◌-◌, ◌^◌, ◌≤◌, min, List, [], ◌∷◌, ◌++◌, length, map, take, get_or, ◌↔◌, Option, Some, None, refl, sym, ap, subst, ◌∙◌, append_assoc, append-nil, inl, inr, arith, length-append}
+use Rattle.std.proofs.Common.{◌≡◌, ℕ, ◌-◌, ◌^◌, ◌≤◌, min, List, [], ◌∷◌, ◌++◌, length, map, take, get_or, ◌↔◌, Option}
+use Rattle.std.proofs.Common.{Some, None, refl, sym, ap, subst, ◌∙◌, append_assoc, append-nil, inl, inr, arith}
+use Rattle.std.proofs.Common.{length-append}
 use Rattle.std.specs.Prelude.{All, Bool, true, false, IsSome, Result, Ok, Err, IfOk, OnErr}
 use Rattle.std.specs.Option.{option_map}
 use Rattle.std.proofs.lemmas.Bool.{cases_lt}
@@ -12,28 +14,37 @@ use Rattle.std.proofs.lemmas.Option.{slice_get-map, slice_get-get_or}
 use Rattle.grove_desk.specs.Receipts.{Names, ReceiptState, AreNumberedFrom, number_at, IsAllowed, IsDeskReceipt}
 use Rattle.grove_desk.specs.Histories.{RoundState, IsRound, store_before, Leads, Led, receipts_in}
 use Rattle.grove_desk.specs.Ledgers.{JournalState, noted_in, next_number, IsJournal, IsJournalOf, IsLedger}
+use Rattle.grove_desk.specs.Ledgers.{AreAnswered}
+use Rattle.grove_desk.specs.declared.asked.Asked.{Asked}
 
 -- a round more at the end has no store before the first of the others
-before_more : (rounds : List RoundState) (round : RoundState) (last : StoreState) → store_before (rounds ++ round ∷ []) last ≡ store_before rounds round.before
+before_more : (rounds : List RoundState) (round : RoundState) (last : StoreState)
+    → store_before (rounds ++ round ∷ []) last ≡ store_before rounds round.before
 before_more [] round last = refl
 before_more (first ∷ rounds) round last = refl
 
 -- rounds lead on through a round more
-leads_more : (rounds : List RoundState) (round : RoundState) (last : StoreState) → Leads rounds round.before → IsRound round.before round.receipts last → Leads (rounds ++ round ∷ []) last
+leads_more : (rounds : List RoundState) (round : RoundState) (last : StoreState) → Leads rounds round.before
+    → IsRound round.before round.receipts last → Leads (rounds ++ round ∷ []) last
 leads_more [] round last leads is = (is, tt)
-leads_more (first ∷ rounds) round last leads is =
-    (subst (λ (s : StoreState). IsRound first.before first.receipts s) (sym (before_more rounds round last)) leads.0, leads_more rounds round last leads.1 is)
+leads_more (first ∷ rounds) round last leads is = (
+  subst (λ (s : StoreState). IsRound first.before first.receipts s) (sym (before_more rounds round last)) leads.0,
+  leads_more rounds round last leads.1 is,
+)
 
 -- the receipts of a round more stand at the end
-receipts_more : (rounds : List RoundState) (round : RoundState) → receipts_in (rounds ++ round ∷ []) ≡ receipts_in rounds ++ round.receipts
+receipts_more : (rounds : List RoundState) (round : RoundState)
+    → receipts_in (rounds ++ round ∷ []) ≡ receipts_in rounds ++ round.receipts
 receipts_more [] round = append-nil round.receipts
-receipts_more (first ∷ rounds) round = ap (λ (rs : List ReceiptState). first.receipts ++ rs) (receipts_more rounds round) ∙ sym (append_assoc first.receipts (receipts_in rounds) round.receipts)
+receipts_more (first ∷ rounds) round = ap (λ (rs : List ReceiptState). first.receipts ++ rs)
+    (receipts_more rounds round) ∙ sym (append_assoc first.receipts (receipts_in rounds) round.receipts)
 
 -- numbers go on from one list to the next
 numbered_on : (front back : List ReceiptState) → AreNumberedFrom (Some 0) front
     → AreNumberedFrom (Some (min (length front) (2 ^ 64 - 1))) back → AreNumberedFrom (Some 0) (front ++ back)
 numbered_on front back are next place other lt = elim (cases_lt place (length front)) [
-  | inl before ↦ ap (λ (e : ReceiptState). e.number) (get_or_append_left front back other place before) ∙ are place other before
+  | inl before ↦ ap (λ (e : ReceiptState). e.number) (get_or_append_left front back other place before)
+      ∙ are place other before
   | inr after ↦
       let long = length-append front back in
       ap (λ (e : ReceiptState). e.number) (get_or-append_right front back (length front) place other refl after)
@@ -49,7 +60,8 @@ journal_more opening journal round last is leads numbered = record {
   leads = leads_more journal.rounds round last is.leads leads;
   begins = before_more journal.rounds round last ∙ is.begins;
   counted =
-      let all = ap length (receipts_more journal.rounds round) ∙ length-append (receipts_in journal.rounds) round.receipts in
+      let all = ap length (receipts_more journal.rounds round)
+      ∙ length-append (receipts_in journal.rounds) round.receipts in
       let so_far = is.counted in omega arith;
   numbered = subst (AreNumberedFrom (Some 0)) (sym (receipts_more journal.rounds round))
       (numbered_on (receipts_in journal.rounds) round.receipts is.numbered
@@ -62,15 +74,18 @@ kept_more : (opening : StoreState) (journal : Option JournalState) (round : Roun
     → AreNumberedFrom (next_number journal) round.receipts
     → IsJournalOf opening (option_map (noted_in round) journal) last
 kept_more opening None round last kept leads numbered = tt
-kept_more opening (Some journal) round last kept leads numbered = journal_more opening journal round last kept leads numbered
+kept_more opening (Some journal) round last kept leads numbered =
+    journal_more opening journal round last kept leads numbered
 
 -- a journal is there after a round where it was before
-some_more : (round : RoundState) (journal : Option JournalState) (kept : Bool) → IsSome journal ↔ (kept ≡ true) → IsSome (option_map (noted_in round) journal) ↔ (kept ≡ true)
+some_more : (round : RoundState) (journal : Option JournalState) (kept : Bool) → IsSome journal ↔ (kept ≡ true)
+    → IsSome (option_map (noted_in round) journal) ↔ (kept ≡ true)
 some_more round None kept some = some
 some_more round (Some journal) kept some = some
 
 -- lawful rounds lead on through one more
-led_more : (opening before after : StoreState) (receipts : List ReceiptState) → Led opening before → IsRound before receipts after → Led opening after
+led_more : (opening before after : StoreState) (receipts : List ReceiptState) → Led opening before
+    → IsRound before receipts after → Led opening after
 led_more opening before after receipts led round =
     let it : RoundState = record { before = before; receipts = receipts } in record {
       rounds = led.rounds ++ it ∷ [];
@@ -79,7 +94,8 @@ led_more opening before after receipts led round =
     }
 
 -- a ledger that has answered a round, and noted it where it keeps a journal, is one
-ledger_more : (opening : StoreState) (kept : Bool) (before after : StoreState) (journal noted : Option JournalState) (receipts : List ReceiptState) → IsLedger opening kept before journal → IsRound before receipts after
+ledger_more : (opening : StoreState) (kept : Bool) (before after : StoreState) (journal noted : Option JournalState)
+    (receipts : List ReceiptState) → IsLedger opening kept before journal → IsRound before receipts after
     → AreNumberedFrom (next_number journal) receipts
     → noted ≡ option_map (noted_in (record { before = before; receipts = receipts })) journal
     → IsLedger opening kept after noted
@@ -102,7 +118,8 @@ few_replies line_of before after texts lines replies are round =
     omega arith
 
 -- each receipt of a round is allowed over the names of its store
-allowed_by : (before after : StoreState) (receipts : List ReceiptState) → IsRound before receipts after → All (IsAllowed (unweighed before.rows)) receipts
+allowed_by : (before after : StoreState) (receipts : List ReceiptState) → IsRound before receipts after
+    → All (IsAllowed (unweighed before.rows)) receipts
 allowed_by before after receipts round place other lt = record {
   before = before;
   after = after;
@@ -111,22 +128,28 @@ allowed_by before after receipts round place other lt = record {
   place = place;
   over = refl;
   round = round.round;
-  asked = slice_get-map (λ (e : ReceiptState). e.line) receipts place ∙ ap (option_map (λ (e : ReceiptState). e.line)) (slice_get-get_or receipts place other lt);
-  replied = slice_get-map (λ (e : ReceiptState). e.reply) receipts place ∙ ap (option_map (λ (e : ReceiptState). e.reply)) (slice_get-get_or receipts place other lt);
+  asked = slice_get-map (λ (e : ReceiptState). e.line) receipts place ∙ ap (option_map (λ (e : ReceiptState). e.line))
+      (slice_get-get_or receipts place other lt);
+  replied = slice_get-map (λ (e : ReceiptState). e.reply) receipts place
+      ∙ ap (option_map (λ (e : ReceiptState). e.reply)) (slice_get-get_or receipts place other lt);
   counted = sym (round.counted place other lt);
 }
 
 -- rounds keep the names
-names_kept : (rounds : List RoundState) (last : StoreState) → Leads rounds last → unweighed last.rows ≡ unweighed (store_before rounds last).rows
+names_kept : (rounds : List RoundState) (last : StoreState) → Leads rounds last
+    → unweighed last.rows ≡ unweighed (store_before rounds last).rows
 names_kept [] last leads = refl
-names_kept (round ∷ rounds) last leads = names_kept rounds last leads.1 ∙ (round_keeps round.before _ _ (store_before rounds last) leads.0.round).0.names
+names_kept (round ∷ rounds) last leads = names_kept rounds last leads.1
+    ∙ (round_keeps round.before _ _ (store_before rounds last) leads.0.round).0.names
 
 -- a store that rounds lead to has the names of the opening store
 led_names : (opening last : StoreState) → Led opening last → unweighed last.rows ≡ unweighed opening.rows
 led_names opening last led = names_kept led.rounds last led.leads ∙ ap (λ (s : StoreState). unweighed s.rows) led.begins
 
 -- without a journal the receipts have the number 0
-unnumbered : (journal : Option JournalState) (kept : Bool) (receipt : ReceiptState) (place : ℕ) → IsSome journal ↔ (kept ≡ true) → receipt.number ≡ number_at (next_number journal) place → kept ≡ false → receipt.number ≡ 0
+unnumbered : (journal : Option JournalState) (kept : Bool) (receipt : ReceiptState) (place : ℕ)
+    → IsSome journal ↔ (kept ≡ true) → receipt.number ≡ number_at (next_number journal) place → kept ≡ false
+    → receipt.number ≡ 0
 unnumbered None kept receipt place some is plain = is
 unnumbered (Some journal) kept receipt place some is plain = let yes : kept ≡ true = some.0 refl in absurd (cc)
 
@@ -137,31 +160,44 @@ answered_by : (opening : StoreState) (kept : Bool) (before after : StoreState) (
     → All (IsDeskReceipt opening kept) receipts
 answered_by opening kept before after journal receipts is round numbered place other lt =
     let receipt = get_or receipts place other in record {
-      allowed = subst (λ (names : Names). IsAllowed names receipt) (led_names opening before is.led) (allowed_by before after receipts round place other lt);
+      allowed = subst (λ (names : Names). IsAllowed names receipt) (led_names opening before is.led)
+          (allowed_by before after receipts round place other lt);
       unnumbered = unnumbered journal kept receipt place is.keeps (numbered place other lt);
     }
 
 -- whether a round was answered and noted or refused, the ledger is one afterwards
-pub noted_after : {X E : Type 0} (result : Result X E) (receipts_of : X → List ReceiptState) (opening : StoreState) (kept : Bool) (before after : StoreState) (journal noted : JournalState) → IsLedger opening kept before (Some journal)
-    → IfOk result (λ x. IsRound before (receipts_of x) after)
+pub noted_after : {X E : Type 0} (result : Result X E) (receipts_of : X → List ReceiptState) (opening : StoreState)
+    (kept : Bool) (before after : StoreState) (old new : List Asked) (journal noted : JournalState)
+    → IsLedger opening kept before (Some journal)
+    → IfOk result (λ x. AreAnswered before after old new (receipts_of x))
     → IfOk result (λ x. AreNumberedFrom (Some journal.lines) (receipts_of x))
     → IfOk result (λ x. noted ≡ noted_in (record { before = before; receipts = receipts_of x }) journal)
     → OnErr result ((noted ≡ journal) × (after ≡ before)) → IsLedger opening kept after (Some noted)
-noted_after (Ok x) receipts_of opening kept before after journal noted is round numbered more same = ledger_more opening kept before after (Some journal) (Some noted) (receipts_of x) is round numbered (ap Some more)
-noted_after (Err e) receipts_of opening kept before after journal noted is round numbered more same =
-    subst (λ (s : StoreState). IsLedger opening kept s (Some noted)) (sym same.1) (subst (λ (j : JournalState). IsLedger opening kept before (Some j)) (sym same.0) is)
+noted_after (Ok x) receipts_of opening kept before after old new journal noted is are numbered more same =
+    ledger_more opening kept before after (Some journal) (Some noted) (receipts_of x) is are.round numbered
+    (ap Some more)
+noted_after (Err e) receipts_of opening kept before after old new journal noted is are numbered more same =
+    subst (λ (s : StoreState). IsLedger opening kept s (Some noted)) (sym same.1)
+    (subst (λ (j : JournalState). IsLedger opening kept before (Some j)) (sym same.0) is)
 
 -- and so is a ledger without a journal
-pub plain_after : {X E : Type 0} (result : Result X E) (receipts_of : X → List ReceiptState) (opening : StoreState) (kept : Bool) (before after : StoreState) → IsLedger opening kept before None
-    → IfOk result (λ x. IsRound before (receipts_of x) after) → IfOk result (λ x. AreNumberedFrom None (receipts_of x))
+pub plain_after : {X E : Type 0} (result : Result X E) (receipts_of : X → List ReceiptState) (opening : StoreState)
+    (kept : Bool) (before after : StoreState) (old new : List Asked) → IsLedger opening kept before None
+    → IfOk result (λ x. AreAnswered before after old new (receipts_of x))
+    → IfOk result (λ x. AreNumberedFrom None (receipts_of x))
     → OnErr result (after ≡ before) → IsLedger opening kept after None
-plain_after (Ok x) receipts_of opening kept before after is round numbered same = ledger_more opening kept before after None None (receipts_of x) is round numbered refl
-plain_after (Err e) receipts_of opening kept before after is round numbered same = subst (λ (s : StoreState). IsLedger opening kept s None) (sym same) is
+plain_after (Ok x) receipts_of opening kept before after old new is are numbered same =
+    ledger_more opening kept before after None None (receipts_of x) is are.round numbered refl
+plain_after (Err e) receipts_of opening kept before after old new is are numbered same =
+    subst (λ (s : StoreState). IsLedger opening kept s None) (sym same) is
 
 -- where a round was answered, its receipts are answers of the desk
-pub answered_where : {X E : Type 0} (result : Result X E) (receipts_of : X → List ReceiptState) (opening : StoreState) (kept : Bool) (before after : StoreState) (journal : Option JournalState) → IsLedger opening kept before journal
-    → IfOk result (λ x. IsRound before (receipts_of x) after)
+pub answered_where : {X E : Type 0} (result : Result X E) (receipts_of : X → List ReceiptState) (opening : StoreState)
+    (kept : Bool) (before after : StoreState) (old new : List Asked) (journal : Option JournalState)
+    → IsLedger opening kept before journal
+    → IfOk result (λ x. AreAnswered before after old new (receipts_of x))
     → IfOk result (λ x. AreNumberedFrom (next_number journal) (receipts_of x))
     → IfOk result (λ x. All (IsDeskReceipt opening kept) (receipts_of x))
-answered_where (Ok x) receipts_of opening kept before after journal is round numbered = answered_by opening kept before after journal (receipts_of x) is round numbered
-answered_where (Err e) receipts_of opening kept before after journal is round numbered = tt
+answered_where (Ok x) receipts_of opening kept before after old new journal is are numbered =
+    answered_by opening kept before after journal (receipts_of x) is are.round numbered
+answered_where (Err e) receipts_of opening kept before after old new journal is are numbered = tt

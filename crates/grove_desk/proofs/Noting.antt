@@ -1,7 +1,9 @@
 -- Receipts that are made one after the other.
-use Rattle.std.proofs.Common.{◌≡◌, ℕ, ◌+◌, ◌-◌, ◌<◌, ◌≤◌, List, [], ◌∷◌, ◌++◌, length, map, take, drop, get_or, Option, refl, sym, ap, subst, ◌∙◌, inl, inr, arith, length-drop}
+use Rattle.std.proofs.Common.{◌≡◌, ℕ, ◌+◌, ◌-◌, ◌<◌, ◌≤◌, List, [], ◌∷◌, ◌++◌, length, map, take, drop, get_or, Option}
+use Rattle.std.proofs.Common.{refl, sym, ap, subst, ◌∙◌, inl, inr, arith, length-drop}
 use Rattle.std.proofs.lemmas.Bool.{cases_lt}
-use Rattle.std.proofs.lemmas.List.{length-map, get_or-map, get_or_read, length_push, length-take-le, take_more, map_push, get_or_append_left, get_or_push}
+use Rattle.std.proofs.lemmas.List.{length-map, get_or-map, get_or_read, length_push, length-take-le, take_more}
+use Rattle.std.proofs.lemmas.List.{map_push, get_or_append_left, get_or_push}
 use Rattle.std.proofs.lemmas.List.Elements.{All-push}
 use Rattle.std.proofs.Math.Seq.{take-length}
 use Rattle.grove_desk.specs.Receipts.{ReceiptState, number_at, AreNumberedFrom}
@@ -15,11 +17,13 @@ pub numbered_more : (first : Option ℕ) (receipts : List ReceiptState) (receipt
     → AreNumberedFrom first receipts → receipt.number ≡ number_at first (length receipts)
     → AreNumberedFrom first (receipts ++ receipt ∷ [])
 numbered_more first receipts receipt are is place other lt = elim (cases_lt place (length receipts)) [
-  | inl before ↦ ap (λ (e : ReceiptState). e.number) (get_or_append_left receipts (receipt ∷ []) other place before) ∙ are place other before
+  | inl before ↦ ap (λ (e : ReceiptState). e.number) (get_or_append_left receipts (receipt ∷ []) other place before)
+      ∙ are place other before
   | inr after ↦
       let more = length_push receipts receipt in
       let here : length receipts ≡ place = omega arith in
-      ap (λ (e : ReceiptState). e.number) (get_or_push receipts receipt other place here) ∙ is ∙ ap (number_at first) here
+      ap (λ (e : ReceiptState). e.number) (get_or_push receipts receipt other place here) ∙ is
+      ∙ ap (number_at first) here
 ]
 
 -- the receipt of the next line is one more
@@ -40,12 +44,14 @@ noted_more line_of first lines replies rounds receipts after i place number line
     let with_it : length (take (i + 1) replies) ≡ i + 1 = length-take-le (i + 1) replies (omega arith) in
     let at_place : place ≡ i = here ∙ many in
     let next_line : line ≡ get_or (map line_of lines) i [] =
-    is_line ∙ ap (λ (n : ℕ). line_of (get_or lines n asked)) at_place ∙ sym (get_or-map line_of lines i asked [] (omega arith)) in
+    is_line ∙ ap (λ (n : ℕ). line_of (get_or lines n asked)) at_place
+    ∙ sym (get_or-map line_of lines i asked [] (omega arith)) in
     let next_reply : reply ≡ get_or replies i [] = is_reply ∙ get_or_read replies i item within is_item [] in
     let more : AreReceiptsOf first (map line_of lines) (take (i + 1) replies) rounds (receipts ++ receipt ∷ []) =
     record {
       asked = map_push (λ (e : ReceiptState). e.line) receipts receipt
-          ∙ ap (λ (ls : List (List ℕ)). ls ++ line ∷ []) (noted.asked ∙ ap (λ (n : ℕ). take n (map line_of lines)) so_far)
+          ∙ ap (λ (ls : List (List ℕ)). ls ++ line ∷ [])
+          (noted.asked ∙ ap (λ (n : ℕ). take n (map line_of lines)) so_far)
           ∙ ap (λ (l : List ℕ). take i (map line_of lines) ++ l ∷ []) next_line
           ∙ sym (ap (λ (n : ℕ). take n (map line_of lines)) with_it ∙ take_more (map line_of lines) i [] (omega arith));
       replied = map_push (λ (e : ReceiptState). e.reply) receipts receipt
@@ -66,9 +72,11 @@ pub noted_round : {L : Type 0} (line_of : L → List ℕ) (first : Option ℕ) (
     → length rest ≡ 0 → rest ≡ drop (length receipts) replies → length receipts ≤ length replies → replies ≡ given
     → texts ≡ map line_of lines → IsLawfulRound before (take (length given) texts) given after
     → AreReceiptsOf first (map line_of lines) (take (length receipts) replies) after.rounds receipts
-    → (map (λ receipt. receipt.line) receipts ≡ take (length receipts) (map line_of lines)) × IsRound before receipts after
+    → (map (λ receipt. receipt.line) receipts ≡ take (length receipts) (map line_of lines))
+    × IsRound before receipts after
 noted_round line_of first lines given replies rest texts receipts before after none left within same are lawful noted =
-    let many : length rest ≡ length replies - length receipts = ap length left ∙ length-drop (length receipts) replies in
+    let many : length rest ≡ length replies - length receipts = ap length left
+    ∙ length-drop (length receipts) replies in
     let all : length receipts ≡ length given = let e : length replies ≡ length given = ap length same in omega arith in
     let told : take (length receipts) replies ≡ given =
     ap (λ (rs : List (List ℕ)). take (length receipts) rs) same ∙ ap (λ (n : ℕ). take n given) all
@@ -79,8 +87,10 @@ noted_round line_of first lines given replies rest texts receipts before after n
     ap (λ (n : ℕ). take n (map line_of lines)) all ∙ ap (λ (ts : List (List ℕ)). take (length given) ts) (sym are) in (
       asked,
       record {
-        round = subst (λ (ts : List (List ℕ)). IsLawfulRound before ts (map (λ (receipt : ReceiptState). receipt.reply) receipts) after) (sym (asked ∙ put))
-            (subst (λ (rs : List (List ℕ)). IsLawfulRound before (take (length given) texts) rs after) (sym (noted.replied ∙ told)) lawful);
+        round = subst (λ (ts : List (List ℕ)). IsLawfulRound before ts
+            (map (λ (receipt : ReceiptState). receipt.reply) receipts) after) (sym (asked ∙ put))
+            (subst (λ (rs : List (List ℕ)). IsLawfulRound before (take (length given) texts) rs after)
+            (sym (noted.replied ∙ told)) lawful);
         counted = noted.counted;
       },
     )

@@ -2,7 +2,8 @@
 use denote.RattleType.{RattleType}
 use denote.Builtin.{u8, u64}
 use denote.Struct.Declared.{shape}
-use denote.Param.Send.{IsSend, IsSync, AllSend, AllSync, sendable, struct_send, struct_sync, recorded_send, recorded_sync, view_send, view_sync}
+use denote.Param.Send.{IsSend, IsSync, AllSend, AllSync, sendable, struct_send, struct_sync, recorded_send}
+use denote.Param.Send.{recorded_sync, view_send, view_sync}
 use Rattle.std.proofs.Crossing.{crosses, Vec-send}
 use Rattle.std.proofs.MapsCrossing.{String-send, BTreeMap-send}
 use Rattle.grove_tree.proofs.outline.Outline.TheLaws.TheKnot.{send-Outline, sync-Outline}
@@ -56,12 +57,15 @@ Phantom-send : (B : RattleType) → IsSend B → IsSend (Phantom.the_row B)
 Phantom-send B send = search (sendable, crosses, send) depth 60 fits 4000
 
 -- and so does a ledger
-Inside-send : (B : RattleType) (picked : opening.Ghosts B.Denot) → IsSend B → IsSync B → IsSend (Inside.the_row B picked)
+Inside-send : (B : RattleType) (picked : opening.Ghosts B.Denot) → IsSend B → IsSync B
+    → IsSend (Inside.the_row B picked)
 Inside-send B picked send sync =
-    let each : AllSend (shape (Inside.the_type B picked)).fields = search (sendable, crosses, Store-send, Journal-send, Phantom-send, send, sync) depth 60 fits 4000 in
+    let each : AllSend (shape (Inside.the_type B picked)).fields =
+    search (sendable, crosses, Store-send, Journal-send, Phantom-send, send, sync) depth 60 fits 4000 in
     recorded_send _ _ _ (Inside.the_type B picked).to_one (struct_send (shape (Inside.the_type B picked)) each)
 
-Ledger-send : (B : RattleType) (picked : opening.Ghosts B.Denot) → IsSend B → IsSync B → IsSend (Ledger.the_row B picked)
+Ledger-send : (B : RattleType) (picked : opening.Ghosts B.Denot) → IsSend B → IsSync B
+    → IsSend (Ledger.the_row B picked)
 Ledger-send B picked send sync = view_send _ _ _ _ _ (Inside-send B picked send sync)
 
 -- a line with what was read of it does too
@@ -70,7 +74,8 @@ Kept-send = search (sendable, crosses, String-send, BTreeMap-send, send-Value) d
 
 LineInside-send : IsSend LineInside.the_row
 LineInside-send =
-    let each : AllSend (shape LineInside.the_type).fields = (Vec-send u8 (search (sendable, crosses)), (Kept-send, tt)) in
+    let each : AllSend (shape LineInside.the_type).fields =
+    (Vec-send u8 (search (sendable, crosses)), (Kept-send, tt)) in
     recorded_send _ _ _ LineInside.the_type.to_one (struct_send (shape LineInside.the_type) each)
 
 Line-send : IsSend Line.the_row
@@ -89,7 +94,8 @@ Counts-send : IsSend (Counts.the_field).row
 Counts-send = search (sendable, crosses) depth 60 fits 4000
 
 -- and what lies behind the lock
-BoardInside-send : (B : RattleType) (picked : opening.Ghosts B.Denot) → IsSend B → IsSync B → IsSend (BoardInside.the_row B picked)
+BoardInside-send : (B : RattleType) (picked : opening.Ghosts B.Denot) → IsSend B → IsSync B
+    → IsSend (BoardInside.the_row B picked)
 BoardInside-send B picked send sync =
     let ledger = Ledger-send B picked send sync in
     let each : AllSend (shape (BoardInside.the_type B picked)).fields = (
@@ -105,7 +111,8 @@ BoardInside-send B picked send sync =
         ),
       ),
     ) in
-    recorded_send _ _ _ (BoardInside.the_type B picked).to_one (struct_send (shape (BoardInside.the_type B picked)) each)
+    recorded_send _ _ _ (BoardInside.the_type B picked).to_one
+    (struct_send (shape (BoardInside.the_type B picked)) each)
 
 Board-send : (B : RattleType) (picked : opening.Ghosts B.Denot) → IsSend B → IsSync B → IsSend (Board.the_row B picked)
 Board-send B picked send sync = view_send _ _ _ _ _ (BoardInside-send B picked send sync)
@@ -113,14 +120,17 @@ Board-send B picked send sync = view_send _ _ _ _ _ (BoardInside-send B picked s
 Bells-sync : IsSync (Bells.the_field).row
 Bells-sync = search (sendable, crosses) depth 60 fits 4000
 
-DeskInside-sync : (B : RattleType) (picked : opening.Ghosts B.Denot) → IsSend B → IsSync B → IsSync (DeskInside.the_row B picked)
+DeskInside-sync : (B : RattleType) (picked : opening.Ghosts B.Denot) → IsSend B → IsSync B
+    → IsSync (DeskInside.the_row B picked)
 DeskInside-sync B picked send sync =
     let board = Board-send B picked send sync in
     let lock : IsSync (Mutex.the_row (Board.the_row B picked)) = search (sendable, crosses, board) depth 60 fits 4000 in
     let each : AllSync (shape (DeskInside.the_type B picked)).fields =
-    (search (sendable, crosses), (lock, (Bells-sync, (search (sendable, crosses), (search (sendable, crosses), tt))))) in
+    (search (sendable, crosses), (lock, (Bells-sync, (search (sendable, crosses), (search (sendable, crosses), tt)))))
+    in
     recorded_sync _ _ _ (DeskInside.the_type B picked).to_one (struct_sync (shape (DeskInside.the_type B picked)) each)
 
 -- each part of a desk may be read by several threads at once, or stands behind its lock
-pub Desk-sync : (B : RattleType) (picked : opening.Ghosts B.Denot) → IsSend B → IsSync B → IsSync (Desk.the_row B picked)
+pub Desk-sync : (B : RattleType) (picked : opening.Ghosts B.Denot) → IsSend B → IsSync B
+    → IsSync (Desk.the_row B picked)
 Desk-sync B picked send sync = view_sync _ _ _ _ _ (DeskInside-sync B picked send sync)

@@ -1,9 +1,9 @@
 -- For the proofs alone: a store and its journal, which change together.
 use Rattle.std.specs.Prelude.{◌≡◌, ℕ, ◌+◌, ◌-◌, ◌^◌, ◌↔◌, min, Bool, true, List, [], ◌∷◌, ◌++◌, Option, Some, None}
-use Rattle.std.specs.Prelude.{length, map, take, drop, All, IsSome, Result, IfOk}
+use Rattle.std.specs.Prelude.{length, map, take, drop, All, IsSome}
 use Rattle.grove_store.specs.StoreStates.{StoreState}
 use Rattle.grove_desk.specs.Receipts.{ReceiptState, AreNumberedFrom}
-use Rattle.grove_desk.specs.Histories.{RoundState, Leads, Led, store_before, receipts_in}
+use Rattle.grove_desk.specs.Histories.{RoundState, IsRound, Leads, Led, store_before, receipts_in}
 use Rattle.grove_desk.specs.declared.asked.Asked.{Asked}
 
 -- every round since the opening, and the number of their lines, held at the greatest
@@ -53,8 +53,8 @@ pub record AreReceiptsOf (first : Option ℕ) (lines replies : List (List ℕ)) 
   pub counted : All (λ receipt. receipt.rounds ≡ rounds) receipts
   pub numbered : AreNumberedFrom first receipts
 
--- the lines behind those that have these receipts are as they were, and so are the tickets of all
-abbrev pub LeavesOthers : {X E : Type 0} → Result X E → (X → List ReceiptState) → List Asked → List Asked → Type 0
-LeavesOthers result receipts_of old new =
-    IfOk result (λ x. drop (length (receipts_of x)) new ≡ drop (length (receipts_of x)) old)
-    × (map (λ asked. asked.ticket) new ≡ map (λ asked. asked.ticket) old)
+-- the first of the lines that were taken have these receipts, by one round, and the lines behind them are as they were
+pub record AreAnswered (before after : StoreState) (old new : List Asked) (receipts : List ReceiptState) : Type 0 where
+  pub lines : map (λ receipt. receipt.line) receipts ≡ take (length receipts) (map (λ asked. asked.line) old)
+  pub round : IsRound before receipts after
+  pub left : drop (length receipts) new ≡ drop (length receipts) old

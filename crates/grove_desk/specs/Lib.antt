@@ -3,3 +3,4 @@ pub mod Histories
 pub mod Desks
 pub mod Ledgers
 pub mod Boards
+pub mod Lines

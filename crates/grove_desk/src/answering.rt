@@ -1,7 +1,7 @@
-ghost use Rattle.std.specs.Prelude.{◌≡◌, ◌<◌, ◌≤◌, length, map, take, drop, All, IfOk, OnErr};
+ghost use Rattle.std.specs.Prelude.{◌≡◌, ◌<◌, ◌≤◌, length, map, IfOk, OnErr};
 ghost use Rattle.std.specs.Vec.{vec_capacity};
 ghost use Rattle.grove_desk.specs.Receipts.{AreNumberedFrom, number_at};
-ghost use Rattle.grove_desk.specs.Histories.{IsRound};
+ghost use Rattle.grove_desk.specs.Ledgers.{AreAnswered};
 
 use crate::Receipt;
 use crate::asked::{Asked, lines_of};
@@ -22,12 +22,9 @@ pub(crate) fn answer_taken<R: Threads + Wait + Sync, G: Gate + Sync>(
     gate: &G,
 ) -> Result<Vec<Receipt>, NoMemory>
     requires { (0 < length taken.old.items) × (length taken.old.items ≤ 16) }
-    ensures lines { IfOk result (λ receipts. map (λ receipt. receipt.line) receipts.items
-        ≡ take (length receipts.items) (map (λ asked. asked.line) taken.old.items)) }
-    ensures round { IfOk result (λ receipts. IsRound store.old receipts.items store.new) }
+    ensures answered { IfOk result
+        (λ receipts. AreAnswered store.old store.new taken.old.items taken.new.items receipts.items) }
     ensures numbered { IfOk result (λ receipts. AreNumberedFrom first receipts.items) }
-    ensures left { IfOk result (λ receipts. drop (length receipts.items) taken.new.items
-        ≡ drop (length receipts.items) taken.old.items) }
     ensures tickets { map (λ asked. asked.ticket) taken.new.items ≡ map (λ asked. asked.ticket) taken.old.items }
     ensures room { vec_capacity taken.new ≡ vec_capacity taken.old }
     ensures err { OnErr result (store.new ≡ store.old) }

@@ -1,6 +1,4 @@
 ghost use Rattle.std.specs.Prelude.{◌≡◌, ◌<◌, [], length, All, IfOk, IfSome, IfNone, Bool};
-ghost use Rattle.std.specs.Prelude.{◌++◌};
-ghost use Rattle.std.specs.Option.{option_to_list};
 ghost use Rattle.std.specs.Vec.{vec_capacity};
 ghost use Rattle.grove_store.specs.StoreStates.{StoreState};
 ghost use Rattle.grove_desk.specs.Receipts.{IsDeskReceipt};
@@ -313,21 +311,15 @@ fn state_after(answered: &mut Result<Vec<Receipt>, NoMemory>, place: usize, line
         → IfOk answered.new (λ receipts. All (IsDeskReceipt opening kept) receipts.items) }
 {
     match answered {
-        Ok(receipts) => match pop_at(receipts, place) {
-            Some(receipt) => State::Done(Ok(receipt)),
-            None => State::Waiting(line),
-        },
+        Ok(receipts) => {
+            if place >= receipts.len() {
+                return State::Waiting(line);
+            }
+            match receipts.pop() {
+                Some(receipt) => State::Done(Ok(receipt)),
+                None => State::Waiting(line),
+            }
+        }
         Err(NoMemory) => State::Done(Err(NoMemory)),
-    }
-}
-
-/// The last of the receipts, where it is that of the line at this place.
-fn pop_at(receipts: &mut Vec<Receipt>, place: usize) -> Option<Receipt>
-    ensures { receipts.old.items ≡ receipts.new.items ++ option_to_list result }
-{
-    if place < receipts.len() {
-        receipts.pop()
-    } else {
-        None
     }
 }

@@ -4,6 +4,7 @@ ghost use Rattle.grove_store.specs.StoreStates.{StoreState};
 ghost use Rattle.grove_session.specs.declared.answers.TheConstants.{LINE_LIMIT};
 ghost use Rattle.grove_tree.specs.Weights.{unweighed};
 ghost use Rattle.grove_desk.specs.Boards.{Holds};
+ghost use Rattle.grove_desk.specs.Lines.{IsReceiptFor, AnswersAnother};
 ghost use Rattle.grove_desk.specs.Histories.{Led};
 ghost use Rattle.grove_desk.specs.Receipts.{ReceiptState, IsAllowed, IsDeskReceipt, IsForeignReceipt, ComesAfter};
 
@@ -127,13 +128,9 @@ impl<B: Opening> Desk<B> {
         requires limit { length line.now ≤ LINE_LIMIT }
         requires held { IfSome lines.old (Holds B.store B.kept) }
         ensures held { IfSome lines.new (Holds B.store B.kept) }
-        ensures line { IfOk result (λ receipt. receipt.line ≡ line.now) }
-        ensures allowed { IfOk result (IsAllowed (unweighed self.now.opening.rows)) }
-        ensures follows { IfOk result (ComesAfter self.now.kept (option_copied seen.entry)) }
-        ensures unnumbered { IfOk result (λ receipt. self.now.kept ≡ false → receipt.number ≡ 0) }
+        ensures receipt { IfOk result (IsReceiptFor self.now line.now (option_copied seen.entry)) }
         ensures foreign { result ≡ Err DeskFault.Foreign
-            → (receipt : ReceiptState) × IsDeskReceipt self.now.opening self.now.kept receipt
-            × IsForeignReceipt self.now.kept line.now (option_copied seen.entry) receipt }
+            → AnswersAnother self.now line.now (option_copied seen.entry) }
     {
         let receipt = match settled_first(lines) {
             Some(done) => done?,

@@ -1,9 +1,9 @@
-ghost use Rattle.std.specs.Prelude.{◌≡◌, [], Some, ◌<◌, ◌≤◌, ◌↔◌, length, map, take, All, IsTrue, IfOk, IfErr};
+ghost use Rattle.std.specs.Prelude.{◌≡◌, [], Some, ◌<◌, ◌≤◌, ◌↔◌, length, map, All, IsTrue, IfOk, IfErr};
 ghost use Rattle.std.specs.Prelude.{OnErr};
 ghost use Rattle.std.specs.Vec.{vec_capacity};
 ghost use Rattle.grove_desk.specs.Receipts.{AreNumberedFrom};
-ghost use Rattle.grove_desk.specs.Histories.{StandsIn, Ascend, IsRound};
-ghost use Rattle.grove_desk.specs.Ledgers.{noted_in, LeavesOthers};
+ghost use Rattle.grove_desk.specs.Histories.{StandsIn, Ascend};
+ghost use Rattle.grove_desk.specs.Ledgers.{noted_in, AreAnswered};
 
 use crate::Receipt;
 use crate::answering::answer_taken;
@@ -82,11 +82,10 @@ impl Journal {
         gate: &G,
     ) -> Result<Vec<Receipt>, NoMemory>
         requires { (0 < length taken.old.items) × (length taken.old.items ≤ 16) }
-        ensures lines { IfOk result (λ receipts. map (λ receipt. receipt.line) receipts.items
-            ≡ take (length receipts.items) (map (λ asked. asked.line) taken.old.items)) }
-        ensures round { IfOk result (λ receipts. IsRound store.old receipts.items store.new) }
+        ensures answered { IfOk result
+            (λ receipts. AreAnswered store.old store.new taken.old.items taken.new.items receipts.items) }
         ensures numbered { IfOk result (λ receipts. AreNumberedFrom (Some self.old.lines) receipts.items) }
-        ensures left { LeavesOthers result (λ receipts. receipts.items) taken.old.items taken.new.items }
+        ensures tickets { map (λ asked. asked.ticket) taken.new.items ≡ map (λ asked. asked.ticket) taken.old.items }
         ensures room { vec_capacity taken.new ≡ vec_capacity taken.old }
         ensures journal { IfOk result
             (λ receipts. self.new ≡ noted_in (record { before = store.old; receipts = receipts.items }) self.old) }

@@ -1,9 +1,9 @@
-ghost use Rattle.std.specs.Prelude.{◌≡◌, true, Some, ◌<◌, ◌≤◌, ◌↔◌, length, map, take, All, IfOk, OnErr, IsSome};
+ghost use Rattle.std.specs.Prelude.{◌≡◌, true, Some, ◌<◌, ◌≤◌, ◌↔◌, length, map, All, IfOk, OnErr, IsSome};
 ghost use Rattle.std.specs.Option.{option_map};
 ghost use Rattle.std.specs.Vec.{vec_capacity};
 ghost use Rattle.grove_desk.specs.Receipts.{IsDeskReceipt};
-ghost use Rattle.grove_desk.specs.Histories.{IsRound, Led};
-ghost use Rattle.grove_desk.specs.Ledgers.{noted_in, IsJournalOf, LeavesOthers};
+ghost use Rattle.grove_desk.specs.Histories.{Led};
+ghost use Rattle.grove_desk.specs.Ledgers.{noted_in, IsJournalOf, AreAnswered};
 
 use crate::answering::answer_taken;
 use crate::asked::Asked;
@@ -88,14 +88,13 @@ impl<B: Opening> Ledger<B> {
         gate: &G,
     ) -> Result<Vec<Receipt>, NoMemory>
         requires { (0 < length taken.old.items) × (length taken.old.items ≤ 16) }
-        ensures lines { IfOk result (λ receipts. map (λ receipt. receipt.line) receipts.items
-            ≡ take (length receipts.items) (map (λ asked. asked.line) taken.old.items)) }
-        ensures round { IfOk result (λ receipts. IsRound self.old.store receipts.items self.new.store) }
+        ensures answered { IfOk result
+            (λ receipts. AreAnswered self.old.store self.new.store taken.old.items taken.new.items receipts.items) }
         ensures journal { IfOk result
             (λ receipts. self.new.journal
             ≡ option_map (noted_in (record { before = self.old.store; receipts = receipts.items })) self.old.journal) }
-        ensures answered { IfOk result (λ receipts. All (IsDeskReceipt B.store B.kept) receipts.items) }
-        ensures left { LeavesOthers result (λ receipts. receipts.items) taken.old.items taken.new.items }
+        ensures receipts { IfOk result (λ receipts. All (IsDeskReceipt B.store B.kept) receipts.items) }
+        ensures tickets { map (λ asked. asked.ticket) taken.new.items ≡ map (λ asked. asked.ticket) taken.old.items }
         ensures room { vec_capacity taken.new ≡ vec_capacity taken.old }
         ensures err { OnErr result (self.new ≡ self.old) }
     {

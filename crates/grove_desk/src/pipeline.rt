@@ -65,8 +65,19 @@ impl Pipeline {
     ) -> Result<Pipeline, NoMemory>
         ensures { (opening : StoreState) → (kept : Bool) → IfOk result (Holds opening kept) }
     {
+        let mut lines = Vec::new(alloc);
+        let mut room = MOST_BYTES;
+        let mut rest = bytes;
+        while let Some(length) = memchr(b'\n', rest) {
+            if lines.len() >= MOST_TOGETHER || length >= room {
+                break;
+            }
+            lines.push(State::Waiting(read_line(alloc, &rest[..length], reads)?))?;
+            room -= length + 1;
+            rest = &rest[length + 1..];
+        }
         Ok(Pipeline {
-            lines: copies_of_lines(alloc, bytes, reads)?,
+            lines,
             taken: 0,
             settled: 0,
         })
@@ -166,23 +177,4 @@ fn read_line(alloc: Global, line: &[u8], reads: WhoReads) -> Result<Line, NoMemo
         copy.read(alloc);
     }
     Ok(copy)
-}
-
-/// Copies of the whole lines at the front of the bytes.
-fn copies_of_lines(alloc: Global, bytes: &[u8], reads: WhoReads) -> Result<Vec<State>, NoMemory>
-    ensures { (opening : StoreState) → (kept : Bool)
-        → IfOk result (λ lines. All (KeepsState opening kept) lines.items) }
-{
-    let mut lines = Vec::new(alloc);
-    let mut room = MOST_BYTES;
-    let mut rest = bytes;
-    while let Some(length) = memchr(b'\n', rest) {
-        if lines.len() >= MOST_TOGETHER || length >= room {
-            break;
-        }
-        lines.push(State::Waiting(read_line(alloc, &rest[..length], reads)?))?;
-        room -= length + 1;
-        rest = &rest[length + 1..];
-    }
-    Ok(lines)
 }

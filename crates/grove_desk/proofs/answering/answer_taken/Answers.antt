@@ -1,4 +1,5 @@
-use Rattle.std.proofs.Common.{◌≡◌, ℕ, ◌+◌, ◌<◌, [], ◌∷◌, ◌++◌, length, map, take, drop, get_or, refl, sym, ap, subst, ◌∙◌, arith, rules}
+use Rattle.std.proofs.Common.{◌≡◌, ℕ, ◌+◌, ◌<◌, [], ◌∷◌, ◌++◌, length, map, take, drop, get_or, refl, sym, ap, subst}
+use Rattle.std.proofs.Common.{◌∙◌, arith, rules}
 use Rattle.std.proofs.lemmas.List.{length-set, drop-set-lt}
 use Rattle.std.proofs.Math.Seq.{map-set_same}
 use Rattle.grove_desk.specs.declared.asked.Asked.{Asked}
@@ -33,7 +34,9 @@ loop-reply-init g c =
 pub index_mut-requires : goal.index_mut-requires
 index_mut-requires g c =
     let place : c.len-place.result ≡ length c.loop-reply.receipts.items = omega (arith, c.loop-reply.receipts.ok.0) in
-    let step = drop_step c.into_iter-reply-iterator.result.rest.items (length c.loop-reply.receipts.items) c.in-Some.reply c.next.new.self.rest.items (sym c.in-Some.ensures.steps.0 ∙ c.loop-reply.invariant.rest) in
+    let step = drop_step c.into_iter-reply-iterator.result.rest.items
+    (length c.loop-reply.receipts.items) c.in-Some.reply c.next.new.self.rest.items
+    (sym c.in-Some.ensures.steps.0 ∙ c.loop-reply.invariant.rest) in
     let within : length c.loop-reply.receipts.items < length c.into_iter-reply-iterator.result.rest.items = step.0 in
     let few = c.loop-reply.invariant.few in
     let long = c.loop-reply.invariant.long in
@@ -41,7 +44,9 @@ index_mut-requires g c =
 
 pub push_reserved-requires : goal.push_reserved-requires
 push_reserved-requires g c =
-    let step = drop_step c.into_iter-reply-iterator.result.rest.items (length c.loop-reply.receipts.items) c.in-Some.reply c.next.new.self.rest.items (sym c.in-Some.ensures.steps.0 ∙ c.loop-reply.invariant.rest) in
+    let step = drop_step c.into_iter-reply-iterator.result.rest.items
+    (length c.loop-reply.receipts.items) c.in-Some.reply c.next.new.self.rest.items
+    (sym c.in-Some.ensures.steps.0 ∙ c.loop-reply.invariant.rest) in
     let within : length c.loop-reply.receipts.items < length c.into_iter-reply-iterator.result.rest.items = step.0 in
     let few = c.loop-reply.invariant.few in
     let room = c.loop-reply.invariant.room in
@@ -52,12 +57,14 @@ loop-reply-preserved g c =
     let replies = c.into_iter-reply-iterator.result.rest.items in
     let i = length c.loop-reply.receipts.items in
     let place : c.len-place.result ≡ i = omega (arith, c.loop-reply.receipts.ok.0) in
-    let step = drop_step replies i c.in-Some.reply c.next.new.self.rest.items (sym c.in-Some.ensures.steps.0 ∙ c.loop-reply.invariant.rest) in
+    let step = drop_step replies i c.in-Some.reply c.next.new.self.rest.items
+    (sym c.in-Some.ensures.steps.0 ∙ c.loop-reply.invariant.rest) in
     let long : length c.loop-reply.taken.items ≡ length c.args.taken.now.items = c.loop-reply.invariant.long in
     let few = c.loop-reply.invariant.few in
     let within : i < length replies = step.0 in
     let asked : c.index_mut.result.now ≡ get_or c.args.taken.now.items c.len-place.result c.index_mut.result.now =
-    c.index_mut.ensures.value ∙ same_next c.loop-reply.taken.items c.args.taken.now.items i c.len-place.result c.index_mut.result.now place c.loop-reply.invariant.left in
+    c.index_mut.ensures.value ∙ same_next c.loop-reply.taken.items c.args.taken.now.items i c.len-place.result
+    c.index_mut.result.now place c.loop-reply.invariant.left in
     let next = noted_more
     (λ (a : Asked). a.line) c.args.first c.args.taken.now.items replies c.reply_round.new.self.rounds
     c.loop-reply.receipts.items c.push_reserved.new.self.items i c.len-place.result
@@ -80,32 +87,27 @@ loop-reply-preserved g c =
           (take n replies) c.reply_round.new.self.rounds c.push_reserved.new.self.items) (sym more) next.1;
       room = c.push_reserved.ensures.capacity ∙ c.loop-reply.invariant.room;
       long = length-set c.loop-reply.taken.items c.len-place.result _ ∙ long;
-      left = drop-set-lt (length c.push_reserved.new.self.items) c.loop-reply.taken.items c.len-place.result _ (omega arith)
+      left = drop-set-lt (length c.push_reserved.new.self.items) c.loop-reply.taken.items c.len-place.result _
+          (omega arith)
           ∙ ap (λ (n : ℕ). drop n c.loop-reply.taken.items) more
-          ∙ drop_on c.loop-reply.taken.items c.args.taken.now.items i c.index_mut.result.now (omega arith) (omega arith) c.loop-reply.invariant.left
+          ∙ drop_on c.loop-reply.taken.items c.args.taken.now.items i c.index_mut.result.now (omega arith)
+          (omega arith) c.loop-reply.invariant.left
           ∙ sym (ap (λ (n : ℕ). drop n c.args.taken.now.items) more);
-      tickets = map-set_same (λ (a : Asked). a.ticket) c.loop-reply.taken.items c.len-place.result _ c.index_mut.result.now (ap (λ (a : Asked). a.ticket) c.index_mut.ensures.value) ∙ c.loop-reply.invariant.tickets;
+      tickets = map-set_same (λ (a : Asked). a.ticket) c.loop-reply.taken.items c.len-place.result _
+          c.index_mut.result.now (ap (λ (a : Asked). a.ticket) c.index_mut.ensures.value)
+          ∙ c.loop-reply.invariant.tickets;
       stays = c.loop-reply.invariant.stays;
     }
 
-pub returns-clause-lines : goal.returns-clause-lines
-returns-clause-lines g c =
-    (noted_round (λ (asked : Asked). asked.line) c.args.first c.args.taken.now.items
+pub returns-clause-answered : goal.returns-clause-answered
+returns-clause-answered g c =
+    let (lines, round) = noted_round (λ (asked : Asked). asked.line) c.args.first c.args.taken.now.items
     c.in_ok-replies.replies.items c.into_iter-reply-iterator.result.rest.items
     c.loop-reply.reply-iterator.rest.items
     (map (λ line. line.now) c.deref-2.result.now) c.loop-reply.receipts.items c.args.store.now c.reply_round.new.self
-    (omega (arith, c.in-None.ensures.steps.0, c.loop-reply.reply-iterator.rest.ok.0)) c.loop-reply.invariant.rest c.loop-reply.invariant.within c.into_iter-reply-iterator.ensures.into_iter_gives.0
+    (omega (arith, c.in-None.ensures.steps.0, c.loop-reply.reply-iterator.rest.ok.0)) c.loop-reply.invariant.rest
+    c.loop-reply.invariant.within c.into_iter-reply-iterator.ensures.into_iter_gives.0
     (ap (map (λ line. line.now)) c.deref-2.ensures.value ∙ c.in_ok-lines.ensures
     ∙ ap (map (λ (asked : Asked). asked.line)) c.deref.ensures.value)
-    c.in_ok-replies.ensures.round c.loop-reply.invariant.noted).0
-
-pub returns-clause-round : goal.returns-clause-round
-returns-clause-round g c =
-    (noted_round (λ (asked : Asked). asked.line) c.args.first c.args.taken.now.items
-    c.in_ok-replies.replies.items c.into_iter-reply-iterator.result.rest.items
-    c.loop-reply.reply-iterator.rest.items
-    (map (λ line. line.now) c.deref-2.result.now) c.loop-reply.receipts.items c.args.store.now c.reply_round.new.self
-    (omega (arith, c.in-None.ensures.steps.0, c.loop-reply.reply-iterator.rest.ok.0)) c.loop-reply.invariant.rest c.loop-reply.invariant.within c.into_iter-reply-iterator.ensures.into_iter_gives.0
-    (ap (map (λ line. line.now)) c.deref-2.ensures.value ∙ c.in_ok-lines.ensures
-    ∙ ap (map (λ (asked : Asked). asked.line)) c.deref.ensures.value)
-    c.in_ok-replies.ensures.round c.loop-reply.invariant.noted).1
+    c.in_ok-replies.ensures.round c.loop-reply.invariant.noted in
+    record { lines = lines; round = round; left = c.loop-reply.invariant.left }

@@ -1,7 +1,7 @@
 use Rattle.std.specs.Prelude.{◌≤◌, Bool, length, All}
 use Rattle.grove_store.specs.StoreStates.{StoreState}
 use Rattle.grove_desk.specs.Boards.{KeepsState}
-use Rattle.grove_desk.proofs.pipeline.copies_of_lines.Given as goal
+use Rattle.grove_desk.proofs.pipeline.Pipeline.of_bytes.Given as goal
 
 abbrev pub invariant-loop-length : goal.invariant-loop-length
 invariant-loop-length l = record {

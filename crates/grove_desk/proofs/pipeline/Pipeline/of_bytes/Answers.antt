@@ -3,7 +3,7 @@ use Rattle.std.specs.Prelude.{All}
 use Rattle.std.proofs.lemmas.List.Elements.{All-push}
 use Rattle.grove_desk.specs.Boards.{KeepsState}
 use Rattle.grove_desk.specs.declared.state.State.TheVariants.{Waiting}
-use Rattle.grove_desk.proofs.pipeline.copies_of_lines.Goals as goal
+use Rattle.grove_desk.proofs.pipeline.Pipeline.of_bytes.Goals as goal
 
 pub loop-length-preserved : goal.loop-length-preserved
 loop-length-preserved c = record {
