@@ -33,8 +33,8 @@ AHEAD = 16_384
 
 
 class Lost(Error):
-    """There is no server, or it closed the connection, or took too long. The last `unanswered` lines have no reply;
-    each of them may have had its effect, or not."""
+    """There is no server, or it closed the connection, took too long, or speaks something else, such as HTTP. The last
+    `unanswered` lines have no reply; each of them may have had its effect, or not."""
 
     def __init__(self, why: str, unanswered: int = 0) -> None:
         super().__init__(why)
@@ -97,6 +97,8 @@ class Client(Requests):
             raise self.lost(f"the server is lost: {error}") from error
         if not reply.endswith(b"\n"):
             raise self.lost("the server closed the connection before it had answered")
+        if not reply.startswith(b"{"):
+            raise self.lost(no_reply(reply))
         self.sent.popleft()
         return reply[:-1]
 
@@ -105,6 +107,12 @@ class Client(Requests):
         self.sent.clear()
         self.close()
         return Lost(why, unanswered)
+
+
+def no_reply(line: bytes) -> str:
+    """What is said of a line that is no reply of a session."""
+    why = "it speaks HTTP" if line.startswith(b"HTTP/") else "what it said is no JSON object"
+    return f"no reply of the server: {why}"
 
 
 def send_lines(client: Client, lines: Iterable[bytes]) -> bool:

@@ -1,6 +1,8 @@
 """The client, at servers that answer as each test says."""
 
 import socket
+import subprocess
+import sys
 import threading
 import unittest
 from contextlib import contextmanager
@@ -10,18 +12,25 @@ from pickbracken import Access, FlowRow, Plan, Refused, Reply, Step
 from pickbracken.client import AHEAD, Client, Lost
 
 FLOW = b'[{"above":0,"first":1,"held":0,"last":1,"node":"/a","own":0}]'
+HTTP = b"HTTP/1.1 400 Bad Request\r"
 PLAN = b'{"cost":1,"flow":%s,"plan":[["lock","/a"],["access",0]]}' % FLOW
 
 
 @contextmanager
-def served(answer: Callable[[socket.socket], None], seconds: Optional[float] = None) -> Iterator[Client]:
-    """A client of a server that takes one connection."""
+def at_port(answer: Callable[[socket.socket], None]) -> Iterator[int]:
+    """The port of a server that takes one connection."""
     with socket.create_server(("127.0.0.1", 0)) as listener:
         serving = threading.Thread(target=lambda: serve(listener, answer))
         serving.start()
-        with Client(listener.getsockname()[1], seconds=seconds) as client:
-            yield client
+        yield listener.getsockname()[1]
         serving.join()
+
+
+@contextmanager
+def served(answer: Callable[[socket.socket], None], seconds: Optional[float] = None) -> Iterator[Client]:
+    """A client of such a server."""
+    with at_port(answer) as port, Client(port, seconds=seconds) as client:
+        yield client
 
 
 def serve(listener: socket.socket, answer: Callable[[socket.socket], None]) -> None:
@@ -77,7 +86,7 @@ class Clients(unittest.TestCase):
     def test_lines_are_sent_ahead(self) -> None:
         """So many that a server whose replies nobody read would stop reading."""
         seen: List[bytes] = []
-        lines = [b"%d" % number + b"x" * 1000 for number in range(2000)]
+        lines = [b"{%d" % number + b"x" * 1000 for number in range(2000)]
         with served(replying(*(line * 3 for line in lines), seen=seen)) as client:
             ahead = 0
             for line, reply in zip(lines, client.send_all(lines)):
@@ -91,11 +100,11 @@ class Clients(unittest.TestCase):
             source = connection.makefile("rb")
             for _ in range(5):
                 source.readline()
-            connection.sendall(b"1\n2\n")
+            connection.sendall(b"{1}\n{2}\n")
 
         with served(answer) as client:
             replies = client.send_all([b"a", b"b", b"c", b"d", b"e"])
-            self.assertEqual([next(replies), next(replies)], [b"1", b"2"])
+            self.assertEqual([next(replies), next(replies)], [b"{1}", b"{2}"])
             with self.assertRaises(Lost) as caught:
                 next(replies)
             self.assertEqual(caught.exception.unanswered, 3)
@@ -106,12 +115,12 @@ class Clients(unittest.TestCase):
     def test_replies_come_that_came_before_the_end(self) -> None:
         """A server that takes no more lines has its replies read."""
         seen: List[bytes] = []
-        with served(replying(b"1", b"2", seen=seen)) as client:
+        with served(replying(b"{1}", b"{2}", seen=seen)) as client:
             told = []
             with self.assertRaises(Lost) as caught:
                 for reply in client.send_all(b"%d" % number for number in range(1_000_000)):
                     told.append(reply)
-            self.assertEqual(told, [b"1", b"2"])
+            self.assertEqual(told, [b"{1}", b"{2}"])
             self.assertGreater(caught.exception.unanswered, 0)
 
     def test_a_server_that_takes_too_long_is_lost(self) -> None:
@@ -125,6 +134,21 @@ class Clients(unittest.TestCase):
                 client.reweigh()
             self.assertEqual(caught.exception.unanswered, 1)
             ended.set()
+
+    def test_a_server_of_something_else_is_lost(self) -> None:
+        for line, why in ((HTTP, "it speaks HTTP"), (b"", "what it said is no JSON object")):
+            with served(replying(line, seen=[])) as client:
+                with self.assertRaises(Lost) as caught:
+                    client.weights()
+            told = str(caught.exception), caught.exception.unanswered
+            self.assertEqual(told, (f"no reply of the server: {why}", 1))
+
+    def test_the_program_prints_replies_of_a_session_alone(self) -> None:
+        with at_port(replying(HTTP, seen=[])) as port:
+            words = [sys.executable, "-B", "-m", "pickbracken.client", str(port)]
+            ran = subprocess.run(words, input=b"{}\n", capture_output=True, check=False)
+        wanted = (3, b"", b"pickbracken.client: no reply of the server: it speaks HTTP\n")
+        self.assertEqual((ran.returncode, ran.stdout, ran.stderr), wanted)
 
     def test_there_may_be_no_server(self) -> None:
         with socket.create_server(("127.0.0.1", 0)) as listener:
