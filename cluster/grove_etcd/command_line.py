@@ -5,7 +5,18 @@ import argparse
 import os
 import sys
 import traceback
+from importlib import import_module
+from pathlib import Path
 from typing import Any, Callable
+
+# A program imports this module before the others, which import these.
+try:
+    import_module("grpc")
+    import_module("etcd3.etcdrpc")
+except Exception as why:  # packages that don't go together raise errors of their own
+    told = " ".join(str(why).split())
+    print(f"{Path(sys.argv[0]).name}: needs the Python packages etcd3 and grpcio ({told})", file=sys.stderr)
+    sys.exit(3)
 
 from .keys import Keys
 from .members import Credentials, Lost, Members, addresses_of
