@@ -15,6 +15,7 @@ from listening import Place
 
 READING = ("judge", "check", "plan", "draw", "run", "audit", "tree")
 SERVING = ("serve", "page")
+SAVING = "save"
 VALUED = ("--tree", "--port", "--bind", "--address", "--workers", "--idle", "--http", "--http-seats", "--host", "--log")
 FLAGS = ("--explain", "--document", "--text", "--any-port", "--busy", "--verbose", "--csv", "--parents")
 # What the program takes of a document: no more than a byte above the longest history.
@@ -60,10 +61,10 @@ class Given:
         return self.command in (*READING, "ask") and self.is_known and not self.plain
 
     def document(self) -> tuple[int, str] | None:
-        """The document's name, and the place of the argument that has it."""
+        """The name of the document's file, which `save` writes, and the place of the argument that has it."""
         if self.serves():
             return self.values.get("--tree")
-        return self.plain[0] if self.command in READING and self.plain else None
+        return self.plain[0] if self.command in (*READING, SAVING) and self.plain else None
 
     def takes_any_port(self) -> bool:
         """Whether a server is to listen at a port that nobody names."""
@@ -91,25 +92,28 @@ class HandedIn:
     def put_back(self, said: bytes) -> bytes:
         """What the program says of a file, with the name that the caller gave it."""
         if self.renamed:
-            for verb in ("open", "read"):
+            for verb in ("open", "read", "save"):
                 passed, typed = (os.fsencode(f"cannot {verb} {name}: ") for name in self.renamed)
                 said = said.replace(passed, typed, 1)
         return said
 
 
 def hand_in(given: Given, room: str) -> HandedIn:
-    """Copies the document into the room. One that can't be opened is named by its whole path: the program can't
-    either."""
+    """Copies the document into the room. One that can't be opened is named by its whole path, since the program can't
+    either, and so is the file to save in, since the program works in another folder."""
     named = given.document()
     if not named or not named[1]:
         return HandedIn(given.words, [])
     at, name = named
     copy, whole = os.path.join(room, DOCUMENT), os.path.join(os.getcwd(), name)
+    by_path = HandedIn(renamed_at(given.words, at, name, whole), [], (whole, name))
+    if given.command == SAVING:
+        return by_path
     try:
         with open(name, "rb", buffering=0) as source:
             copy_part(source.fileno(), copy)
     except OSError:
-        return HandedIn(renamed_at(given.words, at, name, whole), [], (whole, name))
+        return by_path
     return HandedIn(renamed_at(given.words, at, name, DOCUMENT), ["--data", f"{DOCUMENT}={copy}"])
 
 

@@ -25,7 +25,7 @@ from sweeps.program import Tally
 GRANTED = ["DynamicUser=yes", "NoNewPrivileges=yes", "MemoryMax=", "TasksMax="]
 UNITS = {
     "grove-page.service": [*GRANTED, "--verbose", "--explain", "--idle", "KillSignal=SIGTERM"],
-    "grove-save.service": [*GRANTED, "--explain", "Type=oneshot", "StateDirectory=grove"],
+    "grove-save.service": [*GRANTED, "--explain", "Type=oneshot", "StateDirectory=grove", "TimeoutStartSec="],
     "grove-save.timer": ["OnCalendar=", "WantedBy=timers.target"],
     "grove-serve.service": [*GRANTED, "--verbose", "--explain", "--idle", "KillSignal=SIGTERM"],
     "grove-work.service": [*GRANTED, "--verbose"],

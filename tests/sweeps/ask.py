@@ -23,6 +23,8 @@ BAD = b'{"batch":3}\n'
 OK, REFUSED = 0, 1
 # So many hints of one run are printed.
 MOST_HINTS = 100
+# A line has at most so many bytes.
+MOST_BYTES = 1_048_576
 SECONDS = 60.0
 
 
@@ -32,6 +34,7 @@ def tries(program: str, room: str) -> list[Try]:
         Try("lines as words", partial(as_words, program)),
         Try("statuses", partial(statuses, program)),
         Try("hints", partial(hints, program)),
+        Try("lines that are too long", partial(long_lines, program)),
         Try("many lines", partial(many, program)),
         Try("no server", partial(nobody, program)),
         Try("servers that are lost", partial(lost, program)),
@@ -102,6 +105,19 @@ def hints(program: str, tally: Tally) -> None:
         ran = ask(program, canned.port, lines[0])
         is_plain = ran.hint.startswith(b"hint: b") and b"\x1b" not in ran.hint
         tally.note("a hint that a terminal would act upon", None if is_plain else f"came {ran!r} {ran.hint!r}")
+
+
+def long_lines(program: str, tally: Tally) -> None:
+    """A line that is too long is answered by the client itself: its status is that of a refusal, and the numbers of
+    hints count it."""
+    long, refusal = b"x" * (MOST_BYTES + 1) + b"\n", b'{"error":"long-line"}\n'
+    found = "batch is 3, but has to be an array of lists"
+    shape = compact({"error": "shape", "hint": found}) + b"\n"
+    with Serving(program, TREE, further=("--hints",)) as server:
+        tally.compare("alone", ask(program, server.port, text=long), Ran(REFUSED, refusal, b""))
+        ran = ask(program, server.port, text=BAD + long + long + BAD)
+        told = b"".join(b"hint: line %d: %s\n" % (number, found.encode()) for number in (1, 4))
+        tally.compare("among others", ran, Ran(REFUSED, shape + 2 * refusal + shape, told))
 
 
 def many(program: str, tally: Tally) -> None:

@@ -71,6 +71,8 @@ ExecStart=@PREFIX@/bin/grove save $GROVE_SAVE /var/lib/grove/tree.json
 # The file is replaced in one step: status 1 (the server has no document) and 3 (it can't be reached, or the file not be
 # written) leave the one before.
 StateDirectory=grove
+# A server that never ends its answer would hold up the timer for good.
+TimeoutStartSec=60
 
 # Limits.
 MemoryMax=256M

@@ -78,7 +78,7 @@ fn ask_lines<R: AllocGlobal, I: Source, O: Sink>(
         return Err(Stop::Device(None));
     }
     match session(rt, server, source, sink) {
-        Ok(_) if server.has_refused() => Ok(1),
+        Ok(_) if server.has_refused() || server.has_passed_over() => Ok(1),
         Ok(_) => Ok(0),
         Err(SessionFault::Memory) => Err(Stop::Memory),
         Err(_) => Err(Stop::Device(server.failure())),

@@ -124,6 +124,7 @@ fn reason_of_loss(alloc: Global, address: SocketAddr, loss: Loss) -> Result<Stri
             format!(in alloc; "no reply of the server at {address}: more than a line came for one")
         }
         Loss::Http => format!(in alloc; "no reply of the server at {address}: it speaks HTTP"),
+        Loss::Silence => format!(in alloc; "lost the server at {address}: it sends nothing"),
     }
 }
 

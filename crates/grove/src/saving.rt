@@ -9,15 +9,19 @@ use crate::file_source::FileSource;
 use crate::output::tell;
 use crate::replacing::replace;
 use crate::response::{NoDocument, document_in};
-use crate::server::Loss;
+use crate::server::{Loss, loss_by};
 use grove_serve::Host;
 use grove_session::{ReadFault, Sink, WriterSink, read_whole, write_whole};
 use std::alloc::Global;
 use std::net::{Net, SocketAddr, TcpListener, TcpStream};
 use std::rt::Files;
+use std::time::Duration;
 
 /// The most bytes of a response: those of a document, and of what stands before it.
 const MOST_BYTES: usize = 4_194_304 + 65_536;
+
+/// For how many seconds a server may send nothing.
+const MOST_SECONDS: u64 = 60;
 
 /// Saves the document of the server at the address in the file, which is replaced in one step. Gives the status of the
 /// process: 0, or 1 if what the server sends is no document, and the file is as it was.
@@ -64,15 +68,14 @@ fn fetched<R: Host + Net<Listener = TcpListener, Stream = TcpStream>>(
     let request = format!(in alloc;
         "GET /document HTTP/1.1\r\nHost: {server}\r\nConnection: close\r\n\r\n"
     )?;
+    // One that doesn't speak HTTP may wait for more.
+    let _limited = stream.set_read_timeout(Some(Duration::from_secs(MOST_SECONDS)));
     // A server that takes no more of the request may have answered all the same.
     let _sent = write_whole(&mut WriterSink::new(&stream), request.as_bytes());
     let mut source = FileSource::new(&stream);
     match read_whole(alloc, &mut source, MOST_BYTES) {
         Ok(response) => Ok(response),
         Err(ReadFault::Memory) => Err(Stop::Memory),
-        Err(ReadFault::Device) => {
-            let loss = source.error().map_or(Loss::Closed, Loss::Failed);
-            Err(Failure::Lose(server, loss).stop())
-        }
+        Err(ReadFault::Device) => Err(Failure::Lose(server, loss_by(source.error())).stop()),
     }
 }

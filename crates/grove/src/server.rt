@@ -6,9 +6,10 @@ use crate::file_source::FileSource;
 use crate::hint_lines::{HintLines, hint_in};
 use grove_session::{AnswerFault, Answers, Source, WriterSink, write_whole};
 use std::alloc::{AllocGlobal, Global};
-use std::io;
+use std::io::{self, ErrorKind};
 use std::marker::Model;
 use std::net::{SocketAddr, TcpStream};
+use std::sync::atomic::{AtomicU64, Ordering};
 
 /// How a reply begins that says that something couldn't be done.
 const ERROR_BEGINS: &[u8] = b"{\"error\":";
@@ -27,6 +28,8 @@ pub enum Loss {
     LongReply,
     /// It came by HTTP.
     Http,
+    /// Nothing came for as long as is waited.
+    Silence,
 }
 
 /// A server, which answers the lines of a session.
@@ -38,8 +41,12 @@ pub struct Server<'a> {
     has_refused: bool,
     /// The hints that came in such replies.
     hints: HintLines,
-    /// How many lines have their reply, if they are counted.
-    replied: Option<u64>,
+    /// Whether hints have the numbers of their lines.
+    numbers_lines: bool,
+    /// How many lines have their reply.
+    replied: u64,
+    /// How many lines were too long to be sent: the session replies to them itself.
+    passed_over: AtomicU64,
     /// Why the latest line got no reply.
     loss: Option<Loss>,
 }
@@ -53,12 +60,12 @@ impl<'a> Model for Server<'a> {
 }
 
 impl<'a> Server<'a> {
-    /// A server that has replied nothing yet. If its lines are counted, hints have their numbers.
+    /// A server that has replied nothing yet.
     pub fn new(
         alloc: Global,
         stream: &'a TcpStream,
         address: SocketAddr,
-        counts_lines: bool,
+        numbers_lines: bool,
     ) -> Server<'a>
         ensures { result ≡ false }
     {
@@ -67,7 +74,9 @@ impl<'a> Server<'a> {
             address,
             has_refused: false,
             hints: HintLines::new(alloc),
-            replied: if counts_lines { Some(0) } else { None },
+            numbers_lines,
+            replied: 0,
+            passed_over: AtomicU64::new(0),
             loss: None,
         }
     }
@@ -81,19 +90,26 @@ impl<'a> Server<'a> {
     fn keep_hint(&mut self, alloc: Global, reply: &[u8])
         ensures { self.new ≡ self.old }
     {
-        let number = self.replied.map(|count| count.saturating_add(1));
+        let number = self.next_number();
         if let Some(hint) = hint_in(alloc, reply, number) {
             self.hints.add(alloc, &hint);
         }
     }
 
-    /// Counts a reply.
-    fn count_reply(&mut self)
-        ensures { self.new ≡ self.old }
-    {
-        if let Some(count) = self.replied {
-            self.replied = Some(count.saturating_add(1));
+    /// The number of the next line, if lines have numbers.
+    fn next_number(&self) -> Option<u64> {
+        if !self.numbers_lines {
+            return None;
         }
+        let before = self
+            .replied
+            .saturating_add(self.passed_over.load(Ordering::Relaxed));
+        Some(before.saturating_add(1))
+    }
+
+    /// Whether a line was too long to be sent.
+    pub fn has_passed_over(&self) -> bool {
+        self.passed_over.load(Ordering::Relaxed) > 0
     }
 
     /// How the server was lost, if it was.
@@ -131,7 +147,7 @@ impl<'a, R: AllocGlobal> Answers<R> for Server<'a> {
                     self.has_refused = true;
                     self.keep_hint(alloc, &reply);
                 }
-                self.count_reply();
+                self.replied = self.replied.saturating_add(1);
                 Ok(reply)
             }
             Err(NoReply::Lost(loss)) => {
@@ -140,6 +156,10 @@ impl<'a, R: AllocGlobal> Answers<R> for Server<'a> {
             }
             Err(NoReply::Memory) => Err(AnswerFault::Memory),
         }
+    }
+
+    fn pass_over(&self, _rt: &R) {
+        let _before = self.passed_over.fetch_add(1, Ordering::Relaxed);
     }
 }
 
@@ -193,8 +213,10 @@ fn read_line(alloc: Global, stream: &TcpStream) -> Result<Vec<u8>, NoReply> {
     Err(NoReply::Lost(Loss::LongReply))
 }
 
-fn loss_by(error: Option<io::Error>) -> Loss {
+/// How a server was lost at which a read failed, with this error of the system if there is one.
+pub fn loss_by(error: Option<io::Error>) -> Loss {
     match error {
+        Some(error) if error.kind() == ErrorKind::WouldBlock => Loss::Silence,
         Some(error) => Loss::Failed(error),
         None => Loss::Closed,
     }
