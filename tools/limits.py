@@ -102,7 +102,7 @@ LIMITS = [
     (
         "crates/grove_words/src/options.rt",
         "FEW_WORKERS",
-        [("docs/COMMANDS.md", "a long round, 1 to 16, by default {} |")],
+        [("docs/COMMANDS.md", "steps or more, 1 to 16, by default {};")],
     ),
     (
         "crates/grove_words/src/options.rt",
@@ -211,7 +211,33 @@ LIMITS = [
     ),
     ("crates/grove_store/src/waiting.rt", "MOST_WAITS", [("docs/PROTOCOL.md", "what would exceed {} stays at")]),
     ("crates/grove_base/src/line.rt", "MOST", [("docs/PROOFS.md", "`hint: ` and 1 to {} printable characters")]),
-    ("crates/grove_run/src/worth.rt", "WORTH_A_THREAD", [("docs/DECISIONS.md", "enough is jobs of {} steps")]),
+    (
+        "crates/grove_run/src/worth.rt",
+        "WORTH_A_THREAD",
+        [
+            ("docs/DECISIONS.md", "enough is jobs of {} steps"),
+            ("docs/COMMANDS.md", "A batch of fewer than {} steps"),
+        ],
+    ),
+    (
+        "crates/grove_store/src/worth.rt",
+        "WORTH_THREADS",
+        [
+            ("docs/ARCHITECTURE.md", "A round of fewer than {} steps"),
+            ("docs/COMMANDS.md", "how many workers run a round of {} steps or more"),
+            ("docs/SESSIONS.md", "only in rounds of {} steps or more"),
+            ("docs/PROTOCOL.md", "A round of fewer than {} steps has none"),
+        ],
+    ),
+    (
+        "crates/grove/src/saving.rt",
+        "MOST_SECONDS",
+        [
+            ("docs/COMMANDS.md", "sent nothing for {} seconds"),
+            ("docs/FAULTS.md", "sends nothing for {} seconds"),
+            ("docs/DECISIONS.md", "sends nothing for {} seconds"),
+        ],
+    ),
 ]
 
 
