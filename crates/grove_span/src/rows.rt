@@ -23,7 +23,7 @@ struct Listed {
 }
 
 impl Listed {
-    /// Lists the nodes down to the target that aren't listed yet. Often there is none between it and a listed one.
+    /// Lists the nodes on the way down to the target that aren't listed yet. Only the target has accesses among them.
     fn push_target(
         &mut self,
         alloc: Global,
@@ -39,13 +39,23 @@ impl Listed {
             (IsListedTo tree.now (nodes_of list.now) (lengths_of list.now) self.new.next self.new.numbers.items
             self.new.rows.items) }
     {
+        // Often it is the target alone.
         if let Some(parent) = tree.parent(target)
             && parent.number() < self.next
         {
-            self.push_child(tree, list, target, parent)
-        } else {
-            self.push_way(alloc, tree, list, target)
+            return self.push_child(tree, list, target, parent);
         }
+        // The limits that hold of every tree are told with its length.
+        let _nodes = tree.len();
+        let way = tree.way_to(alloc, target)?;
+        for step in &way {
+            if step.node.number() >= self.next {
+                let parent = parent_place(step.parent, &self.numbers);
+                let visits = visits_at(list, step.node, step.node == target);
+                self.push(row_of(list, step, parent, visits))?;
+            }
+        }
+        Ok(())
     }
 
     /// Lists the target, whose parent isn't among the nodes still to be listed.
@@ -76,35 +86,6 @@ impl Listed {
         let place = place_of(parent.number(), &self.numbers);
         let row = row_of(list, &step, place, visits_of(list, target));
         self.push(row)?;
-        Ok(())
-    }
-
-    /// Lists the nodes on the way down to the target that aren't listed yet. Only the target has accesses among them.
-    fn push_way(
-        &mut self,
-        alloc: Global,
-        tree: &Tree,
-        list: &AccessList,
-        target: Node,
-    ) -> Result<(), NoMemory>
-        requires fits { AreNodes tree.now (nodes_of list.now) }
-        requires target { IsNextTarget tree.now (nodes_of list.now) (lengths_of list.now) self.old.next target
-            self.old.numbers.items self.old.rows.items }
-        ensures next { OnOk result (self.new.next ≡ suc target) }
-        ensures listed { OnOk result
-            (IsListedTo tree.now (nodes_of list.now) (lengths_of list.now) self.new.next self.new.numbers.items
-            self.new.rows.items) }
-    {
-        // The limits that hold of every tree are told with its length.
-        let _nodes = tree.len();
-        let way = tree.way_to(alloc, target)?;
-        for step in &way {
-            if step.node.number() >= self.next {
-                let parent = parent_place(step.parent, &self.numbers);
-                let visits = visits_at(list, step.node, step.node == target);
-                self.push(row_of(list, step, parent, visits))?;
-            }
-        }
         Ok(())
     }
 

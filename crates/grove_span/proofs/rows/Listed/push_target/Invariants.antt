@@ -1,6 +1,6 @@
 use Rattle.grove_access.specs.Lists.{nodes_of, lengths_of}
 use Rattle.grove_span.proofs.ForcedWays.{IsDownTo}
-use Rattle.grove_span.proofs.rows.Listed.push_way.Given as goal
+use Rattle.grove_span.proofs.rows.Listed.push_target.Given as goal
 
 -- the nodes of the way so far are listed
 abbrev pub invariant-loop-step : goal.invariant-loop-step

@@ -8,8 +8,8 @@ use Rattle.grove_span.specs.Ways.{IsRising}
 use Rattle.grove_span.proofs.ForcedRows.{numbers_rise}
 use Rattle.grove_span.proofs.ForcedWays.{on_way, on_way_le, way_length, told_on_way, unnamed_before, numbers_few}
 use Rattle.grove_span.proofs.ForcedWays.{down_begins, down_skips, down_lists, down_ends}
-use Rattle.grove_span.proofs.rows.Listed.push_way.Goals.{then-number-self+in_ok-push, else-number-self}
-use Rattle.grove_span.proofs.rows.Listed.push_way.Goals as goal
+use Rattle.grove_span.proofs.rows.Listed.push_target.Goals.{then-number-self-2+in_ok-push, else-number-self-2}
+use Rattle.grove_span.proofs.rows.Listed.push_target.Goals as goal
 
 pub loop-step-init : goal.loop-step-init
 loop-step-init c =
@@ -39,8 +39,8 @@ visits_at-visits-requires c = λ other.
     c.step-item.is in
     let at = on_way c.args.tree.now c.args.target c.in_ok-way.way.items c.deref-step-items.result.now
     c.loop-step.step-index c.step-item.result c.in_ok-way.ensures.nodes c.deref-step-items.ensures.value there in
-    let ahead : c.loop-step.self.next ≤ c.number.result = c.if-number-self.true in
-    let number : c.number.result ≡ c.step-item.result.node = c.number.ensures.is_it in
+    let ahead : c.loop-step.self.next ≤ c.number-in-loop-step.result = c.if-number-self-2.true in
+    let number : c.number-in-loop-step.result ≡ c.step-item.result.node = c.number-in-loop-step.ensures.is_it in
     unnamed_before c.args.tree.now (nodes_of c.args.list.now)
     (lengths_of c.args.list.now) c.args.self.now.next c.args.target c.loop-step.step-index c.loop-step.self.next
     c.step-item.result.node
@@ -71,10 +71,10 @@ loop-step-preserved c =
     c.loop-step.step-index c.step-item.result c.in_ok-way.ensures.nodes c.deref-step-items.ensures.value there in
     let told = told_on_way c.args.tree.now c.in_ok-way.way.items c.deref-step-items.result.now c.loop-step.step-index
     c.step-item.result c.in_ok-way.ensures.rows c.deref-step-items.ensures.value there in
-    let number : c.number.result ≡ c.step-item.result.node = c.number.ensures.is_it in
-    elim c.if-number-self.branch [
-      | then-number-self+in_ok-push w ↦
-          let ahead : c.loop-step.self.next ≤ c.number.result = w.if-number-self.true in
+    let number : c.number-in-loop-step.result ≡ c.step-item.result.node = c.number-in-loop-step.ensures.is_it in
+    elim c.if-number-self-2.branch [
+      | then-number-self-2+in_ok-push w ↦
+          let ahead : c.loop-step.self.next ≤ c.number-in-loop-step.result = w.if-number-self-2.true in
           rw (add-one, w.self-is) (down_lists c.args.tree.now (nodes_of c.args.list.now)
           (lengths_of c.args.list.now) c.args.self.now.next c.args.target c.loop-step.step-index
           c.loop-step.self.next w.push.new.self.next
@@ -87,16 +87,16 @@ loop-step-preserved c =
           w.deref.ensures.value)
           w.row_of.ensures.accesses w.in_ok-push.ensures.next w.in_ok-push.ensures.numbers w.in_ok-push.ensures.rows
           c.loop-step.invariant)
-      | else-number-self w ↦
-          let behind : c.number.result < c.loop-step.self.next = w.if-number-self.false in
+      | else-number-self-2 w ↦
+          let behind : c.number-in-loop-step.result < c.loop-step.self.next = w.if-number-self-2.false in
           rw (add-one, w.self-is) (down_skips c.args.tree.now (nodes_of c.args.list.now)
           (lengths_of c.args.list.now) c.args.self.now.next c.args.target c.loop-step.step-index
           c.loop-step.self.next c.step-item.result.node
           c.loop-step.self.numbers.items c.loop-step.self.rows.items at (omega arith) c.loop-step.invariant)
     ]
 
-pub returns-clause-next : goal.returns-clause-next
-returns-clause-next c =
+pub returns-2-clause-next : goal.returns-2-clause-next
+returns-2-clause-next c =
     let done : length c.deref-step-items.result.now ≤ c.loop-step.step-index = c.loop-step-test.false in
     let size = way_length c.args.tree.now c.args.target c.in_ok-way.way.items c.deref-step-items.result.now
     c.in_ok-way.ensures.nodes c.deref-step-items.ensures.value in
