@@ -32,8 +32,9 @@ LOOKED_AT = ("/document", "/nodes")
 # How long a round is to take, and after which parts of it the line and the looks come.
 ROUND = 0.25
 LINE_AFTER, LOOKS_AFTER = 0.3, 0.3
-# After a round that was over too early, the next one is taken to last so much of what was thought.
-SOONER = 0.7
+# After a round that was over too early, the next one has so many times as many lists. If it has the most already, it is
+# taken to last so much of what was thought.
+LONGER, SOONER = 2, 0.7
 # How many times a short line is timed: the least time is what it takes by itself.
 TIMED = 3
 NUMBERED = "/n0/n0"
@@ -67,22 +68,36 @@ def look_beside(program: str, count: int, tally: Tally) -> None:
     document = json.dumps({"nodes": store.nodes}).encode()
     with Serving(program, document, any_port=True, command="page") as server, ExitStack() as room:
         clients = [room.enter_context(Client(server.port)) for _ in range(2 + count)]
-        lists, lasts = a_round(clients[0], random)
+        a_round = round_at(clients[0], random)
         were_out = 0
         for number in range(MOST_TIMES):
-            is_out = look_once(store, clients, a_long_line(random, lists), lasts, f"time {number}", tally)
+            line = a_long_line(random, a_round.lists)
+            is_out = look_once(store, clients, line, a_round.lasts, f"time {number}", tally)
             were_out += is_out
-            lasts *= 1 if is_out else SOONER
+            a_round = a_round if is_out else a_round.after_too_early()
             if were_out == TIMES:
                 break
-    tally.blame("all times", None if were_out else "no round had the store when they came")
+    tally.blame("all times", None if were_out else f"no round had the store when they came, and the last was {a_round}")
 
 
-def a_round(client: Client, random: Random) -> tuple[int, float]:
-    """How many lists make a round of about that length, and how long theirs takes."""
+class Round(NamedTuple):
+    """How many lists it has, and how long it is taken to last."""
+
+    lists: int
+    lasts: float
+
+    def after_too_early(self) -> Round:
+        """The next round, if this one was over too early: what was timed may have waited for something else."""
+        if self.lists < MOST_LISTS:
+            return Round(min(MOST_LISTS, LONGER * self.lists), self.lasts)
+        return Round(self.lists, SOONER * self.lasts)
+
+
+def round_at(client: Client, random: Random) -> Round:
+    """A round of about that length."""
     first = min(time_of(client, a_long_line(random, 1)) for _ in range(TIMED))
     lists = min(MOST_LISTS, 1 + int(ROUND / first))
-    return lists, time_of(client, a_long_line(random, lists))
+    return Round(lists, time_of(client, a_long_line(random, lists)))
 
 
 def time_of(client: Client, line: bytes) -> float:
