@@ -15,7 +15,8 @@ from functools import partial
 from pathlib import Path
 
 from sweeps.connections import REPLIES
-from sweeps.growths import MOST_GROWTHS, is_told, library_in, refusing
+from sweeps.growths import MOST_GROWTHS, is_told, refusing
+from sweeps.preloaded import library_of
 from sweeps.program import Ran, Tally, Try, run
 
 TRIED = "growths of calls refused, each alone, and the calls made again"
@@ -83,7 +84,7 @@ def tries(program: str, room: str) -> list[Try]:
     bench = Path(program).resolve().parents[2] / "grove_bench/out/grove_bench"
     if not os.access(bench, os.X_OK):
         return []
-    library = library_in(room)
+    library = library_of("refuse_growth", room)
     alone = [Try(word, partial(refuse_each, bench, library, word, by_calls(calls))) for word, calls in CALLS.items()]
     return alone + [Try(word, partial(refuse_each, bench, library, word, by_sessions())) for word in SESSIONS]
 

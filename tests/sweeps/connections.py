@@ -7,7 +7,6 @@ import errno
 import json
 import os
 import socket
-import subprocess
 import time
 from functools import partial
 from pathlib import Path
@@ -18,6 +17,7 @@ from server import Serving, connected, free_port, talk, talk_in_turn
 from store import Store
 
 from sweeps.documents import EXAMPLES
+from sweeps.preloaded import library_of
 from sweeps.program import DEVICE, Tally, Try, run, until_well
 from sweeps.talks import lines_of, look, note_replies
 
@@ -50,18 +50,9 @@ def tries(program: str, room: str) -> list[Try]:
         Try("clients that leave after some bytes of a reply", partial(leave_in_a_reply, program)),
         Try("clients that never read", partial(never_read, program)),
         Try("a server whose devices fail", partial(failing_devices, program)),
-        Try("connections without a thread", partial(no_threads, program, library_in(room))),
+        Try("connections without a thread", partial(no_threads, program, library_of("refuse_threads", room))),
         Try("another address", partial(another_address, program)),
     ]
-
-
-def library_in(room: str) -> str:
-    """Compiles what refuses threads, to be preloaded."""
-    library = f"{room}/refuse_threads.so"
-    source = Path(__file__).with_name("refuse_threads.c")
-    words = ["cc", "-O1", "-shared", "-fPIC", "-o", library, source, "-ldl"]
-    subprocess.run(words, check=True, stdin=subprocess.DEVNULL)
-    return library
 
 
 def in_pieces(program: str, tally: Tally) -> None:

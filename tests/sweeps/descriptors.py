@@ -7,7 +7,6 @@ import errno
 import json
 import os
 import resource
-import subprocess
 import time
 from contextlib import ExitStack
 from functools import partial
@@ -20,6 +19,7 @@ from sweeps.busy import BUSY, SLOTS, told
 from sweeps.connections import TREE, WEIGHTS
 from sweeps.crowds import is_silent
 from sweeps.documents import EXAMPLES
+from sweeps.preloaded import library_of
 from sweeps.program import Ran, Tally, Try, run
 from sweeps.talks import note_replies
 
@@ -36,7 +36,7 @@ FAILURES = 5
 
 
 def tries(program: str, room: str) -> list[Try]:
-    library = library_in(room)
+    library = library_of("fail_accept", room)
     return [
         Try("ten clients and twelve descriptors", partial(serve_some, program)),
         Try("no descriptor for a connection", partial(serve_nobody, program)),
@@ -45,14 +45,6 @@ def tries(program: str, room: str) -> list[Try]:
         Try("the same with --busy", partial(serve_busy, program, library)),
         Try("another failure", partial(fail, program, library)),
     ]
-
-
-def library_in(room: str) -> str:
-    """Compiles what lets the taking of a connection fail, to be preloaded."""
-    library = f"{room}/fail_accept.so"
-    source = Path(__file__).with_name("fail_accept.c")
-    subprocess.run(["cc", "-O1", "-shared", "-fPIC", "-o", library, source], check=True, stdin=subprocess.DEVNULL)
-    return library
 
 
 def at_most(count: int) -> None:

@@ -15,8 +15,9 @@ from functools import partial
 
 from sweeps.documents import EXAMPLES, Asked, certified_examples, examples, helped, wrong_words
 from sweeps.growths import is_told
+from sweeps.preloaded import library_of
 from sweeps.program import DEVICE, Ran, Tally, Try, because, run
-from sweeps.served_devices import failing, library_in
+from sweeps.served_devices import failing
 
 TRIED = "runs with a device that is closed, full, of another kind, or in pieces"
 NOBODY = 65534
@@ -33,14 +34,15 @@ SILENT = Ran(3, b"", b"")
 
 
 def tries(program: str, room: str) -> list[Try]:
+    library = library_of("fail_device", room)
     fixed = [
         Try("standard output", partial(failing_output, program)),
         Try("standard output that takes some bytes", partial(cut_output, program)),
         Try("why standard output failed", partial(explained_output, program)),
         Try("why standard input failed", partial(explained_input, program)),
-        Try("why a call failed", partial(explained_call, program, library_in(room))),
-        Try("each write of standard output", partial(fail_each, program, library_in(room), "output")),
-        Try("each read of standard input", partial(fail_each, program, library_in(room), "input")),
+        Try("why a call failed", partial(explained_call, program, library)),
+        Try("each write of standard output", partial(fail_each, program, library, "output")),
+        Try("each read of standard input", partial(fail_each, program, library, "input")),
         Try("standard error while there is an answer", partial(unused_errors, program)),
         Try("standard error while there is something to tell", partial(failing_errors, program)),
         Try("standard output and standard error", partial(failing_both, program)),

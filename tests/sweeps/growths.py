@@ -4,12 +4,11 @@ from __future__ import annotations
 
 import contextlib
 import os
-import subprocess
 from functools import partial
-from pathlib import Path
 from typing import Iterator
 
 from sweeps.documents import EXAMPLES, Asked, certified_examples, examples, helped, refused, wrong_words
+from sweeps.preloaded import library_of
 from sweeps.program import MEMORY, Ran, Tally, Try, run
 
 TRIED = "growths refused, each alone"
@@ -18,16 +17,8 @@ MOST_GROWTHS = 20_000
 
 
 def tries(program: str, room: str) -> list[Try]:
-    library = library_in(room)
+    library = library_of("refuse_growth", room)
     return [Try(asked.name, partial(refuse_each, program, library, asked)) for asked in all_asked()]
-
-
-def library_in(room: str) -> str:
-    """Compiles what refuses a growth, to be preloaded."""
-    library = f"{room}/refuse_growth.so"
-    source = Path(__file__).with_name("refuse_growth.c")
-    subprocess.run(["cc", "-O1", "-shared", "-fPIC", "-o", library, source], check=True, stdin=subprocess.DEVNULL)
-    return library
 
 
 def all_asked() -> list[Asked]:

@@ -6,13 +6,12 @@ from __future__ import annotations
 import contextlib
 import json
 import os
-import subprocess
 from functools import partial
-from pathlib import Path
 from typing import Iterable, Iterator
 
 from server import Serving, connected
 
+from sweeps.preloaded import library_of
 from sweeps.program import Tally, Try, short
 
 TRIED = "lines whose growths were counted"
@@ -32,20 +31,12 @@ OTHERS = [[["get", f"/n{number // 1000}", number % 1000 + 1]] for number in rang
 
 
 def tries(program: str, room: str) -> list[Try]:
-    library = library_in(room)
+    library = library_of("count_growths", room)
     batches = (OTHERS[at : at + MOST_LISTS] for at in range(0, len(OTHERS), MOST_LISTS))
     return [
         Try("plans", partial(ask_again, program, library, plan_line, map(plan_line, OTHERS))),
         Try("batches", partial(ask_again, program, library, lambda each: batch_line([each]), map(batch_line, batches))),
     ]
-
-
-def library_in(room: str) -> str:
-    """Compiles what counts growths, to be preloaded."""
-    library = f"{room}/count_growths.so"
-    source = Path(__file__).with_name("count_growths.c")
-    subprocess.run(["cc", "-O1", "-shared", "-fPIC", "-o", library, source], check=True, stdin=subprocess.DEVNULL)
-    return library
 
 
 def plan_line(asked: list) -> bytes:

@@ -7,7 +7,6 @@ from __future__ import annotations
 import json
 import os
 import select
-import subprocess
 import time
 from collections.abc import Callable, Iterator
 from contextlib import ExitStack, contextmanager
@@ -22,6 +21,7 @@ from server import BadServer, Serving
 from store import Store, compact
 from web import Client, Response, post, request
 
+from sweeps.preloaded import library_of
 from sweeps.program import Tally, Try, short
 
 TRIED = "looks, and lines that wait beside them"
@@ -50,16 +50,7 @@ LONGEST = 60.0
 
 def tries(program: str, room: str) -> list[Try]:
     looks = [Try(f"{count} that look", partial(look_beside, program, count)) for count in LOOKERS]
-    return [*looks, Try("looks that come last", partial(look_last, program, library_in(room)))]
-
-
-def library_in(room: str) -> str:
-    """Compiles what holds threads, to be preloaded."""
-    library = f"{room}/hold_threads.so"
-    source = Path(__file__).with_name("hold_threads.c")
-    words = ["cc", "-O1", "-shared", "-fPIC", "-o", library, source, "-ldl"]
-    subprocess.run(words, check=True, stdin=subprocess.DEVNULL)
-    return library
+    return [*looks, Try("looks that come last", partial(look_last, program, library_of("hold_threads", room)))]
 
 
 def look_beside(program: str, count: int, tally: Tally) -> None:

@@ -18,6 +18,7 @@ from store import MOST_LINE
 from web import Client, request
 
 from sweeps.connections import ADD, GET, TREE, WEIGHTS
+from sweeps.preloaded import library_of
 from sweeps.program import Tally, Try
 from sweeps.talks import lines_of
 
@@ -223,7 +224,7 @@ def seen_from_outside(server: Serving) -> int:
 def other_memory(program: str, room: str, tally: Tally) -> None:
     """What the file says is read at each request. If it doesn't say it, or isn't there, its sample alone is left
     out."""
-    library, statm = library_in(room), Path(room, "statm")
+    library, statm = library_of("other_statm", room), Path(room, "statm")
     surroundings = {**os.environ, "LD_PRELOAD": library, "STATM": str(statm)}
     with Both(program, env=surroundings) as server:
         names = set(metrics_at(server.http))
@@ -235,14 +236,6 @@ def other_memory(program: str, room: str, tally: Tally) -> None:
             came = metrics_at(server.http)
             note({MEMORY: None if pages is None else pages * PAGE}, came, f"at {text!r}", tally)
             tally.note(f"the others at {text!r}", None if set(came) - {MEMORY} == names else f"came {sorted(came)}")
-
-
-def library_in(room: str) -> str:
-    """Compiles what has another file in place of the system's, to be preloaded."""
-    library = f"{room}/other_statm.so"
-    source = Path(__file__).with_name("other_statm.c")
-    subprocess.run(["cc", "-O1", "-shared", "-fPIC", "-o", library, source], check=True, stdin=subprocess.DEVNULL)
-    return library
 
 
 def left_looks(program: str, tally: Tally) -> None:

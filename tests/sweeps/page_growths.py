@@ -5,7 +5,6 @@ lost."""
 from __future__ import annotations
 
 import json
-from functools import partial
 
 from pages import after, fault_of_response, lines_in
 from server import NotListening
@@ -13,15 +12,12 @@ from store import Store
 from web import Client
 
 from sweeps.connections import ADD, GET, TEXT, TREE, WEIGHTS
-from sweeps.growths import is_told, library_in, refusing
 from sweeps.page import LOOK, serving
+from sweeps.preloaded import library_of
 from sweeps.program import MEMORY, Ran, Tally, Try
+from sweeps.server_growths import parts_of
 
 TRIED = "growths of a server of pages refused, each alone, and the requests asked after it"
-# No server here takes more growths for these requests.
-MOST_GROWTHS = 20_000
-# Each part has every growth of so many.
-PARTS = 8
 # What shows which lines had an effect: the records and weights, and how many rounds were run.
 LOOKS = [LOOK, ("POST", "/", b'{"batch":[]}')]
 ROWS = [
@@ -41,18 +37,7 @@ ROWS = [
 
 
 def tries(program: str, room: str) -> list[Try]:
-    library = library_in(room)
-    firsts = range(1, PARTS + 1)
-    return [Try(f"each {PARTS}th growth from {at} on", partial(refuse_each, program, library, at)) for at in firsts]
-
-
-def refuse_each(program: str, library: str, first: int, tally: Tally) -> None:
-    for number in range(first, MOST_GROWTHS, PARTS):
-        with refusing(library, number) as (how, ends):
-            ask_all(program, how, f"growth {number} refused", tally)
-            if not is_told(ends):
-                return
-    tally.blame(f"growth {number} refused", "there are still more of them")
+    return parts_of(program, library_of("refuse_growth", room), ask_all)
 
 
 def ask_all(program: str, how: dict, where: str, tally: Tally) -> None:

@@ -6,10 +6,8 @@ from __future__ import annotations
 
 import json
 import os
-import subprocess
 from contextlib import contextmanager
 from functools import partial
-from pathlib import Path
 from typing import Iterator
 
 from server import Serving, talk_in_turn
@@ -18,6 +16,7 @@ from store import Store
 from sweeps.connections import REPLIES, TEXT, TREE
 from sweeps.documents import EXAMPLES
 from sweeps.growths import is_told
+from sweeps.preloaded import library_of
 from sweeps.program import Tally, Try, run
 from sweeps.talks import note_replies
 
@@ -32,21 +31,13 @@ BYTE_BY_BYTE = {"READ_AT_MOST": "1", "WRITE_AT_MOST": "1"}
 
 
 def tries(program: str, room: str) -> list[Try]:
-    library = library_in(room)
+    library = library_of("fail_device", room)
     failing = [
         Try(f"each {PARTS}th {kind} from {first} on", partial(fail_each, program, library, kind, first))
         for kind in ("read", "write")
         for first in range(1, PARTS + 1)
     ]
     return failing + [Try("interrupted reads and writes", partial(interrupt_each, program, library))]
-
-
-def library_in(room: str) -> str:
-    """Compiles what lets a call fail, to be preloaded."""
-    library = f"{room}/fail_device.so"
-    source = Path(__file__).with_name("fail_device.c")
-    subprocess.run(["cc", "-O1", "-shared", "-fPIC", "-o", library, source], check=True, stdin=subprocess.DEVNULL)
-    return library
 
 
 def fail_each(program: str, library: str, kind: str, first: int, tally: Tally) -> None:

@@ -6,46 +6,28 @@ hint."""
 from __future__ import annotations
 
 import json
-from collections.abc import Callable
-from functools import partial
 
 from server import NotListening, Serving, ask_in_turn, connected, talk_in_turn
 from store import Store
 
 from sweeps.connections import REPLIES, TEXT, TREE
-from sweeps.growths import is_told, library_in, refusing
+from sweeps.preloaded import library_of
 from sweeps.program import MEMORY, Ran, Tally, Try
+from sweeps.server_growths import parts_of
 from sweeps.talks import lines_of, note_replies
 from sweeps.verbose import LINES, Telling, arrival, ended, fits, refusals, threadless_line
 
 TRIED = "growths of a server refused, each alone, and the lines asked after it"
-# No server here takes more growths for ten lines.
-MOST_GROWTHS = 20_000
-# Each part has every growth of so many.
-PARTS = 8
 # How long a line on standard error is waited for.
 LONGEST = 20.0
 
-Ask = Callable[[str, dict, str, Tally], None]
-
 
 def tries(program: str, room: str) -> list[Try]:
-    library = library_in(room)
-    ways = [("", ask_twice), (", verbose", tell_twice)]
+    library = library_of("refuse_growth", room)
     return [
-        Try(f"each {PARTS}th growth from {at} on{how}", partial(refuse_each, program, library, at, ask))
-        for how, ask in ways
-        for at in range(1, PARTS + 1)
+        *parts_of(program, library, ask_twice),
+        *parts_of(program, library, tell_twice, ", verbose"),
     ]
-
-
-def refuse_each(program: str, library: str, first: int, ask: Ask, tally: Tally) -> None:
-    for number in range(first, MOST_GROWTHS, PARTS):
-        with refusing(library, number) as (how, ends):
-            ask(program, how, f"growth {number} refused", tally)
-            if not is_told(ends):
-                return
-    tally.blame(f"growth {number} refused", "there are still more of them")
 
 
 def ask_twice(program: str, how: dict, where: str, tally: Tally) -> None:

@@ -8,37 +8,22 @@ from __future__ import annotations
 
 import json
 from concurrent.futures import ThreadPoolExecutor
-from functools import partial
 
 from history import fault_of_history
 from server import NotListening, Serving, talk_in_turn
 
 from sweeps.connections import ADD, GET, TREE
-from sweeps.growths import is_told, library_in, refusing
+from sweeps.preloaded import library_of
 from sweeps.program import MEMORY, Ran, Tally, Try
+from sweeps.server_growths import parts_of
 
 TRIED = "growths of a server refused, each alone, while three clients shared rounds"
 # What each client sends, a line at a time.
 CLIENTS = [[line] * 4 for line in (GET, ADD, ADD)]
-# No server here takes more growths for these lines.
-MOST_GROWTHS = 20_000
-# Each part has every growth of so many.
-PARTS = 8
 
 
 def tries(program: str, room: str) -> list[Try]:
-    library = library_in(room)
-    firsts = range(1, PARTS + 1)
-    return [Try(f"each {PARTS}th growth from {at} on", partial(refuse_each, program, library, at)) for at in firsts]
-
-
-def refuse_each(program: str, library: str, first: int, tally: Tally) -> None:
-    for number in range(first, MOST_GROWTHS, PARTS):
-        with refusing(library, number) as (how, ends):
-            ask_at_once(program, how, f"growth {number} refused", tally)
-            if not is_told(ends):
-                return
-    tally.blame(f"growth {number} refused", "there are still more of them")
+    return parts_of(program, library_of("refuse_growth", room), ask_at_once)
 
 
 def ask_at_once(program: str, how: dict, where: str, tally: Tally) -> None:

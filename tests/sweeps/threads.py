@@ -12,12 +12,10 @@ from __future__ import annotations
 import contextlib
 import json
 import os
-import subprocess
 import threading
 from concurrent.futures import ThreadPoolExecutor
 from dataclasses import dataclass
 from functools import partial
-from pathlib import Path
 from random import Random
 from typing import Callable, Iterator
 
@@ -28,6 +26,7 @@ from server import SECONDS, Serving, talk
 from store import compact
 from tree import Tree
 
+from sweeps.preloaded import library_of
 from sweeps.program import Enough, Tally, Try, run, short, until_well
 
 TRIED = "batches and new weights by some number of workers, with their threads counted"
@@ -43,7 +42,7 @@ STAR = {"nodes": [ROOT] + [{"parent": 0, "name": f"n{number}", "weight": 1} for 
 
 
 def tries(program: str, room: str) -> list[Try]:
-    library = library_in(room)
+    library = library_of("count_threads", room)
     ways = {
         "run": (run_batches, SHAPES),
         "lines": (answer_lines, ROUND_SHAPES),
@@ -58,15 +57,6 @@ def tries(program: str, room: str) -> list[Try]:
     parts.append(Try("too few steps for a thread", partial(run_alone, program, library)))
     parts.append(Try("a round of just so many steps", partial(answer_of_steps, program, library)))
     return parts + [Try(f"reweigh by {workers}", partial(reweigh, program, library, workers)) for workers in WORKERS]
-
-
-def library_in(room: str) -> str:
-    """Compiles what counts threads, to be preloaded."""
-    library = f"{room}/count_threads.so"
-    source = Path(__file__).with_name("count_threads.c")
-    words = ["cc", "-O1", "-shared", "-fPIC", "-o", library, source, "-ldl"]
-    subprocess.run(words, check=True, stdin=subprocess.DEVNULL)
-    return library
 
 
 def batch_of(shape: str, seed: object) -> dict:

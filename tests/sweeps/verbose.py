@@ -10,7 +10,6 @@ import re
 import resource
 import socket
 import struct
-import subprocess
 import tempfile
 import time
 from contextlib import ExitStack
@@ -24,9 +23,8 @@ from store import MOST_LINE, Store, compact
 from web import Client, post
 
 from sweeps.connections import ADD, GET, TREE, WEIGHTS, flood
-from sweeps.connections import library_in as thread_library_in
 from sweeps.descriptors import failing
-from sweeps.descriptors import library_in as accept_library_in
+from sweeps.preloaded import library_of
 from sweeps.program import Tally, Try, short, until_well
 from sweeps.talks import lines_of, note_replies
 
@@ -65,7 +63,7 @@ RESET = struct.pack("ii", 1, 0)
 
 
 def tries(program: str, room: str) -> list[Try]:
-    accepts, threads, clock = accept_library_in(room), thread_library_in(room), clock_library_in(room)
+    accepts, threads, clock = (library_of(name, room) for name in ("fail_accept", "refuse_threads", "fast_clock"))
     return [
         Try("one connection after the other", partial(in_turn, program, ())),
         Try("the same as objects", partial(in_turn, program, ("--log", "json"))),
@@ -92,14 +90,6 @@ def tries(program: str, room: str) -> list[Try]:
         Try("standard error that fails", partial(no_errors, program)),
         Try("without --verbose", partial(quiet, program)),
     ]
-
-
-def clock_library_in(room: str) -> str:
-    """Compiles what lets the clock go faster, to be preloaded."""
-    library = f"{room}/fast_clock.so"
-    source = Path(__file__).with_name("fast_clock.c")
-    subprocess.run(["cc", "-O1", "-shared", "-fPIC", "-o", library, source], check=True, stdin=subprocess.DEVNULL)
-    return library
 
 
 class Telling(Serving):
