@@ -151,10 +151,9 @@ def valgrind(_given: Given, room: Path, tally: Tally) -> None:
 def buffers(_given: Given, room: Path, tally: Tally) -> None:
     """Each call with no room, one byte too little, just enough and 1 GiB; with each allocation failed in turn; and
     again and again."""
-    note_well(tally, "compiled", compiled("tests/library/buffers.c", room, "libgrove.a", "-O1", *WRAPS))
+    compile_trial("buffers", room, tally)
     for name in ("settings.json", "orders-history.json", "two-leaves-certified.json", "stock-let-go-early.json"):
-        ran = called(room / "program", EXAMPLES / name)
-        note_well(tally, name, ran)
+        note_well(tally, name, called(room / "program", EXAMPLES / name))
 
 
 def handles(_given: Given, room: Path, tally: Tally) -> None:
