@@ -8,6 +8,7 @@ pub(crate) enum Form {
     Parent,
     Text,
     Path,
+    Weight,
     Short,
     Signed,
     Amount,
@@ -39,7 +40,8 @@ impl Form {
             "parent" => Form::Parent,
             "name" | "node" => Form::Text,
             "path" => Form::Path,
-            "weight" | "access" | "job" => Form::Short,
+            "weight" => Form::Weight,
+            "access" | "job" => Form::Short,
             "value" | "number" => Form::Signed,
             "above" | "held" | "first" | "last" | "own" => Form::Amount,
             "length" => Form::Length,
@@ -87,7 +89,7 @@ impl Form {
         match self {
             Form::Version => matches!(value.as_u64(), Some(1 | 2)),
             Form::Parent => value.is_null() || is_short,
-            Form::Short => is_short,
+            Form::Weight | Form::Short => is_short,
             Form::Signed => value.is_i64(),
             Form::Amount | Form::Length => value.is_u64(),
             Form::Text | Form::Path => value.is_string(),
@@ -100,18 +102,20 @@ impl Form {
         }
     }
 
-    /// What it has to be.
+    /// What it has to be. The range may be smaller than that of the form: a weight of 0 is refused by a later rule.
     pub(crate) fn wanted(self) -> &'static str {
         match self {
             Form::Version => "1 or 2",
             Form::Parent => "null or the number of an earlier row",
             Form::Text => "a string",
             Form::Path => r#"a string, as "/a""#,
+            Form::Weight | Form::Length => "a whole number from 1 to 1000",
             Form::Short => "a whole number from 0 to 4294967295",
-            Form::Signed => "a whole number of 64 bits",
-            Form::Amount => "a whole number of 64 bits, 0 or more",
-            Form::Length => "a whole number from 1 to 1000",
-            Form::Reply => r#"a whole number, "ok", "range" or "short""#,
+            Form::Signed => "a whole number from -9223372036854775808 to 9223372036854775807",
+            Form::Amount => "a whole number from 0 to 1099511627776",
+            Form::Reply => {
+                r#""ok", "range", "short" or a whole number from -9223372036854775808 to 9223372036854775807"#
+            }
             Form::Array => "an array",
             Form::Lists => "an array of lists",
             Form::Access => r#"an access, as ["get","/a"] or ["add","/a",1]"#,

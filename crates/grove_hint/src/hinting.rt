@@ -90,7 +90,7 @@ pub(crate) fn fault_hint(alloc: Global, subject: Subject<'_>, fault: Fault) -> T
         Fault::Plan(fault) | Fault::Proof(ProofFault::Plan(fault)) => {
             plan_hint(alloc, subject, None, fault)
         }
-        Fault::Proof(fault) => flow_hint(alloc, fault),
+        Fault::Proof(fault) => flow_hint(alloc, subject, fault),
         Fault::Replay(ReplayFault::BadPlan(job, fault)) => {
             plan_hint(alloc, subject, Some(job), fault)
         }

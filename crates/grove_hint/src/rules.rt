@@ -10,6 +10,10 @@ use grove_wire::{Part, Place, StandingFault};
 use serde_json::Value;
 use std::alloc::Global;
 
+/// Which nodes are forced.
+const FORCED: &str = "a node is forced if an access is at or below it, \
+    and no node below it has all accesses at or below it";
+
 /// The rule that a plan breaks, and where; it is a job's, or the only one of what is refused.
 pub(crate) fn plan_hint(
     alloc: Global,
@@ -67,6 +71,10 @@ fn step_hint(
         PlanFault::Relock(_) => format!(in alloc;
             "{spot} locks {path} again, but a node is locked only once"
         ),
+        PlanFault::ParentNotHeld(_) if path.0 == "/" => format!(in alloc;
+            "{spot} locks the root {path} after another node; it has no parent, so a plan that locks it \
+             has to lock it first"
+        ),
         PlanFault::ParentNotHeld(_) => format!(in alloc;
             "{spot} locks {path} while its parent isn't held; only the first lock needs no parent"
         ),
@@ -114,13 +122,11 @@ fn is_word(step: &Value, word: &str) -> bool {
 }
 
 /// Why a flow doesn't show that its plan is least.
-pub(crate) fn flow_hint(alloc: Global, fault: ProofFault) -> Told {
+pub(crate) fn flow_hint(alloc: Global, subject: Subject<'_>, fault: ProofFault) -> Told {
     let (row, broken) = match fault {
-        ProofFault::Rows(row) => (
-            row,
-            "should be the next forced node, in the tree's order: one that is above an accessed node, \
-             and not above the lowest node that has all the accesses at or below it",
-        ),
+        ProofFault::Rows(row) => {
+            return stranger_hint(alloc, subject.items(Part::Flow, None), row);
+        }
         ProofFault::Sign(row) => (
             row,
             "has an amount where none may be: the first row has no \"above\" and no \"held\", \
@@ -145,6 +151,16 @@ pub(crate) fn flow_hint(alloc: Global, fault: ProofFault) -> Told {
         ProofFault::Plan(_) | ProofFault::Memory => return no_known_fault(alloc),
     };
     format!(in alloc; "flow {row} {broken}")
+}
+
+/// That the row isn't that of the next forced node, or isn't there.
+fn stranger_hint(alloc: Global, rows: &[Value], row: u32) -> Told {
+    let (at, next) = (row as usize, "the next forced node in the tree's order");
+    if at >= rows.len() {
+        return format!(in alloc; "flow {row} is missing, the row of {next}; {FORCED}");
+    }
+    let path = path_at(rows, at);
+    format!(in alloc; "flow {row} is of {path}, which isn't {next}; {FORCED}")
 }
 
 /// Why an event may not happen.

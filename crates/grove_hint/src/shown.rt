@@ -60,10 +60,18 @@ impl fmt::Display for Described<'_> {
             Value::String(text) => write!(f, "the string {}", Quoted(text)),
             Value::Array(items) => write!(f, "an array of length {}", items.len()),
             Value::Object(_) => f.write_str("an object"),
+            value if is_minus_zero(value) => f.write_str("-0, which is read as a float"),
             value if value.is_f64() => {
                 f.write_str("a number with a fraction or an exponent, or beyond 64 bits")
             }
             value => write!(f, "{value}"),
         }
     }
+}
+
+/// Is the value a zero with a minus sign? It has no fraction, and is a float all the same.
+fn is_minus_zero(value: &Value) -> bool {
+    value
+        .as_f64()
+        .is_some_and(|it| it == 0.0 && it.is_sign_negative())
 }

@@ -39,14 +39,15 @@ fn fault_of_line(alloc: Global, at: &LineFault) -> Result<String, AllocError> {
         ),
         Reason::NotText => format!(in alloc; "line {number} is not UTF-8"),
         Reason::BadName => format!(in alloc;
-            "line {number}: \"{about}\" is no path; it is \"/\", or names of a to z, 0 to 9, _ and - with a slash before each"
+            "line {number}: \"{about}\" is no path; it is \"/\", or names of 1 to 32 of a to z, 0 to 9, _ and - \
+             with a slash before each"
         ),
         Reason::TooDeep => format!(in alloc; "line {number}: \"{about}\" has more than 32 names"),
         Reason::BadWeight => format!(in alloc;
-            "line {number}: the weight \"{about}\" is no number from 1 to 1000"
+            "line {number}: the weight \"{about}\" is no whole number from 1 to 1000"
         ),
         Reason::BadValue => format!(in alloc;
-            "line {number}: the value \"{about}\" is no whole number of 64 bits"
+            "line {number}: the value \"{about}\" is no whole number from -9223372036854775808 to 9223372036854775807"
         ),
         Reason::TwiceNamed => format!(in alloc;
             "line {number}: an earlier line has the path \"{about}\""
