@@ -1,4 +1,5 @@
-"""`grove save` at a server, at none, and at ones that send no document: the file is theirs, or as it was."""
+"""`grove save` at a server, at none, and at ones that send no document: the file is theirs, or as it was. What is no
+response is refused as soon as its first bytes have come, though the server waits for more."""
 
 from __future__ import annotations
 
@@ -7,6 +8,8 @@ import json
 import os
 import socket
 import threading
+import time
+from contextlib import suppress
 from functools import partial
 from pathlib import Path
 
@@ -19,6 +22,16 @@ TRIED = "runs of the client that saves"
 SECONDS = 60.0
 SAVED, REFUSED = Ran(0, b"", b""), 1
 OLD = b"what was there before\n"
+NOT_HTTP = Ran(REFUSED, b"refused not-http\n", b"")
+# What no response begins with.
+NO_RESPONSES = (
+    *(b"x", b"\n", 9000 * b"x", b'{"error":"shape"}\n'),
+    *(b"http/1.1 200 OK\r\n", b"HTTP 1", b"HTTQ", b"HTTP/2 200\r\n"),
+)
+# Within how many seconds that is refused: long before `save` gives up a server that sends nothing.
+SOON = 15.0
+# How long a server pauses between two pieces, and before the first if it is slow.
+PAUSE, SLOW = 0.02, 3.0
 DOCUMENT = b'{"nodes":[{"name":"","parent":null,"value":3,"weight":2}],"version":1}'
 
 
@@ -29,6 +42,9 @@ def tries(program: str, room: str) -> list[Try]:
         Try("responses that have a document", partial(documents, program, room)),
         Try("responses that have none", partial(others, program, room)),
         Try("responses that are cut", partial(cut, program, room)),
+        Try("responses in pieces", partial(pieces, program, room)),
+        Try("a port of sessions", partial(sessions, program, room)),
+        Try("no responses, and then nothing", partial(silent, program, room)),
         Try("files that can't be written", partial(unwritable, program, room)),
     ]
 
@@ -103,10 +119,28 @@ class Canned:
                 if not piece:
                     break
                 self.head += piece
-            try:
-                connection.sendall(self.text)
-            except OSError:
-                pass
+            with suppress(OSError):
+                self.answer(connection)
+
+    def answer(self, connection: socket.socket) -> None:
+        connection.sendall(self.text)
+
+
+class Dripping(Canned):
+    """One that sends these pieces, after a while. If it doesn't close then, it waits until its client does."""
+
+    def __init__(self, *texts: bytes, after: float = 0.0, closes: bool = False):
+        super().__init__(b"".join(texts))
+        self.texts, self.after, self.closes = texts, after, closes
+
+    def answer(self, connection: socket.socket) -> None:
+        connection.setsockopt(socket.IPPROTO_TCP, socket.TCP_NODELAY, 1)
+        time.sleep(self.after)
+        for text in self.texts:
+            connection.sendall(text)
+            time.sleep(PAUSE)
+        if not self.closes:
+            connection.recv(1)
 
 
 def response(body: bytes, *lines: bytes, status: bytes = b"200 OK") -> bytes:
@@ -164,6 +198,46 @@ def cut(program: str, room: str, tally: Tally) -> None:
         with Canned(text[: len(text) - len(DOCUMENT) + count]) as server:
             tally.compare(f"{count} bytes", save(program, server.port, file), DEVICE)
         note_folder(tally, "as it was", file, OLD)
+
+
+def pieces(program: str, room: str, tally: Tally) -> None:
+    """A document is taken if the first bytes of its response come one at a time, at once or after a while."""
+    text = sized(DOCUMENT)
+    for after in (0.0, SLOW):
+        file = fresh(room, "pieces")
+        with Dripping(*each_byte(text[:20]), text[20:], after=after, closes=True) as server:
+            tally.compare(f"after {after:g} s", save(program, server.port, file), SAVED)
+        note_folder(tally, "the file", file, DOCUMENT)
+
+
+def each_byte(text: bytes) -> list[bytes]:
+    return [text[at : at + 1] for at in range(len(text))]
+
+
+def sessions(program: str, room: str, tally: Tally) -> None:
+    """A server of sessions answers each line of the request, and waits for more."""
+    for further in ((), ("--hints",)):
+        file = fresh(room, "sessions")
+        with Serving(program, TREE, further=further) as server:
+            note_refused(program, server.port, file, f"{further}", tally)
+
+
+def silent(program: str, room: str, tally: Tally) -> None:
+    """Bytes that begin no response, whole or one at a time, from a server that says nothing behind them."""
+    for text in NO_RESPONSES:
+        for texts in ((text,), each_byte(text[:10])):
+            file = fresh(room, "silent")
+            with Dripping(*texts) as server:
+                note_refused(program, server.port, file, f"{text[:20]!r} in {len(texts)} pieces", tally)
+
+
+def note_refused(program: str, port: int, file: Path, what: str, tally: Tally) -> None:
+    """What comes is refused soon, and the file is as it was."""
+    began = time.monotonic()
+    tally.compare(what, save(program, port, file), NOT_HTTP)
+    took = time.monotonic() - began
+    tally.note("how soon", None if took < SOON else f"{what}: it took {took:.1f} s")
+    note_folder(tally, "as it was", file, OLD)
 
 
 def unwritable(program: str, room: str, tally: Tally) -> None:

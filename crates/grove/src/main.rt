@@ -27,6 +27,7 @@ mod hinting;
 mod output;
 mod replacing;
 mod response;
+mod response_reader;
 mod saving;
 mod server;
 mod serving;

@@ -6,7 +6,7 @@ use grove_wire::{WireFault, read_document, read_tree};
 use std::alloc::{AllocError, Global};
 
 /// How the first line of a response begins.
-const HTTP_BEGINS: &str = "HTTP/1.";
+pub const HTTP_BEGINS: &str = "HTTP/1.";
 
 /// Why a response has no document.
 #[derive(Drop)]

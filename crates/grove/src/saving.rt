@@ -9,6 +9,7 @@ use crate::file_source::FileSource;
 use crate::output::tell;
 use crate::replacing::replace;
 use crate::response::{NoDocument, document_in};
+use crate::response_reader::ResponseReader;
 use crate::server::{Loss, loss_by};
 use grove_serve::Host;
 use grove_session::{ReadFault, Sink, WriterSink, read_whole, write_whole};
@@ -55,7 +56,7 @@ pub fn save<R: Host + Files + Net<Listener = TcpListener, Stream = TcpStream>, O
     }
 }
 
-/// All that the server sends when it is asked for its document.
+/// What the server sends when it is asked for its document: all of it, or what shows that it is no response.
 fn fetched<R: Host + Net<Listener = TcpListener, Stream = TcpStream>>(
     rt: &R,
     alloc: Global,
@@ -68,11 +69,11 @@ fn fetched<R: Host + Net<Listener = TcpListener, Stream = TcpStream>>(
     let request = format!(in alloc;
         "GET /document HTTP/1.1\r\nHost: {server}\r\nConnection: close\r\n\r\n"
     )?;
-    // One that doesn't speak HTTP may wait for more.
+    // A server may send nothing for good.
     let _limited = stream.set_read_timeout(Some(Duration::from_secs(MOST_SECONDS)));
     // A server that takes no more of the request may have answered all the same.
     let _sent = write_whole(&mut WriterSink::new(&stream), request.as_bytes());
-    let mut source = FileSource::new(&stream);
+    let mut source = FileSource::new(ResponseReader::new(&stream));
     match read_whole(alloc, &mut source, MOST_BYTES) {
         Ok(response) => Ok(response),
         Err(ReadFault::Memory) => Err(Stop::Memory),
