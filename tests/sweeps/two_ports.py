@@ -11,7 +11,7 @@ from functools import partial
 
 from server import HOST, Serving, connected
 from store import Store
-from web import Client, request
+from web import Client, request, responses_in
 
 from sweeps.connections import ADD, GET, TREE
 from sweeps.metrics import Both, metrics_at
@@ -27,6 +27,15 @@ ROOM = 8
 SOON, LOOKS = 0.1, 20
 LONGEST = 60.0
 HEALTHY = b'{"status":"ok"}\n'
+RECEIVED = 'grove_received_bytes_total{protocol="http"}'
+# Requests for the state of a server, whose connections would stay open if they had a slot, and others.
+STATES = (
+    *[request(method, path) for method in ("GET", "HEAD") for path in ("/health", "/health?x", "/metrics")],
+    request("GET", "/health", None, "connection: keep-alive"),
+    request("GET", "/health", None, "connection: close"),
+    b"GET /health HTTP/1.0\r\n\r\n",
+    b"GET /health HTTP/1.0\r\nconnection: keep-alive\r\n\r\n",
+)
 # The most nodes of a tree.
 NODES = 4096
 
@@ -43,6 +52,7 @@ def tries(program: str, room: str) -> list[Try]:
         Try("the state beside slow clients", partial(state_beside_slow, program, ())),
         Try("the same with --busy", partial(state_beside_slow, program, ("--busy",))),
         Try("the same at a page", partial(state_beside_slow_pages, program)),
+        Try("the last response of a connection without a slot", partial(last_response, program)),
         Try("who waits without a slot", partial(waits_without_slot, program)),
         Try("who is turned away without a slot", partial(turned_away, program)),
     ]
@@ -195,6 +205,24 @@ def late_state(port: int, tally: Tally) -> str | None:
         is_well = response.status == 200 and (turn % 3 == 1 or response.body == HEALTHY)
         tally.note(path, None if is_well else f"came {response}")
     return f"the latest took {latest:.3f} s" if latest > SOON else None
+
+
+def last_response(program: str, tally: Tally) -> None:
+    """A response without a slot says that the connection ends, whatever the request says, and nothing comes behind it.
+    All bytes of the request are counted."""
+    with Both(program, "--http-seats", "1") as server, ExitStack() as stack:
+        take_slots(stack, server.http, 1, b"POST / HTTP/1.1\r\n")
+        before = metrics_at(server.http)[RECEIVED]
+        for text in STATES:
+            with connected(server.http) as client:
+                client.sendall(text + request("GET", "/health"))
+                came = b"".join(iter(partial(client.recv, 1000), b""))
+            found = [(each.status, each.fields.get(b"connection")) for each in responses_in(came, text[:4] == b"HEAD")]
+            tally.note(f"{text!r}", None if found == [(200, b"close")] else f"came {found}")
+            after = metrics_at(server.http)[RECEIVED]
+            counted, wanted = after - before, len(text) + len(request("GET", "/metrics"))
+            tally.note(f"{text!r}", None if counted == wanted else f"wanted {wanted} bytes; came {counted}")
+            before = after
 
 
 def waits_without_slot(program: str, tally: Tally) -> None:

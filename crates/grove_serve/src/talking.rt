@@ -20,6 +20,12 @@ use std::time::Duration;
 /// How many seconds a client without a slot may take to read a part of its response.
 const LONGEST_WRITE: u64 = 1;
 
+/// The field of a connection's last request. The response to it has this field too.
+const CLOSE: &[u8] = b"connection: close\r\n";
+
+/// The length of the empty line behind the fields.
+const EMPTY_LINE: u64 = 2;
+
 /// A connection that was accepted.
 #[derive(Drop)]
 pub struct Caller {
@@ -153,7 +159,8 @@ fn answer_requests<'a, B: Opening, R: Host>(
     }
 }
 
-/// The request of so many bytes that has come over the stream, from a connection without a slot.
+/// The request of so many bytes that has come over the stream, from a connection without a slot. It is read as if it
+/// asked that the connection ends, since that ends behind it.
 fn answer_state<'a, B: Opening, R: Host>(
     rt: &R,
     desk: &'a Desk<B>,
@@ -162,7 +169,9 @@ fn answer_state<'a, B: Opening, R: Host>(
     length: u64,
 ) {
     let front = ServedDesk::new(desk, guest, stream);
-    let mut reader = guest.reader(stream).take(length);
+    let fields = guest.reader(stream).take(length.saturating_sub(EMPTY_LINE));
+    let end = guest.reader(stream).take(EMPTY_LINE);
+    let mut reader = fields.chain(CLOSE).chain(end);
     let _limited = stream.set_write_timeout(Some(Duration::from_secs(LONGEST_WRITE)));
     let ending = match serve_site(rt, &front, guest, &mut reader, stream) {
         Ok(ended) => Ending::of_requests(ended, None, false),
