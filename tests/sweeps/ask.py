@@ -8,12 +8,12 @@ import json
 import os
 import socket
 import struct
-import threading
 from functools import partial
 
 from server import HOST, Serving, free_port
 from store import Store, compact
 
+from sweeps.canned import Canned
 from sweeps.connections import ADD, REPLIES, TEXT, TREE, WEIGHTS
 from sweeps.program import DEVICE, Ran, Tally, Try, because, run
 from sweeps.talks import lines_of, look, note_replies
@@ -25,7 +25,6 @@ OK, REFUSED = 0, 1
 MOST_HINTS = 100
 # A line has at most so many bytes.
 MOST_BYTES = 1_048_576
-SECONDS = 60.0
 
 
 def tries(program: str, room: str) -> list[Try]:
@@ -101,7 +100,7 @@ def hints(program: str, tally: Tally) -> None:
         ran = ask(program, server.port, lines[0])
         tally.compare("without hints", ran, Ran(REFUSED, b'{"error":"shape"}\n', b""))
         tally.note("no hint", None if ran.hint == b"" else f"came {ran.hint!r}")
-    with Canned(b'{"error":"a\\u001b[31m","hint":"b\\u001b[31m\\u000ac"}\n') as canned:
+    with Replying(b'{"error":"a\\u001b[31m","hint":"b\\u001b[31m\\u000ac"}\n') as canned:
         ran = ask(program, canned.port, lines[0])
         is_plain = ran.hint.startswith(b"hint: b") and b"\x1b" not in ran.hint
         tally.note("a hint that a terminal would act upon", None if is_plain else f"came {ran!r} {ran.hint!r}")
@@ -136,28 +135,15 @@ def nobody(program: str, tally: Tally) -> None:
     tally.compare("explained", ask(program, port, "--explain", text=ADD), wanted)
 
 
-class Canned:
+class Replying(Canned):
     """A server that reads a line for each of some texts, sends that text, and closes in the end."""
 
     def __init__(self, *texts: bytes):
+        super().__init__()
         self.texts = texts
-        self.listener = socket.create_server((HOST, 0))
-        self.port = self.listener.getsockname()[1]
-        self.thread = threading.Thread(target=self.serve)
 
-    def __enter__(self) -> Canned:
-        self.thread.start()
-        return self
-
-    def __exit__(self, *_) -> None:
-        self.listener.close()
-        self.thread.join(SECONDS)
-
-    def serve(self) -> None:
-        self.listener.settimeout(SECONDS)
-        connection, _ = self.listener.accept()
-        with connection, connection.makefile("rb") as lines:
-            connection.settimeout(SECONDS)
+    def say(self, connection: socket.socket) -> None:
+        with connection.makefile("rb") as lines:
             for text in self.texts:
                 if lines.readline():
                     connection.sendall(text)
@@ -168,7 +154,7 @@ def lost(program: str, tally: Tally) -> None:
     text = 3 * ADD
     for texts in ((), (b"",), (b'{"a',), (b'{"a":1}\n', b'{"b'), (b'{"a":1}\n', b'{"b":2}\n')):
         whole = b"".join(reply for reply in texts if reply.endswith(b"\n"))
-        with Canned(*texts) as server:
+        with Replying(*texts) as server:
             tally.compare(f"{texts!r}", ask(program, server.port, text=text), Ran(3, whole, b"device\n"))
 
 
@@ -179,7 +165,7 @@ def explained(program: str, tally: Tally) -> None:
     long = "no reply of the server at {}: more than a line came for one"
     http = "no reply of the server at {}: it speaks HTTP"
     for text, reason in ((b"", lose), (b'{"a', lose), (b"{}\n{}\n", long), (b"HTTP/1.1 400 Bad Request\r\n\r\n", http)):
-        with Canned(text) as server:
+        with Replying(text) as server:
             wanted = because(reason.format(f"{HOST}:{server.port}"))
             tally.compare(f"{text!r}", ask(program, server.port, "--explain", text=ADD), wanted)
     with Serving(program, TREE, command="page") as server:
@@ -193,15 +179,11 @@ def explained(program: str, tally: Tally) -> None:
 class Broken(Canned):
     """A server that reads a line, and resets the connection."""
 
-    def serve(self) -> None:
-        self.listener.settimeout(SECONDS)
-        connection, _ = self.listener.accept()
-        connection.settimeout(SECONDS)
+    def say(self, connection: socket.socket) -> None:
         # Reset between two writes, the client would learn of it by the second, and find no more than an end.
         while (text := connection.recv(1 << 16)) and not text.endswith(b"\n"):
             pass
         connection.setsockopt(socket.SOL_SOCKET, socket.SO_LINGER, struct.pack("ii", 1, 0))
-        connection.close()
 
 
 def streams(program: str, tally: Tally) -> None:
@@ -224,6 +206,6 @@ def exact(program: str, tally: Tally) -> None:
     odd = (b" \t\x00\xff\r\n", b"\n", b'{"error":"busy"}\n', b'{"error" :1}\n', b"x" * 100_000 + b"\n")
     for replies in ((reply,) for reply in odd):
         status = REFUSED if replies[0].startswith(b'{"error":') else OK
-        with Canned(*replies) as server:
+        with Replying(*replies) as server:
             came = ask(program, server.port, text=len(replies) * ADD)
             tally.compare(f"{replies[0][:40]!r}", came, Ran(status, b"".join(replies), b""))

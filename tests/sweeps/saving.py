@@ -7,7 +7,6 @@ import errno
 import json
 import os
 import socket
-import threading
 import time
 from contextlib import suppress
 from functools import partial
@@ -15,11 +14,11 @@ from pathlib import Path
 
 from server import HOST, Serving, free_port
 
+from sweeps.canned import Canned
 from sweeps.connections import TREE
 from sweeps.program import DEVICE, Ran, Tally, Try, because, run
 
 TRIED = "runs of the client that saves"
-SECONDS = 60.0
 SAVED, REFUSED = Ran(0, b"", b""), 1
 OLD = b"what was there before\n"
 NOT_HTTP = Ran(REFUSED, b"refused not-http\n", b"")
@@ -92,48 +91,34 @@ def nobody(program: str, room: str, tally: Tally) -> None:
     note_folder(tally, "as it was", file, OLD)
 
 
-class Canned:
+class Responding(Canned):
     """A server that reads a request's head, sends these bytes, and closes."""
 
     def __init__(self, text: bytes):
+        super().__init__()
         self.text, self.head = text, b""
-        self.listener = socket.create_server((HOST, 0))
-        self.port = self.listener.getsockname()[1]
-        self.thread = threading.Thread(target=self.serve)
 
-    def __enter__(self) -> Canned:
-        self.thread.start()
-        return self
+    def say(self, connection: socket.socket) -> None:
+        while b"\r\n\r\n" not in self.head:
+            piece = connection.recv(4096)
+            if not piece:
+                break
+            self.head += piece
+        with suppress(OSError):
+            self.respond(connection)
 
-    def __exit__(self, *_) -> None:
-        self.listener.close()
-        self.thread.join(SECONDS)
-
-    def serve(self) -> None:
-        self.listener.settimeout(SECONDS)
-        connection, _ = self.listener.accept()
-        with connection:
-            connection.settimeout(SECONDS)
-            while b"\r\n\r\n" not in self.head:
-                piece = connection.recv(4096)
-                if not piece:
-                    break
-                self.head += piece
-            with suppress(OSError):
-                self.answer(connection)
-
-    def answer(self, connection: socket.socket) -> None:
+    def respond(self, connection: socket.socket) -> None:
         connection.sendall(self.text)
 
 
-class Dripping(Canned):
+class Dripping(Responding):
     """One that sends these pieces, after a while. If it doesn't close then, it waits until its client does."""
 
     def __init__(self, *texts: bytes, after: float = 0.0, closes: bool = False):
         super().__init__(b"".join(texts))
         self.texts, self.after, self.closes = texts, after, closes
 
-    def answer(self, connection: socket.socket) -> None:
+    def respond(self, connection: socket.socket) -> None:
         connection.setsockopt(socket.IPPROTO_TCP, socket.TCP_NODELAY, 1)
         time.sleep(self.after)
         for text in self.texts:
@@ -155,7 +140,7 @@ def documents(program: str, room: str, tally: Tally) -> None:
     """A document is taken however its head is written; it's asked for as a client of HTTP asks."""
     for text in (sized(DOCUMENT), response(DOCUMENT, b"Server: x", b"content-length:%d" % len(DOCUMENT))):
         file = fresh(room, "document")
-        with Canned(text) as server:
+        with Responding(text) as server:
             tally.compare(f"{text!r}", save(program, server.port, file), SAVED)
             place = f"{HOST}:{server.port}"
             wanted = f"GET /document HTTP/1.1\r\nHost: {place}\r\nConnection: close\r\n\r\n".encode()
@@ -184,7 +169,7 @@ def others(program: str, room: str, tally: Tally) -> None:
         (sized(b" " * 4_194_305), b"limit whole"),
     ):
         file = fresh(room, "other")
-        with Canned(text) as server:
+        with Responding(text) as server:
             wanted = Ran(REFUSED, b"refused " + fault + b"\n", b"")
             tally.compare(f"{text[:60]!r}", save(program, server.port, file), wanted)
         note_folder(tally, "as it was", file, OLD)
@@ -195,7 +180,7 @@ def cut(program: str, room: str, tally: Tally) -> None:
     for count in (0, 1, len(DOCUMENT) - 1):
         text = sized(DOCUMENT)
         file = fresh(room, "cut")
-        with Canned(text[: len(text) - len(DOCUMENT) + count]) as server:
+        with Responding(text[: len(text) - len(DOCUMENT) + count]) as server:
             tally.compare(f"{count} bytes", save(program, server.port, file), DEVICE)
         note_folder(tally, "as it was", file, OLD)
 
@@ -243,17 +228,17 @@ def note_refused(program: str, port: int, file: Path, what: str, tally: Tally) -
 def unwritable(program: str, room: str, tally: Tally) -> None:
     """A folder that isn't there, a file that is a folder, and a name beside it that is one."""
     gone = Path(room) / "nowhere" / "kept.json"
-    with Canned(sized(DOCUMENT)) as server:
+    with Responding(sized(DOCUMENT)) as server:
         wanted = because(f"cannot save {gone}", errno.ENOENT)
         tally.compare("no folder", save(program, server.port, gone, "--explain"), wanted)
     folder = fresh(room, "folder", None)
     folder.mkdir()
-    with Canned(sized(DOCUMENT)) as server:
+    with Responding(sized(DOCUMENT)) as server:
         tally.compare("a folder", save(program, server.port, folder), DEVICE)
     tally.note("nothing beside it", None if list(folder.parent.iterdir()) == [folder] else "something")
     file = fresh(room, "beside")
     beside = Path(f"{file}.new")
     beside.mkdir()
-    with Canned(sized(DOCUMENT)) as server:
+    with Responding(sized(DOCUMENT)) as server:
         tally.compare("a folder beside it", save(program, server.port, file), DEVICE)
     tally.note("as it was", None if file.read_bytes() == OLD else "changed")
