@@ -1,5 +1,6 @@
 -- Words that are an order are no second order, and what was found is what they ask for.
-use Rattle.std.proofs.Common.{◌≡◌, ◌∙◌, ap, refl, sym, subst, true, false, List, [], ◌∷◌, Option, Some, None, unwrap_or, ◌⊎◌, inl, inr, codes}
+use Rattle.std.proofs.Common.{◌≡◌, ◌∙◌, ap, refl, sym, subst, subst₂, true, false, List, [], ◌∷◌, Option, Some, None}
+use Rattle.std.proofs.Common.{unwrap_or, ◌⊎◌, inl, inr, codes}
 use Rattle.std.specs.Prelude.{option_and_then}
 use Rattle.clap.specs.Words.{Row, Text, all_of, fault_of, one_of, subcommand_of}
 use Rattle.clap.specs.Kinds.{Kinds}
@@ -87,12 +88,12 @@ wants_server words word rows at asking nowhere verb name asks =
 -- and so are those whose options don't go together
 wants_fit : (words : List Text) (word : Text) (rows : List Row)
     → subcommand_of grove_command words ≡ Some (word, rows)
-    → (GoTogether (verb_named word) (text_given words) → ⊥) → (verb : Verb) (name : Option Text)
+    → (GoTogether (verb_named word) (text_given words) (texts_given words) → ⊥) → (verb : Verb) (name : Option Text)
     → AskFor words verb name → ⊥
 wants_fit words word rows at apart verb name asks =
     let is : IsFor verb name (Some (word, rows)) = subst (IsFor verb name) at asks.found in
     let same : verb_named word ≡ verb = ap verb_named is.0 ∙ (is_one_of verb).named in
-    apart (subst (λ v. GoTogether v (text_given words)) (sym same) asks.together)
+    apart (subst (λ v. GoTogether v (text_given words) (texts_given words)) (sym same) asks.together)
 
 -- what was found is what the words ask for
 
@@ -147,11 +148,12 @@ module _ (words : List Text) (word : Text) (rows : List Row)
       subst (λ texts. SaysOrder texts (texts_given words) it) (sym texts_are)
       (subst (λ lists. SaysOrder (λ name. one_of name rows) lists it) (sym lists_are) says)
 
-  together_given : (verb : Verb) → GoTogether verb (λ name. one_of name rows) → GoTogether verb (text_given words)
-  together_given verb together = subst (GoTogether verb) (sym texts_are) together
+  together_given : (verb : Verb) → GoTogether verb (λ name. one_of name rows) (texts_in rows)
+      → GoTogether verb (text_given words) (texts_given words)
+  together_given verb together = subst₂ (GoTogether verb) (sym texts_are) (sym lists_are) together
 
   asked_in : fault_of grove_command words ≡ [] → (it : Order) → verb_of it ≡ verb_named word
-      → HasName (document_in rows) it → GoTogether (verb_of it) (text_given words)
+      → HasName (document_in rows) it → GoTogether (verb_of it) (text_given words) (texts_given words)
       → SaysOrder (text_given words) (texts_given words) it → AskForOrder words it
   asked_in taken (order.Do command document) verb name together says = record {
     taken = taken;
@@ -185,8 +187,8 @@ module _ (words : List Text) (word : Text) (rows : List Row)
       → IsAskedBy words invocation
   found_asked taken invocation is =
       let says = says_given invocation.order is.said in
-      let together : GoTogether (verb_of invocation.order) (text_given words) =
-      subst (λ verb. GoTogether verb (text_given words)) (sym is.verb)
+      let together : GoTogether (verb_of invocation.order) (text_given words) (texts_given words) =
+      subst (λ verb. GoTogether verb (text_given words) (texts_given words)) (sym is.verb)
       (together_given (verb_named word) is.together) in
       record {
         asked = asked_in taken invocation.order is.verb is.name together says;
@@ -223,7 +225,7 @@ refused_told {A} words IsWanted IsGiven error taken same none (inr (invalid, not
 
 pub told_unplaced : (words : List Text) (word : Text) (rows : List Row)
     → subcommand_of grove_command words ≡ Some (word, rows) → fault_of grove_command words ≡ [] → (error : Error)
-    → IsUnplaced word (λ name. one_of name rows) error → IsToldWords words error
+    → IsUnplaced word (λ name. one_of name rows) (texts_in rows) error → IsToldWords words error
 told_unplaced words word rows at taken error (inl (serving, refused)) =
     refused_told words (IsPlace (λ name. one_of name rows)) (IsPlace (text_given words)) error taken
     (ap IsPlace (sym (texts_are words word rows at)))
@@ -237,7 +239,8 @@ told_unplaced words word rows at taken error (inr (inr (inr (invalid, apart)))) 
   invalid,
   taken,
   wants_fit words word rows at
-      (λ fits. apart (subst (GoTogether (verb_named word)) (texts_are words word rows at) fits)),
+      (λ fits. apart (subst₂ (GoTogether (verb_named word)) (texts_are words word rows at)
+      (lists_are words word rows at) fits)),
 )
 
 pub certain : (words : List Text) (verb : Verb) (name : Option Text) (error : Error) → AskFor words verb name

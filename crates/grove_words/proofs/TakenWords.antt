@@ -9,7 +9,8 @@ use Rattle.clap.specs.Kinds.{or_else, Kinds}
 use Rattle.clap.proofs.OnLiterals.{clap_on_literals}
 use Rattle.clap.proofs.WalkLemmas.{walk_stopped}
 use Rattle.clap.proofs.FaultLemmas.{fault_ends, stopped_fault}
-use Rattle.grove_words.specs.CommandLines.{calls, command_with, grove_command, reading, text_given, serves, shape_for}
+use Rattle.grove_words.specs.CommandLines.{calls, command_with, grove_command, reading, text_given, texts_given}
+use Rattle.grove_words.specs.CommandLines.{serves, shape_for}
 use Rattle.grove_words.specs.CommandLines.{Verb, Judge, Check, Plan, Draw, Run, Audit, Tree, Serve, Page, Ask, Save}
 use Rattle.grove_words.specs.CommandLines.{AskFor, GoTogether, IsFor}
 use Rattle.grove_words.specs.PlainWords.{AreDocument, CommandsAreOrders, IsPlain, NoCommandJudges}
@@ -157,7 +158,7 @@ no_server Page alone calling = cc
 
 -- and no options that could be apart
 together_alone : (verb : Verb) (words : List Text) → (shape_for verb).rules ≡ reading
-    → GoTogether verb (text_given words)
+    → GoTogether verb (text_given words) (texts_given words)
 together_alone Tree words alone = absurd (cc)
 together_alone Serve words alone = absurd (cc)
 together_alone Page words alone = absurd (cc)

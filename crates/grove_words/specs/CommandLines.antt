@@ -1,6 +1,7 @@
 -- The words of a command line: which order they are, and how clap is to read them.
 use Rattle.std.specs.Prelude.{◌≡◌, ◌≢◌, ◌≤◌, ℕ, pos, codes, Bool, true, false, ◌||◌, List, [], ◌∷◌, ◌++◌, map, Option}
-use Rattle.std.specs.Prelude.{None, Some, option_and_then, unwrap_or, is_some, IfSome, IsSomeAnd, ◌⊎◌}
+use Rattle.std.specs.Prelude.{None, Some, option_and_then, unwrap_or, is_some, All, IfSome, IsSomeAnd, ◌⊎◌}
+use Rattle.std.specs.Char.{IsAsciiAlphanumeric}
 use Rattle.std.specs.Str.Parse.{IsNumeral, digits_value, without_leading_plus}
 use Rattle.std.specs.Net.Grammar.{IsIpText}
 use Rattle.std.specs.Net.Socket.{socket_ip, socket_port}
@@ -174,13 +175,20 @@ abbrev pub HasLog : (List ℕ → Option (List ℕ)) → Type 0
 HasLog texts = IfSome (texts (codes "log"))
     (λ text. IsSet texts (codes "verbose") × (form : LogForm) × (text ≡ log_word form))
 
--- a command's options go together
-abbrev pub GoTogether : Verb → (List ℕ → Option (List ℕ)) → Type 0
-GoTogether Tree texts = ¬ (IsSet texts (codes "csv") × IsSet texts (codes "parents"))
-GoTogether Serve texts = HasLog texts × GoesWith texts (codes "http-seats") (codes "http")
-    × GoesWith texts (codes "host") (codes "http")
-GoTogether Page texts = HasLog texts
-GoTogether _ texts = Unit {0}
+-- a byte of a host's name is a letter or a digit of ASCII, `-`, `.` or `_`; a name has at least one
+abbrev pub IsInHostName : ℕ → Type 0
+IsInHostName byte = IsAsciiAlphanumeric byte ⊎ ((byte ≡ 45) ⊎ ((byte ≡ 46) ⊎ (byte ≡ 95)))
+
+abbrev pub IsHostName : List ℕ → Type 0
+IsHostName name = (name ≢ []) × All IsInHostName name
+
+-- a command's options go together, and each name of the host is one
+abbrev pub GoTogether : Verb → (List ℕ → Option (List ℕ)) → (List ℕ → List (List ℕ)) → Type 0
+GoTogether Tree texts lists = ¬ (IsSet texts (codes "csv") × IsSet texts (codes "parents"))
+GoTogether Serve texts lists = HasLog texts × GoesWith texts (codes "http-seats") (codes "http")
+    × GoesWith texts (codes "host") (codes "http") × All IsHostName (lists (codes "host"))
+GoTogether Page texts lists = HasLog texts × All IsHostName (lists (codes "host"))
+GoTogether _ texts lists = Unit {0}
 
 -- ---- the words that are an order
 
@@ -195,7 +203,7 @@ pub record AskFor (words : List (List ℕ)) (verb : Verb) (name : Option (List �
   pub found : IsFor verb name (subcommand_of grove_command words)
   pub placed : serves verb ≡ true → (place : Place) × IsPlace (text_given words) place
   pub addressed : calls verb ≡ true → (server : SocketAddr) × IsServer (text_given words) server
-  pub together : GoTogether verb (text_given words)
+  pub together : GoTogether verb (text_given words) (texts_given words)
 
 -- they ask for an order with a device of its own: a document with a name, or a place
 abbrev pub NameDevice : List (List ℕ) → Type 0

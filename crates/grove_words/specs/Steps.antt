@@ -63,7 +63,7 @@ pub record IsFoundIn (word : List ℕ) (rows : List Row) (invocation : Invocatio
   pub verb : verb_of invocation.order ≡ verb_named word
   pub name : HasName (first_of (codes "DOC") rows) invocation.order
   pub said : SaysOrder (λ name. one_of name rows) (texts_in rows) invocation.order
-  pub together : GoTogether (verb_named word) (λ name. one_of name rows)
+  pub together : GoTogether (verb_named word) (λ name. one_of name rows) (texts_in rows)
   pub explain : Chooses true false (one_of (codes "explain") rows) invocation.explain
 
 -- there is no memory, or nothing is such as is wanted
@@ -72,15 +72,15 @@ IsRefusedFor {A} IsWanted error =
     (kind_of error ≡ OutOfMemory) ⊎ ((kind_of error ≡ InvalidValue) × ((a : A) → ¬ IsWanted a))
 
 -- or a command's options don't go together
-abbrev pub AreApart : Verb → (List ℕ → Option (List ℕ)) → Error → Type 0
-AreApart verb texts error =
-    (kind_of error ≡ OutOfMemory) ⊎ ((kind_of error ≡ InvalidValue) × (¬ GoTogether verb texts))
+abbrev pub AreApart : Verb → (List ℕ → Option (List ℕ)) → (List ℕ → List (List ℕ)) → Error → Type 0
+AreApart verb texts lists error =
+    (kind_of error ≡ OutOfMemory) ⊎ ((kind_of error ≡ InvalidValue) × (¬ GoTogether verb texts lists))
 
 -- and the word is that of a command for which the texts give no place, or no server, or don't go together
-abbrev pub IsUnplaced : List ℕ → (List ℕ → Option (List ℕ)) → Error → Type 0
-IsUnplaced word texts error = ((serves (verb_named word) ≡ true) × IsRefusedFor (IsPlace texts) error)
+abbrev pub IsUnplaced : List ℕ → (List ℕ → Option (List ℕ)) → (List ℕ → List (List ℕ)) → Error → Type 0
+IsUnplaced word texts lists error = ((serves (verb_named word) ≡ true) × IsRefusedFor (IsPlace texts) error)
     ⊎ (((calls (verb_named word) ≡ true) × IsRefusedFor (IsServer texts) error)
-    ⊎ AreApart (verb_named word) texts error)
+    ⊎ AreApart (verb_named word) texts lists error)
 
 -- words that clap takes, and that are no order all the same: they lack a place, or don't go together
 abbrev pub IsNowhere : List (List ℕ) → Error → Type 0

@@ -75,8 +75,10 @@ fn order_with<'a>(alloc: Global, word: &str, given: &ArgMatches<'a>) -> Result<O
     ensures verb { IfOk result (λ order. verb_of order ≡ verb_named word.now) }
     ensures name { IfOk result (HasName (first_value (found_of given.now) (codes "DOC"))) }
     ensures said { IfOk result (SaysOrder (one_text (found_of given.now)) (texts_in (rows_of (found_of given.now)))) }
-    ensures together { OnOk result (GoTogether (verb_named word.now) (one_text (found_of given.now))) }
-    ensures refused { IfErr result (IsUnplaced word.now (one_text (found_of given.now))) }
+    ensures together { OnOk result (GoTogether (verb_named word.now) (one_text (found_of given.now))
+        (texts_in (rows_of (found_of given.now)))) }
+    ensures refused { IfErr result (IsUnplaced word.now (one_text (found_of given.now))
+        (texts_in (rows_of (found_of given.now)))) }
 {
     go_together(alloc, word, given)?;
     let command = match word {

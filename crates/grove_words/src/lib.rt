@@ -10,6 +10,7 @@ pub use order::{
 
 mod command_line;
 mod definitions;
+mod hosts;
 mod laws;
 mod log_form;
 mod no_order;

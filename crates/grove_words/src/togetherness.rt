@@ -1,8 +1,9 @@
-ghost use Rattle.std.specs.Prelude.{◌≡◌, ◌≢◌, true, false, codes, is_some, None, OnOk, IfErr};
-ghost use Rattle.clap.specs.Words.{found_of, one_text};
-ghost use Rattle.grove_words.specs.CommandLines.{GoTogether, GoesWith, HasLog};
+ghost use Rattle.std.specs.Prelude.{◌≡◌, ◌≢◌, true, false, codes, is_some, None, All, OnOk, IfErr};
+ghost use Rattle.clap.specs.Words.{rows_of, found_of, one_text};
+ghost use Rattle.grove_words.specs.CommandLines.{texts_in, GoTogether, GoesWith, HasLog, IsHostName};
 ghost use Rattle.grove_words.specs.Steps.{verb_named, AreApart};
 
+use crate::hosts::hosts_fit;
 use crate::no_order::wrong;
 use crate::options::takes_flag;
 use crate::order::LogForm;
@@ -13,13 +14,18 @@ const LOG_APART: &str = "'--log <FORM>' is 'text' or 'json', and needs '--verbos
 
 const HTTP_APART: &str = "'--http-seats <N>' and '--host <NAME>' need '--http <PORT>'";
 
+const NO_HOST_NAME: &str =
+    "'--host <NAME>' is a name without a port, of letters, digits, '-', '.' and '_'";
+
 const TREE_APART: &str = "'--parents' cannot be used with '--csv'";
 
-/// Refuses options of a command that don't go together. No clause of clap's speaks of options that need each other, so
-/// it is found here.
+/// Refuses options of a command that don't go together, and names of the host that are none. No clause of clap's speaks
+/// of options that need each other, so it is found here.
 pub fn go_together(alloc: Global, word: &str, given: &ArgMatches<'_>) -> Result<(), Error>
-    ensures together { OnOk result (GoTogether (verb_named word.now) (one_text (found_of given.now))) }
-    ensures apart { IfErr result (AreApart (verb_named word.now) (one_text (found_of given.now))) }
+    ensures together { OnOk result (GoTogether (verb_named word.now) (one_text (found_of given.now))
+        (texts_in (rows_of (found_of given.now)))) }
+    ensures apart { IfErr result (AreApart (verb_named word.now) (one_text (found_of given.now))
+        (texts_in (rows_of (found_of given.now)))) }
 {
     match apart(word, given) {
         Some(message) => Err(wrong(alloc, message)?),
@@ -27,17 +33,34 @@ pub fn go_together(alloc: Global, word: &str, given: &ArgMatches<'_>) -> Result<
     }
 }
 
-/// What is wrong with options that don't go together.
+/// What is wrong with options that don't go together, or with a name of the host.
 fn apart(word: &str, given: &ArgMatches<'_>) -> Option<&'static str>
-    ensures none { result ≡ None → GoTogether (verb_named word.now) (one_text (found_of given.now)) }
-    ensures some { result ≢ None → GoTogether (verb_named word.now) (one_text (found_of given.now)) → ⊥ }
+    ensures none { result ≡ None → GoTogether (verb_named word.now) (one_text (found_of given.now))
+        (texts_in (rows_of (found_of given.now))) }
+    ensures some { result ≢ None → GoTogether (verb_named word.now) (one_text (found_of given.now))
+        (texts_in (rows_of (found_of given.now))) → ⊥ }
 {
     match word {
         "tree" if takes_flag(given, "csv") && takes_flag(given, "parents") => Some(TREE_APART),
-        "serve" if !log_fits(given) => Some(LOG_APART),
         "serve" if !http_fits(given) => Some(HTTP_APART),
-        "page" if !log_fits(given) => Some(LOG_APART),
+        "serve" | "page" => serving_apart(given),
         _ => None,
+    }
+}
+
+/// What is wrong with options of each command that serves.
+fn serving_apart(given: &ArgMatches<'_>) -> Option<&'static str>
+    ensures none { result ≡ None → HasLog (one_text (found_of given.now))
+        × All IsHostName (texts_in (rows_of (found_of given.now)) (codes "host")) }
+    ensures some { result ≢ None → HasLog (one_text (found_of given.now))
+        → All IsHostName (texts_in (rows_of (found_of given.now)) (codes "host")) → ⊥ }
+{
+    if !log_fits(given) {
+        Some(LOG_APART)
+    } else if !hosts_fit(given) {
+        Some(NO_HOST_NAME)
+    } else {
+        None
     }
 }
 

@@ -49,7 +49,8 @@ returns-in_err-order_with-in-Some-clause-refused c =
     let error = c.in_err-order_with-in-Some.field-0.0 in
     let told : IsToldWords words error =
     told_unplaced words c.in-Some.word.now (rows_of found) at taken error
-    (subst (λ given. IsUnplaced c.in-Some.word.now given error) texts c.in_err-order_with-in-Some.ensures.refused) in
+    (subst (λ given. IsUnplaced c.in-Some.word.now given (texts_in (rows_of found)) error) texts
+    c.in_err-order_with-in-Some.ensures.refused) in
     search rules
 
 pub returns-in-Some-clause-asked : goal.returns-in-Some-clause-asked
@@ -70,7 +71,8 @@ returns-in-Some-clause-asked c =
       verb = said.verb;
       name = subst (λ name. HasName name order) (first_value-rows found (codes "DOC")) said.name;
       said = subst (λ given. SaysOrder given (texts_in (rows_of found)) order) texts said.said;
-      together = subst (GoTogether (verb_named c.in-Some.word.now)) texts said.together;
+      together = subst (λ given. GoTogether (verb_named c.in-Some.word.now) given (texts_in (rows_of found))) texts
+          said.together;
       explain = subst (λ text. Chooses true false text c.is_set.result)
           (one_text-rows found (codes "explain")) c.is_set.ensures;
     })
