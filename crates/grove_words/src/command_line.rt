@@ -94,17 +94,17 @@ fn order_with<'a>(alloc: Global, word: &str, given: &ArgMatches<'a>) -> Result<O
         },
         "audit" => Command::Audit,
         "tree" => tree_command(given),
-        "serve" => Command::Serve(serving_in(alloc, given)?),
-        "page" => Command::Page(serving_in(alloc, given)?),
+        "serve" => Command::Serve(serving_in(alloc, word, given)?),
+        "page" => Command::Page(serving_in(alloc, word, given)?),
         "ask" => {
             return Ok(Order::Ask {
-                server: server_in(alloc, given)?,
+                server: server_in(alloc, word, given)?,
                 lines: texts_of(alloc, given, "LINE")?,
             });
         }
         "save" => {
             return Ok(Order::Save {
-                server: server_in(alloc, given)?,
+                server: server_in(alloc, word, given)?,
                 file: file_in(given),
             });
         }
@@ -141,13 +141,13 @@ fn tree_command<'a>(given: &ArgMatches<'_>) -> Command<'a>
 }
 
 /// Where and how a command serves.
-fn serving_in<'a>(alloc: Global, given: &ArgMatches<'a>) -> Result<Serving<'a>, Error>
+fn serving_in<'a>(alloc: Global, word: &str, given: &ArgMatches<'a>) -> Result<Serving<'a>, Error>
     ensures said { IfOk result
         (SaysServing (one_text (found_of given.now)) (texts_in (rows_of (found_of given.now)))) }
     ensures refused { IfErr result (IsRefusedFor (IsPlace (one_text (found_of given.now)))) }
 {
     Ok(Serving {
-        place: place_in(alloc, given)?,
+        place: place_in(alloc, word, given)?,
         workers: workers_in(given),
         patience: Patience {
             idle: idle_in(given),

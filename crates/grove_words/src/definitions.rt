@@ -1,7 +1,7 @@
 ghost use Rattle.std.specs.Prelude.{◌≡◌, codes, true, Some, IfOk};
 ghost use Rattle.clap.specs.Words.{App, Shape, app_of, with_subcommand};
 ghost use Rattle.clap.specs.declared.builder.action.ArgAction.TheVariants.{Append};
-ghost use Rattle.grove_words.specs.CommandLines.{Plan, Draw, Run, Tree, Serve, Ask, Save};
+ghost use Rattle.grove_words.specs.CommandLines.{Plan, Draw, Run, Tree, Serve, Page, Ask, Save};
 ghost use Rattle.grove_words.specs.CommandLines.{address_option, calling, command_with, flag, grove_command};
 ghost use Rattle.grove_words.specs.CommandLines.{numbered, port_option, reading, serving, shape_for, valued};
 ghost use Rattle.grove_words.specs.CommandLines.{workers_option};
@@ -28,10 +28,22 @@ pub fn command_line<'a>(alloc: Global) -> Result<clap::Command<'a>, AllocError>
     let audits = add(runs, reading(alloc, "audit", about));
     let trees = add(audits, tree(alloc));
     let serves = add(trees, serve(alloc));
-    let about = "Serve the records of a tree over HTTP, with a page to look at them";
-    let pages = add(serves, serving(alloc, "page", about));
+    let pages = add(serves, page(alloc));
     let asks = add(pages, ask(alloc));
     add(asks, save(alloc))
+}
+
+/// The command of a word, to show how it is used; the program if it isn't one of those whose words clap takes without
+/// looking at all that they need.
+pub fn command_named<'a>(alloc: Global, word: &str) -> Result<clap::Command<'a>, AllocError> {
+    match word {
+        "tree" => tree(alloc)?.bin_name("grove tree"),
+        "serve" => serve(alloc)?.bin_name("grove serve"),
+        "page" => page(alloc)?.bin_name("grove page"),
+        "ask" => ask(alloc)?.bin_name("grove ask"),
+        "save" => save(alloc)?.bin_name("grove save"),
+        _ => command_line(alloc),
+    }
 }
 
 /// The program with one more command, where there was memory for both.
@@ -116,6 +128,14 @@ fn serve<'a>(alloc: Global) -> Result<clap::Command<'a>, AllocError>
     serving(alloc, "serve", about)?
         .arg(http(alloc))?
         .arg(http_seats(alloc))
+}
+
+/// The command that serves over HTTP alone.
+fn page<'a>(alloc: Global) -> Result<clap::Command<'a>, AllocError>
+    ensures { IfOk result (HasShape (shape_for Page)) }
+{
+    let about = "Serve the records of a tree over HTTP, with a page to look at them";
+    serving(alloc, "page", about)
 }
 
 /// A command that serves a document's tree at a port.

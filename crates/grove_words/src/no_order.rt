@@ -2,7 +2,7 @@ ghost use Rattle.std.specs.Prelude.{◌≡◌, ◌≢◌, ◌⊎◌, [], IfOk, s
 ghost use Rattle.clap.specs.Values.{kind_of};
 ghost use Rattle.grove_words.specs.NoOrders.{HasText, TellsShown, TellsWrong};
 
-use crate::definitions::command_line;
+use crate::definitions::command_named;
 use clap::Error;
 use clap::error::ErrorKind;
 use std::alloc::{AllocError, Global};
@@ -23,17 +23,18 @@ pub fn not_text(alloc: Global) -> NoOrder
     ensures wrong { TellsWrong result }
     ensures text { HasText result }
 {
-    match wrong(alloc, "an argument of the command line is not UTF-8") {
+    match wrong(alloc, "", "an argument of the command line is not UTF-8") {
         Ok(error) => no_order(alloc, &error, ""),
         Err(AllocError) => NoOrder::Memory,
     }
 }
 
-/// What words are told that clap takes, and that are no order all the same.
-pub fn wrong(alloc: Global, message: &str) -> Result<Error, AllocError>
+/// What the words of a command are told that clap takes, and that are no order all the same, with how the command is
+/// used. No word stands for words of which nobody knows the command.
+pub fn wrong(alloc: Global, word: &str, message: &str) -> Result<Error, AllocError>
     ensures { IfOk result (λ error. kind_of error ≡ ErrorKind.InvalidValue) }
 {
-    command_line(alloc)?.error(ErrorKind::InvalidValue, message)
+    command_named(alloc, word)?.error(ErrorKind::InvalidValue, message)
 }
 
 /// What clap says to words that are no order: the help that they ask for, or what is wrong with them, and then the tip.

@@ -10,13 +10,21 @@ use clap::{ArgMatches, Error};
 use std::alloc::Global;
 use std::net::{IpAddr, SocketAddr};
 
-/// The place that a command serves at.
-pub fn place_in(alloc: Global, given: &ArgMatches<'_>) -> Result<Place, Error>
+const NOT_A_PORT: &str = "the value of '<P>' is not a port";
+
+const NOT_AN_ADDRESS: &str = "the value of '<ADDRESS>' is not an IP address";
+
+const PORTS_APART: &str = "'--any-port' cannot be used with '--port <P>'";
+
+const PORT_REQUIRED: &str = "'--port <P>' or '--any-port' is required";
+
+/// The place that the command of a word serves at.
+pub fn place_in(alloc: Global, word: &str, given: &ArgMatches<'_>) -> Result<Place, Error>
     ensures given { IfOk result (IsPlace (one_text (found_of given.now))) }
     ensures refused { IfErr result (IsRefusedFor (IsPlace (one_text (found_of given.now)))) }
 {
-    let address = address_in(alloc, given)?;
-    let port = port_in(alloc, given)?;
+    let address = address_in(alloc, word, given)?;
+    let port = port_in(alloc, word, given)?;
     Ok(Place {
         address,
         port,
@@ -24,39 +32,39 @@ pub fn place_in(alloc: Global, given: &ArgMatches<'_>) -> Result<Place, Error>
     })
 }
 
-/// The server that a command calls.
-pub fn server_in(alloc: Global, given: &ArgMatches<'_>) -> Result<SocketAddr, Error>
+/// The server that the command of a word calls.
+pub fn server_in(alloc: Global, word: &str, given: &ArgMatches<'_>) -> Result<SocketAddr, Error>
     ensures given { IfOk result (IsServer (one_text (found_of given.now))) }
     ensures refused { IfErr result (IsRefusedFor (IsServer (one_text (found_of given.now)))) }
 {
-    let address = address_in(alloc, given)?;
+    let address = address_in(alloc, word, given)?;
     match named_port(given) {
         Some(port) => Ok(SocketAddr::new(address, port)),
-        None => Err(wrong(alloc, "the value of '<P>' is not a port")?),
+        None => Err(wrong(alloc, word, NOT_A_PORT)?),
     }
 }
 
-fn address_in(alloc: Global, given: &ArgMatches<'_>) -> Result<IpAddr, Error>
+fn address_in(alloc: Global, word: &str, given: &ArgMatches<'_>) -> Result<IpAddr, Error>
     ensures given { IfOk result (IsAddress (one_text (found_of given.now))) }
     ensures refused { IfErr result (IsRefusedFor (IsAddress (one_text (found_of given.now)))) }
 {
     match given.get_one::<IpAddr>("address") {
         Some(address) => Ok(address),
-        None => Err(wrong(alloc, "the value of '<ADDRESS>' is not an IP address")?),
+        None => Err(wrong(alloc, word, NOT_AN_ADDRESS)?),
     }
 }
 
 /// The port to listen on. No clause of clap's speaks of options that stand in each other's place, so this is found
 /// here.
-fn port_in(alloc: Global, given: &ArgMatches<'_>) -> Result<Port, Error>
+fn port_in(alloc: Global, word: &str, given: &ArgMatches<'_>) -> Result<Port, Error>
     ensures given { IfOk result (IsPort (one_text (found_of given.now))) }
     ensures refused { IfErr result (IsRefusedFor (IsPort (one_text (found_of given.now)))) }
 {
     match (named_port(given), takes_flag(given, "any-port")) {
         (Some(port), false) => Ok(Port::Named(port)),
         (None, true) => Ok(Port::Any),
-        (Some(_), true) => Err(wrong(alloc, "'--any-port' cannot be used with '--port <P>'")?),
-        (None, false) => Err(wrong(alloc, "'--port <P>' or '--any-port' is required")?),
+        (Some(_), true) => Err(wrong(alloc, word, PORTS_APART)?),
+        (None, false) => Err(wrong(alloc, word, PORT_REQUIRED)?),
     }
 }
 

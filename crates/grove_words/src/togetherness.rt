@@ -28,7 +28,7 @@ pub fn go_together(alloc: Global, word: &str, given: &ArgMatches<'_>) -> Result<
         (texts_in (rows_of (found_of given.now)))) }
 {
     match apart(word, given) {
-        Some(message) => Err(wrong(alloc, message)?),
+        Some(message) => Err(wrong(alloc, word, message)?),
         None => Ok(()),
     }
 }

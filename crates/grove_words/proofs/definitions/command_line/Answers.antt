@@ -13,6 +13,6 @@ returns c =
     let audits = c.add-audits.ensures _ (shape_for Audit) runs c.reading-3.ensures in
     let trees = c.add-trees.ensures _ (shape_for Tree) audits c.tree.ensures in
     let serves = c.add-serves.ensures _ (shape_for Serve) trees c.serve.ensures in
-    let pages = c.add-pages.ensures _ (shape_for Page) serves c.serving.ensures in
+    let pages = c.add-pages.ensures _ (shape_for Page) serves c.page.ensures in
     let asks = c.add-asks.ensures _ (shape_for Ask) pages c.ask.ensures in
     c.add.ensures _ (shape_for Save) asks c.save.ensures
