@@ -40,6 +40,12 @@ class Access:
     number: Optional[int] = None
     length: int = 1
 
+    def __post_init__(self) -> None:
+        # (Without its number the length would stand in its place, and be read as the number.)
+        if (self.number is None) != (self.kind is Kind.GET):
+            wanted = "takes no number" if self.kind is Kind.GET else "needs a number"
+            raise TypeError(f"an access that is to {self.kind.value} {wanted}")
+
     @staticmethod
     def get(path: str) -> Access:
         """Gets the record of a node, in one slot."""

@@ -2,9 +2,9 @@
 
 import unittest
 from dataclasses import replace
-from typing import Callable
+from typing import Any, Callable
 
-from pickbracken import Access, BadPath, Refused, Reply, Step, Tree, check, draw, judge, plan
+from pickbracken import Access, BadPath, Kind, Refused, Reply, Step, Tree, check, draw, judge, plan
 
 STOCK = Tree.from_paths({"/": 5, "/a": 1, "/b": 1}, {"/a": 10, "/b": 20})
 
@@ -44,6 +44,18 @@ class Planning(unittest.TestCase):
         self.assertEqual(self.name_of(lambda: judge(STOCK, [Access.get("/a")], steps)), "still-held")
         self.assertEqual(self.name_of(lambda: plan(Tree.from_paths({"/": 1001}), [])), "bad-weight")
         self.assertEqual(self.name_of(lambda: plan(Tree.from_paths({'/a"b\n': 1}), [])), "bad-name")
+
+    def test_only_a_get_is_without_a_number(self) -> None:
+        nothing: Any = None
+        for call in (Access.set, Access.add, Access.take):
+            with self.assertRaises(TypeError):
+                call("/a", nothing)
+        with self.assertRaises(TypeError) as caught:
+            Access(Kind.SET, "/a", length=9)
+        self.assertEqual(str(caught.exception), "an access that is to set needs a number")
+        with self.assertRaises(TypeError) as caught:
+            Access(Kind.GET, "/a", 9)
+        self.assertEqual(str(caught.exception), "an access that is to get takes no number")
 
     def test_paths_are_from_the_root_down(self) -> None:
         for path in ["", "a", "/a/", "//a"]:
