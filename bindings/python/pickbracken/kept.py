@@ -2,10 +2,9 @@
 
 from __future__ import annotations
 
-import weakref
 from threading import Lock
 
-from .library import Close, Handle, Kept, close, say_kept
+from .library import Close, Handle, Kept, close_after, say_kept
 
 
 class KeptTree:
@@ -13,8 +12,7 @@ class KeptTree:
 
     def __init__(self, document: bytes) -> None:
         self.handle, self.lock = Handle(), Lock()
-        # (At the end of the process another thread may be in a call.)
-        weakref.finalize(self, close, Close.TREE, self.handle).atexit = False
+        close_after(self, Close.TREE, self.handle)
         say_kept(Kept.OPEN, self.handle, document)
 
     def say(self, call: Kept, question: bytes) -> str:

@@ -4,6 +4,7 @@ from __future__ import annotations
 
 import ctypes
 import os
+import weakref
 from enum import Enum
 from functools import lru_cache
 from pathlib import Path
@@ -135,6 +136,13 @@ def last_reply(handle: Handle) -> bytes:
 def close(call: Close, handle: Handle) -> None:
     """Lets go what a handle holds, if it holds anything."""
     call_of(call.value)(ctypes.byref(handle))
+
+
+def close_after(owner: object, call: Close, handle: Handle) -> None:
+    """Has what a handle holds let go once nobody has its owner. If there is no library, this says so."""
+    loaded()
+    # (At the end of the process another thread may be in a call.)
+    weakref.finalize(owner, close, call, handle).atexit = False
 
 
 # Makes a call with a buffer and its length.

@@ -8,12 +8,11 @@ It answers what `grove serve --workers 1` answers, without a server. Its records
 
 from __future__ import annotations
 
-import weakref
 from threading import Lock
 from types import TracebackType
 from typing import Optional, Type, Union
 
-from .library import Close, Handle, Kept, answer, close, last_reply, say_kept
+from .library import Close, Handle, Kept, answer, close, close_after, last_reply, say_kept
 from .requests import Requests
 from .tree import Tree
 
@@ -27,8 +26,7 @@ class Store(Requests):
     def __init__(self, opened_from: Union[Tree, bytes, str]) -> None:
         document = opened_from.document() if isinstance(opened_from, Tree) else encoded(opened_from)
         self.handle, self.lock = Handle(), Lock()
-        # (At the end of the process another thread may be in a call.)
-        weakref.finalize(self, close, Close.STORE, self.handle).atexit = False
+        close_after(self, Close.STORE, self.handle)
         say_kept(Kept.OPEN_STORE, self.handle, document)
 
     def __enter__(self) -> Store:

@@ -3,7 +3,11 @@
 import copy
 import gc
 import json
+import os
 import pickle
+import subprocess
+import sys
+import tempfile
 import threading
 import unittest
 from typing import List
@@ -52,6 +56,26 @@ class KeptTrees(unittest.TestCase):
             with self.assertRaises(Refused) as caught:
                 plan(heavy, [])
             self.assertEqual((caught.exception.name, caught.exception.place), ("bad-weight", "row 0"))
+
+
+# Plans over a tree, and opens a store of it.
+TRIES = """
+from pickbracken import Store, Tree, plan
+for call in (lambda tree: plan(tree, []), Store):
+    try:
+        call(Tree.from_paths({"/": 5}))
+    except OSError as why:
+        print(why)
+"""
+
+
+class NoLibrary(unittest.TestCase):
+    def test_the_first_call_says_so_and_nothing_else_does(self) -> None:
+        with tempfile.TemporaryDirectory() as folder:
+            words, surroundings = [sys.executable, "-B", "-c", TRIES], {**os.environ, "GROVE_LIBRARY": folder}
+            ran = subprocess.run(words, env=surroundings, capture_output=True, text=True, check=False)
+        wanted = f"there is no {folder}/libgrove.so: tools/library makes it\n"
+        self.assertEqual((ran.returncode, ran.stdout, ran.stderr), (0, wanted * 2, ""))
 
 
 class Memory(unittest.TestCase):
