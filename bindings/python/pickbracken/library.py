@@ -107,9 +107,16 @@ def call_of(name: str) -> Callable[..., Told]:
     return call
 
 
+def checked(text: object) -> bytes:
+    """What a call takes, if it is that."""
+    if not isinstance(text, bytes):
+        raise TypeError(f"bytes are needed, and not {type(text).__name__}")
+    return text
+
+
 def say(command: Command, document: bytes) -> str:
     """What a command says of a document."""
-    call = call_of(command.value)
+    call, document = call_of(command.value), checked(document)
     return text_of(lambda text, room: call(document, len(document), text, room))
 
 

@@ -12,7 +12,7 @@ from threading import Lock
 from types import TracebackType
 from typing import Optional, Type, Union
 
-from .library import Close, Handle, Kept, answer, close, close_after, last_reply, say_kept
+from .library import Close, Handle, Kept, answer, checked, close, close_after, last_reply, say_kept
 from .requests import Requests
 from .tree import Tree
 
@@ -58,4 +58,4 @@ class Store(Requests):
 
 
 def encoded(text: Union[bytes, str]) -> bytes:
-    return text.encode() if isinstance(text, str) else text
+    return text.encode() if isinstance(text, str) else checked(text)

@@ -4,9 +4,9 @@ import gc
 import json
 import threading
 import unittest
-from typing import List, Tuple, Union
+from typing import Any, List, Tuple, Union, cast
 
-from pickbracken import Access, Closed, NoMemory, Refused, Reply, Store, Tree
+from pickbracken import Access, Closed, NoMemory, Refused, Reply, Store, Tree, document
 
 from test_kept import STOCK, resident
 
@@ -53,10 +53,21 @@ class Stores(unittest.TestCase):
     def test_documents_that_are_refused_open_no_store(self) -> None:
         heavy = Tree.from_paths({"/": 1001})
         documents: List[Union[Tree, bytes, str]] = [b"{", "[]", heavy]
-        for document, name in zip(documents, ("bad-json", "shape", "bad-weight")):
+        for opened_from, name in zip(documents, ("bad-json", "shape", "bad-weight")):
             with self.assertRaises(Refused) as caught:
-                Store(document)
+                Store(opened_from)
             self.assertEqual(caught.exception.name, name)
+
+    def test_what_is_no_text_is_a_type_error(self) -> None:
+        strange: List[Any] = [None, 7, {}, bytearray(b"{}")]
+        with Store(STOCK) as store:
+            for it in strange:
+                for call in (Store, store.answer, document.plan):
+                    with self.assertRaises(TypeError) as caught:
+                        call(it)
+                    self.assertEqual(str(caught.exception), f"bytes are needed, and not {type(it).__name__}")
+            with self.assertRaises(TypeError):
+                document.judge(cast(Any, "{}"))
 
     def test_a_closed_store_says_so(self) -> None:
         store = Store(STOCK.document())
