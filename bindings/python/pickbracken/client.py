@@ -23,6 +23,7 @@ from types import TracebackType
 from typing import Deque, Iterable, Iterator, Optional, Sequence, Type
 
 from .faults import Error
+from .library import checked
 from .requests import Requests, Round
 
 __all__ = ["AHEAD", "Client", "Lost", "Round"]
@@ -67,8 +68,9 @@ class Client(Requests):
         self.connection.close()
 
     def send(self, line: bytes) -> bytes:
-        """The reply to a line, both without a line feed."""
-        return next(self.send_all([line]))
+        """The reply to a line, both without a line feed. Replies to earlier lines that nobody took are passed over."""
+        *_, reply = self.send_all([line])
+        return reply
 
     def send_all(self, lines: Iterable[bytes]) -> Iterator[bytes]:
         """The reply to each of the lines, in order; lines are sent ahead of the replies. What comes of one line can be
@@ -83,9 +85,10 @@ class Client(Requests):
 
     def put(self, line: bytes) -> bool:
         """Whether the server takes the line. One that takes no more may have replied to the lines before."""
-        self.sent.append(len(line) + 1)
+        ended = with_end(line)
+        self.sent.append(len(ended))
         try:
-            self.connection.sendall(line + b"\n")
+            self.connection.sendall(ended)
         except OSError:
             return False
         return True
@@ -107,6 +110,13 @@ class Client(Requests):
         self.sent.clear()
         self.close()
         return Lost(why, unanswered)
+
+
+def with_end(line: bytes) -> bytes:
+    """A line as it is sent. (A line feed in it would make two of it, with a reply each.)"""
+    if b"\n" in checked(line):
+        raise ValueError("a line has no line feed in it")
+    return line + b"\n"
 
 
 def no_reply(line: bytes) -> str:

@@ -6,7 +6,7 @@ import sys
 import threading
 import unittest
 from contextlib import contextmanager
-from typing import Callable, Iterator, List, Optional
+from typing import Any, Callable, Iterator, List, Optional
 
 from pickbracken import Access, FlowRow, Plan, Refused, Reply, Step
 from pickbracken.client import AHEAD, Client, Lost
@@ -94,6 +94,18 @@ class Clients(unittest.TestCase):
                 ahead = max(ahead, len(client.sent))
         self.assertEqual(len(seen), 2000)
         self.assertTrue(1 < ahead <= AHEAD // 1000)
+
+    def test_a_reply_is_that_of_its_line(self) -> None:
+        """Also after replies that nobody took, and after what is no line, of which nothing is sent."""
+        seen: List[bytes] = []
+        with served(replying(b"{1}", b"{2}", b"{3}", b"{4}", seen=seen)) as client:
+            self.assertEqual(next(client.send_all([b"a", b"b", b"c"])), b"{1}")
+            strange: List[Any] = ["text", None, b"two\nlines"]
+            for line, kind in zip(strange, (TypeError, TypeError, ValueError)):
+                with self.assertRaises(kind):
+                    client.send(line)
+            self.assertEqual((client.send(b"d"), len(client.sent)), (b"{4}", 0))
+        self.assertEqual(seen, [b"a\n", b"b\n", b"c\n", b"d\n"])
 
     def test_what_has_no_reply_is_told(self) -> None:
         def answer(connection: socket.socket) -> None:
