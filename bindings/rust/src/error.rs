@@ -1,3 +1,4 @@
+use crate::tree::names_of;
 use std::error;
 use std::fmt;
 
@@ -8,7 +9,7 @@ pub enum Error {
     Refused(Fault),
     /// An allocation failed.
     Memory,
-    /// This is no path from the root down, as `/` or `/a/b`.
+    /// This is no path from the root down, as `/` or `/a/b`, or no node has it.
     Path(String),
 }
 
@@ -17,6 +18,9 @@ impl fmt::Display for Error {
         match self {
             Error::Refused(fault) => write!(out, "refused {fault}"),
             Error::Memory => out.write_str("memory"),
+            Error::Path(path) if names_of(path).is_ok() => {
+                write!(out, "no node has the path {path:?}")
+            }
             Error::Path(path) => write!(out, "{path:?} is no path from the root down"),
         }
     }

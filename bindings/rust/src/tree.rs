@@ -156,7 +156,7 @@ impl Branch {
 }
 
 /// The names on the way down a path.
-fn names_of(path: &str) -> Result<impl Iterator<Item = &str>, Error> {
+pub(crate) fn names_of(path: &str) -> Result<impl Iterator<Item = &str>, Error> {
     match path.strip_prefix('/') {
         Some("") => Ok("".split_terminator('/')),
         Some(names) if names.split('/').all(|name| !name.is_empty()) => {

@@ -79,13 +79,19 @@ fn bad_values_are_refused_by_name() {
     let named = Tree::from_weights([("/a\"b\n", 1)]).unwrap();
     assert_eq!(name_of(named.plan(&[]).unwrap_err()), "bad-name");
     for path in ["", "a", "/a/", "//a"] {
-        let refused = Tree::from_weights([(path, 1)]);
-        assert_eq!(refused.unwrap_err(), Error::Path(path.to_owned()));
+        let refused = Tree::from_weights([(path, 1)]).unwrap_err();
+        assert_eq!(refused, Error::Path(path.to_owned()));
+        let wanted = format!("{path:?} is no path from the root down");
+        assert_eq!(refused.to_string(), wanted);
     }
-    assert_eq!(
-        stock().with_record("/c", 1).unwrap_err(),
-        Error::Path("/c".into())
-    );
+    for path in ["/c", "/a/c", "/a/b"] {
+        let refused = stock().with_record(path, 1).unwrap_err();
+        assert_eq!(refused, Error::Path(path.to_owned()));
+        assert_eq!(
+            refused.to_string(),
+            format!("no node has the path {path:?}")
+        );
+    }
 }
 
 #[test]
