@@ -32,17 +32,15 @@ impl Tree {
     pub fn from_weights<'p>(
         weights: impl IntoIterator<Item = (&'p str, u32)>,
     ) -> Result<Tree, Error> {
-        let mut top = Branch::new("");
+        let mut branches = vec![Branch::new("")];
         for (path, weight) in weights {
-            let branch = names_of(path)?.fold(&mut top, Branch::child);
-            branch.weight = weight;
+            let at = names_of(path)?.fold(0, |above, name| child(&mut branches, above, name));
+            branches[at].weight = weight;
         }
-        let mut tree = Tree {
-            nodes: Vec::new(),
+        Ok(Tree {
+            nodes: laid_out(&branches),
             kept: Kept::default(),
-        };
-        tree.append(None, top);
-        Ok(tree)
+        })
     }
 
     /// The same tree with another record at the node of a path, if there is such a node.
@@ -74,20 +72,10 @@ impl Tree {
     }
 
     fn at(&self, path: &str) -> Option<usize> {
-        self.paths().iter().position(|it| it == path)
-    }
-
-    fn append(&mut self, parent: Option<usize>, branch: Branch) {
-        let at = self.nodes.len();
-        self.nodes.push(Node {
-            parent,
-            name: branch.name,
-            weight: branch.weight,
-            record: 0,
-        });
-        for child in branch.children {
-            self.append(Some(at), child);
-        }
+        names_of(path).ok()?.try_fold(0, |above, name| {
+            let is_it = |node: &Node| node.parent == Some(above) && node.name == name;
+            (above + 1..self.nodes.len()).find(|&at| is_it(&self.nodes[at]))
+        })
     }
 
     /// The document of the tree, with the rest of it.
@@ -129,30 +117,50 @@ pub(crate) fn question(
 }
 
 /// A node of a tree that isn't laid out yet.
-struct Branch {
-    name: String,
+struct Branch<'p> {
+    name: &'p str,
     weight: u32,
-    children: Vec<Branch>,
+    children: Vec<usize>,
 }
 
-impl Branch {
-    fn new(name: &str) -> Branch {
+impl Branch<'_> {
+    fn new(name: &str) -> Branch<'_> {
         Branch {
-            name: name.to_owned(),
+            name,
             weight: 1,
             children: Vec::new(),
         }
     }
+}
 
-    /// The child of this name, which is made if there is none.
-    fn child(&mut self, name: &str) -> &mut Branch {
-        let found = self.children.iter().position(|it| it.name == name);
-        let at = found.unwrap_or(self.children.len());
-        if found.is_none() {
-            self.children.push(Branch::new(name));
-        }
-        &mut self.children[at]
+/// Where the child of this name is, which is made if there is none.
+fn child<'p>(branches: &mut Vec<Branch<'p>>, above: usize, name: &'p str) -> usize {
+    let children = &branches[above].children;
+    if let Some(&found) = children.iter().find(|&&it| branches[it].name == name) {
+        return found;
     }
+    let at = branches.len();
+    branches[above].children.push(at);
+    branches.push(Branch::new(name));
+    at
+}
+
+/// The nodes of the branches, in preorder. (A path may be longer than the stack is deep.)
+fn laid_out(branches: &[Branch<'_>]) -> Vec<Node> {
+    let mut nodes = Vec::with_capacity(branches.len());
+    let mut left = vec![(None, 0)];
+    while let Some((parent, at)) = left.pop() {
+        let (branch, number) = (&branches[at], nodes.len());
+        nodes.push(Node {
+            parent,
+            name: branch.name.to_owned(),
+            weight: branch.weight,
+            record: 0,
+        });
+        let children = branch.children.iter().rev();
+        left.extend(children.map(|&child| (Some(number), child)));
+    }
+    nodes
 }
 
 /// The names on the way down a path.

@@ -95,6 +95,15 @@ fn bad_values_are_refused_by_name() {
 }
 
 #[test]
+fn a_path_may_be_of_any_length() {
+    let long = "/a".repeat(1_000_000);
+    let tree = Tree::from_weights([(long.as_str(), 1)]).unwrap();
+    assert_eq!(tree.len(), 1_000_001);
+    let tree = Tree::from_weights([(&long[..200], 1)]).unwrap();
+    assert_eq!(name_of(tree.plan(&[]).unwrap_err()), "too-deep");
+}
+
+#[test]
 fn trees_stand_in_preorder() {
     let tree = Tree::from_weights([("/a/b/c", 3), ("/d", 2), ("/a/e", 4), ("/d", 7)]).unwrap();
     assert_eq!(tree.paths(), ["/", "/a", "/a/b", "/a/b/c", "/a/e", "/d"]);
