@@ -30,6 +30,7 @@ class Branch:
     """A node of a tree that isn't laid out yet."""
 
     weight: int = 1
+    record: int = 0
     children: Dict[str, Branch] = field(default_factory=dict)
 
 
@@ -50,13 +51,9 @@ class Tree:
             for name in names_of(path):
                 branch = branch.children.setdefault(name, Branch())
             branch.weight = weight
-        paths = [path for path, _ in laid_out(top)]
-        for path in records:
-            if path not in paths:
-                raise BadPath(f"no node has the path {path!r}")
-        numbers = {path: number for number, path in enumerate(paths)}
-        rows = (row(path, branch.weight, records.get(path, 0), numbers) for path, branch in laid_out(top))
-        return Tree(tuple(rows))
+        for path, record in records.items():
+            branch_at(top, path).record = record
+        return Tree(tuple(laid_out(top)))
 
     def __reduce__(self) -> Tuple[Any, ...]:
         """As its nodes; what the library keeps belongs to this tree alone."""
@@ -94,14 +91,22 @@ def names_of(path: str) -> List[str]:
     return names
 
 
-def laid_out(branch: Branch, path: str = "/") -> Iterator[Tuple[str, Branch]]:
-    """The branches from this one down, in preorder, each with its path."""
-    yield path, branch
-    for name, child in branch.children.items():
-        yield from laid_out(child, f"{path.rstrip('/')}/{name}")
+def branch_at(top: Branch, path: str) -> Branch:
+    """The branch that a path leads to."""
+    branch = top
+    for name in names_of(path):
+        if name not in branch.children:
+            raise BadPath(f"no node has the path {path!r}")
+        branch = branch.children[name]
+    return branch
 
 
-def row(path: str, weight: int, record: int, numbers: Mapping[str, int]) -> Node:
-    above, _, name = path.rpartition("/")
-    parent = None if path == "/" else numbers[above or "/"]
-    return Node(parent, name, weight, record)
+def laid_out(top: Branch) -> Iterator[Node]:
+    """The nodes of the branches from this one down, in preorder. (A path may have more names than calls can nest.)"""
+    number = 0
+    left: List[Tuple[Optional[int], str, Branch]] = [(None, "", top)]
+    while left:
+        parent, name, branch = left.pop()
+        yield Node(parent, name, branch.weight, branch.record)
+        left += [(number, child, branch.children[child]) for child in reversed(branch.children)]
+        number += 1

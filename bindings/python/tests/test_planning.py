@@ -61,8 +61,15 @@ class Planning(unittest.TestCase):
         for path in ["", "a", "/a/", "//a"]:
             with self.assertRaises(BadPath):
                 Tree.from_paths({path: 1})
-        with self.assertRaises(BadPath):
-            Tree.from_paths({"/a": 1}, {"/c": 1})
+        for path, why in (("/c", "no node has the path '/c'"), ("a", "'a' is no path from the root down")):
+            with self.assertRaises(BadPath) as caught:
+                Tree.from_paths({"/a": 1}, {path: 1})
+            self.assertEqual(str(caught.exception), why)
+
+    def test_a_path_may_be_of_any_length(self) -> None:
+        long = "/a" * 100_000
+        self.assertEqual(len(Tree.from_paths({long: 1}, {long: 1}).nodes), 100_001)
+        self.assertEqual(self.name_of(lambda: plan(Tree.from_paths({long[:4000]: 1}), [])), "too-deep")
 
     def test_trees_stand_in_preorder(self) -> None:
         tree = Tree.from_paths({"/a/b/c": 3, "/d": 7, "/a/e": 4})
