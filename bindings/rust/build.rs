@@ -1,5 +1,5 @@
 //! Links libgrove.a, from the folder that GROVE_LIBRARY names, or else from where a package has it, or tools/library
-//! puts it.
+//! puts it. A folder that isn't named from the root is one as seen from the crate.
 
 use std::env;
 use std::path::{Path, PathBuf};
@@ -12,9 +12,9 @@ const USUAL: [&str; 3] = ["lib", "../../out/library", "../../../lib"];
 fn main() {
     println!("cargo::rerun-if-env-changed=GROVE_LIBRARY");
     let here = env::var("CARGO_MANIFEST_DIR").unwrap_or_default();
-    let folders = match env::var("GROVE_LIBRARY") {
-        Ok(named) => vec![PathBuf::from(named)],
-        Err(_) => USUAL.map(|folder| Path::new(&here).join(folder)).into(),
+    let folders: Vec<PathBuf> = match env::var("GROVE_LIBRARY") {
+        Ok(named) if !named.is_empty() => vec![Path::new(&here).join(named)],
+        _ => USUAL.map(|folder| Path::new(&here).join(folder)).into(),
     };
     match folders.iter().find(|folder| folder.join(LIBRARY).is_file()) {
         Some(folder) => {
@@ -23,7 +23,12 @@ fn main() {
             println!("cargo::rustc-link-lib=static=grove");
         }
         None => {
-            println!("cargo::error={LIBRARY} is in none of {folders:?}: tools/library makes it")
+            let looked: Vec<String> = folders.iter().map(|it| it.display().to_string()).collect();
+            println!(
+                "cargo::error={LIBRARY} is not in {}",
+                looked.join(", nor in ")
+            );
+            println!("cargo::error=tools/library makes it, and GROVE_LIBRARY names its folder");
         }
     }
 }

@@ -198,14 +198,25 @@ def rust(_given: Given, room: Path, tally: Tally) -> None:
     """Its tests, its example, its form, its pages, and nothing that clippy would have otherwise."""
     surroundings = {**os.environ, "GROVE_LIBRARY": str(LIBRARY), "CARGO_TARGET_DIR": str(room / "target")}
     pages = {**surroundings, "RUSTDOCFLAGS": "-D warnings"}
+    from_crate = {**surroundings, "GROVE_LIBRARY": os.path.relpath(LIBRARY, crate_at(room).resolve())}
     for words, where in (
         (["fmt", "--check"], surroundings),
         (["clippy", "--offline", "--all-targets", "--", "-D", "warnings"], surroundings),
         (["test", "--offline"], surroundings),
-        (["run", "--offline", "--example", "locks"], surroundings),
+        (["run", "--offline", "--example", "locks"], from_crate),
         (["doc", "--offline", "--no-deps"], pages),
     ):
         note_well(tally, words[0], called("cargo", *words, cwd=crate_at(room), env=where))
+    note_no_library(room, tally, surroundings)
+
+
+def note_no_library(room: Path, tally: Tally, surroundings: dict[str, str]) -> None:
+    """Without the library cargo says where it was looked for, also if the variable is empty, as if it weren't set."""
+    crate = crate_at(room)
+    for named, looked in (("nowhere", f"{crate}/nowhere"), ("", f"{crate}/lib, nor in {crate}/../../out/library")):
+        ran = called("cargo", "build", "--offline", cwd=crate, env={**surroundings, "GROVE_LIBRARY": named})
+        told = f"libgrove.a is not in {looked}" in ran.stderr and "tools/library makes it" in ran.stderr
+        tally.note(f"no library, {named!r}", None if ran.returncode and told else f"{ran.returncode}: {ran.stderr}")
 
 
 def crate_at(room: Path) -> Path:
