@@ -75,11 +75,19 @@ int main(int count, char **words) {
     struct text document = {NULL, 0, 0};
     struct text planned = {NULL, 0, 0};
     int status = 2;
-    if (count != 2 || !read_file(words[1], &document)) {
+    if (count != 2) {
         fputs("usage: plan DOC\n", stderr);
+    } else if (!read_file(words[1], &document)) {
+        fprintf(stderr, "plan: can't read %s\n", words[1]);
+        status = 3;
     } else {
         status = show(grove_c_plan, &document);
-        if (status == GROVE_DONE && say(grove_c_plan_document, &document, &planned) == GROVE_DONE)
+        if (status == GROVE_DONE) {
+            status = (int)say(grove_c_plan_document, &document, &planned);
+            if (status != GROVE_DONE)
+                fputs("memory\n", stderr);
+        }
+        if (status == GROVE_DONE)
             status = show(grove_c_check, &planned);
     }
     free(planned.bytes);

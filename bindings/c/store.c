@@ -96,10 +96,14 @@ int main(int count, char **words) {
     uint8_t fault[4096];
     grove_told told;
     int status;
-    if (count != 2 || !read_file(words[1], &document)) {
+    if (count != 2) {
         fputs("usage: store DOC < LINES\n", stderr);
-        free(document.bytes);
         return 2;
+    }
+    if (!read_file(words[1], &document)) {
+        fprintf(stderr, "store: can't read %s\n", words[1]);
+        free(document.bytes);
+        return 3;
     }
     told = grove_c_store_open(&store, document.bytes, document.length, fault, sizeof fault);
     free(document.bytes);

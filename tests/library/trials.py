@@ -108,6 +108,7 @@ def note_example(tally: Tally, room: Path) -> None:
     (room / "none.json").write_bytes(b"[]")
     ran = example_on(room, room / "none.json")
     note_equal(tally, "none.json", (ran.returncode, ran.stdout, ran.stderr), (1, "refused shape whole\n", ""))
+    note_unread(tally, "plan", room)
 
 
 def note_store(tally: Tally, room: Path) -> None:
@@ -117,6 +118,14 @@ def note_store(tally: Tally, room: Path) -> None:
         document = room / name if (room / name).exists() else EXAMPLES / name
         ran = called(room / "program", document, input=lines.decode(), stdin=None, env=surroundings)
         note_equal(tally, f"store of {name}", (ran.returncode, ran.stdout), wanted)
+    note_unread(tally, "store", room)
+
+
+def note_unread(tally: Tally, name: str, room: Path) -> None:
+    """A folder, and what isn't there, can't be read."""
+    for document in (room, room / "nothing"):
+        ran, wanted = example_on(room, document), f"{name}: can't read {document}\n"
+        note_equal(tally, f"{name} of {document}", (ran.returncode, ran.stdout, ran.stderr), (3, "", wanted))
 
 
 def compiled(source: str, room: Path, library: str, *words: str) -> subprocess.CompletedProcess:
