@@ -46,6 +46,8 @@ class Client(Requests):
     """A connection to a server. With `seconds`, one that gives no answer for so long is lost."""
 
     def __init__(self, port: int, host: str = "127.0.0.1", seconds: Optional[float] = None) -> None:
+        if not is_port(port):
+            raise ValueError(f"{port} is no port: those are 1 to 65535")
         try:
             self.connection = socket.create_connection((host, port), timeout=seconds)
         except OSError as error:
@@ -112,6 +114,11 @@ class Client(Requests):
         return Lost(why, unanswered)
 
 
+def is_port(number: int) -> bool:
+    """Whether a port has this number. (Of a larger one the system would take the last 16 bits.)"""
+    return 1 <= number <= 65_535
+
+
 def with_end(line: bytes) -> bytes:
     """A line as it is sent. (A line feed in it would make two of it, with a reply each.)"""
     if b"\n" in checked(line):
@@ -137,7 +144,7 @@ def send_lines(client: Client, lines: Iterable[bytes]) -> bool:
 
 
 def main(words: Sequence[str]) -> int:
-    if len(words) != 1 or not words[0].isdecimal():
+    if len(words) != 1 or not words[0].isdecimal() or not is_port(int(words[0])):
         print("usage: python3 -m pickbracken.client PORT < LINES", file=sys.stderr)
         return 2
     try:

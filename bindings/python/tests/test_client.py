@@ -162,6 +162,16 @@ class Clients(unittest.TestCase):
         wanted = (3, b"", b"pickbracken.client: no reply of the server: it speaks HTTP\n")
         self.assertEqual((ran.returncode, ran.stdout, ran.stderr), wanted)
 
+    def test_a_port_is_one(self) -> None:
+        with socket.create_server(("127.0.0.1", 0)) as listener:
+            for port in (listener.getsockname()[1] + 65_536, 65_536, 0, -1):
+                with self.assertRaises(ValueError):
+                    Client(port)
+        for word in ("0", "65536", "x"):
+            words = [sys.executable, "-B", "-m", "pickbracken.client", word]
+            ran = subprocess.run(words, input=b"{}\n", capture_output=True, check=False)
+            self.assertEqual((ran.returncode, ran.stdout, ran.stderr[:6]), (2, b"", b"usage:"))
+
     def test_there_may_be_no_server(self) -> None:
         with socket.create_server(("127.0.0.1", 0)) as listener:
             port = listener.getsockname()[1]
