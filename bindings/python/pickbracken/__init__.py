@@ -11,6 +11,9 @@ plan of a list of accesses: it obeys the tree protocol, and no legal plan costs 
 sees it, whoever made plan and flow. Planner and checker are grove's, which are proved; this package hands documents to
 its shared library, and reads the answers. `pickbracken.client` has the requests to `grove serve`.
 `pickbracken.document` has the calls over the bytes of a document. A `Store` runs lists by such plans in this process.
+
+A thread that makes a call has to have 1 MiB of stack left: `threading.stack_size` may not make it smaller. None may be
+made in the forked child of a process with threads.
 """
 
 from .accesses import Access, Kind, Reply

@@ -19,6 +19,9 @@
 //! ```
 //!
 //! [`document`] has the same calls over the bytes of a document. A [`Store`] runs lists by such plans in this process.
+//!
+//! A thread that makes a call has to have 1 MiB of stack left. That of [`std::thread::spawn`] has, unless it was given
+//! less by `stack_size` or `RUST_MIN_STACK`.
 
 pub use access::{Access, Op, Reply};
 pub use error::{Error, Fault};
