@@ -1,4 +1,3 @@
-use crate::tree::names_of;
 use std::error;
 use std::fmt;
 
@@ -9,8 +8,10 @@ pub enum Error {
     Refused(Fault),
     /// An allocation failed.
     Memory,
-    /// This is no path from the root down, as `/` or `/a/b`, or no node has it.
+    /// This is no path from the root down, as `/` or `/a/b`.
     Path(String),
+    /// No node has this path.
+    NoNode(String),
 }
 
 impl fmt::Display for Error {
@@ -18,10 +19,8 @@ impl fmt::Display for Error {
         match self {
             Error::Refused(fault) => write!(out, "refused {fault}"),
             Error::Memory => out.write_str("memory"),
-            Error::Path(path) if names_of(path).is_ok() => {
-                write!(out, "no node has the path {path:?}")
-            }
             Error::Path(path) => write!(out, "{path:?} is no path from the root down"),
+            Error::NoNode(path) => write!(out, "no node has the path {path:?}"),
         }
     }
 }

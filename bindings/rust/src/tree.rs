@@ -45,7 +45,7 @@ impl Tree {
 
     /// The same tree with another record at the node of a path, if there is such a node.
     pub fn with_record(mut self, path: &str, record: i64) -> Result<Tree, Error> {
-        let at = self.at(path).ok_or_else(|| Error::Path(path.to_owned()))?;
+        let at = self.at(path)?;
         self.nodes[at].record = record;
         self.kept = Kept::default();
         Ok(self)
@@ -71,11 +71,13 @@ impl Tree {
         paths
     }
 
-    fn at(&self, path: &str) -> Option<usize> {
-        names_of(path).ok()?.try_fold(0, |above, name| {
+    /// Where the node of a path is.
+    fn at(&self, path: &str) -> Result<usize, Error> {
+        let found = names_of(path)?.try_fold(0, |above, name| {
             let is_it = |node: &Node| node.parent == Some(above) && node.name == name;
             (above + 1..self.nodes.len()).find(|&at| is_it(&self.nodes[at]))
-        })
+        });
+        found.ok_or_else(|| Error::NoNode(path.to_owned()))
     }
 
     /// The document of the tree, with the rest of it.
@@ -164,7 +166,7 @@ fn laid_out(branches: &[Branch<'_>]) -> Vec<Node> {
 }
 
 /// The names on the way down a path.
-pub(crate) fn names_of(path: &str) -> Result<impl Iterator<Item = &str>, Error> {
+fn names_of(path: &str) -> Result<impl Iterator<Item = &str>, Error> {
     match path.strip_prefix('/') {
         Some("") => Ok("".split_terminator('/')),
         Some(names) if names.split('/').all(|name| !name.is_empty()) => {

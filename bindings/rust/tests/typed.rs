@@ -84,9 +84,11 @@ fn bad_values_are_refused_by_name() {
         let wanted = format!("{path:?} is no path from the root down");
         assert_eq!(refused.to_string(), wanted);
     }
+    let refused = stock().with_record("a", 1).unwrap_err();
+    assert_eq!(refused, Error::Path("a".to_owned()));
     for path in ["/c", "/a/c", "/a/b"] {
         let refused = stock().with_record(path, 1).unwrap_err();
-        assert_eq!(refused, Error::Path(path.to_owned()));
+        assert_eq!(refused, Error::NoNode(path.to_owned()));
         assert_eq!(
             refused.to_string(),
             format!("no node has the path {path:?}")
