@@ -37,6 +37,8 @@ IN_BASH = {
     "serve --id": "--idle",
     "serve t": "",
     "ask --a": "--address",
+    "save --port 8080 t": "tree.json",
+    "save --port ": "",
     "run --wor": "--workers",
     "nothing x": "",
 }
@@ -46,6 +48,7 @@ IN_ZSH = {
     "plan --explain t": "plan --explain tree.json ",
     "draw --te": "draw --text ",
     "serve --tr": "serve --tree=",
+    "save --port 8080 t": "save --port 8080 tree.json ",
 }
 
 

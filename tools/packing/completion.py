@@ -4,8 +4,8 @@ from __future__ import annotations
 
 from .help_text import Entry, Helps
 
-# What a file stands for; all other values are for a person to think of.
-FILES = ("DOC",)
+# What stands for a file; all other values are for a person to think of.
+FILES = ("DOC", "FILE")
 
 BASH = """\
 # Completes the words of grove in bash. Made from what its help says.
