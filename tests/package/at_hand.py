@@ -64,6 +64,7 @@ def manual(packages: Packages, _room: Path, tally: Tally) -> None:
         note_equal(tally, command, f"\nGROVE {command.upper()}\n" in text, True)
         for said in SAID.findall(called(packages.prefix / "bin/grove", command, "--help").stdout):
             note_equal(tally, f"{command}: {said}", said in one_line or said.startswith("Usage: "), True)
+    note_equal(tally, "the status of ask", "Of grove ask: a reply is an error." in one_line, True)
     note_equal(tally, "man grove plan", called("man", "grove", "plan", env=surroundings).stdout, text)
 
 

@@ -13,8 +13,12 @@ from .help_text import Entry, Help, Helps
 WORD = re.compile(r"(?<![\w-])-{1,2}[\w-]+|\b[A-Z]+\b|\b[a-z][\w-]*")
 
 STATUSES = [
-    ("0", "The answer is on standard output."),
-    ("1", "The input is refused: standard output has \\fBrefused\\fR and the fault, standard error a hint."),
+    ("0", "Done: if there is an answer, it is on standard output."),
+    (
+        "1",
+        "The input is refused: standard output has \\fBrefused\\fR and the fault, standard error a hint. "
+        "Of \\fBgrove ask\\fR: a reply is an error.",
+    ),
     ("2", "The command line is wrong."),
     ("3", "Standard error has \\fBdevice\\fR: something couldn't be read or written; or \\fBmemory\\fR."),
 ]
