@@ -3,19 +3,20 @@ both, and `/health` while all slots are taken by clients that are slow."""
 
 from __future__ import annotations
 
+import errno
 import json
 import socket
 import time
 from contextlib import ExitStack
 from functools import partial
 
-from server import HOST, Serving, connected
+from server import HOST, Serving, connected, free_port
 from store import Store
 from web import Client, request, responses_in
 
 from sweeps.connections import ADD, GET, TREE
 from sweeps.metrics import Both, metrics_at
-from sweeps.program import Tally, Try, until_well
+from sweeps.program import DEVICE, Ran, Tally, Try, because, until_well
 from sweeps.talks import note_replies
 from sweeps.verbose import Telling, compare
 
@@ -123,15 +124,22 @@ def names(program: str, tally: Tally) -> None:
 
 
 def taken(program: str, tally: Tally) -> None:
-    """A server that can't have its second port has served nobody, and ends."""
-    with socket.socket() as other:
-        other.bind((HOST, 0))
-        other.listen()
-        server = Serving(program, TREE, further=("--http", str(other.getsockname()[1])))
-        out, err = server.started.communicate(timeout=LONGEST)
-        server.room.cleanup()
-        came = server.started.returncode, out, err
-        tally.note("the port", None if came == (3, b"", b"device\n") else f"came {came}")
+    """A server that can't have its second port, or that is told the same one twice, has served nobody, and ends."""
+    with socket.create_server((HOST, 0)) as other:
+        second = str(other.getsockname()[1])
+        tally.compare("the port", ended(Serving(program, TREE, further=("--http", second))), DEVICE)
+    port = free_port()
+    explained = because(f"cannot listen on {HOST}:{port}", errno.EADDRINUSE)
+    for further, wanted in (((), DEVICE), (("--explain",), explained)):
+        server = Serving(program, TREE, port=port, further=("--http", str(port), *further))
+        tally.compare(f"the same port twice, {further}", ended(server), wanted)
+
+
+def ended(server: Serving) -> Ran:
+    """How a server ends that nobody stops."""
+    out, err = server.started.communicate(timeout=LONGEST)
+    server.room.cleanup()
+    return Ran(server.started.returncode, out, err)
 
 
 def log_of_both(program: str, tally: Tally) -> None:
