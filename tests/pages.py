@@ -20,7 +20,7 @@ MOST_KEPT = 65_536
 LOOKS = {b"GET", b"HEAD"}
 ALLOWED = {"/": {*LOOKS, b"POST"}, "/document": LOOKS, "/nodes": LOOKS, "/health": LOOKS, "/metrics": LOOKS}
 HEALTHY = b'{"status":"ok"}\n'
-# What each response of the server says against being framed, or taken for another type.
+# What each response with a type says against being framed, or taken for another one.
 GUARDS = {b"x-content-type-options": b"nosniff", b"x-frame-options": b"DENY"}
 
 
