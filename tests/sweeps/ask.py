@@ -65,6 +65,8 @@ def as_words(program: str, tally: Tally) -> None:
         words = [line.decode() for line in lines_of(TEXT)]
         wanted = Ran(REFUSED if has_error(REPLIES) else OK, REPLIES, b"")
         tally.compare("ten words", ask(program, server.port, *words, text=ADD), wanted)
+        wanted = Ran(REFUSED, b'{"error":"shape"}\n' + 2 * b'{"error":"bad-json"}\n', b"")
+        tally.compare("a word of two lines, and an empty one", ask(program, server.port, "{}\n", ""), wanted)
 
 
 def statuses(program: str, tally: Tally) -> None:
