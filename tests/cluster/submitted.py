@@ -220,10 +220,12 @@ def errors_are_a_line_and_a_status(cluster, grove):
     wanted += [(3, "no_module:it: ModuleNotFoundError: No module named 'no_module'\n")]
     wanted += [(1, "refused no-jobs\n"), (3, "/no/such: No such file or directory\n")]
     wrong = ["status --members 127.0.0.1", "status --store A", "status --cert x"]
-    wrong += ["work --metrics x", "work --patience 0"]
+    wrong += ["work --metrics x", "work --patience 0", "work --tries 0", "work --slot -1"]
     statuses = [programs.run(*each.split())[0] for each in wrong]
     faults = [f"wanted {want}; came {each}" for each, want in zip(came, wanted) if each != want]
-    return "; ".join(faults) or (None if statuses == [2] * 5 else f"statuses {statuses}") or fault_of_garbage(programs)
+    if statuses != [2] * len(wrong):
+        faults.append(f"statuses {statuses}")
+    return "; ".join(faults) or fault_of_garbage(programs)
 
 
 def fault_of_garbage(programs):
