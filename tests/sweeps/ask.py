@@ -8,6 +8,7 @@ import json
 import os
 import socket
 import struct
+import subprocess
 from functools import partial
 
 from server import HOST, Serving, free_port
@@ -39,6 +40,7 @@ def tries(program: str, room: str) -> list[Try]:
         Try("servers that are lost", partial(lost, program)),
         Try("how a server is lost", partial(explained, program)),
         Try("standard input and output that fail", partial(streams, program)),
+        Try("standard streams that are closed", partial(closed, program)),
         Try("bytes as they come", partial(exact, program)),
     ]
 
@@ -201,6 +203,17 @@ def streams(program: str, tally: Tally) -> None:
         with open("/dev/full", "wb") as full:
             ran = run(program, *words, text=WEIGHTS, stdout=full)
             tally.compare("full", ran, because("cannot write standard output", errno.ENOSPC))
+
+
+def closed(program: str, tally: Tally) -> None:
+    """The connection doesn't take the place of a closed stream: nothing that is printed goes to the server, and no
+    reply of it is read as a line."""
+    with Serving(program, TREE, further=("--hints",)) as server:
+        right = ask(program, server.port, "x")
+        for stream, line, wanted in ((0, (), DEVICE), (1, ("x",), DEVICE), (2, ("x",), Ran(REFUSED, right.out, b""))):
+            how = {"stdin": subprocess.DEVNULL, "preexec_fn": partial(os.close, stream)}
+            ran = run(program, "ask", "--port", str(server.port), *line, text=None, **how)
+            tally.compare(f"stream {stream}", ran, wanted)
 
 
 def exact(program: str, tally: Tally) -> None:

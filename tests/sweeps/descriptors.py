@@ -44,6 +44,7 @@ def tries(program: str, room: str) -> list[Try]:
         Try("no descriptor of the system for a while", partial(serve_later, program, library, errno.ENFILE)),
         Try("the same with --busy", partial(serve_busy, program, library)),
         Try("another failure", partial(fail, program, library)),
+        Try("standard streams that are closed", partial(serve_closed, program)),
     ]
 
 
@@ -112,6 +113,21 @@ def serve_busy(program: str, library: str, tally: Tally) -> None:
             note_replies(store, WEIGHTS, client.makefile("rb").readline(), f"client {number}", tally)
         came = told(server.port, b"")
         tally.note("the 17th", None if came == BUSY else f"came {came!r}")
+
+
+def serve_closed(program: str, tally: Tally) -> None:
+    """Standard input and standard error are closed. No connection takes the place of either, so none gets the log."""
+    store = Store(json.loads(TREE))
+    with Serving(program, TREE, further=("--verbose",), preexec_fn=close_two) as server, ExitStack() as room:
+        for number, client in enumerate([room.enter_context(connected(server.port)) for _ in range(CLIENTS)]):
+            client.sendall(WEIGHTS)
+            note_replies(store, WEIGHTS, client.makefile("rb").readline(), f"client {number}", tally)
+        tally.note("the server", None if server.is_running() else "it has ended")
+
+
+def close_two() -> None:
+    os.close(0)
+    os.close(2)
 
 
 def fail(program: str, library: str, tally: Tally) -> None:

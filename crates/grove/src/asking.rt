@@ -39,7 +39,8 @@ pub fn ask<R: Host + Net<Listener = TcpListener, Stream = TcpStream>, I: Source,
     };
     // No line is to wait until the reply before it has arrived.
     let _at_once = stream.set_nodelay(true);
-    let mut server = Server::new(rt.alloc(), &stream, address, lines.len() != 1);
+    let numbers_lines = text.lines().count() != 1;
+    let mut server = Server::new(rt.alloc(), &stream, address, numbers_lines);
     let status = if text.is_empty() {
         ask_lines(rt, &mut server, input, out)?
     } else {

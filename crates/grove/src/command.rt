@@ -9,6 +9,7 @@ ghost use Rattle.grove.specs.Runs.{streams, Does, DoesAt};
 use crate::answer::{Response, Stop};
 use crate::answering::response_to;
 use crate::asking::ask;
+use crate::closed_streams::Placeholders;
 use crate::document::document_bytes;
 use crate::explained::Explained;
 use crate::failure::StreamErrors;
@@ -119,6 +120,7 @@ fn obey<
         (E.contents err.new) (E.has_failed err.new))) }
     ensures apart { HasFile order.now → input.new ≡ input.old }
 {
+    let _held = Placeholders::for_order(rt, order);
     match order {
         Order::Do { command, document } => do_command(rt, command, *document, input, out, err),
         Order::Ask { server, lines } => ask(rt, *server, lines, input, out, err),

@@ -16,6 +16,7 @@ use std::process::ExitCode;
 mod answer;
 mod answering;
 mod asking;
+mod closed_streams;
 mod command;
 mod document;
 mod explained;

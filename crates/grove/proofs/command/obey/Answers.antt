@@ -17,10 +17,10 @@ returns-in-Ask-clause-given_up g c =
     rw c.in-Ask.is (is_lost _ _ c.ask.result c.ask.ensures.blamed
     (same_streams g.E.Sink.contents g.E.Sink.has_failed _ _ c.ask.result c.ask.ensures.quiet))
 
-pub returns-in-Save-clause-obeyed : goal.returns-in-Save-clause-obeyed
-returns-in-Save-clause-obeyed g c =
+pub returns-clause-obeyed : goal.returns-clause-obeyed
+returns-clause-obeyed g c =
     rw c.in-Save.is (is_saved _ _ c.save.result c.save.ensures.saved (search rules) (refl, refl))
 
-pub returns-in-Save-clause-given_up : goal.returns-in-Save-clause-given_up
-returns-in-Save-clause-given_up g c =
+pub returns-clause-given_up : goal.returns-clause-given_up
+returns-clause-given_up g c =
     rw c.in-Save.is (is_unsaved _ _ c.save.result c.save.ensures.unprinted (search rules) (refl, refl))
