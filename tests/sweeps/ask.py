@@ -9,6 +9,7 @@ import os
 import socket
 import struct
 import subprocess
+from collections.abc import Iterable
 from functools import partial
 
 from server import HOST, Serving, free_port
@@ -89,17 +90,18 @@ def hints(program: str, tally: Tally) -> None:
     found = "batch is 3, but has to be an array of lists"
     refusal, reply = compact({"error": "shape", "hint": found}), b'{"places":[],"replies":[],"round":1}'
     lines = [BAD.decode().rstrip(), '{"batch":[]}', BAD.decode().rstrip()]
-    told = b"".join(b"hint: line %d: %s\n" % (number, found.encode()) for number in (1, 3))
     with Serving(program, TREE, further=("--hints",)) as server:
         ran = ask(program, server.port, lines[0])
         tally.compare("a line", ran, Ran(REFUSED, refusal + b"\n", b""))
         tally.note("its hint", None if ran.hint == b"hint: %s\n" % found.encode() else f"came {ran.hint!r}")
         ran = ask(program, server.port, *lines)
         wanted = b"".join(text + b"\n" for text in (refusal, reply, refusal))
-        tally.compare("three lines", ran, Ran(REFUSED, wanted, told))
+        tally.compare("three lines", ran, Ran(REFUSED, wanted, hints_of((1, 3), found)))
+        ran = ask(program, server.port, f"{lines[0]}\n{lines[0]}")
+        tally.compare("a word of two lines", ran, Ran(REFUSED, 2 * (refusal + b"\n"), hints_of((1, 2), found)))
         ran = ask(program, server.port, text=200 * BAD)
-        told = b"".join(b"hint: line %d: %s\n" % (number + 1, found.encode()) for number in range(MOST_HINTS))
-        tally.compare("many hints", ran, Ran(REFUSED, 200 * (refusal + b"\n"), told))
+        wanted = Ran(REFUSED, 200 * (refusal + b"\n"), hints_of(range(1, MOST_HINTS + 1), found))
+        tally.compare("many hints", ran, wanted)
     with Serving(program, TREE) as server:
         ran = ask(program, server.port, lines[0])
         tally.compare("without hints", ran, Ran(REFUSED, b'{"error":"shape"}\n', b""))
@@ -108,6 +110,11 @@ def hints(program: str, tally: Tally) -> None:
         ran = ask(program, canned.port, lines[0])
         is_plain = ran.hint.startswith(b"hint: b") and b"\x1b" not in ran.hint
         tally.note("a hint that a terminal would act upon", None if is_plain else f"came {ran!r} {ran.hint!r}")
+
+
+def hints_of(numbers: Iterable[int], found: str) -> bytes:
+    """What standard error gets if the lines of these numbers have this hint."""
+    return b"".join(b"hint: line %d: %s\n" % (number, found.encode()) for number in numbers)
 
 
 def long_lines(program: str, tally: Tally) -> None:
@@ -119,8 +126,7 @@ def long_lines(program: str, tally: Tally) -> None:
     with Serving(program, TREE, further=("--hints",)) as server:
         tally.compare("alone", ask(program, server.port, text=long), Ran(REFUSED, refusal, b""))
         ran = ask(program, server.port, text=BAD + long + long + BAD)
-        told = b"".join(b"hint: line %d: %s\n" % (number, found.encode()) for number in (1, 4))
-        tally.compare("among others", ran, Ran(REFUSED, shape + 2 * refusal + shape, told))
+        tally.compare("among others", ran, Ran(REFUSED, shape + 2 * refusal + shape, hints_of((1, 4), found)))
 
 
 def many(program: str, tally: Tally) -> None:
