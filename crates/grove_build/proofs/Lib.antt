@@ -29,10 +29,5 @@ pub mod Pushes
 pub mod Keeping
 pub mod Missing
 pub mod Popped
-pub mod CutPlans
-pub mod CutTrees
-pub mod CutFlows
-pub mod CutLeast
-pub mod CutSettled
 pub mod SettledJobs
 pub mod NothingKept

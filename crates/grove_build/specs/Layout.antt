@@ -9,8 +9,7 @@ use Rattle.grove_plan.specs.declared.step.Step.TheVariants.{Lock, Unlock, Access
 abbrev pub has_child_in : Rows → List ℕ → (ℕ → ℕ) → ℕ → ℕ → Bool
 has_child_in rows list lock gap node = list_any (λ child. is_at node (parent_of rows child) && (lock child == gap)) list
 
--- a node's unlock comes before the locks of its gap: it was locked in an earlier one, and has no child locked in this
--- one
+-- a node's unlock comes before its gap's locks: it was locked in an earlier gap, and has no child locked in this one
 abbrev pub is_early : Rows → List ℕ → (ℕ → ℕ) → (ℕ → ℕ) → ℕ → Bool
 is_early rows list lock release node =
     nat_lt (lock node) (release node) && not (has_child_in rows list lock (release node) node)

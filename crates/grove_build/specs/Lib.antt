@@ -6,6 +6,5 @@ pub mod Batches
 pub mod Reaches
 pub mod KeptPlans
 pub mod Keeping
-pub mod CutTrees
 pub mod SettledJobs
 pub mod DistinctLists

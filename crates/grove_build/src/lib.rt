@@ -4,10 +4,9 @@
 pub use batch::plan_batch;
 pub use jobs::{kept_jobs, kept_jobs_alone, settled_jobs};
 pub use kept_plans::{KeptPlans, PlanCounts};
-pub use laws::{cut_laws, settled_laws};
-pub use planning::{Planned, plan, plan_watched};
+pub use laws::settled_laws;
+pub use planning::{Planned, plan};
 pub use targets::{Target, targets_of};
-pub use watch::{Layer, Watch};
 
 mod batch;
 mod costs;
@@ -25,4 +24,3 @@ mod stays;
 mod steps;
 mod targets;
 mod variables;
-mod watch;

@@ -13,7 +13,6 @@ use crate::places::slots_of;
 use crate::solving::{Solved, solve_rows};
 use crate::stays::{cost_of, needed_of, stays_of};
 use crate::steps::lay_out;
-use crate::watch::{Layer, Unwatched, Watch};
 use grove_access::AccessList;
 use grove_plan::Plan;
 use grove_proof::Flow;
@@ -42,40 +41,19 @@ pub fn plan(alloc: Global, tree: &Tree, list: &AccessList) -> Result<Planned, No
         (λ planned. IsCertificate tree.now (nodes_of list.now) (lengths_of list.now) planned.flow
         (cost tree.now (lengths_of list.now) planned.plan)) }
 {
-    plan_watched(alloc, tree, list, &mut Unwatched)
-}
-
-/// The same plan. The watch is told of each part of the work when it is done.
-pub fn plan_watched<W: Watch>(
-    alloc: Global,
-    tree: &Tree,
-    list: &AccessList,
-    watch: &mut W,
-) -> Result<Planned, NoMemory>
-    requires fits { AreNodes tree.now (nodes_of list.now) }
-    ensures settled { IfOk result
-        (λ planned. IsSettled tree.now (nodes_of list.now) (lengths_of list.now) planned.plan) }
-    ensures least { IfOk result (λ planned. IsLeast tree.now (nodes_of list.now) (lengths_of list.now) planned.plan) }
-    ensures cost { IfOk result (λ planned. planned.cost ≡ cost tree.now (lengths_of list.now) planned.plan) }
-    ensures certificate { IfOk result
-        (λ planned. IsCertificate tree.now (nodes_of list.now) (lengths_of list.now) planned.flow
-        (cost tree.now (lengths_of list.now) planned.plan)) }
-{
     // That the rows are a tree's is told with their number, and that the lengths are lengths with theirs.
     let _nodes = tree.len();
     let _accesses = list.len();
     let rows = span(alloc, tree, list)?;
-    watch.done(Layer::Span);
-    plan_rows(alloc, tree, list, &rows, watch)
+    plan_rows(alloc, tree, list, &rows)
 }
 
 /// The settled plan from the rows of the list.
-fn plan_rows<W: Watch>(
+fn plan_rows(
     alloc: Global,
     tree: &Tree,
     list: &AccessList,
     rows: &[SpanRow],
-    watch: &mut W,
 ) -> Result<Planned, NoMemory>
     requires span { IsSpan tree.now (nodes_of list.now) (lengths_of list.now) rows.now }
     requires weights { HaveWeights tree.now rows.now }
@@ -83,12 +61,12 @@ fn plan_rows<W: Watch>(
 {
     let weights = weights_of(alloc, rows)?;
     let slots = slots_of(alloc, list)?;
-    let solved = solve_rows(alloc, tree, list, rows, &weights, &slots, watch)?;
-    settle(alloc, tree, list, rows, &weights, &slots, &solved, watch)
+    let solved = solve_rows(alloc, tree, list, rows, &weights, &slots)?;
+    settle(alloc, tree, list, rows, &weights, &slots, &solved)
 }
 
 /// The settled plan from the solved network.
-fn settle<W: Watch>(
+fn settle(
     alloc: Global,
     tree: &Tree,
     list: &AccessList,
@@ -96,7 +74,6 @@ fn settle<W: Watch>(
     weights: &[u32],
     slots: &[u32],
     solved: &Solved,
-    watch: &mut W,
 ) -> Result<Planned, NoMemory>
     requires span { IsSpan tree.now (nodes_of list.now) (lengths_of list.now) rows.now }
     requires weights { weights.now ≡ weights_of tree.now rows.now }
@@ -112,10 +89,8 @@ fn settle<W: Watch>(
     let needed = needed_of(alloc, rows, &solved.gaps)?;
     let stays = stays_of(alloc, rows, &solved.gaps, &needed)?;
     let steps = lay_out(alloc, &stays, accesses)?;
-    watch.done(Layer::Layout);
     let flow = flow_rows(alloc, &solved.names, &solved.amounts)?;
     let cost = cost_of(weights, slots, &solved.gaps);
-    watch.done(Layer::Rows);
     Ok(Planned {
         plan: Plan::new(steps),
         cost,

@@ -6,7 +6,6 @@ ghost use Rattle.grove_build.specs.Networks.{IsSpan, IsSolved, AreSlots, arcs_fr
 use crate::network::{RowArcs, RowsNetwork, network_of, start_of};
 use crate::places::{gaps_of, lower};
 use crate::proposing::propose;
-use crate::watch::{Layer, Watch};
 use grove_access::AccessList;
 use grove_flow::{Solution, is_solution, latest, solve};
 use grove_span::SpanRow;
@@ -22,14 +21,13 @@ pub struct Solved {
     pub gaps: Vec<u32>,
 }
 
-pub fn solve_rows<W: Watch>(
+pub fn solve_rows(
     alloc: Global,
     tree: &Tree,
     list: &AccessList,
     rows: &[SpanRow],
     weights: &[u32],
     slots: &[u32],
-    watch: &mut W,
 ) -> Result<Solved, NoMemory>
     requires span { IsSpan tree.now (nodes_of list.now) (lengths_of list.now) rows.now }
     requires weights { weights.now ≡ weights_of tree.now rows.now }
@@ -44,12 +42,10 @@ pub fn solve_rows<W: Watch>(
     let _accesses = list.len();
     let end = slots[slots.len() - 1];
     let named = network_of(alloc, rows, weights)?;
-    watch.done(Layer::Network);
-    let mut solution = solution_of(alloc, tree, list, rows, slots, &named, watch)?;
+    let mut solution = solution_of(alloc, tree, list, rows, slots, &named)?;
     lower(&mut solution.places, end);
     let places = latest(alloc, &named.network, &solution, i64::from(end))?;
     let gaps = gaps_of(alloc, slots, &places)?;
-    watch.done(Layer::Latest);
     Ok(Solved {
         names: named.names,
         amounts: solution.amounts,
@@ -58,14 +54,13 @@ pub fn solve_rows<W: Watch>(
 }
 
 /// The solution that is proposed, where it is one, else one that is searched for.
-fn solution_of<W: Watch>(
+fn solution_of(
     alloc: Global,
     tree: &Tree,
     list: &AccessList,
     rows: &[SpanRow],
     slots: &[u32],
     named: &RowsNetwork,
-    watch: &mut W,
 ) -> Result<Solution, NoMemory>
     requires span { IsSpan tree.now (nodes_of list.now) (lengths_of list.now) rows.now }
     requires slots { AreSlots (lengths_of list.now) (length (nodes_of list.now)) slots.now }
@@ -81,14 +76,11 @@ fn solution_of<W: Watch>(
     let end = slots[slots.len() - 1];
     let network = &named.network;
     let proposal = propose(alloc, named, rows, slots)?;
-    watch.done(Layer::Walk);
     let holds = is_solution(alloc, network, &proposal.amounts, &proposal.places)?;
-    watch.done(Layer::Test);
     if holds {
         return Ok(proposal);
     }
     let start = start_of(alloc, rows, end)?;
     let solution = solve(alloc, network, &start)?;
-    watch.done(Layer::Search);
     Ok(solution)
 }

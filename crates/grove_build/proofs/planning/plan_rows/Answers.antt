@@ -15,21 +15,21 @@ weights_same tree (row ∷ rows) have =
     rw (own, weights_same tree rows (λ i. have (suc i))) refl
 
 pub solve_rows-requires-clause-weights : goal.solve_rows-requires-clause-weights
-solve_rows-requires-clause-weights g c = c.deref.ensures.value
+solve_rows-requires-clause-weights c = c.deref.ensures.value
     ∙ (c.in_ok-weights.ensures ∙ weights_same c.args.tree.now c.args.rows.now c.requires.weights)
 
 pub solve_rows-requires-clause-slots : goal.solve_rows-requires-clause-slots
-solve_rows-requires-clause-slots g c = rw (c.deref-2.ensures.value, nodes_length c.args.list.now) c.in_ok-slots.ensures
+solve_rows-requires-clause-slots c = rw (c.deref-2.ensures.value, nodes_length c.args.list.now) c.in_ok-slots.ensures
 
 pub settle-requires-clause-weights : goal.settle-requires-clause-weights
-settle-requires-clause-weights g c = c.deref-3.ensures.value
+settle-requires-clause-weights c = c.deref-3.ensures.value
     ∙ (c.in_ok-weights.ensures ∙ weights_same c.args.tree.now c.args.rows.now c.requires.weights)
 
 pub settle-requires-clause-slots : goal.settle-requires-clause-slots
-settle-requires-clause-slots g c = rw (c.deref-4.ensures.value, nodes_length c.args.list.now) c.in_ok-slots.ensures
+settle-requires-clause-slots c = rw (c.deref-4.ensures.value, nodes_length c.args.list.now) c.in_ok-slots.ensures
 
 pub settle-requires-clause-names : goal.settle-requires-clause-names
-settle-requires-clause-names g c = c.in_ok-solved.ensures.names
+settle-requires-clause-names c = c.in_ok-solved.ensures.names
 
 pub settle-requires-clause-solved : goal.settle-requires-clause-solved
-settle-requires-clause-solved g c = c.in_ok-solved.ensures.solved
+settle-requires-clause-solved c = c.in_ok-solved.ensures.solved

@@ -16,30 +16,30 @@ use Rattle.grove_build.proofs.Named.{rows_named, names_within}
 use Rattle.grove_build.proofs.planning.settle.Goals as goal
 
 pub needed_of-requires-clause-few : goal.needed_of-requires-clause-few
-needed_of-requires-clause-few g c =
+needed_of-requires-clause-few c =
     let of : AreRowsOf c.args.tree.now c.args.rows.now = rows_of_span c.args.tree.now (nodes_of c.args.list.now) (lengths_of c.args.list.now) c.args.rows.now c.requires.span c.len-nodes.ensures.limits (nodes_few c.args.list.now c.len-accesses.ensures.few) in
     of.few
 
 pub needed_of-requires-clause-parents : goal.needed_of-requires-clause-parents
-needed_of-requires-clause-parents g c =
+needed_of-requires-clause-parents c =
     let of : AreRowsOf c.args.tree.now c.args.rows.now = rows_of_span c.args.tree.now (nodes_of c.args.list.now) (lengths_of c.args.list.now) c.args.rows.now c.requires.span c.len-nodes.ensures.limits (nodes_few c.args.list.now c.len-accesses.ensures.few) in
     of.parents
 
 pub needed_of-requires-clause-gaps : goal.needed_of-requires-clause-gaps
-needed_of-requires-clause-gaps g c =
+needed_of-requires-clause-gaps c =
     ap length c.deref.ensures.value ∙ gaps_size c.args.tree.now (nodes_of c.args.list.now) (lengths_of c.args.list.now) c.args.rows.now c.args.solved.now.amounts.items c.args.solved.now.gaps.items c.requires.span c.requires.solved (nodes_few c.args.list.now c.len-accesses.ensures.few)
 
 pub stays_of-requires-clause-few : goal.stays_of-requires-clause-few
-stays_of-requires-clause-few g c =
+stays_of-requires-clause-few c =
     let of : AreRowsOf c.args.tree.now c.args.rows.now = rows_of_span c.args.tree.now (nodes_of c.args.list.now) (lengths_of c.args.list.now) c.args.rows.now c.requires.span c.len-nodes.ensures.limits (nodes_few c.args.list.now c.len-accesses.ensures.few) in
     of.few
 
 pub stays_of-requires-clause-gaps : goal.stays_of-requires-clause-gaps
-stays_of-requires-clause-gaps g c =
+stays_of-requires-clause-gaps c =
     ap length c.deref-2.ensures.value ∙ gaps_size c.args.tree.now (nodes_of c.args.list.now) (lengths_of c.args.list.now) c.args.rows.now c.args.solved.now.amounts.items c.args.solved.now.gaps.items c.requires.span c.requires.solved (nodes_few c.args.list.now c.len-accesses.ensures.few)
 
 pub lay_out-requires-clause-few : goal.lay_out-requires-clause-few
-lay_out-requires-clause-few g c =
+lay_out-requires-clause-few c =
     let of : AreRowsOf c.args.tree.now c.args.rows.now = rows_of_span c.args.tree.now (nodes_of c.args.list.now) (lengths_of c.args.list.now) c.args.rows.now c.requires.span c.len-nodes.ensures.limits (nodes_few c.args.list.now c.len-accesses.ensures.few) in
     let stays : c.deref-4.result.now ≡ stays_from c.args.solved.now.gaps.items c.in_ok-needed.needed.items 0 c.args.rows.now =
     c.deref-4.ensures.value ∙ (c.in_ok-stays.ensures ∙ ap₂ (λ g n. stays_from g n 0 c.args.rows.now) c.deref-2.ensures.value c.deref-3.ensures.value) in
@@ -47,49 +47,49 @@ lay_out-requires-clause-few g c =
     let most : length c.args.rows.now ≤ 4096 = of.few in omega arith
 
 pub lay_out-requires-clause-within : goal.lay_out-requires-clause-within
-lay_out-requires-clause-within g c =
+lay_out-requires-clause-within c =
     let stays : c.deref-4.result.now ≡ stays_from c.args.solved.now.gaps.items c.in_ok-needed.needed.items 0 c.args.rows.now =
     c.deref-4.ensures.value ∙ (c.in_ok-stays.ensures ∙ ap₂ (λ g n. stays_from g n 0 c.args.rows.now) c.deref-2.ensures.value c.deref-3.ensures.value) in
     let number : c.len-accesses.result ≡ length (nodes_of c.args.list.now) = c.len-accesses.ensures.number ∙ sym (nodes_length c.args.list.now) in
     rw (stays, number) (stays_within c.args.tree.now (nodes_of c.args.list.now) (lengths_of c.args.list.now) c.args.rows.now c.args.solved.now.amounts.items c.args.solved.now.gaps.items c.requires.span c.requires.solved (nodes_few c.args.list.now c.len-accesses.ensures.few) c.in_ok-needed.needed.items)
 
 pub flow_rows-requires : goal.flow_rows-requires
-flow_rows-requires g c =
+flow_rows-requires c =
     let size : length c.args.solved.now.amounts.items ≡ length (arcs_from (2 * length c.args.rows.now) 0 c.args.rows.now) =
     c.requires.solved.solution.amounts_size in
     rw (c.deref-5.ensures.value, c.deref-6.ensures.value, c.requires.names)
     (names_within c.args.rows.now (2 * length c.args.rows.now) 0 0 (length c.args.solved.now.amounts.items) (omega arith))
 
 pub cost_of-cost-requires-clause-few : goal.cost_of-cost-requires-clause-few
-cost_of-cost-requires-clause-few g c =
+cost_of-cost-requires-clause-few c =
     let of : AreRowsOf c.args.tree.now c.args.rows.now = rows_of_span c.args.tree.now (nodes_of c.args.list.now) (lengths_of c.args.list.now) c.args.rows.now c.requires.span c.len-nodes.ensures.limits (nodes_few c.args.list.now c.len-accesses.ensures.few) in
     let many : length c.args.weights.now ≡ length c.args.rows.now = ap length c.requires.weights ∙ map_length (λ (row : SpanRow). weight_of c.args.tree.now row.node) c.args.rows.now in
     let most : length c.args.rows.now ≤ 4096 = of.few in omega arith
 
 pub cost_of-cost-requires-clause-light : goal.cost_of-cost-requires-clause-light
-cost_of-cost-requires-clause-light g c =
+cost_of-cost-requires-clause-light c =
     λ k. rw c.requires.weights (weights_few c.args.tree.now c.args.rows.now c.len-nodes.ensures.limits k)
 
 pub cost_of-cost-requires-clause-gaps : goal.cost_of-cost-requires-clause-gaps
-cost_of-cost-requires-clause-gaps g c =
+cost_of-cost-requires-clause-gaps c =
     let many : length c.args.weights.now ≡ length c.args.rows.now = ap length c.requires.weights ∙ map_length (λ (row : SpanRow). weight_of c.args.tree.now row.node) c.args.rows.now in
     ap length c.deref-7.ensures.value ∙ (gaps_size c.args.tree.now (nodes_of c.args.list.now) (lengths_of c.args.list.now) c.args.rows.now c.args.solved.now.amounts.items c.args.solved.now.gaps.items c.requires.span c.requires.solved (nodes_few c.args.list.now c.len-accesses.ensures.few) ∙ ap (λ n. 2 * n + 1) (sym many))
 
 pub cost_of-cost-requires-clause-within : goal.cost_of-cost-requires-clause-within
-cost_of-cost-requires-clause-within g c =
+cost_of-cost-requires-clause-within c =
     rw c.deref-7.ensures.value (λ v lt. gaps_within c.args.tree.now (nodes_of c.args.list.now) (lengths_of c.args.list.now) c.args.rows.now c.args.solved.now.amounts.items c.args.solved.now.gaps.items c.requires.span c.requires.solved (nodes_few c.args.list.now c.len-accesses.ensures.few) c.args.slots.now c.requires.slots v lt)
 
 pub cost_of-cost-requires-clause-own : goal.cost_of-cost-requires-clause-own
-cost_of-cost-requires-clause-own g c =
+cost_of-cost-requires-clause-own c =
     let many : length c.args.weights.now ≡ length c.args.rows.now = ap length c.requires.weights ∙ map_length (λ (row : SpanRow). weight_of c.args.tree.now row.node) c.args.rows.now in
     rw c.deref-7.ensures.value (λ k lt. gaps_fit c.args.tree.now (nodes_of c.args.list.now) (lengths_of c.args.list.now) c.args.rows.now c.args.solved.now.amounts.items c.args.solved.now.gaps.items c.requires.span c.requires.solved (nodes_few c.args.list.now c.len-accesses.ensures.few) c.args.slots.now c.requires.slots k (omega arith))
 
 pub cost_of-cost-requires-clause-end : goal.cost_of-cost-requires-clause-end
-cost_of-cost-requires-clause-end g c =
+cost_of-cost-requires-clause-end c =
     λ gap. slots_few_each (lengths_of c.args.list.now) c.args.slots.now (length (nodes_of c.args.list.now)) c.requires.span.are_lengths c.requires.slots (nodes_few c.args.list.now c.len-accesses.ensures.few) gap
 
 pub new-requires : goal.new-requires
-new-requires g c =
+new-requires c =
     let of : AreRowsOf c.args.tree.now c.args.rows.now = rows_of_span c.args.tree.now (nodes_of c.args.list.now) (lengths_of c.args.list.now) c.args.rows.now c.requires.span c.len-nodes.ensures.limits (nodes_few c.args.list.now c.len-accesses.ensures.few) in
     let stays : c.in_ok-stays.stays.items ≡ stays_from c.args.solved.now.gaps.items c.in_ok-needed.needed.items 0 c.args.rows.now =
     c.in_ok-stays.ensures ∙ ap₂ (λ g n. stays_from g n 0 c.args.rows.now) c.deref-2.ensures.value c.deref-3.ensures.value in
@@ -104,7 +104,7 @@ new-requires g c =
     omega arith
 
 pub new-requires-2 : goal.new-requires-2
-new-requires-2 g c =
+new-requires-2 c =
     let of : AreRowsOf c.args.tree.now c.args.rows.now = rows_of_span c.args.tree.now (nodes_of c.args.list.now) (lengths_of c.args.list.now) c.args.rows.now c.requires.span c.len-nodes.ensures.limits (nodes_few c.args.list.now c.len-accesses.ensures.few) in
     let flow : c.in_ok-flow.flow.items ≡ read_rows c.args.rows.now c.args.solved.now.amounts.items 0 =
     c.in_ok-flow.ensures
@@ -116,7 +116,7 @@ new-requires-2 g c =
     omega arith
 
 pub returns : goal.returns
-returns g c =
+returns c =
     let stays : c.in_ok-stays.stays.items ≡ stays_from c.args.solved.now.gaps.items c.in_ok-needed.needed.items 0 c.args.rows.now =
     c.in_ok-stays.ensures ∙ ap₂ (λ g n. stays_from g n 0 c.args.rows.now) c.deref-2.ensures.value c.deref-3.ensures.value in
     let number : c.len-accesses.result ≡ length (nodes_of c.args.list.now) = c.len-accesses.ensures.number ∙ sym (nodes_length c.args.list.now) in

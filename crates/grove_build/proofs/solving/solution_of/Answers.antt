@@ -6,20 +6,20 @@ use Rattle.grove_build.proofs.Asked.{nodes_few, end_slots, is_network, is_start}
 use Rattle.grove_build.proofs.solving.solution_of.Goals as goal
 
 pub is_solution-requires : goal.is_solution-requires
-is_solution-requires g c =
+is_solution-requires c =
     rw (c.requires.needs, c.requires.arcs) record {
       arcs = (is_network c.args.tree.now (nodes_of c.args.list.now) (lengths_of c.args.list.now) c.args.rows.now c.requires.span
           c.len-nodes.ensures.limits (nodes_few c.args.list.now c.len-accesses.ensures.few)).arcs_of;
     }
 
 pub solve-requires-clause-network : goal.solve-requires-clause-network
-solve-requires-clause-network g c =
+solve-requires-clause-network c =
     rw (c.requires.needs, c.requires.arcs)
     (is_network c.args.tree.now (nodes_of c.args.list.now) (lengths_of c.args.list.now) c.args.rows.now c.requires.span c.len-nodes.ensures.limits
     (nodes_few c.args.list.now c.len-accesses.ensures.few))
 
 pub solve-requires-clause-start : goal.solve-requires-clause-start
-solve-requires-clause-start g c =
+solve-requires-clause-start c =
     let begin : c.deref-3.result.now ≡ start_of (slots_before (lengths_of c.args.list.now) (length (nodes_of c.args.list.now))) c.args.rows.now =
     c.deref-3.ensures.value
     ∙ (c.in_ok-start.ensures ∙ ap (λ n. start_of n c.args.rows.now) (end_slots (lengths_of c.args.list.now) c.args.slots.now (length (nodes_of c.args.list.now)) c.requires.slots)) in

@@ -13,17 +13,17 @@ use Rattle.grove_build.proofs.Asked.{nodes_few, end_slots, slots_rising, gaps_ar
 use Rattle.grove_build.proofs.solving.solve_rows.Goals as goal
 
 pub network_of-requires : goal.network_of-requires
-network_of-requires g c =
+network_of-requires c =
     let of : AreRowsOf c.args.tree.now c.args.rows.now =
     rows_of_span c.args.tree.now (nodes_of c.args.list.now) (lengths_of c.args.list.now) c.args.rows.now c.requires.span c.len-nodes.ensures.limits
     (nodes_few c.args.list.now c.len-accesses.ensures.few) in
     record { few = of.few; parents = of.parents }
 
 pub solution_of-requires-clause-needs : goal.solution_of-requires-clause-needs
-solution_of-requires-clause-needs g c = c.in_ok-named.ensures.needs ∙ ap needs_from c.requires.weights
+solution_of-requires-clause-needs c = c.in_ok-named.ensures.needs ∙ ap needs_from c.requires.weights
 
 pub latest-requires-clause-arcs : goal.latest-requires-clause-arcs
-latest-requires-clause-arcs g c =
+latest-requires-clause-arcs c =
     rw (c.in_ok-named.ensures.needs, c.requires.weights, c.in_ok-named.ensures.arcs)
     (is_network c.args.tree.now (nodes_of c.args.list.now) (lengths_of c.args.list.now) c.args.rows.now c.requires.span c.len-nodes.ensures.limits
     (nodes_few c.args.list.now c.len-accesses.ensures.few)).arcs_of
@@ -41,12 +41,12 @@ top_is list slots from few lengths are is =
     is ∙ ap (λ (n : ℕ). pos n) (end_slots (lengths_of list) slots (length (nodes_of list)) are) in (omega (arith, ints), omega arith)
 
 pub latest-requires-clause-modest : goal.latest-requires-clause-modest
-latest-requires-clause-modest g c =
+latest-requires-clause-modest c =
     let top = top_is c.args.list.now c.args.slots.now c.from.result c.len-accesses.ensures.few c.requires.span.are_lengths c.requires.slots c.from.ensures in
     (omega (arith, ints), omega (arith, ints))
 
 pub latest-requires-clause-solved : goal.latest-requires-clause-solved
-latest-requires-clause-solved g c =
+latest-requires-clause-solved c =
     let places : c.lower.new.places
     ≡ map (lowered (pos (slots_before (lengths_of c.args.list.now) (length (nodes_of c.args.list.now))))) c.in_ok-solution.solution.places.items =
     c.lower.ensures
@@ -66,15 +66,16 @@ latest-requires-clause-solved g c =
     c.in_ok-solution.solution.places.items solution)
 
 pub gaps_of-requires-clause-few : goal.gaps_of-requires-clause-few
-gaps_of-requires-clause-few g c =
+gaps_of-requires-clause-few c =
     let few : length (nodes_of c.args.list.now) ≤ 64 = nodes_few c.args.list.now c.len-accesses.ensures.few in
     let size : length c.args.slots.now ≡ suc (length (nodes_of c.args.list.now)) = c.requires.slots.size in omega arith
 
 pub gaps_of-requires-clause-rising : goal.gaps_of-requires-clause-rising
-gaps_of-requires-clause-rising g c = slots_rising (lengths_of c.args.list.now) c.args.slots.now (length (nodes_of c.args.list.now)) c.requires.slots
+gaps_of-requires-clause-rising c =
+    slots_rising (lengths_of c.args.list.now) c.args.slots.now (length (nodes_of c.args.list.now)) c.requires.slots
 
 pub gaps_of-requires-clause-between : goal.gaps_of-requires-clause-between
-gaps_of-requires-clause-between g c =
+gaps_of-requires-clause-between c =
     let latest = rw ((top_is c.args.list.now c.args.slots.now c.from.result c.len-accesses.ensures.few c.requires.span.are_lengths c.requires.slots c.from.ensures).0, c.in_ok-named.ensures.needs, c.requires.weights, c.in_ok-named.ensures.arcs, needs_size c.args.tree.now c.args.rows.now)
     at c.in_ok-places.ensures.latest in
     rw c.deref.ensures.value
@@ -83,7 +84,7 @@ gaps_of-requires-clause-between g c =
     c.requires.slots latest)
 
 pub returns-clause-solved : goal.returns-clause-solved
-returns-clause-solved g c = record {
+returns-clause-solved c = record {
   solved = c.in_ok-solution.solution.places.items;
   solution = rw (c.in_ok-named.ensures.needs, c.requires.weights, c.in_ok-named.ensures.arcs) at c.in_ok-solution.ensures;
   places = c.in_ok-places.places.items;

@@ -10,8 +10,7 @@ use Rattle.grove_proof.specs.declared.flow.FlowRow.{FlowRow}
 use Rattle.grove_proof.specs.Flows.{IsCertificate}
 use Rattle.grove_build.specs.Settled.{IsSettled}
 
--- A cut of a whole tree: rows of some of its nodes, in its order, each with its parent, name and weight. The origin of
--- a cut node is its number in the whole tree; numbers of no node have origins of no node.
+-- A cut of a whole tree: rows of some of its nodes, in its order. A node's origin is its number in the whole tree.
 pub record IsCut (whole cut : Rows) (origin : ℕ → ℕ) : Type 0 where
   pub some : 0 < length cut
   pub rises : (a b : ℕ) → a < b → origin a < origin b
@@ -31,20 +30,12 @@ abbrev pub plan_at_origin : (ℕ → ℕ) → List Step → List Step
 plan_at_origin origin plan = map (step_at_origin origin) plan
 
 abbrev pub row_at_origin : (ℕ → ℕ) → FlowRow → FlowRow
-row_at_origin origin row = record {
-  node = origin row.node;
-  above = row.above;
-  held = row.held;
-  first = row.first;
-  last = row.last;
-  own = row.own;
-}
+row_at_origin origin row = record row { node = origin row.node }
 
 abbrev pub flow_at_origin : (ℕ → ℕ) → List FlowRow → List FlowRow
 flow_at_origin origin flow = map (row_at_origin origin) flow
 
--- a plan over a cut is legal, least or settled for a list exactly where it is so over the whole tree, and costs the
--- same
+-- a plan over a cut is legal, least or settled exactly where it is so over the whole tree, and costs the same
 abbrev pub CutsKeepLegal : Type 0
 CutsKeepLegal = (whole cut : Rows) (origin : ℕ → ℕ) → IsCut whole cut origin → (nodes : List ℕ) (plan : List Step)
     → IsLegal cut nodes plan ↔ IsLegal whole (map origin nodes) (plan_at_origin origin plan)
@@ -55,14 +46,12 @@ CutsKeepCost = (whole cut : Rows) (origin : ℕ → ℕ) → IsCut whole cut ori
 
 abbrev pub CutsKeepLeast : Type 0
 CutsKeepLeast = (whole cut : Rows) (origin : ℕ → ℕ) → IsTree whole → IsCut whole cut origin
-    → (nodes lengths : List ℕ) (plan : List Step)
-    → AreNodes cut nodes → IsLeast cut nodes lengths plan
+    → (nodes lengths : List ℕ) (plan : List Step) → AreNodes cut nodes → IsLeast cut nodes lengths plan
     ↔ IsLeast whole (map origin nodes) lengths (plan_at_origin origin plan)
 
 abbrev pub CutsKeepSettled : Type 0
 CutsKeepSettled = (whole cut : Rows) (origin : ℕ → ℕ) → IsTree whole → IsCut whole cut origin
-    → (nodes lengths : List ℕ) (plan : List Step)
-    → AreNodes cut nodes → IsSettled cut nodes lengths plan
+    → (nodes lengths : List ℕ) (plan : List Step) → AreNodes cut nodes → IsSettled cut nodes lengths plan
     ↔ IsSettled whole (map origin nodes) lengths (plan_at_origin origin plan)
 
 -- and a flow certifies a cost over both or neither

@@ -7,8 +7,8 @@ use Rattle.grove_tree.specs.Trees.{Rows, parent_of, name_of, up, one_more, depth
 use Rattle.grove_tree.specs.Rules.{is_name, heaviest, IsWithinLimits}
 use Rattle.grove_tree.proofs.Above.{parent_lt}
 use Rattle.grove_tree.proofs.PathDescent.{above_between}
-use Rattle.grove_build.specs.CutTrees.{IsCut, CutsAreTrees}
-use Rattle.grove_build.proofs.CutPlans.{parent_cut, same_origin, origin_less}
+use Rattle.grove_cut.specs.CutTrees.{IsCut, CutsAreTrees}
+use Rattle.grove_cut.proofs.CutPlans.{parent_cut, same_origin, origin_less}
 
 -- something is there or not
 pub there_or_none : (o : Option ℕ) → (o ≡ None) ⊎ ((p : ℕ) × (o ≡ Some p))

@@ -9,7 +9,7 @@ use Rattle.grove_access.proofs.Lists.{nodes_length, lengths_length}
 use Rattle.grove_span.specs.declared.row.SpanRow.{SpanRow}
 use Rattle.grove_span.specs.SpanRows.{node_of_row, HaveParents, HaveAccesses}
 use Rattle.grove_build.specs.Networks.{IsSpan}
-use Rattle.grove_build.proofs.planning.plan_watched.Goals as goal
+use Rattle.grove_build.proofs.planning.plan.Goals as goal
 
 -- what `span` answers is the span of the list
 span_is : (tree : Rows) (list : List Access) (rows lent : List SpanRow) → IsTree tree → AreNodes tree (nodes_of list)
@@ -29,16 +29,16 @@ span_is tree list rows lent is_tree are_nodes named parents accesses are_lengths
     }
 
 pub plan_rows-requires-clause-span : goal.plan_rows-requires-clause-span
-plan_rows-requires-clause-span g c =
+plan_rows-requires-clause-span c =
     span_is c.args.tree.now c.args.list.now c.in_ok-rows.rows.items c.deref.result.now c.len-nodes.ensures.tree
     c.requires.fits c.in_ok-rows.ensures.nodes
     c.in_ok-rows.ensures.parents c.in_ok-rows.ensures.accesses c.len-accesses.ensures.lengths c.deref.ensures.value
 
 pub plan_rows-requires-clause-weights : goal.plan_rows-requires-clause-weights
-plan_rows-requires-clause-weights g c = rw c.deref.ensures.value c.in_ok-rows.ensures.weights
+plan_rows-requires-clause-weights c = rw c.deref.ensures.value c.in_ok-rows.ensures.weights
 
 pub returns : goal.returns
-returns g c = record {
+returns c = record {
   settled = IfOk-weaker c.plan_rows.result _ _ (λ planned is. is.settled) c.plan_rows.ensures;
   least = IfOk-weaker c.plan_rows.result _ _ (λ planned is. is.least) c.plan_rows.ensures;
   cost = IfOk-weaker c.plan_rows.result _ _ (λ planned is. is.priced) c.plan_rows.ensures;

@@ -14,9 +14,9 @@ use Rattle.grove_proof.specs.Forced.{IsForcedList}
 use Rattle.grove_proof.specs.Flows.{node_of, is_child, child_sum, is_parent_at, has_parent, is_sign_ok, is_small, is_lock_balanced, is_release_balanced, AllRows, gains, losses, Balances, IsCertificate}
 use Rattle.grove_proof.proofs.Sums.{sums_map, sums_same}
 use Rattle.grove_proof.proofs.ForcedList.{forced_is_by_tree}
-use Rattle.grove_build.specs.CutTrees.{IsCut, row_at_origin, flow_at_origin, CutsKeepCertificates}
-use Rattle.grove_build.proofs.CutPlans.{any_same, same_origin, origin_eqb, origin_less}
-use Rattle.grove_build.proofs.CutTrees.{above_at_origin, above_cut, cut_is_tree}
+use Rattle.grove_cut.specs.CutTrees.{IsCut, row_at_origin, flow_at_origin, CutsKeepCertificates}
+use Rattle.grove_cut.proofs.CutPlans.{any_same, same_origin, origin_eqb, origin_less}
+use Rattle.grove_cut.proofs.CutTrees.{above_at_origin, above_cut, cut_is_tree}
 
 -- the least number, and the last one, that passes tests that agree
 pub least_alike : (n : ℕ) (f g : ℕ → Bool) → ((k : ℕ) → f k ≡ g k) → least_below n f ≡ least_below n g

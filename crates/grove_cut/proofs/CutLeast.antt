@@ -19,14 +19,14 @@ use Rattle.grove_proof.specs.Five.{MeetsFive, lock_time, release_time}
 use Rattle.grove_proof.proofs.FiveConstraints.{meets_five}
 use Rattle.grove_proof.proofs.Slackness.{unforced_free}
 use Rattle.grove_build.specs.Layout.{laid_out}
-use Rattle.grove_build.specs.CutTrees.{IsCut, plan_at_origin, CutsKeepLeast}
+use Rattle.grove_cut.specs.CutTrees.{IsCut, plan_at_origin, CutsKeepLeast}
 use Rattle.grove_build.proofs.Runs.{Has, Rises, itself}
 use Rattle.grove_build.proofs.Fitting.{Fits}
 use Rattle.grove_build.proofs.Settling.{passing_rise, slots_fit}
 use Rattle.grove_build.proofs.Laying as Laying
-use Rattle.grove_build.proofs.CutPlans.{cuts_keep_legal, cuts_keep_cost}
-use Rattle.grove_build.proofs.CutTrees.{cut_is_tree}
-use Rattle.grove_build.proofs.CutFlows.{forced_at_origin}
+use Rattle.grove_cut.proofs.CutPlans.{cuts_keep_legal, cuts_keep_cost}
+use Rattle.grove_cut.proofs.CutTrees.{cut_is_tree}
+use Rattle.grove_cut.proofs.CutFlows.{forced_at_origin}
 
 -- a sum over some origins is at most that over all numbers
 sum_some : (origin : ℕ → ℕ) → ((a b : ℕ) → a < b → origin a < origin b) → (n m : ℕ) (f : ℕ → ℕ) → ((k : ℕ) → k < m → origin k < n)

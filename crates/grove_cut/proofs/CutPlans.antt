@@ -12,7 +12,7 @@ use Rattle.grove_plan.specs.declared.step.Step.{Step}
 use Rattle.grove_plan.specs.declared.step.Step.TheVariants.{Lock, Unlock, Access}
 use Rattle.grove_plan.specs.Plans.{locks, unlocks, is_access, held, accesses_of, slots_of, holding, IsLater, ObeysTreeProtocol, Performs}
 use Rattle.grove_plan.proofs.Held.{held_not, held_from}
-use Rattle.grove_build.specs.CutTrees.{IsCut, step_at_origin, plan_at_origin, CutsKeepLegal, CutsKeepCost}
+use Rattle.grove_cut.specs.CutTrees.{IsCut, step_at_origin, plan_at_origin, CutsKeepLegal, CutsKeepCost}
 
 -- tests that agree below a bound
 pub any_same : (n : ℕ) (f g : ℕ → Bool) → ((k : ℕ) → f k ≡ g k) → any_below n f ≡ any_below n g

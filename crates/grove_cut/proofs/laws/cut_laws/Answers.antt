@@ -1,9 +1,9 @@
-use Rattle.grove_build.proofs.CutPlans.{cuts_keep_legal, cuts_keep_cost}
-use Rattle.grove_build.proofs.CutTrees.{cuts_are_trees}
-use Rattle.grove_build.proofs.CutFlows.{cuts_keep_certificates}
-use Rattle.grove_build.proofs.CutLeast.{cuts_keep_least}
-use Rattle.grove_build.proofs.CutSettled.{cuts_keep_settled}
-use Rattle.grove_build.proofs.laws.cut_laws.Goals as goal
+use Rattle.grove_cut.proofs.CutPlans.{cuts_keep_legal, cuts_keep_cost}
+use Rattle.grove_cut.proofs.CutTrees.{cuts_are_trees}
+use Rattle.grove_cut.proofs.CutFlows.{cuts_keep_certificates}
+use Rattle.grove_cut.proofs.CutLeast.{cuts_keep_least}
+use Rattle.grove_cut.proofs.CutSettled.{cuts_keep_settled}
+use Rattle.grove_cut.proofs.laws.cut_laws.Goals as goal
 
 pub returns-clause-legal : goal.returns-clause-legal
 returns-clause-legal c = cuts_keep_legal

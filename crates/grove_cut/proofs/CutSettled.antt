@@ -17,11 +17,12 @@ use Rattle.grove_proof.specs.Forced.{IsForcedList}
 use Rattle.grove_proof.proofs.ForcedList.{forced_is_by_tree, forced_lists_same, forced_nodes_are_list}
 use Rattle.grove_build.specs.Layout.{has_child_in, is_early, gap_steps, steps_below, laid_out}
 use Rattle.grove_build.specs.Settled.{IsSettled}
-use Rattle.grove_build.specs.CutTrees.{IsCut, step_at_origin, plan_at_origin, CutsKeepSettled}
-use Rattle.grove_build.proofs.CutPlans.{same_origin, origin_eqb, locks_at_origin, unlocks_at_origin, accesses_at_origin, lock_cut}
-use Rattle.grove_build.proofs.CutTrees.{cut_is_tree}
-use Rattle.grove_build.proofs.CutFlows.{least_alike, is_at_origin, locked_at_origin, locked_cut, list_at_origin}
-use Rattle.grove_build.proofs.CutLeast.{laid, laid_least, laid_lock, laid_release, cuts_keep_least}
+use Rattle.grove_cut.specs.CutTrees.{IsCut, step_at_origin, plan_at_origin, CutsKeepSettled}
+use Rattle.grove_cut.proofs.CutPlans.{same_origin, origin_eqb, locks_at_origin, unlocks_at_origin}
+use Rattle.grove_cut.proofs.CutPlans.{accesses_at_origin, lock_cut}
+use Rattle.grove_cut.proofs.CutTrees.{cut_is_tree}
+use Rattle.grove_cut.proofs.CutFlows.{least_alike, is_at_origin, locked_at_origin, locked_cut, list_at_origin}
+use Rattle.grove_cut.proofs.CutLeast.{laid, laid_least, laid_lock, laid_release, cuts_keep_least}
 
 -- counts by tests that agree
 count_alike : (n : ℕ) (f g : ℕ → Bool) → ((k : ℕ) → f k ≡ g k) → count_below n f ≡ count_below n g

@@ -1,0 +1,5 @@
+mod CutPlans
+mod CutTrees
+mod CutFlows
+mod CutLeast
+mod CutSettled
