@@ -34,8 +34,7 @@ is_forced rows nodes node =
 abbrev pub forced_nodes : Rows → List ℕ → List ℕ
 forced_nodes rows nodes = passing_below (length rows) (is_forced rows nodes)
 
--- the accesses of a node itself: whether there are any, the first, and the end of the last, which is one more than its
--- number
+-- the accesses of a node itself: whether there are any, the first, and the end of the last: its number and one
 abbrev pub names_at : List ℕ → ℕ → ℕ → Bool
 names_at nodes node access = is_at node (slice_get nodes access)
 

@@ -13,7 +13,7 @@ use Rattle.grove_plan.specs.declared.step.Step.{Step}
 use Rattle.grove_plan.specs.Plans.{holding, IsLegal}
 use Rattle.grove_proof.proofs.ForcedMarks.{passing_hit, passing_miss}
 use Rattle.grove_draw.specs.declared.bar.Bar.{Bar}
-use Rattle.grove_draw.specs.Pictures.{node_of_bar, cost_of, IsBarOf, AreLocked}
+use Rattle.grove_draw.specs.Pictures.{IsBarOf, AreLocked}
 use Rattle.grove_draw.specs.Bars.{is_locked}
 use Rattle.grove_draw.specs.Bars.{AreBarsBelow}
 use Rattle.grove_draw.proofs.LockedNodes.{locked_by, locked_from, unlocked_free}
@@ -36,12 +36,16 @@ bars_skip tree lengths plan n bars so_far none = record {
 pub bars_push : (tree : Rows) (lengths : List ℕ) (plan : List Step) (n : ℕ) (bars new : List Bar) (bar : Bar) → AreBarsBelow tree lengths plan n bars → is_locked plan n ≡ true
     → bar.node ≡ n → IsBarOf tree lengths plan bar → new ≡ bars ++ bar ∷ [] → AreBarsBelow tree lengths plan (n + 1) new
 bars_push tree lengths plan n bars new bar so_far locked at is e = subst (λ (xs : List Bar). AreBarsBelow tree lengths plan (n + 1) xs) (sym e) (record {
-  nodes = map-append node_of_bar bars (bar ∷ []) ∙ (ap (λ (xs : List ℕ). xs ++ bar.node ∷ []) so_far.nodes
+  nodes = map-append (λ (bar : Bar). bar.node) bars (bar ∷ []) ∙ (ap (λ (xs : List ℕ). xs ++ bar.node ∷ []) so_far.nodes
       ∙ (ap (λ (v : ℕ). passing_below n (is_locked plan) ++ v ∷ []) at ∙ sym (passing_hit n (is_locked plan) locked)));
-  each = All-append (IsBarOf tree lengths plan) bars (bar ∷ []) so_far.each (All-cons (IsBarOf tree lengths plan) bar [] is (All-nil (IsBarOf tree lengths plan)));
+  each =
+      let one = All-cons (IsBarOf tree lengths plan) bar [] is (All-nil (IsBarOf tree lengths plan)) in
+      All-append (IsBarOf tree lengths plan) bars (bar ∷ []) so_far.each one;
   sum =
-      let here : bar.cost ≡ weight_of tree n * holding lengths plan n = is.cost ∙ ap (λ (v : ℕ). weight_of tree v * holding lengths plan v) at in
-      sum_by_push cost_of bars bar ∙ summed n (λ v. weight_of tree v * holding lengths plan v) (sum_by cost_of bars) bar.cost so_far.sum here;
+      let worth : ℕ → ℕ = λ v. weight_of tree v * holding lengths plan v in
+      let here : bar.cost ≡ worth n = is.cost ∙ ap worth at in
+      sum_by_push (λ (bar : Bar). bar.cost) bars bar
+      ∙ summed n worth (sum_by (λ (bar : Bar). bar.cost) bars) bar.cost so_far.sum here;
 })
   where
     summed : (n : ℕ) (f : ℕ → ℕ) (s here : ℕ) → s ≡ sum_below n f → here ≡ f n → s + here ≡ sum_below (n + 1) f
@@ -65,7 +69,7 @@ none_next tree lengths plan n v bars new found so_far number locked none e =
 
 -- all of them are those of the locked nodes
 pub bars_locked : (tree : Rows) (nodes lengths : List ℕ) (plan : List Step) (bars : List Bar) → IsLegal tree nodes plan → AreBarsBelow tree lengths plan (length tree) bars
-    → AreLocked plan (map node_of_bar bars)
+    → AreLocked plan (map (λ (bar : Bar). bar.node) bars)
 bars_locked tree nodes lengths plan bars legal all = subst (λ (xs : List ℕ). AreLocked plan xs) (sym all.nodes) (record {
   ascend = λ i j a b lt h k. passing_rises (length tree) (is_locked plan) i j a b lt h k;
   locked = λ node. (

@@ -16,12 +16,6 @@ pub record AreLocked (plan : List Step) (nodes : List ℕ) : Type 0 where
   pub ascend : Ascends nodes
   pub locked : (node : ℕ) → IsAmong nodes node ↔ IsLockedBy plan node
 
-abbrev pub node_of_bar : Bar → ℕ
-node_of_bar bar = bar.node
-
-abbrev pub cost_of : Bar → ℕ
-cost_of bar = bar.cost
-
 -- a bar lasts from its node's lock to its release, and costs what the plan's holding of the node does
 pub record IsBarOf (tree : Rows) (lengths : List ℕ) (plan : List Step) (bar : Bar) : Type 0 where
   pub path : string_bytes bar.path ≡ path_of tree bar.node
@@ -33,8 +27,8 @@ pub record IsBarOf (tree : Rows) (lengths : List ℕ) (plan : List Step) (bar : 
 
 -- the picture of a plan for a list: a bar for each locked node; what the bars cost makes up what the plan costs
 pub record IsPictureOf (tree : Rows) (list : List Access) (plan : List Step) (picture : Picture) : Type 0 where
-  pub nodes : AreLocked plan (map node_of_bar picture.bars.items)
+  pub nodes : AreLocked plan (map (λ bar. bar.node) picture.bars.items)
   pub bars : All (IsBarOf tree (lengths_of list) plan) picture.bars.items
   pub accesses : picture.accesses.items ≡ list
   pub cost : picture.cost ≡ cost tree (lengths_of list) plan
-  pub sum : sum_by cost_of picture.bars.items ≡ picture.cost
+  pub sum : sum_by (λ bar. bar.cost) picture.bars.items ≡ picture.cost

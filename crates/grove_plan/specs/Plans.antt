@@ -23,8 +23,7 @@ abbrev pub is_access : Option Step → Bool
 is_access (Some (Access i)) = true
 is_access _ = false
 
--- A node is held at a position where some lock of it stands before the position and no unlock of it stands between the
--- two.
+-- A node is held at a position where some lock of it stands before that, and no unlock of it between the two.
 abbrev pub held : List Step → ℕ → ℕ → Bool
 held plan node position =
     any_below position (λ i. locks node (slice_get plan i)

@@ -8,9 +8,94 @@ use Rattle.grove_tree.specs.Trees.{Rows, parent_of, weight_of, is_at, IsTree}
 use Rattle.grove_tree.proofs.Above.{parent_lt}
 use Rattle.grove_tree.proofs.Tests.{is_at_true}
 use Rattle.grove_proof.specs.declared.flow.FlowRow.{FlowRow}
-use Rattle.grove_proof.specs.Changes.{Constraint, Above, Held, First, Last, Own, amount_on, DifferInOne, IsChangedOnce}
+use Rattle.grove_proof.specs.Changes.{DifferInOne, IsChangedOnce}
 use Rattle.grove_proof.specs.Flows.{child_sum}
 use Rattle.grove_proof.specs.Laws.{OneChangeIsRefused}
+
+-- the five constraints on a node, each of which has an amount
+data Constraint : Type 0 where
+  Above : Constraint
+  Held : Constraint
+  First : Constraint
+  Last : Constraint
+  Own : Constraint
+
+abbrev amount_on : Constraint → FlowRow → ℕ
+amount_on Above row = row.above
+amount_on Held row = row.held
+amount_on First row = row.first
+amount_on Last row = row.last
+amount_on Own row = row.own
+
+-- two rows of one node differ in the amount on one constraint, and in no other
+record Differ (row other : FlowRow) : Type 0 where
+  node : row.node ≡ other.node
+  changed : Constraint
+  differ : amount_on changed row ≢ amount_on changed other
+  kept : (constraint : Constraint) → constraint ≢ changed → amount_on constraint row ≡ amount_on constraint other
+
+-- of a row whose amount on one constraint is another
+one_differs : (row other : FlowRow) → DifferInOne row other → Differ row other
+one_differs row other (unlike, (n, inl is)) = record {
+  node = sym (ap (λ (r : FlowRow). r.node) is);
+  changed = Above;
+  differ = λ same. unlike (ap (λ (m : ℕ). record row { above = m }) (same ∙ ap (λ (r : FlowRow). r.above) is) ∙ sym is);
+  kept = λ constraint. elim constraint as (λ c. c ≢ Above → amount_on c row ≡ amount_on c other) [
+    | Above ↦ λ no. absurd (no refl)
+    | Held ↦ λ no. sym (ap (amount_on Held) is)
+    | First ↦ λ no. sym (ap (amount_on First) is)
+    | Last ↦ λ no. sym (ap (amount_on Last) is)
+    | Own ↦ λ no. sym (ap (amount_on Own) is)
+  ];
+}
+one_differs row other (unlike, (n, inr (inl is))) = record {
+  node = sym (ap (λ (r : FlowRow). r.node) is);
+  changed = Held;
+  differ = λ same. unlike (ap (λ (m : ℕ). record row { held = m }) (same ∙ ap (λ (r : FlowRow). r.held) is) ∙ sym is);
+  kept = λ constraint. elim constraint as (λ c. c ≢ Held → amount_on c row ≡ amount_on c other) [
+    | Above ↦ λ no. sym (ap (amount_on Above) is)
+    | Held ↦ λ no. absurd (no refl)
+    | First ↦ λ no. sym (ap (amount_on First) is)
+    | Last ↦ λ no. sym (ap (amount_on Last) is)
+    | Own ↦ λ no. sym (ap (amount_on Own) is)
+  ];
+}
+one_differs row other (unlike, (n, inr (inr (inl is)))) = record {
+  node = sym (ap (λ (r : FlowRow). r.node) is);
+  changed = First;
+  differ = λ same. unlike (ap (λ (m : ℕ). record row { first = m }) (same ∙ ap (λ (r : FlowRow). r.first) is) ∙ sym is);
+  kept = λ constraint. elim constraint as (λ c. c ≢ First → amount_on c row ≡ amount_on c other) [
+    | Above ↦ λ no. sym (ap (amount_on Above) is)
+    | Held ↦ λ no. sym (ap (amount_on Held) is)
+    | First ↦ λ no. absurd (no refl)
+    | Last ↦ λ no. sym (ap (amount_on Last) is)
+    | Own ↦ λ no. sym (ap (amount_on Own) is)
+  ];
+}
+one_differs row other (unlike, (n, inr (inr (inr (inl is))))) = record {
+  node = sym (ap (λ (r : FlowRow). r.node) is);
+  changed = Last;
+  differ = λ same. unlike (ap (λ (m : ℕ). record row { last = m }) (same ∙ ap (λ (r : FlowRow). r.last) is) ∙ sym is);
+  kept = λ constraint. elim constraint as (λ c. c ≢ Last → amount_on c row ≡ amount_on c other) [
+    | Above ↦ λ no. sym (ap (amount_on Above) is)
+    | Held ↦ λ no. sym (ap (amount_on Held) is)
+    | First ↦ λ no. sym (ap (amount_on First) is)
+    | Last ↦ λ no. absurd (no refl)
+    | Own ↦ λ no. sym (ap (amount_on Own) is)
+  ];
+}
+one_differs row other (unlike, (n, inr (inr (inr (inr is))))) = record {
+  node = sym (ap (λ (r : FlowRow). r.node) is);
+  changed = Own;
+  differ = λ same. unlike (ap (λ (m : ℕ). record row { own = m }) (same ∙ ap (λ (r : FlowRow). r.own) is) ∙ sym is);
+  kept = λ constraint. elim constraint as (λ c. c ≢ Own → amount_on c row ≡ amount_on c other) [
+    | Above ↦ λ no. sym (ap (amount_on Above) is)
+    | Held ↦ λ no. sym (ap (amount_on Held) is)
+    | First ↦ λ no. sym (ap (amount_on First) is)
+    | Last ↦ λ no. sym (ap (amount_on Last) is)
+    | Own ↦ λ no. absurd (no refl)
+  ];
+}
 
 -- a function of an item that may be missing
 abbrev seen : (FlowRow → ℕ) → Option FlowRow → Option ℕ
@@ -35,6 +120,9 @@ not_own_parent rows v tree = elim (cases_Bool (is_at v (parent_of rows v))) [
 ]
 
 module _ (rows : Rows) (flow other : List FlowRow) (tree : IsTree rows) (once : IsChangedOnce flow other) where
+  one_node : once.row.node ≡ once.changed.node
+  one_node = (one_differs once.row once.changed once.differ).node
+
   -- what the row's children add up to is the same before and after the change
   children_kept : (amount : FlowRow → ℕ) → child_sum rows amount flow once.row ≡ child_sum rows amount other once.changed
   children_kept amount =
@@ -46,10 +134,11 @@ module _ (rows : Rows) (flow other : List FlowRow) (tree : IsTree rows) (once : 
       sums_alike term flow other (λ i. elim (cases_eq i once.place) [
         | inl e ↦
             let P : ℕ → Type 0 = λ n. seen term (slice_get flow n) ≡ seen term (slice_get other n) in
-            subst P (sym e) (ap (seen term) once.before ∙ (ap (λ (n : ℕ). Some n) (none once.row refl ∙ sym (none once.changed once.differ.node)) ∙ sym (ap (seen term) once.after)))
+            let same = ap (λ (n : ℕ). Some n) (none once.row refl ∙ sym (none once.changed one_node)) in
+            subst P (sym e) (ap (seen term) once.before ∙ (same ∙ sym (ap (seen term) once.after)))
         | inr ne ↦ ap (seen term) (once.kept i ne)
       ])
-      ∙ ap (λ n. sum_by (λ child. cond (is_at n (parent_of rows child.node)) (amount child) 0) other) once.differ.node
+      ∙ ap (λ n. sum_by (λ child. cond (is_at n (parent_of rows child.node)) (amount child) 0) other) one_node
 
   -- so both can't balance
   unbalanced : (a c h f l o d a2 c2 h2 f2 l2 o2 d2 w w2 : ℕ) (changed : Constraint) → w ≡ w2 → c ≡ c2 → d ≡ d2
@@ -86,7 +175,7 @@ pub one_change_is_refused : OneChangeIsRefused
 one_change_is_refused rows nodes lengths flow other cost claim tree certificate once changed =
     let row : FlowRow = once.row in
     let new : FlowRow = once.changed in
-    let differ : DifferInOne once.row once.changed = once.differ in
+    let differ : Differ once.row once.changed = one_differs once.row once.changed once.differ in
     differ.differ (no_change once.row once.changed differ.changed
     (unbalanced rows flow other tree once
     once.row.above (child_sum rows (λ child. child.above) flow once.row) once.row.held once.row.first once.row.last once.row.own (child_sum rows (λ child. child.held) flow once.row)

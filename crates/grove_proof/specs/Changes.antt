@@ -1,28 +1,12 @@
 -- Flows that differ in one amount.
-use Rattle.std.specs.Prelude.{◌≡◌, ◌≢◌, ℕ, List, slice_get, Some}
+use Rattle.std.specs.Prelude.{◌≡◌, ◌≢◌, ◌⊎◌, ℕ, List, slice_get, Some}
 use Rattle.grove_proof.specs.declared.flow.FlowRow.{FlowRow}
 
--- the five constraints on a node, each of which has an amount
-pub data Constraint : Type 0 where
-  Above : Constraint
-  Held : Constraint
-  First : Constraint
-  Last : Constraint
-  Own : Constraint
-
-abbrev pub amount_on : Constraint → FlowRow → ℕ
-amount_on Above row = row.above
-amount_on Held row = row.held
-amount_on First row = row.first
-amount_on Last row = row.last
-amount_on Own row = row.own
-
--- two rows of one node differ in the amount on one constraint, and in no other
-pub record DifferInOne (row other : FlowRow) : Type 0 where
-  pub node : row.node ≡ other.node
-  pub changed : Constraint
-  pub differ : amount_on changed row ≢ amount_on changed other
-  pub kept : (constraint : Constraint) → constraint ≢ changed → amount_on constraint row ≡ amount_on constraint other
+-- two rows of one node differ in one of their five amounts
+abbrev pub DifferInOne : FlowRow → FlowRow → Type 0
+DifferInOne row other = (row ≢ other) × ((amount : ℕ) × ((other ≡ record row { above = amount })
+    ⊎ ((other ≡ record row { held = amount }) ⊎ ((other ≡ record row { first = amount })
+    ⊎ ((other ≡ record row { last = amount }) ⊎ (other ≡ record row { own = amount }))))))
 
 -- two flows differ in one amount of one row
 pub record IsChangedOnce (flow other : List FlowRow) : Type 0 where

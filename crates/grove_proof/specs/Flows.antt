@@ -29,8 +29,7 @@ has_parent rows flow row = any_below (length flow) (λ i. is_parent_at rows row 
 
 -- the tests of one row
 
--- amounts stand only on constraints that there are: the top node has no parent among the rows, and some nodes aren't
--- accessed themselves
+-- amounts stand only on constraints that there are: the top node has no parent here, and some nodes have no access
 abbrev pub is_sign_ok : Rows → List ℕ → List FlowRow → FlowRow → Bool
 is_sign_ok rows nodes flow row =
     (has_parent rows flow row || (row.above == 0 && row.held == 0))

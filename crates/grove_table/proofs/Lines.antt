@@ -1,19 +1,12 @@
--- Lines of rows, one more at a time; and a node that has a line's path, weight and value.
-use Rattle.std.proofs.Common.{◌≡◌, ◌<◌, ◌∙◌, ap, subst, sym, List, [], ◌∷◌, ◌++◌, ℕ, ℤ, length, Option, Some}
+-- A node that has a line's path, weight and value.
+use Rattle.std.proofs.Common.{◌≡◌, ◌<◌, ◌∙◌, ap, subst, sym, List, ℕ, ℤ, length, Option, Some}
 use Rattle.std.proofs.Common.{slice_get, string_bytes, unwrap_or}
 use Rattle.grove_access.specs.Effects.{record_at}
 use Rattle.grove_tree.specs.Paths.{path_of}
 use Rattle.grove_tree.specs.Trees.{Rows, weight_of}
 use Rattle.grove_table.specs.declared.line.Line.{Line}
-use Rattle.grove_table.specs.Tables.{AreLines, HasNode, IsLine, IsNodeOf, IsOfLine}
-
--- a row's line behind the lines of the rows before it
-pub one_more_line : (rows : List (List (List ℕ))) (lines : List Line) (row : List (List ℕ)) (line : Line)
-    → AreLines rows lines → IsLine row line → AreLines (rows ++ row ∷ []) (lines ++ line ∷ [])
-one_more_line [] [] row line are is = (is, tt)
-one_more_line [] (other ∷ lines) row line are is = absurd are
-one_more_line (first ∷ rows) [] row line are is = absurd are
-one_more_line (first ∷ rows) (other ∷ lines) row line (one, are) is = (one, one_more_line rows lines row line are is)
+use Rattle.grove_table.specs.Confirming.{HasNode}
+use Rattle.grove_table.specs.Tables.{IsNodeOf, IsOfLine}
 
 -- a node with a line's path, weight and value is that line's
 pub node_found : (tree : Rows) (records : List ℤ) (lines : List Line) (place : ℕ) (line : Line) (node : ℕ)

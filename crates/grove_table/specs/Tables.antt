@@ -1,11 +1,11 @@
 -- A table of a tree: lines of a path, a weight and a value; and the trees with records that are of a table.
 use Rattle.std.specs.Prelude.{◌≡◌, ◌≢◌, ◌≤◌, ◌<◌, ◌⊎◌, ℕ, ℤ, pos, true, List, [], ◌∷◌, length, slice_get, Option}
 use Rattle.std.specs.Prelude.{None, Some, unwrap_or, string_bytes, codes}
+use Rattle.std.specs.List.{AllZip}
 use Rattle.std.specs.Str.Parse.{IsNumeral, digits_value, signed_digits_value, without_leading_plus}
 use Rattle.std.specs.Str.Parse.{without_leading_sign}
 use Rattle.csv.specs.Reading.{default_config, strip_bom, AreRecords}
 use Rattle.csv.specs.Records.{field_at}
-use Rattle.csv.specs.declared.parser.Config.{Config}
 use Rattle.csv.specs.declared.parser.State.TheVariants as st
 use Rattle.grove_tree.specs.Paths.{path_of}
 use Rattle.grove_tree.specs.Trees.{Rows, weight_of, IsAbove}
@@ -15,10 +15,6 @@ use Rattle.grove_table.specs.declared.tree_making.Absent.{Absent}
 use Rattle.grove_table.specs.declared.tree_making.Absent.TheVariants.{Added}
 
 -- ---- lines of a text
-
--- commas part fields, and a line that begins with `#` is a comment
-abbrev pub table_config : Config
-table_config = record default_config { comment = Some 35 }
 
 -- an empty field says weight 1, and any other a number from 1 to 1000
 abbrev pub IsWeightIn : List ℕ → ℕ → Type 0
@@ -41,23 +37,13 @@ pub record IsLine (fields : List (List ℕ)) (line : Line) : Type 0 where
   pub weight : IsWeightIn (field_of fields 1) line.weight
   pub value : IsValueIn (field_of fields 2) line.value
 
--- the lines are those of the rows, one for each
-abbrev pub AreLines : List (List (List ℕ)) → List Line → Type 0
-AreLines [] [] = Unit {0}
-AreLines [] (line ∷ lines) = ⊥
-AreLines (row ∷ rows) [] = ⊥
-AreLines (row ∷ rows) (line ∷ lines) = IsLine row line × AreLines rows lines
-
--- a first row whose first field is `path` is a header
-abbrev pub IsHeader : List (List ℕ) → Type 0
-IsHeader row = field_of row 0 ≡ codes "path"
-
--- the lines are those of a text of CSV, which may have a header
+-- the lines are the rows of a text of CSV, in which `#` begins a comment; a first row may be a header
 abbrev pub AreLinesOf : List ℕ → List Line → Type 0
-AreLinesOf text lines = (rows : List (List (List ℕ))) × AreRecords table_config st.StartRecord (strip_bom text) rows
-    × (AreLines rows lines
-    ⊎ ((header : List (List ℕ)) × (below : List (List (List ℕ))) × (rows ≡ header ∷ below) × IsHeader header
-    × AreLines below lines))
+AreLinesOf text lines = (rows : List (List (List ℕ)))
+    × AreRecords (record default_config { comment = Some 35 }) st.StartRecord (strip_bom text) rows
+    × (AllZip IsLine rows lines
+    ⊎ ((header : List (List ℕ)) × (below : List (List (List ℕ))) × (rows ≡ header ∷ below)
+    × (field_of header 0 ≡ codes "path") × AllZip IsLine below lines))
 
 -- ---- the tree of lines
 
@@ -67,11 +53,6 @@ pub record IsNodeOf (tree : Rows) (records : List ℤ) (line : Line) (node : ℕ
   pub path : path_of tree node ≡ string_bytes line.path
   pub weight : weight_of tree node ≡ line.weight
   pub value : record_at records node ≡ line.value
-
--- the line at a place has a node
-abbrev pub HasNode : Rows → List ℤ → List Line → ℕ → Type 0
-HasNode tree records lines place =
-    (line : Line) → slice_get lines place ≡ Some line → (node : ℕ) × IsNodeOf tree records line node
 
 -- a node is that of a line
 abbrev pub IsOfLine : Rows → List ℤ → List Line → ℕ → Type 0
@@ -88,6 +69,7 @@ pub record IsAdded (absent : Absent) (tree : Rows) (records : List ℤ) (lines :
 -- a tree with its records is that of the lines: each line has its node, and each node comes from the lines
 pub record IsTreeOf (absent : Absent) (lines : List Line) (tree : Rows) (records : List ℤ) : Type 0 where
   pub fits : length records ≡ length tree
-  pub nodes : (place : ℕ) → place < length lines → HasNode tree records lines place
+  pub nodes : (place : ℕ) → place < length lines → (line : Line) → slice_get lines place ≡ Some line
+      → (node : ℕ) × IsNodeOf tree records line node
   pub whole : (node : ℕ) → node < length tree → IsOfLine tree records lines node
       ⊎ IsAdded absent tree records lines node

@@ -1,6 +1,7 @@
 -- The text of a tree's table.
-use Rattle.std.specs.Prelude.{ℕ, ℤ, zero, suc, codes, decimal, List, [], ◌∷◌, ◌++◌, length}
+use Rattle.std.specs.Prelude.{ℕ, ℤ, codes, decimal, List, [], ◌∷◌, ◌++◌, length, flat_map}
 use Rattle.std.specs.Fmt.{signed_decimal}
+use Rattle.grove_base.specs.Numbers.{numbers_below}
 use Rattle.grove_tree.specs.Paths.{path_of}
 use Rattle.grove_tree.specs.Trees.{Rows, weight_of}
 use Rattle.grove_access.specs.Effects.{record_at}
@@ -11,11 +12,7 @@ line_text tree records node =
     path_of tree node ++ codes "," ++ decimal (weight_of tree node) ++ codes ","
     ++ signed_decimal (record_at records node) ++ 10 ∷ []
 
--- the lines of the first n nodes
-abbrev pub lines_below : Rows → List ℤ → ℕ → List ℕ
-lines_below tree records zero = []
-lines_below tree records (suc n) = lines_below tree records n ++ line_text tree records n
-
 -- a header, and a line for each node, in preorder
 abbrev pub table_text : Rows → List ℤ → List ℕ
-table_text tree records = codes "path,weight,value" ++ 10 ∷ [] ++ lines_below tree records (length tree)
+table_text tree records =
+    codes "path,weight,value\n" ++ flat_map (line_text tree records) (numbers_below (length tree))

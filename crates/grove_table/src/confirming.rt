@@ -1,7 +1,8 @@
 ghost use Rattle.std.specs.Prelude.{◌≡◌, ◌<◌, ◌⊎◌, ℕ, true, length, IfSome};
 ghost use Rattle.grove_tree.specs.Trees.{weight_of, IsAbove};
 ghost use Rattle.grove_access.specs.Effects.{record_at};
-ghost use Rattle.grove_table.specs.Tables.{HasNode, IsAdded, IsOfLine, IsTreeOf};
+ghost use Rattle.grove_table.specs.Confirming.{HasNode};
+ghost use Rattle.grove_table.specs.Tables.{IsAdded, IsOfLine, IsTreeOf};
 
 use crate::Line;
 use crate::tree_making::{Absent, Origin};

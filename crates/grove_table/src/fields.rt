@@ -1,6 +1,6 @@
-ghost use Rattle.std.specs.Prelude.{◌≡◌, [], true, IfSome, unwrap_or, IfOk};
+ghost use Rattle.std.specs.Prelude.{◌≡◌, [], true, codes, IfSome, unwrap_or, IfOk};
 ghost use Rattle.csv.specs.Records.{field_at, fields_of};
-ghost use Rattle.grove_table.specs.Tables.{IsHeader, IsLine, IsValueIn, IsWeightIn};
+ghost use Rattle.grove_table.specs.Tables.{field_of, IsLine, IsValueIn, IsWeightIn};
 
 use crate::{Line, Reason, TableFault};
 use csv::ByteRecord;
@@ -14,7 +14,7 @@ const NAMES: [&str; 3] = ["path", "weight", "value"];
 
 /// Does a row say what the fields of the others are?
 pub fn is_header(row: &ByteRecord) -> bool
-    ensures { result ≡ true → IsHeader (fields_of row.now) }
+    ensures { result ≡ true → field_of (fields_of row.now) 0 ≡ codes "path" }
 {
     text_at(row, 0) == Some("path")
 }

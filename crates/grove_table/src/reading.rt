@@ -1,6 +1,7 @@
 ghost use Rattle.std.specs.Prelude.{map, IfOk};
+ghost use Rattle.std.specs.List.{AllZip};
 ghost use Rattle.csv.specs.Records.{fields_of};
-ghost use Rattle.grove_table.specs.Tables.{AreLines, AreLinesOf};
+ghost use Rattle.grove_table.specs.Tables.{AreLinesOf, IsLine};
 
 use crate::fields::{is_header, line_of, see_header};
 use crate::line_numbers::LineNumbers;
@@ -36,7 +37,7 @@ fn lines_of(
     rows: &[ByteRecord],
     numbers: &mut LineNumbers<'_>,
 ) -> Result<Vec<Line>, TableFault>
-    ensures { IfOk result (λ lines. AreLines (map fields_of rows.now) lines.items) }
+    ensures { IfOk result (λ lines. AllZip IsLine (map fields_of rows.now) lines.items) }
 {
     let mut lines = Vec::new(alloc);
     for place in 0..rows.len() {

@@ -2,7 +2,7 @@ ghost use Rattle.std.specs.Prelude.{map, IfOk};
 ghost use Rattle.csv.specs.Reading.{strip_bom, AreRecords};
 ghost use Rattle.csv.specs.Records.{fields_of};
 ghost use Rattle.csv.specs.declared.parser.State.TheVariants as st;
-ghost use Rattle.grove_table.specs.Tables.{table_config};
+ghost use Rattle.grove_table.specs.Confirming.{table_config};
 
 use crate::TableFault;
 use csv::{ByteRecord, Error, ReaderBuilder};

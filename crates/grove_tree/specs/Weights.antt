@@ -2,8 +2,7 @@
 use Rattle.std.specs.Prelude.{ℕ, suc, List, [], ◌∷◌, map, Option}
 use Rattle.grove_tree.specs.Trees.{Rows}
 
--- the rows with the weights that a rule gives to nodes, by their numbers and old weights; the first row is that of the
--- given node
+-- the rows from the given node's on, with the weights that a rule gives to nodes by their numbers and old weights
 abbrev pub weighed_from : (ℕ → ℕ → ℕ) → ℕ → Rows → Rows
 weighed_from weight node [] = []
 weighed_from weight node (row ∷ rows) = record { parent = row.parent; name = row.name; weight = weight node row.weight }

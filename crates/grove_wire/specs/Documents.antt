@@ -8,10 +8,6 @@ use Rattle.grove_tree.specs.Paths.{path_of}
 use Rattle.grove_access.specs.Effects.{record_at}
 use Rattle.grove_wire.specs.Writing.{array_of, number_data, count_data}
 
--- for each node of a tree its value, in preorder
-abbrev pub each_node : Rows → (ℕ → Data) → Data
-each_node rows data_of = array_of data_of (numbers_below (length rows))
-
 -- ---- a document of a tree with its records
 
 abbrev pub parent_data : Option ℕ → Data
@@ -28,7 +24,7 @@ row_data rows records node = object
 
 abbrev pub document_data : Rows → List ℤ → Data
 document_data rows records = object
-    (member (codes "nodes") (each_node rows (row_data rows records))
+    (member (codes "nodes") (array_of (row_data rows records) (numbers_below (length rows)))
     (member (codes "version") (count_data 1) no_members))
 
 abbrev pub document_text : Rows → List ℤ → List ℕ

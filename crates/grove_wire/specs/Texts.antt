@@ -15,6 +15,9 @@ use Rattle.grove_core.specs.declared.fault.StepFault.{StepFault}
 use Rattle.grove_core.specs.declared.fault.StepFault.TheVariants as event
 use Rattle.grove_core.specs.declared.run_fault.RunFault.{RunFault}
 use Rattle.grove_core.specs.declared.run_fault.RunFault.TheVariants as run
+use Rattle.grove_wire.specs.declared.faults.Fault.{Fault}
+use Rattle.grove_wire.specs.declared.faults.Fault.TheVariants as kind
+use Rattle.grove_wire.specs.declared.faults.StandingFault.TheVariants.{Record, Replies}
 use Rattle.grove_wire.specs.declared.fault.WireFault.{WireFault}
 use Rattle.grove_wire.specs.declared.fault.WireFault.TheVariants.{BadJson, Shape, NoPath, BadLength, Limit, Tree}
 use Rattle.grove_wire.specs.declared.fault.WireFault.TheVariants.{Memory}
@@ -34,8 +37,8 @@ abbrev pub named : List ℕ → List ℕ × List ℕ
 named name = (name, name)
 
 -- after a thing and its number,
-abbrev pub of_thing : List ℕ → ℕ → List ℕ → List ℕ × List ℕ
-of_thing thing number name = (name, thing ++ codes " " ++ decimal number ++ (codes " " ++ name))
+abbrev pub of_thing : List ℕ → ℕ → List ℕ × List ℕ → List ℕ × List ℕ
+of_thing thing number said = (said.0, thing ++ codes " " ++ decimal number ++ (codes " " ++ said.1))
 
 -- or before what it is said of
 abbrev pub said_of : List ℕ → List ℕ → List ℕ × List ℕ
@@ -44,11 +47,11 @@ said_of name told = (name, name ++ codes " " ++ told)
 abbrev pub tree_said : TreeFault → List ℕ × List ℕ
 tree_said tree.Empty = (codes "empty", codes "tree empty")
 tree_said tree.TooMany = (codes "too-many", codes "tree too-many")
-tree_said (tree.BadParent row) = of_thing (codes "row") row (codes "bad-parent")
-tree_said (tree.TooDeep row) = of_thing (codes "row") row (codes "too-deep")
-tree_said (tree.BadName row) = of_thing (codes "row") row (codes "bad-name")
-tree_said (tree.TwiceNamed row) = of_thing (codes "row") row (codes "twice-named")
-tree_said (tree.BadWeight row) = of_thing (codes "row") row (codes "bad-weight")
+tree_said (tree.BadParent row) = of_thing (codes "row") row (named (codes "bad-parent"))
+tree_said (tree.TooDeep row) = of_thing (codes "row") row (named (codes "too-deep"))
+tree_said (tree.BadName row) = of_thing (codes "row") row (named (codes "bad-name"))
+tree_said (tree.TwiceNamed row) = of_thing (codes "row") row (named (codes "twice-named"))
+tree_said (tree.BadWeight row) = of_thing (codes "row") row (named (codes "bad-weight"))
 tree_said tree.Memory = named (codes "memory")
 
 abbrev pub wire_said : WireFault → List ℕ × List ℕ
@@ -71,12 +74,12 @@ FaultFits rows (plan.StillHeld node) = node < length rows
 FaultFits rows _ = Unit {0}
 
 abbrev pub plan_said : Rows → PlanFault → List ℕ × List ℕ
-plan_said rows (plan.Strange step) = of_thing (codes "step") step (codes "strange")
-plan_said rows (plan.Relock step) = of_thing (codes "step") step (codes "relock")
-plan_said rows (plan.ParentNotHeld step) = of_thing (codes "step") step (codes "parent-not-held")
-plan_said rows (plan.NotHeld step) = of_thing (codes "step") step (codes "not-held")
-plan_said rows (plan.WrongAccess step) = of_thing (codes "step") step (codes "wrong-access")
-plan_said rows (plan.AccessNotHeld step) = of_thing (codes "step") step (codes "access-not-held")
+plan_said rows (plan.Strange step) = of_thing (codes "step") step (named (codes "strange"))
+plan_said rows (plan.Relock step) = of_thing (codes "step") step (named (codes "relock"))
+plan_said rows (plan.ParentNotHeld step) = of_thing (codes "step") step (named (codes "parent-not-held"))
+plan_said rows (plan.NotHeld step) = of_thing (codes "step") step (named (codes "not-held"))
+plan_said rows (plan.WrongAccess step) = of_thing (codes "step") step (named (codes "wrong-access"))
+plan_said rows (plan.AccessNotHeld step) = of_thing (codes "step") step (named (codes "access-not-held"))
 plan_said rows (plan.AccessMissing access) =
     (codes "access-missing", codes "access " ++ decimal access ++ codes " missing")
 plan_said rows (plan.StillHeld node) = (codes "still-held", codes "node " ++ path_of rows node ++ codes " still-held")
@@ -111,28 +114,44 @@ abbrev pub RunFaultFits : Rows → RunFault → Type 0
 RunFaultFits rows (run.BadPlan job fault) = FaultFits rows fault
 RunFaultFits rows _ = Unit {0}
 
--- a bad plan has the text of its fault
+abbrev pub run_said : Rows → RunFault → List ℕ × List ℕ
+run_said rows (run.BadPlan job fault) = plan_said rows fault
+run_said rows run.Memory = named (codes "memory")
+run_said rows run.Foreign = named (codes "foreign")
+run_said rows run.Unfinished = named (codes "unfinished")
+
 abbrev pub run_text : Rows → RunFault → List ℕ
-run_text rows (run.BadPlan job fault) = plan_text rows fault
-run_text rows run.Memory = codes "memory"
-run_text rows run.Foreign = codes "foreign"
-run_text rows run.Unfinished = codes "unfinished"
+run_text rows fault = (run_said rows fault).1
 
 -- ---- faults of histories
 
-abbrev pub event_text : StepFault → List ℕ
-event_text event.NoTxn = codes "no-job"
-event_text event.Ended = codes "ended"
-event_text (event.Blocked holder) = codes "blocked " ++ decimal holder
-event_text event.NotBlocked = codes "not-blocked"
-event_text event.Marked = codes "marked"
+abbrev pub event_said : StepFault → List ℕ × List ℕ
+event_said event.NoTxn = named (codes "no-job")
+event_said event.Ended = named (codes "ended")
+event_said (event.Blocked holder) = said_of (codes "blocked") (decimal holder)
+event_said event.NotBlocked = named (codes "not-blocked")
+event_said event.Marked = named (codes "marked")
 
 abbrev pub ReplayFaultFits : Rows → ReplayFault → Type 0
 ReplayFaultFits rows (replay.BadPlan job fault) = FaultFits rows fault
 ReplayFaultFits rows _ = Unit {0}
 
+abbrev pub replay_said : Rows → ReplayFault → List ℕ × List ℕ
+replay_said rows (replay.BadPlan job fault) = of_thing (codes "job") job (plan_said rows fault)
+replay_said rows (replay.BadEvent at fault) = of_thing (codes "event") at (event_said fault)
+replay_said rows (replay.Unfinished job) = said_of (codes "unfinished") (decimal job)
+replay_said rows replay.Memory = named (codes "memory")
+
 abbrev pub replay_text : Rows → ReplayFault → List ℕ
-replay_text rows (replay.BadPlan job fault) = codes "job " ++ decimal job ++ (codes " " ++ plan_text rows fault)
-replay_text rows (replay.BadEvent at fault) = codes "event " ++ decimal at ++ (codes " " ++ event_text fault)
-replay_text rows (replay.Unfinished job) = codes "unfinished " ++ decimal job
-replay_text rows replay.Memory = codes "memory"
+replay_text rows fault = (replay_said rows fault).1
+
+-- ---- faults of documents
+
+abbrev pub fault_said : Rows → Fault → List ℕ × List ℕ
+fault_said rows (kind.Wire fault) = wire_said fault
+fault_said rows (kind.Plan fault) = plan_said rows fault
+fault_said rows (kind.Proof fault) = proof_said rows fault
+fault_said rows (kind.Run fault) = run_said rows fault
+fault_said rows (kind.Replay fault) = replay_said rows fault
+fault_said rows (kind.Standing (Record node)) = (codes "records", codes "standing records " ++ decimal node)
+fault_said rows (kind.Standing (Replies job)) = (codes "replies", codes "standing replies " ++ decimal job)

@@ -1,7 +1,7 @@
-ghost use Rattle.std.specs.Prelude.{◌≡◌};
-ghost use Rattle.grove_wire.specs.Names.{wire_name, plan_name, proof_name, run_name, event_name, replay_name};
-ghost use Rattle.grove_wire.specs.Names.{standing_name};
-ghost use Rattle.grove_wire.specs.Texts.{tree_said};
+ghost use Rattle.std.specs.Prelude.{◌≡◌, []};
+ghost use Rattle.grove_wire.specs.declared.faults.Fault.TheVariants.{Standing};
+ghost use Rattle.grove_wire.specs.Names.{wire_name, plan_name, proof_name, run_name, fault_name};
+ghost use Rattle.grove_wire.specs.Texts.{tree_said, event_said, replay_said};
 
 use crate::{StandingFault, WireFault};
 use grove_core::{ReplayFault, RunFault, StepFault};
@@ -86,7 +86,7 @@ pub fn run_fault_name(fault: &RunFault) -> &'static str
 
 /// The name of a history's fault, as `blocked`; a bad plan has the name of its fault.
 pub(crate) fn replay_fault_name(fault: ReplayFault) -> &'static str
-    ensures { result.now ≡ replay_name fault }
+    ensures { result.now ≡ (replay_said [] fault).0 }
 {
     match fault {
         ReplayFault::BadPlan(_, fault) => plan_fault_name(&fault),
@@ -97,7 +97,7 @@ pub(crate) fn replay_fault_name(fault: ReplayFault) -> &'static str
 }
 
 fn event_fault_name(fault: StepFault) -> &'static str
-    ensures { result.now ≡ event_name fault }
+    ensures { result.now ≡ (event_said fault).0 }
 {
     match fault {
         StepFault::NoTxn => "no-job",
@@ -110,7 +110,7 @@ fn event_fault_name(fault: StepFault) -> &'static str
 
 /// The name of what differs from what a run left: `records` or `replies`.
 pub(crate) fn standing_fault_name(fault: StandingFault) -> &'static str
-    ensures { result.now ≡ standing_name fault }
+    ensures { result.now ≡ fault_name (Standing fault) }
 {
     match fault {
         StandingFault::Record(_) => "records",

@@ -1,5 +1,5 @@
 ghost use Rattle.std.specs.Prelude.{◌≡◌, IfOk, string_bytes};
-ghost use Rattle.grove_wire.specs.Texts.{event_text, replay_text, ReplayFaultFits};
+ghost use Rattle.grove_wire.specs.Texts.{event_said, replay_text, ReplayFaultFits};
 
 use crate::fault_texts::{numbered_text, plan_fault_text, said_text, word_text};
 use grove_core::{ReplayFault, StepFault};
@@ -30,7 +30,7 @@ pub fn replay_fault_text(
 }
 
 fn event_fault_text(alloc: Global, fault: StepFault) -> Result<String, NoMemory>
-    ensures { IfOk result (λ text. string_bytes text ≡ event_text fault) }
+    ensures { IfOk result (λ text. string_bytes text ≡ (event_said fault).1) }
 {
     match fault {
         StepFault::NoTxn => word_text(alloc, "no-job"),

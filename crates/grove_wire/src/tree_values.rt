@@ -4,11 +4,13 @@ ghost use Rattle.serde_json.specs.Data.{Data};
 ghost use Rattle.serde_json.specs.Find.{get};
 ghost use Rattle.serde_json.specs.View.{view};
 ghost use Rattle.serde_json.specs.Written.{compact_text};
+ghost use Rattle.grove_base.specs.Numbers.{numbers_below};
 ghost use Rattle.grove_tree.specs.Trees.{name_of};
 ghost use Rattle.grove_tree.specs.Rules.{AreTreeRows};
 ghost use Rattle.grove_access.specs.Effects.{record_at};
-ghost use Rattle.grove_wire.specs.Documents.{each_node, parent_data, row_data, document_data, document_text};
+ghost use Rattle.grove_wire.specs.Documents.{parent_data, row_data, document_data, document_text};
 ghost use Rattle.grove_wire.specs.Reading.{tree_in, document_of};
+ghost use Rattle.grove_wire.specs.Writing.{array_of};
 
 use grove_access::Records;
 use grove_tree::{NoMemory, Node, Tree};
@@ -49,7 +51,8 @@ pub fn document_text(alloc: Global, tree: &Tree, records: &Records) -> Result<St
 /// The array of the rows of a tree with its records.
 fn rows_value(alloc: Global, tree: &Tree, records: &Records) -> Result<Value, NoMemory>
     requires fits { length records.now ≡ length tree.now }
-    ensures value { IfOk result (λ value. view value ≡ each_node tree.now (row_data tree.now records.now)) }
+    ensures value { IfOk result (λ value. view value
+        ≡ array_of (row_data tree.now records.now) (numbers_below (length tree.now))) }
     ensures reads_back { IfOk result (λ value. (document : Data) → get (codes "nodes") document ≡ Some (view value)
         → tree_in document ≡ Ok (tree.now, records.now)) }
     ensures short { IfOk result (λ value. length (document_text tree.now records.now) ≤ 4194304) }

@@ -1,5 +1,5 @@
 use Rattle.std.proofs.Common.{rules, below_more}
-use Rattle.grove_table.specs.Tables.{HasNode}
+use Rattle.grove_table.specs.Confirming.{HasNode}
 use Rattle.grove_table.proofs.confirming.have_nodes.Goals as goal
 
 pub loop-place-preserved : goal.loop-place-preserved

@@ -1,5 +1,5 @@
 use Rattle.std.proofs.Common.{ℕ, ◌<◌}
-use Rattle.grove_table.specs.Tables.{HasNode}
+use Rattle.grove_table.specs.Confirming.{HasNode}
 use Rattle.grove_table.proofs.confirming.have_nodes.Given as goal
 
 abbrev pub invariant-loop-place : goal.invariant-loop-place

@@ -2,7 +2,8 @@ use Rattle.std.proofs.Common.{◌≡◌, ◌∙◌, ◌∷◌, ◌++◌, [], ap,
 use Rattle.std.proofs.lemmas.List.{map-append}
 use Rattle.csv.specs.Records.{fields_of}
 use Rattle.grove_base.proofs.Lists.{read_at, take_next}
-use Rattle.grove_table.proofs.Lines.{one_more_line}
+use Rattle.std.proofs.lemmas.Slice.Zip.{all_zipped_more}
+use Rattle.grove_table.specs.Tables.{IsLine}
 use Rattle.grove_table.proofs.reading.lines_of.Goals as goal
 
 pub loop-place-preserved : goal.loop-place-preserved
@@ -16,4 +17,4 @@ loop-place-preserved c =
     ap (map fields_of) (take_next rows c.loop-place.place row at)
     ∙ map-append fields_of (take c.loop-place.place rows) (row ∷ []) in
     rw (add-one, c.in_ok-push.ensures.items, step)
-    (one_more_line _ _ _ _ c.loop-place.invariant c.in_ok-line.ensures)
+    (all_zipped_more IsLine _ _ _ _ c.loop-place.invariant c.in_ok-line.ensures)

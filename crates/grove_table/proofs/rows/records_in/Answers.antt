@@ -7,7 +7,7 @@ use Rattle.csv.specs.declared.reader.ReaderBuilder.{ReaderBuilder}
 use Rattle.csv.specs.Records.{fields_of}
 use Rattle.csv.specs.declared.parser.State.TheVariants as st
 use Rattle.csv.proofs.ReadFacts.{rows-end, rows-more}
-use Rattle.grove_table.specs.Tables.{table_config}
+use Rattle.grove_table.specs.Confirming.{table_config}
 use Rattle.grove_table.proofs.rows.records_in.Goals as goal
 
 -- how a builder reads once it takes comments

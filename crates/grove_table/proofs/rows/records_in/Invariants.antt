@@ -3,7 +3,7 @@ use Rattle.csv.specs.Reading.{Reached, Ready, source_of, strip_bom}
 use Rattle.csv.specs.Records.{fields_of}
 use Rattle.csv.specs.declared.parser.State.TheVariants as st
 use Rattle.csv.specs.declared.reader.Trim.TheVariants as trim
-use Rattle.grove_table.specs.Tables.{table_config}
+use Rattle.grove_table.specs.Confirming.{table_config}
 use Rattle.grove_table.proofs.rows.records_in.Given as goal
 
 abbrev pub invariant-loop-row : goal.invariant-loop-row

@@ -1,0 +1,16 @@
+-- For the proofs alone: what is asked of a text's rows, and confirmed of a tree.
+use Rattle.std.specs.Prelude.{◌≡◌, ℕ, ℤ, List, slice_get, Some}
+use Rattle.csv.specs.Reading.{default_config}
+use Rattle.csv.specs.declared.parser.Config.{Config}
+use Rattle.grove_tree.specs.Trees.{Rows}
+use Rattle.grove_table.specs.declared.line.Line.{Line}
+use Rattle.grove_table.specs.Tables.{IsNodeOf}
+
+-- commas part fields, and a line that begins with `#` is a comment
+abbrev pub table_config : Config
+table_config = record default_config { comment = Some 35 }
+
+-- the line at a place has a node
+abbrev pub HasNode : Rows → List ℤ → List Line → ℕ → Type 0
+HasNode tree records lines place =
+    (line : Line) → slice_get lines place ≡ Some line → (node : ℕ) × IsNodeOf tree records line node
