@@ -10,8 +10,8 @@ use Rattle.grove_answer.specs.declared.refusal.Refusal.TheVariants.{Fault, Memor
 use Rattle.grove_answer.specs.Says.{refusal_outcome}
 use Rattle.grove_c.specs.declared.kept.Kept.{Kept}
 use Rattle.grove_c.specs.declared.telling.Told.{Told}
-use Rattle.grove_c.specs.Handles.{Opens, OpenSays}
-use Rattle.grove_c.specs.Openings.{IsOpening}
+use Rattle.grove_c.specs.Handles.{Opens}
+use Rattle.grove_c.specs.Openings.{IsOpening, OpenSays}
 use Rattle.grove_c.specs.Endings.{outcome_of, IsPut, IsTold}
 use Rattle.grove_c.proofs.Tellings.{tells}
 
@@ -43,7 +43,7 @@ module _ (IsOf : Rows × List ℤ → Kept → Type 0) (bytes before after : Lis
         → Opens IsOf bytes old new before after told
     stays (Fault fault text) same is may = let said : Result (String Global) Refusal = Err (Fault fault text) in record {
       tells = tells (OpenSays bytes) before after told said is may;
-      opened = λ zero. absurd (fault_is_told (string_bytes text) is zero);
+      opened = λ zero. absurd (fault_is_told text is zero);
       refused = λ _. same;
     }
     stays Memory same is may = let said : Result (String Global) Refusal = Err Memory in record {

@@ -68,5 +68,5 @@ module _ (MaySay : Outcome → Type 0) (before after : List ℕ) (told : Told) w
   pub tells : {Z : Type 0} (said : Result (String Z) Refusal) → IsTold (outcome_of said) before after told
       → Says MaySay said → Tells MaySay before after told
   tells (Ok lines) is may = tells_text (string_bytes lines) is may
-  tells (Err (Fault fault text)) is may = tells_why (string_bytes text) is may
+  tells (Err (Fault fault text)) is may = tells_why text is may
   tells (Err Memory) is may = tells_memory is

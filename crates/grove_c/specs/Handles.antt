@@ -12,7 +12,7 @@ use Rattle.grove_wire.specs.Reading.{document_of, tree_in}
 use Rattle.grove_answer.specs.Outcomes.{Outcome, ThenSays}
 use Rattle.grove_session.specs.Sessions.{IsReplied}
 use Rattle.grove_store.specs.StoreStates.{opened}
-use Rattle.grove_store.specs.Rounds.{IsLawfulAnswer}
+use Rattle.grove_store.specs.Rounds.{IsAnswerAlone}
 use Rattle.grove_c.specs.declared.kept.Kept.{Kept}
 use Rattle.grove_c.specs.declared.kept.Kept.TheVariants.{Tree, Store}
 use Rattle.grove_c.specs.declared.kept_store.KeptStore.{KeptStore}
@@ -31,10 +31,6 @@ handle_owns alloc at (Some kept) = box_owns (ghosts.dealloc_token alloc) the_row
 abbrev pub stored_in : List ℕ → Result (Rows × List ℤ) WireFault
 stored_in bytes = document_of bytes >>= tree_in
 
--- nothing is said, unless the document is refused
-abbrev pub OpenSays : List ℕ → Outcome → Type 0
-OpenSays bytes = ThenSays (stored_in bytes) (λ stored outcome. outcome ≡ Ok [])
-
 -- what is kept is the tree
 abbrev pub IsTreeOf : Rows × List ℤ → Kept → Type 0
 IsTreeOf stored kept = kept ≡ Tree stored.0
@@ -44,10 +40,10 @@ abbrev pub IsStoreOf : Rows × List ℤ → Kept → Type 0
 IsStoreOf stored (Tree rows) = ⊥
 IsStoreOf stored (Store kept) = (kept.store ≡ opened stored.0 stored.1 1) × (kept.reply.items ≡ [])
 
--- the handle holds what is made of the document, or what it held before
+-- the handle holds what is made of the document, and nothing is said; or what it held before
 pub record Opens (IsOf : Rows × List ℤ → Kept → Type 0) (bytes : List ℕ) (old new : Option Kept) (before after : List ℕ)
     (told : Told) : Type 0 where
-  pub tells : Tells (OpenSays bytes) before after told
+  pub tells : Tells (ThenSays (stored_in bytes) (λ stored outcome. outcome ≡ Ok [])) before after told
   pub opened : told.status ≡ 0
       → (stored : Rows × List ℤ) × (kept : Kept) × (stored_in bytes ≡ Ok stored) × IsOf stored kept × (new ≡ Some kept)
   pub refused : told.status ≢ 0 → new ≡ old
@@ -69,8 +65,7 @@ OfStore (Tree rows) before after told = IsClosed before after told
 OfStore (Store kept) before after told = Tells (λ said. said ≡ Ok kept.reply.items) before after told
 
 -- so much is told of what is held, if anything is, and what is held stays
-abbrev pub Asks : (Kept → List ℕ → List ℕ → Told → Type 0) → Option Kept → Option Kept → List ℕ → List ℕ → Told
-    → Type 0
+abbrev pub Asks : (Kept → List ℕ → List ℕ → Told → Type 0) → Option Kept → Option Kept → List ℕ → List ℕ → Told → Type 0
 Asks TellsOf None new before after told = (new ≡ None) × IsClosed before after told
 Asks TellsOf (Some kept) new before after told = (new ≡ Some kept) × TellsOf kept before after told
 
@@ -79,7 +74,7 @@ Asks TellsOf (Some kept) new before after told = (new ≡ Some kept) × TellsOf 
 -- the reply is lawful, is told, and is kept with the store that it leaves; only out of memory all is as it was
 pub record Replies (line : List ℕ) (old new : KeptStore) (before after : List ℕ) (told : Told) : Type 0 where
   pub tells : Tells (λ said. (said ≡ Ok new.reply.items)
-      × IsReplied IsLawfulAnswer old.store line new.reply.items new.store) before after told
+      × IsReplied IsAnswerAlone old.store line new.reply.items new.store) before after told
   pub stays : told.status ≡ 3 → new ≡ old
 
 abbrev pub AnswersBy : List ℕ → Kept → Kept → List ℕ → List ℕ → Told → Type 0

@@ -1,4 +1,3 @@
-pub mod Sayings
 pub mod Tellings
 pub mod Endings
 pub mod Handles

@@ -1,6 +1,7 @@
 //! What a handle holds.
+ghost use Rattle.grove_wire.specs.Reading.{document_of, list_in};
+ghost use Rattle.grove_answer.specs.Outcomes.{ThenSays, claim_over, IsCheckedOver, IsPlannedOver};
 ghost use Rattle.grove_c.specs.Handles.{AnswersBy, OfStore, OfTree};
-ghost use Rattle.grove_c.specs.Sayings.{ClaimSays, ListPlanSays};
 
 use crate::kept_store::KeptStore;
 use crate::sayings::{checked_over, planned_over};
@@ -20,7 +21,9 @@ pub enum Kept {
 impl Kept {
     /// What `plan` says of a document over the tree.
     pub fn plan(&self, alloc: Global, document: &[u8], text: &mut [u8]) -> Told
-        ensures { OfTree (λ rows. ListPlanSays rows document.now) self.now text.old text.new result }
+        ensures { OfTree (λ rows. ThenSays (document_of document.now)
+            (λ d. ThenSays (list_in rows d) (IsPlannedOver rows)))
+            self.now text.old text.new result }
     {
         match self {
             Kept::Tree(tree) => tell(&planned_over(alloc, tree, document), text),
@@ -30,7 +33,9 @@ impl Kept {
 
     /// What `check` says of a document over the tree.
     pub fn check(&self, alloc: Global, document: &[u8], text: &mut [u8]) -> Told
-        ensures { OfTree (λ rows. ClaimSays rows document.now) self.now text.old text.new result }
+        ensures { OfTree (λ rows. ThenSays (document_of document.now)
+            (λ d. ThenSays (claim_over rows d) (IsCheckedOver rows)))
+            self.now text.old text.new result }
     {
         match self {
             Kept::Tree(tree) => tell(&checked_over(alloc, tree, document), text),

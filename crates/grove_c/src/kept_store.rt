@@ -1,6 +1,6 @@
 ghost use Rattle.std.specs.Prelude.{◌≡◌, [], IfOk, OnErr};
 ghost use Rattle.grove_session.specs.Sessions.{IsReplied};
-ghost use Rattle.grove_store.specs.Rounds.{IsLawfulAnswer};
+ghost use Rattle.grove_store.specs.Rounds.{IsAnswerAlone};
 ghost use Rattle.grove_c.specs.Endings.{IsPut};
 ghost use Rattle.grove_c.specs.Handles.{Replies};
 
@@ -56,7 +56,7 @@ impl KeptStore {
 
 /// The reply to a line, without a line feed.
 fn reply_to(alloc: Global, store: &mut Store, line: &[u8]) -> Result<Vec<u8>, NoMemory>
-    ensures replied { IfOk result (λ reply. IsReplied IsLawfulAnswer store.old line.now reply.items store.new) }
+    ensures replied { IfOk result (λ reply. IsReplied IsAnswerAlone store.old line.now reply.items store.new) }
     ensures err { OnErr result (store.new ≡ store.old) }
 {
     if line.len() > LINE_LIMIT {

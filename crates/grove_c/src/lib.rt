@@ -4,9 +4,11 @@
 #![tactic(auto, using(crate::proofs::Tellings::tells))]
 
 ghost use Rattle.std.specs.Prelude.{◌≡◌, None};
+ghost use Rattle.grove_wire.specs.Reading.{document_of, history_of, list_in};
+ghost use Rattle.grove_answer.specs.Outcomes.{ThenSays, task_in, trial_in, claim_in, claim_over, sketch_in, history_in};
+ghost use Rattle.grove_answer.specs.Outcomes.{IsAudited, IsChecked, IsCheckedOver, IsDrawn, IsJudged};
+ghost use Rattle.grove_answer.specs.Outcomes.{IsPlannedDocument, IsPlannedOver, IsPlannedTask};
 ghost use Rattle.grove_c.specs.Handles.{Answers, Asks, IsStoreOf, IsTreeOf, OfStore, OfTree, Opens};
-ghost use Rattle.grove_c.specs.Sayings.{AuditSays, CheckSays, DocumentSays, DrawSays, JudgeSays, PlanSays};
-ghost use Rattle.grove_c.specs.Sayings.{ClaimSays, ListPlanSays};
 ghost use Rattle.grove_c.specs.Tellings.{Tells};
 
 use grove_draw::Form;
@@ -28,7 +30,8 @@ mod telling;
 /// The cost of the settled plan of the document's list, the plan, and the flow that proves it.
 #[unsafe(no_mangle)]
 pub extern "C" fn grove_c_plan(alloc: Global, document: &[u8], text: &mut [u8]) -> Told
-    ensures { Tells (PlanSays document.now) text.old text.new result }
+    ensures { Tells (ThenSays (document_of document.now) (λ d. ThenSays (task_in d) IsPlannedTask))
+        text.old text.new result }
 {
     tell(&planned(alloc, document), text)
 }
@@ -36,7 +39,8 @@ pub extern "C" fn grove_c_plan(alloc: Global, document: &[u8], text: &mut [u8]) 
 /// The document with that plan and that flow in it, as a line.
 #[unsafe(no_mangle)]
 pub extern "C" fn grove_c_plan_document(alloc: Global, document: &[u8], text: &mut [u8]) -> Told
-    ensures { Tells (DocumentSays document.now) text.old text.new result }
+    ensures { Tells (ThenSays (document_of document.now) (λ d. ThenSays (task_in d) IsPlannedDocument))
+        text.old text.new result }
 {
     tell(&planned_in_document(alloc, document), text)
 }
@@ -44,7 +48,8 @@ pub extern "C" fn grove_c_plan_document(alloc: Global, document: &[u8], text: &m
 /// The cost of the document's plan, where its flow proves the plan least.
 #[unsafe(no_mangle)]
 pub extern "C" fn grove_c_check(alloc: Global, document: &[u8], text: &mut [u8]) -> Told
-    ensures { Tells (CheckSays document.now) text.old text.new result }
+    ensures { Tells (ThenSays (document_of document.now) (λ d. ThenSays (claim_in d) IsChecked))
+        text.old text.new result }
 {
     tell(&checked(alloc, document), text)
 }
@@ -52,7 +57,8 @@ pub extern "C" fn grove_c_check(alloc: Global, document: &[u8], text: &mut [u8])
 /// The cost of the document's plan, and what its list replies and leaves.
 #[unsafe(no_mangle)]
 pub extern "C" fn grove_c_judge(alloc: Global, document: &[u8], text: &mut [u8]) -> Told
-    ensures { Tells (JudgeSays document.now) text.old text.new result }
+    ensures { Tells (ThenSays (document_of document.now) (λ d. ThenSays (trial_in d) IsJudged))
+        text.old text.new result }
 {
     tell(&judged(alloc, document), text)
 }
@@ -60,7 +66,8 @@ pub extern "C" fn grove_c_judge(alloc: Global, document: &[u8], text: &mut [u8])
 /// The drawing of the document's plans, as SVG.
 #[unsafe(no_mangle)]
 pub extern "C" fn grove_c_draw_svg(alloc: Global, document: &[u8], text: &mut [u8]) -> Told
-    ensures { Tells (DrawSays document.now) text.old text.new result }
+    ensures { Tells (ThenSays (document_of document.now) (λ d. ThenSays (sketch_in d) IsDrawn))
+        text.old text.new result }
 {
     tell(&drawn(alloc, document, Form::Svg), text)
 }
@@ -68,7 +75,8 @@ pub extern "C" fn grove_c_draw_svg(alloc: Global, document: &[u8], text: &mut [u
 /// The drawing of the document's plans, as lines for a terminal.
 #[unsafe(no_mangle)]
 pub extern "C" fn grove_c_draw_text(alloc: Global, document: &[u8], text: &mut [u8]) -> Told
-    ensures { Tells (DrawSays document.now) text.old text.new result }
+    ensures { Tells (ThenSays (document_of document.now) (λ d. ThenSays (sketch_in d) IsDrawn))
+        text.old text.new result }
 {
     tell(&drawn(alloc, document, Form::Text), text)
 }
@@ -76,7 +84,8 @@ pub extern "C" fn grove_c_draw_text(alloc: Global, document: &[u8], text: &mut [
 /// What the run replies and leaves that the document's events are, where it is a finished one.
 #[unsafe(no_mangle)]
 pub extern "C" fn grove_c_audit(alloc: Global, document: &[u8], text: &mut [u8]) -> Told
-    ensures { Tells (AuditSays document.now) text.old text.new result }
+    ensures { Tells (ThenSays (history_of document.now) (λ d. ThenSays (history_in d) IsAudited))
+        text.old text.new result }
 {
     tell(&audited(alloc, document), text)
 }
@@ -102,8 +111,9 @@ pub extern "C" fn grove_c_tree_plan(
     document: &[u8],
     text: &mut [u8],
 ) -> Told
-    ensures { Asks (OfTree (λ rows. ListPlanSays rows document.now)) tree.old.value tree.new.value text.old text.new
-        result }
+    ensures { Asks (OfTree (λ rows. ThenSays (document_of document.now)
+        (λ d. ThenSays (list_in rows d) (IsPlannedOver rows))))
+        tree.old.value tree.new.value text.old text.new result }
 {
     match tree.take(alloc) {
         Some(kept) => {
@@ -123,8 +133,9 @@ pub extern "C" fn grove_c_tree_check(
     document: &[u8],
     text: &mut [u8],
 ) -> Told
-    ensures { Asks (OfTree (λ rows. ClaimSays rows document.now)) tree.old.value tree.new.value text.old text.new
-        result }
+    ensures { Asks (OfTree (λ rows. ThenSays (document_of document.now)
+        (λ d. ThenSays (claim_over rows d) (IsCheckedOver rows))))
+        tree.old.value tree.new.value text.old text.new result }
 {
     match tree.take(alloc) {
         Some(kept) => {

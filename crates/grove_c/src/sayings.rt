@@ -1,11 +1,12 @@
 ghost use Rattle.std.specs.Prelude.{◌≤◌, IfOk};
 ghost use Rattle.serde_json.specs.Data.{depth};
 ghost use Rattle.serde_json.specs.View.{view};
-ghost use Rattle.grove_answer.specs.Says.{Says};
 ghost use Rattle.grove_wire.specs.Outcomes.{Gives};
-ghost use Rattle.grove_wire.specs.Reading.{document_of};
-ghost use Rattle.grove_c.specs.Sayings.{AuditSays, CheckSays, DocumentSays, DrawSays, JudgeSays, PlanSays};
-ghost use Rattle.grove_c.specs.Sayings.{ClaimSays, ListPlanSays};
+ghost use Rattle.grove_wire.specs.Reading.{document_of, history_of, list_in};
+ghost use Rattle.grove_answer.specs.Outcomes.{ThenSays, task_in, trial_in, claim_in, claim_over, sketch_in, history_in};
+ghost use Rattle.grove_answer.specs.Outcomes.{IsAudited, IsChecked, IsCheckedOver, IsDrawn, IsJudged};
+ghost use Rattle.grove_answer.specs.Outcomes.{IsPlannedDocument, IsPlannedOver, IsPlannedTask};
+ghost use Rattle.grove_answer.specs.Says.{Says};
 
 use grove_answer::{
     Refusal, audit_document, check_document, check_over, draw_document, judge_document, or_refuse,
@@ -19,7 +20,7 @@ use std::alloc::Global;
 
 /// What `plan` says of a document's bytes.
 pub fn planned(alloc: Global, bytes: &[u8]) -> Result<String, Refusal>
-    ensures { Says (PlanSays bytes.now) result }
+    ensures { Says (ThenSays (document_of bytes.now) (λ d. ThenSays (task_in d) IsPlannedTask)) result }
 {
     let document = or_refuse(alloc, read_document(alloc, bytes))?;
     plan_document(alloc, &document)
@@ -27,7 +28,7 @@ pub fn planned(alloc: Global, bytes: &[u8]) -> Result<String, Refusal>
 
 /// What `plan --document` says of them.
 pub fn planned_in_document(alloc: Global, bytes: &[u8]) -> Result<String, Refusal>
-    ensures { Says (DocumentSays bytes.now) result }
+    ensures { Says (ThenSays (document_of bytes.now) (λ d. ThenSays (task_in d) IsPlannedDocument)) result }
 {
     let document = or_refuse(alloc, read_shallow(alloc, bytes))?;
     planned_document(alloc, &document)
@@ -44,7 +45,7 @@ fn read_shallow(alloc: Global, bytes: &[u8]) -> Result<Value, WireFault>
 
 /// What `check` says of them.
 pub fn checked(alloc: Global, bytes: &[u8]) -> Result<String, Refusal>
-    ensures { Says (CheckSays bytes.now) result }
+    ensures { Says (ThenSays (document_of bytes.now) (λ d. ThenSays (claim_in d) IsChecked)) result }
 {
     let document = or_refuse(alloc, read_document(alloc, bytes))?;
     check_document(alloc, &document)
@@ -52,7 +53,7 @@ pub fn checked(alloc: Global, bytes: &[u8]) -> Result<String, Refusal>
 
 /// What `judge` says of them.
 pub fn judged(alloc: Global, bytes: &[u8]) -> Result<String, Refusal>
-    ensures { Says (JudgeSays bytes.now) result }
+    ensures { Says (ThenSays (document_of bytes.now) (λ d. ThenSays (trial_in d) IsJudged)) result }
 {
     let document = or_refuse(alloc, read_document(alloc, bytes))?;
     judge_document(alloc, &document)
@@ -60,7 +61,7 @@ pub fn judged(alloc: Global, bytes: &[u8]) -> Result<String, Refusal>
 
 /// What `draw` says of them, in a form.
 pub fn drawn(alloc: Global, bytes: &[u8], form: Form) -> Result<String, Refusal>
-    ensures { Says (DrawSays bytes.now) result }
+    ensures { Says (ThenSays (document_of bytes.now) (λ d. ThenSays (sketch_in d) IsDrawn)) result }
 {
     let document = or_refuse(alloc, read_document(alloc, bytes))?;
     draw_document(alloc, &document, form)
@@ -68,7 +69,7 @@ pub fn drawn(alloc: Global, bytes: &[u8], form: Form) -> Result<String, Refusal>
 
 /// What `audit` says of them.
 pub fn audited(alloc: Global, bytes: &[u8]) -> Result<String, Refusal>
-    ensures { Says (AuditSays bytes.now) result }
+    ensures { Says (ThenSays (history_of bytes.now) (λ d. ThenSays (history_in d) IsAudited)) result }
 {
     let document = or_refuse(alloc, read_history(alloc, bytes))?;
     audit_document(alloc, &document)
@@ -76,7 +77,8 @@ pub fn audited(alloc: Global, bytes: &[u8]) -> Result<String, Refusal>
 
 /// What `plan` says of a document over a tree that is there.
 pub fn planned_over(alloc: Global, tree: &Tree, bytes: &[u8]) -> Result<String, Refusal>
-    ensures { Says (ListPlanSays tree.now bytes.now) result }
+    ensures { Says (ThenSays (document_of bytes.now)
+        (λ d. ThenSays (list_in tree.now d) (IsPlannedOver tree.now))) result }
 {
     let document = or_refuse(alloc, read_document(alloc, bytes))?;
     plan_over(alloc, tree, &document)
@@ -84,7 +86,8 @@ pub fn planned_over(alloc: Global, tree: &Tree, bytes: &[u8]) -> Result<String, 
 
 /// What `check` says of it.
 pub fn checked_over(alloc: Global, tree: &Tree, bytes: &[u8]) -> Result<String, Refusal>
-    ensures { Says (ClaimSays tree.now bytes.now) result }
+    ensures { Says (ThenSays (document_of bytes.now)
+        (λ d. ThenSays (claim_over tree.now d) (IsCheckedOver tree.now))) result }
 {
     let document = or_refuse(alloc, read_document(alloc, bytes))?;
     check_over(alloc, tree, &document)

@@ -42,7 +42,11 @@ pub fn tell(said: &Result<String, Refusal>, buffer: &mut [u8]) -> Told
 {
     match said {
         Ok(lines) => put(Status::Done, lines.as_bytes(), buffer),
-        Err(Refusal::Fault { fault: _, text }) => put(Status::Refused, text.as_bytes(), buffer),
+        Err(Refusal::Fault { fault: _, text }) => put(
+            Status::Refused,
+            text.as_str().as_bytes(),
+            buffer,
+        ),
         Err(Refusal::Memory) => told_memory(),
     }
 }

@@ -11,8 +11,9 @@ use Rattle.grove_store.specs.Rounds.{IsLawfulRound}
 use Rattle.grove_tree.specs.Weights.{unweighed}
 use Rattle.grove_store.proofs.RoundsKeep.{round_keeps}
 use Rattle.std.proofs.lemmas.Option.{slice_get-map, slice_get-get_or}
-use Rattle.grove_desk.specs.Receipts.{Names, ReceiptState, AreNumberedFrom, number_at, IsAllowed, IsDeskReceipt}
-use Rattle.grove_desk.specs.Histories.{RoundState, IsRound, store_before, Leads, Led, receipts_in}
+use Rattle.grove_desk.specs.Receipts.{ReceiptState, AreNumberedFrom, number_at}
+use Rattle.grove_desk.specs.Histories.{RoundState, IsRound, store_before, Leads, Led, IsReached, IsDeskReceipt}
+use Rattle.grove_desk.specs.Histories.{receipts_in}
 use Rattle.grove_desk.specs.Ledgers.{JournalState, noted_in, next_number, IsJournal, IsJournalOf, IsLedger}
 use Rattle.grove_desk.specs.Ledgers.{AreAnswered}
 use Rattle.grove_desk.specs.declared.asked.Asked.{Asked}
@@ -117,24 +118,6 @@ few_replies line_of before after texts lines replies are round =
     let cut = length-take (length replies) texts in
     omega arith
 
--- each receipt of a round is allowed over the names of its store
-allowed_by : (before after : StoreState) (receipts : List ReceiptState) → IsRound before receipts after
-    → All (IsAllowed (unweighed before.rows)) receipts
-allowed_by before after receipts round place other lt = record {
-  before = before;
-  after = after;
-  lines = map (λ (e : ReceiptState). e.line) receipts;
-  replies = map (λ (e : ReceiptState). e.reply) receipts;
-  place = place;
-  over = refl;
-  round = round.round;
-  asked = slice_get-map (λ (e : ReceiptState). e.line) receipts place ∙ ap (option_map (λ (e : ReceiptState). e.line))
-      (slice_get-get_or receipts place other lt);
-  replied = slice_get-map (λ (e : ReceiptState). e.reply) receipts place
-      ∙ ap (option_map (λ (e : ReceiptState). e.reply)) (slice_get-get_or receipts place other lt);
-  counted = sym (round.counted place other lt);
-}
-
 -- rounds keep the names
 names_kept : (rounds : List RoundState) (last : StoreState) → Leads rounds last
     → unweighed last.rows ≡ unweighed (store_before rounds last).rows
@@ -145,6 +128,27 @@ names_kept (round ∷ rounds) last leads = names_kept rounds last leads.1
 -- a store that rounds lead to has the names of the opening store
 led_names : (opening last : StoreState) → Led opening last → unweighed last.rows ≡ unweighed opening.rows
 led_names opening last led = names_kept led.rounds last led.leads ∙ ap (λ (s : StoreState). unweighed s.rows) led.begins
+
+-- each receipt of a round is reached where lawful rounds lead to the store before it
+reached_by : (opening before after : StoreState) (receipts : List ReceiptState) → Led opening before
+    → IsRound before receipts after → All (IsReached opening) receipts
+reached_by opening before after receipts led round place other lt = record {
+  allowed = record {
+    before = before;
+    after = after;
+    lines = map (λ (e : ReceiptState). e.line) receipts;
+    replies = map (λ (e : ReceiptState). e.reply) receipts;
+    place = place;
+    over = led_names opening before led;
+    round = round.round;
+    asked = slice_get-map (λ (e : ReceiptState). e.line) receipts place
+        ∙ ap (option_map (λ (e : ReceiptState). e.line)) (slice_get-get_or receipts place other lt);
+    replied = slice_get-map (λ (e : ReceiptState). e.reply) receipts place
+        ∙ ap (option_map (λ (e : ReceiptState). e.reply)) (slice_get-get_or receipts place other lt);
+    counted = sym (round.counted place other lt);
+  };
+  led = led;
+}
 
 -- without a journal the receipts have the number 0
 unnumbered : (journal : Option JournalState) (kept : Bool) (receipt : ReceiptState) (place : ℕ)
@@ -160,8 +164,7 @@ answered_by : (opening : StoreState) (kept : Bool) (before after : StoreState) (
     → All (IsDeskReceipt opening kept) receipts
 answered_by opening kept before after journal receipts is round numbered place other lt =
     let receipt = get_or receipts place other in record {
-      allowed = subst (λ (names : Names). IsAllowed names receipt) (led_names opening before is.led)
-          (allowed_by before after receipts round place other lt);
+      reached = reached_by opening before after receipts is.led round place other lt;
       unnumbered = unnumbered journal kept receipt place is.keeps (numbered place other lt);
     }
 

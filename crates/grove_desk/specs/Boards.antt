@@ -1,7 +1,7 @@
 -- For the proofs alone: what lies behind a desk's lock.
 use Rattle.std.specs.Prelude.{◌≡◌, ℕ, ◌<◌, Bool, List, [], length, All, IfOk}
 use Rattle.grove_store.specs.StoreStates.{StoreState}
-use Rattle.grove_desk.specs.Receipts.{IsDeskReceipt}
+use Rattle.grove_desk.specs.Histories.{IsDeskReceipt}
 use Rattle.grove_desk.specs.declared.state.State.{State}
 use Rattle.grove_desk.specs.declared.state.State.TheVariants.{Waiting, Running, Done}
 use Rattle.grove_desk.specs.declared.pipeline.Pipeline.{Pipeline}

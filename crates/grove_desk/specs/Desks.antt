@@ -20,8 +20,7 @@ pub record VisitState : Type 0 where
   pub rounds : ℕ
   pub told : Told
 
--- lawful rounds lead to the store from the opening one, and it has run more of them than the number that was waited at,
--- or else no more
+-- lawful rounds lead from the opening store to this one, which has run more of them than were waited at, or no more
 abbrev pub TellsLater : StoreState → ℕ → Awaited → Type 0
 TellsLater opening after (Later store) = Led opening store × (after < store.rounds)
 TellsLater opening after (Unchanged store) = Led opening store × (store.rounds ≤ after)
@@ -41,8 +40,7 @@ Tells Nothing reply = ⊥
 Tells Accepted reply = TellsRefusal None reply
 Tells (Refused refusal) reply = TellsRefusal (Some refusal) reply
 
--- a lawful reply to a line among those of others: some round over these names allows it, and the count of rounds never
--- falls
+-- a lawful reply to one line of many: some round over these names allows it, and the count of rounds never falls
 pub record IsShared (old : VisitState) (line reply : List ℕ) (new : VisitState) : Type 0 where
   pub names : new.names ≡ old.names
   pub rises : old.rounds ≤ new.rounds

@@ -1,8 +1,10 @@
 -- Histories: the rounds that a desk had answered, and the receipts that stand in them.
-use Rattle.std.specs.Prelude.{◌≡◌, ℕ, ◌+◌, ◌<◌, List, [], ◌∷◌, ◌++◌, Some, length, map, get_or, slice_get, All}
+use Rattle.std.specs.Prelude.{◌≡◌, ℕ, ◌+◌, ◌<◌, Bool, false, List, [], ◌∷◌, ◌++◌, Some, length, map, get_or}
+use Rattle.std.specs.Prelude.{slice_get, All}
+use Rattle.grove_tree.specs.Weights.{unweighed}
 use Rattle.grove_store.specs.StoreStates.{StoreState}
 use Rattle.grove_store.specs.Rounds.{IsLawfulRound}
-use Rattle.grove_desk.specs.Receipts.{ReceiptState, AreNumberedFrom}
+use Rattle.grove_desk.specs.Receipts.{ReceiptState, Allows, AreNumberedFrom}
 
 -- a round that was answered: the store before it, and the receipts of its lines in order
 pub record RoundState : Type 0 where
@@ -31,6 +33,19 @@ pub record Led (opening last : StoreState) : Type 0 where
   pub leads : Leads rounds last
   pub begins : store_before rounds last ≡ opening
 
+-- a lawful round over a store to which lawful rounds lead from the opening one answers the line so
+pub record Reaches (opening : StoreState) (line reply : List ℕ) (rounds : ℕ) : Type 0 where
+  pub allowed : Allows (unweighed opening.rows) line reply rounds
+  pub led : Led opening allowed.before
+
+abbrev pub IsReached : StoreState → ReceiptState → Type 0
+IsReached opening receipt = Reaches opening receipt.line receipt.reply receipt.rounds
+
+-- what a desk with this opening store answers: such a receipt, with the number 0 where no journal is kept
+pub record IsDeskReceipt (opening : StoreState) (kept : Bool) (receipt : ReceiptState) : Type 0 where
+  pub reached : IsReached opening receipt
+  pub unnumbered : kept ≡ false → receipt.number ≡ 0
+
 -- the receipts of all rounds, in order
 abbrev pub receipts_in : List RoundState → List ReceiptState
 receipts_in [] = []
@@ -45,8 +60,7 @@ abbrev pub Ascend : List ReceiptState → Type 0
 Ascend receipts = (place : ℕ) (other : ReceiptState) → place + 1 < length receipts
     → (get_or receipts place other).number < (get_or receipts (place + 1) other).number
 
--- what led from an opening store to the last one, and how receipts stand in it: each once, and where they are as many
--- as there are, they are all of it
+-- what led from an opening store to the last one, and how receipts stand in it: each once, and all if they are as many
 pub record IsHistory (opening : StoreState) (receipts : List ReceiptState) (rounds : List RoundState)
     (last : StoreState) : Type 0 where
   pub leads : Leads rounds last

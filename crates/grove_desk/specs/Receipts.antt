@@ -1,5 +1,5 @@
 -- Receipts: what a desk tells of a line that it answered.
-use Rattle.std.specs.Prelude.{◌≡◌, ℕ, ◌+◌, ◌-◌, ◌^◌, ◌<◌, ◌≤◌, min, Bool, true, false, List, Option, Some, None, length}
+use Rattle.std.specs.Prelude.{◌≡◌, ℕ, ◌+◌, ◌-◌, ◌^◌, ◌<◌, ◌≤◌, min, Bool, true, List, Option, Some, None, length}
 use Rattle.std.specs.Prelude.{get_or, slice_get, IfSome}
 use Rattle.grove_tree.specs.Weights.{unweighed}
 use Rattle.grove_store.specs.StoreStates.{StoreState}
@@ -16,8 +16,7 @@ pub record ReceiptState : Type 0 where
   pub reply : List ℕ
   pub rounds : ℕ
 
--- some lawful round over a store with these names answers the line so, alone or among others, and leaves this count of
--- rounds
+-- some lawful round over a store with these names answers the line so, alone or among others, and leaves this count
 pub record Allows (names : Names) (line reply : List ℕ) (rounds : ℕ) : Type 0 where
   pub before : StoreState
   pub after : StoreState
@@ -32,12 +31,6 @@ pub record Allows (names : Names) (line reply : List ℕ) (rounds : ℕ) : Type 
 
 abbrev pub IsAllowed : Names → ReceiptState → Type 0
 IsAllowed names receipt = Allows names receipt.line receipt.reply receipt.rounds
-
--- what a desk with this opening store answers: a receipt that its names allow, with the number 0 where no journal is
--- kept
-pub record IsDeskReceipt (opening : StoreState) (kept : Bool) (receipt : ReceiptState) : Type 0 where
-  pub allowed : IsAllowed (unweighed opening.rows) receipt
-  pub unnumbered : kept ≡ false → receipt.number ≡ 0
 
 -- a receipt after one that was seen: its count of rounds isn't lower, and where a journal is kept its number is higher
 pub record ComesAfter (kept : Bool) (seen : Option ReceiptState) (receipt : ReceiptState) : Type 0 where

@@ -1,7 +1,7 @@
 ghost use Rattle.std.specs.Prelude.{◌≡◌, ◌<◌, [], length, All, IfOk, IfSome, IfNone, Bool};
 ghost use Rattle.std.specs.Vec.{vec_capacity};
 ghost use Rattle.grove_store.specs.StoreStates.{StoreState};
-ghost use Rattle.grove_desk.specs.Receipts.{IsDeskReceipt};
+ghost use Rattle.grove_desk.specs.Histories.{IsDeskReceipt};
 ghost use Rattle.grove_desk.specs.Histories.{Led};
 ghost use Rattle.grove_desk.specs.Boards.{KeepsState, Holds, SlotHolds, Takes};
 

@@ -5,8 +5,8 @@ ghost use Rattle.grove_session.specs.declared.answers.TheConstants.{LINE_LIMIT};
 ghost use Rattle.grove_tree.specs.Weights.{unweighed};
 ghost use Rattle.grove_desk.specs.Boards.{Holds};
 ghost use Rattle.grove_desk.specs.Lines.{IsReceiptFor, AnswersAnother};
-ghost use Rattle.grove_desk.specs.Histories.{Led};
-ghost use Rattle.grove_desk.specs.Receipts.{ReceiptState, IsAllowed, IsDeskReceipt, IsForeignReceipt, ComesAfter};
+ghost use Rattle.grove_desk.specs.Histories.{Led, IsDeskReceipt, IsReached};
+ghost use Rattle.grove_desk.specs.Receipts.{ReceiptState, IsAllowed, IsForeignReceipt, ComesAfter};
 
 use crate::bells::Bells;
 use crate::board::{Board, MOST_LINES};
@@ -93,6 +93,7 @@ impl<B: Opening> Desk<B> {
         requires { length line.now ≤ LINE_LIMIT }
         ensures line { IfOk result (λ receipt. receipt.line ≡ line.now) }
         ensures allowed { IfOk result (IsAllowed (unweighed self.now.opening.rows)) }
+        ensures reached { IfOk result (IsReached self.now.opening) }
         ensures follows { IfOk result (ComesAfter self.now.kept (option_copied seen.entry)) }
         ensures unnumbered { IfOk result (λ receipt. self.now.kept ≡ false → receipt.number ≡ 0) }
         ensures foreign { result ≡ Err DeskFault.Foreign

@@ -1,8 +1,7 @@
 ghost use Rattle.std.specs.Prelude.{◌≡◌, true, Some, ◌<◌, ◌≤◌, ◌↔◌, length, map, All, IfOk, OnErr, IsSome};
 ghost use Rattle.std.specs.Option.{option_map};
 ghost use Rattle.std.specs.Vec.{vec_capacity};
-ghost use Rattle.grove_desk.specs.Receipts.{IsDeskReceipt};
-ghost use Rattle.grove_desk.specs.Histories.{Led};
+ghost use Rattle.grove_desk.specs.Histories.{Led, IsDeskReceipt};
 ghost use Rattle.grove_desk.specs.Ledgers.{noted_in, IsJournalOf, AreAnswered};
 
 use crate::answering::answer_taken;

@@ -1,7 +1,7 @@
 ghost use Rattle.std.specs.Prelude.{◌<◌, ◌≤◌, ◌↔◌, length, Bool, All, IsTrue, IfOk, IfSome};
 ghost use Rattle.grove_store.specs.StoreStates.{StoreState};
 ghost use Rattle.grove_session.specs.declared.answers.TheConstants.{LINE_LIMIT};
-ghost use Rattle.grove_desk.specs.Receipts.{IsDeskReceipt};
+ghost use Rattle.grove_desk.specs.Histories.{IsDeskReceipt};
 ghost use Rattle.grove_desk.specs.Boards.{KeepsState, Holds};
 
 use crate::Receipt;

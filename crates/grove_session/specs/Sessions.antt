@@ -69,8 +69,7 @@ abbrev pub StopsBefore : {S : Type 0} → Lawful S → S → List (List ℕ) →
 StopsBefore lawful old lines out new = (done : ℕ) × (done ≤ length lines)
     × IsAnswered lawful old (take done lines) out new
 
--- a line was answered, and the replies up to its own didn't go out whole; unless answers are shared, those before it
--- did
+-- a line was answered, but the replies up to its own didn't go out whole; those before it did, if none are shared
 pub record StopsWithin {S : Type 0} (shared : Bool) (lawful : Lawful S) (old : S) (lines : List (List ℕ))
     (out : List ℕ) (new : S) : Type 0 where
   pub done : ℕ
@@ -89,8 +88,7 @@ pub record StopsWithin {S : Type 0} (shared : Bool) (lawful : Lawful S) (old : S
 abbrev pub MayAnswer : Option (List ℕ) → List ℕ → List (List ℕ) → Type 0
 MayAnswer left input lines = (lines ≡ whole_lines input) ⊎ (IsAtEnd left × (lines ≡ lines_of input))
 
--- how a session ends that read `input`, left `left` to read and wrote `out`; of shared answers several may go out at
--- once
+-- how a session ends that read `input`, left `left` and wrote `out`; of shared answers several may go out at once
 abbrev pub SessionEnds : {S : Type 0} → Bool → Lawful S → S → Result ℕ SessionFault → Option (List ℕ) → List ℕ
     → List ℕ → S → Type 0
 SessionEnds shared lawful old (Ok n) left input out new = IsAtEnd left × (n ≡ length (lines_of input))

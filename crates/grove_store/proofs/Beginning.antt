@@ -8,7 +8,7 @@ use Rattle.grove_build.proofs.SettledJobs.{settled_legal}
 use Rattle.grove_store.specs.StoreStates.{StoreState}
 use Rattle.grove_store.specs.declared.begun.Begun.{Begun}
 use Rattle.grove_store.specs.declared.begun.Begun.TheVariants.{Answered, Jobs}
-use Rattle.grove_store.specs.Parts.{AnswersJobs, AnswersRound, IsLeft, Begins}
+use Rattle.grove_store.specs.Parts.{AnswersJobs, AnswersRound, RunsJobs, IsLeft, Begins, BeginsRun}
 
 -- the jobs of a round's lists are left to do
 pub jobs_left : (before : StoreState) (lists : List (List Access)) (jobs : List Job) (counts : List ℕ)
@@ -48,3 +48,22 @@ left_done Answers before left jobs lent counts lent_counts replies after (is_lef
     is_left.answers replies after (subst (λ (store : StoreState). AnswersJobs store jobs counts replies after) same
     (subst (λ (ns : List ℕ). AnswersJobs left jobs ns replies after) same_counts
     (subst (λ (js : List Job). AnswersJobs left js lent_counts replies after) same_jobs doing)))
+
+-- what is begun to be run for one thing is begun for what follows from that
+pub runs_for : (Runs More : List (List ℕ) → StoreState → Type 0) (before : StoreState) (begun : Begun)
+    (after : StoreState) → ((replies : List (List ℕ)) (left : StoreState) → More replies left → Runs replies left)
+    → BeginsRun More before begun after → BeginsRun Runs before begun after
+runs_for Runs More before (Answered replies) after follows runs = follows replies.items after runs
+runs_for Runs More before (Jobs jobs counts) after follows runs =
+    λ replies left doing. follows replies left (runs replies left doing)
+
+-- jobs that were left to do are run, as they are lent for that
+pub left_run : (Runs : List (List ℕ) → StoreState → Type 0) (before left : StoreState) (jobs lent : List Job)
+    (counts lent_counts : List ℕ) (replies : List (List ℕ)) (after : StoreState)
+    → ((replies : List (List ℕ)) (after : StoreState) → RunsJobs before jobs counts replies after → Runs replies after)
+    → left ≡ before → lent ≡ jobs → lent_counts ≡ counts
+    → RunsJobs left lent lent_counts replies after → Runs replies after
+left_run Runs before left jobs lent counts lent_counts replies after runs same same_jobs same_counts doing =
+    runs replies after (subst (λ (store : StoreState). RunsJobs store jobs counts replies after) same
+    (subst (λ (ns : List ℕ). RunsJobs left jobs ns replies after) same_counts
+    (subst (λ (js : List Job). RunsJobs left js lent_counts replies after) same_jobs doing)))

@@ -1,7 +1,9 @@
 -- What makes a round lawful: of one line alone, or of batches together.
-use Rattle.std.proofs.Common.{◌≡◌, ◌≢◌, ◌⊎◌, ℕ, suc, ◌+◌, ◌-◌, ◌<◌, ◌≤◌, max, List, [], ◌∷◌, length, get_or, take, drop, map, Option, Some, None, refl, sym, ◌∙◌, ap, ap₂, subst, arith}
+use Rattle.std.proofs.Common.{◌≡◌, ◌≢◌, ◌⊎◌, ℕ, suc, ◌+◌, ◌-◌, ◌^◌, ◌<◌, ◌≤◌, max, List, [], ◌∷◌, length, get_or}
+use Rattle.std.proofs.Common.{take, drop, map, Option, Some, None, refl, sym, ◌∙◌, ap, ap₂, subst, inl, arith}
 use Rattle.std.specs.Prelude.{option_map, option_and_then, Result, Ok, Err}
 use Rattle.std.specs.Borrow.{Bor}
+use Rattle.std.proofs.lemmas.Option.{none-some, same_Some}
 use Rattle.serde_json.specs.Data.{Data}
 use Rattle.serde_json.specs.Written.{compact_text}
 use Rattle.grove_tree.specs.Trees.{Rows}
@@ -13,7 +15,7 @@ use Rattle.grove_wire.specs.Requests.{Asked, Batch, request_of}
 use Rattle.grove_store.specs.StoreStates.{StoreState, IsStore}
 use Rattle.grove_store.specs.Alone.{RepliesAlone}
 use Rattle.grove_store.specs.Rounds.{lists_asked, lists_in, batches_in, joined, first_fits, fitting, round_length, RunsRound, FailsRound, AnswersLines, IsLawfulRound}
-use Rattle.grove_store.specs.Parts.{IsRoundOf, AnswersRound}
+use Rattle.grove_store.specs.Parts.{IsRoundOf, AnswersRound, RunsLists, RunsFirst}
 use Rattle.grove_store.proofs.Together.{counts_one, first_line}
 use Rattle.grove_store.proofs.Leaving.{answered_long}
 
@@ -98,6 +100,57 @@ first_round before after rows lines others d first lists counts replies n store 
       subst (λ (ls : List (List ℕ)). IsLawfulRound before (take n ls) replies after) (sym (first_line lines d some))
           (subst (λ (m : ℕ). IsLawfulRound before (take m ((get_or lines 0 d).now ∷ map (λ line. line.now) (drop 1 lines))) replies after) (sym long) lawful.1),
     )
+
+-- what is asked first, over the rows of a store
+asked_first : (before : StoreState) (rows : Rows) (line : List ℕ) (asked : Result Asked WireFault)
+    → rows ≡ before.rows → request_of rows line ≡ asked → lists_in before.rows line ≡ lists_asked asked
+asked_first before rows line asked same read =
+    ap (λ (rs : Rows). lists_in rs line) (sym same) ∙ ap lists_asked read
+
+-- a first line that is no batch, with its one reply, is no round of batches
+pub first_other : (before after : StoreState) (rows : Rows) (lines : List (Bor (List ℕ))) (d : Bor (List ℕ))
+    (asked : Result Asked WireFault) (replies : List (List ℕ))
+    → rows ≡ before.rows → 0 < length lines → request_of rows (get_or lines 0 d).now ≡ asked
+    → lists_asked asked ≡ None → length replies ≡ 1
+    → RunsFirst before (map (λ line. line.now) lines) replies after
+first_other before after rows lines d asked replies same some read none one batches all room =
+    let others : List (List ℕ) = map (λ (lent : Bor (List ℕ)). lent.now) (drop 1 lines) in
+    let line : List ℕ = (get_or lines 0 d).now in
+    let no_lists : lists_in before.rows line ≡ None = asked_first before rows line asked same read ∙ none in
+    let texts : List (List ℕ) = map (λ (lent : Bor (List ℕ)). lent.now) lines in
+    let no_batches : batches_in before.rows (take (length replies) texts) ≡ None =
+    ap (λ (ls : List (List ℕ)). batches_in before.rows (take (length replies) ls)) (first_line lines d some)
+    ∙ ap (λ (n : ℕ). batches_in before.rows (take n (line ∷ others))) one
+    ∙ ap (λ (o : Option (List (List Access))). option_and_then (λ lists. option_map (λ bs. lists ∷ bs) (Some [])) o)
+    no_lists in absurd (none-some batches (sym no_batches ∙ all))
+
+-- batches that were run together are the batches of the round
+pub first_run : (before after : StoreState) (rows : Rows) (lines others : List (Bor (List ℕ))) (d : Bor (List ℕ))
+    (first lists : List (List Access)) (counts : List ℕ) (replies : List (List ℕ))
+    → rows ≡ before.rows → 0 < length lines → others ≡ drop 1 lines
+    → request_of rows (get_or lines 0 d).now ≡ Ok (Batch first)
+    → IsRoundOf rows first (map (λ line. line.now) others) counts lists
+    → (before.rounds < 2 ^ 64 - 1 → RunsLists before lists counts replies after)
+    → RunsFirst before (map (λ line. line.now) lines) replies after
+first_run before after rows lines others d first lists counts replies same some rest read round runs batches all room =
+    let more : List (List ℕ) = map (λ (lent : Bor (List ℕ)). lent.now) (drop 1 lines) in
+    let line : List ℕ = (get_or lines 0 d).now in
+    let here : lists_in before.rows line ≡ Some first = asked_first before rows line (Ok (Batch first)) same read in
+    let own : IsRoundOf before.rows first more counts lists =
+    subst (λ (rs : Rows). IsRoundOf rs first more counts lists) same
+    (subst (λ (ls : List (Bor (List ℕ))). IsRoundOf rows first (map (λ line. line.now) ls) counts lists) rest round) in
+    let ran : RunsRound before (first ∷ own.has.batches) replies after =
+    runs room (first ∷ own.has.batches) (sym own.has.in_order) (sym own.has.counted) in
+    let long : length replies ≡ suc (fitting before.rows (256 - length first) more) =
+    answered_long before (first ∷ own.has.batches) replies after (inl ran) ∙ ap suc own.has.number in
+    let known : batches_in before.rows (take (length replies) (map (λ (lent : Bor (List ℕ)). lent.now) lines))
+    ≡ Some (first ∷ own.has.batches) =
+    ap (λ (ls : List (List ℕ)). batches_in before.rows (take (length replies) ls)) (first_line lines d some)
+    ∙ ap (λ (n : ℕ). batches_in before.rows (take n (line ∷ more))) long
+    ∙ ap₂ (λ (o : Option (List (List Access))) (bs : Option (List (List (List Access)))).
+    option_and_then (λ one. option_map (λ rs. one ∷ rs) bs) o) here own.has.are_read in
+    subst (λ (bs : List (List (List Access))). RunsRound before bs replies after)
+    (same_Some (first ∷ own.has.batches) batches (sym known ∙ all)) ran
 
 -- a fault that isn't out of memory is the fault of reading
 pub fails_so : (fault : WireFault) (read : Result Asked WireFault) → fault ≢ Memory → Fails fault read → read ≡ Err fault

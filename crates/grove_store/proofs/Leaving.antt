@@ -18,7 +18,7 @@ use Rattle.grove_store.specs.StoreStates.{StoreState, IsStore}
 use Rattle.grove_store.specs.Rounds.{waits_after, round_texts, RunsRound, RefusesRound, FailsRound}
 use Rattle.grove_build.specs.SettledJobs.{AreSettledJobs}
 use Rattle.grove_core.specs.Runs.{replies_of}
-use Rattle.grove_store.specs.Parts.{LeavesRound, AnswersRound, AnswersJobs}
+use Rattle.grove_store.specs.Parts.{LeavesRound, AnswersRound, AnswersJobs, RunsLists, RunsJobs}
 use Rattle.grove_store.proofs.Keeping.{left_keeps}
 use Rattle.grove_store.proofs.Telling.{texts_long}
 
@@ -44,8 +44,9 @@ leaves_round before jobs counts finished replies records waits old run told reco
 -- once that is put in place, the round was run
 pub runs_round : (before after : StoreState) (lists : List (List Access)) (jobs : List Job) (counts : List ℕ) (replies : List (List ℕ)) (records : List ℤ) (waits : List ℕ)
     → AreSettledJobs before.rows lists jobs → before.rounds < 2 ^ 64 - 1 → LeavesRound before jobs counts replies records waits
-    → after ≡ record before { records = records; waits = waits; rounds = before.rounds + 1 } → AnswersRound before lists counts replies after
-runs_round before after lists jobs counts replies records waits settled room leaves is batches joins counted = inl (record {
+    → after ≡ record before { records = records; waits = waits; rounds = before.rounds + 1 }
+    → RunsLists before lists counts replies after
+runs_round before after lists jobs counts replies records waits settled room leaves is batches joins counted = record {
   jobs = jobs;
   past = leaves.past;
   settled = subst (λ (ls : List (List Access)). AreSettledJobs before.rows ls jobs) (sym joins) settled;
@@ -58,22 +59,28 @@ runs_round before after lists jobs counts replies records waits settled room lea
   left = is
       ∙ ap (λ (rs : List ℤ). record before { records = rs; waits = waits; rounds = before.rounds + 1 }) leaves.recorded
       ∙ ap (λ (ws : List ℕ). record before { records = run_records jobs before.records leaves.past; waits = ws; rounds = before.rounds + 1 }) leaves.waited;
-})
+}
 
--- with that in place the store is one again, and has answered the jobs
+-- jobs that were run are answered by that
+pub run_answers : (before after : StoreState) (jobs : List Job) (counts : List ℕ) (replies : List (List ℕ))
+    → RunsJobs before jobs counts replies after → AnswersJobs before jobs counts replies after
+run_answers before after jobs counts replies runs lists settled batches joins counted =
+    inl (runs lists settled batches joins counted)
+
+-- with that in place the store is one again, and has run the jobs
 pub put_in_place : (before now : StoreState) (jobs : List Job) (counts : List ℕ) (replies : List (List ℕ))
     (records : List ℤ) (waits : List ℕ)
     → before ≡ now → IsStore before → now.rounds < 2 ^ 64 - 1 → LeavesRound before jobs counts replies records waits
     → IsStore (record before { records = records; waits = waits; rounds = before.rounds + 1 })
-    × AnswersJobs now jobs counts replies
+    × RunsJobs now jobs counts replies
     (record before { records = records; waits = waits; rounds = before.rounds + 1 })
 put_in_place before now jobs counts replies records waits same is free leaves =
     let after : StoreState = record before { records = records; waits = waits; rounds = before.rounds + 1 } in
     let room : before.rounds < 2 ^ 64 - 1 = subst (λ (s : StoreState). s.rounds < 2 ^ 64 - 1) (sym same) free in
-    let answers : AnswersJobs before jobs counts replies after = λ lists settled.
+    let runs : RunsJobs before jobs counts replies after = λ lists settled.
     runs_round before after lists jobs counts replies records waits settled room leaves refl in (
       left_keeps before jobs counts replies records waits is room leaves,
-      subst (λ (s : StoreState). AnswersJobs s jobs counts replies after) same answers,
+      subst (λ (s : StoreState). RunsJobs s jobs counts replies after) same runs,
     )
 
 -- a refusal of each line

@@ -18,6 +18,12 @@ pub text_made : {E : Type 0} {P : List ℕ → Type 0} (text : Result (List ℕ)
 text_made (Ok t) replies tells one = (t, tells, one)
 text_made (Err e) replies tells one = absurd one
 
+-- and it is the only one
+pub one_made : {E : Type 0} (text : Result (List ℕ) E) (replies : List (List ℕ))
+    → MatchResult text (λ t. replies ≡ t ∷ []) (λ _. ⊥) → length replies ≡ 1
+one_made (Ok t) replies one = ap length one
+one_made (Err e) replies one = absurd one
+
 -- one more text, of the next places and replies
 pub texts_more : (round : ℕ) (counts places : List ℕ) (replies : List (List Reply)) (texts all : List (List ℕ)) (i at count : ℕ) (text : List ℕ) → i < length counts → count ≡ get_or counts i 0
     → text ≡ compact_text (round_data round (take count (drop at places)) (take count (drop at replies)))

@@ -16,7 +16,7 @@ use Rattle.grove_wire.specs.Replies.{changed_data}
 use Rattle.grove_meter.specs.Waits.{reweighed}
 use Rattle.grove_store.specs.StoreStates.{StoreState, changes, reweighed_store}
 use Rattle.grove_store.specs.Rounds.{batches_in, joined, first_fits, fitting, waits_after, RunsRound, FailsRound}
-use Rattle.grove_store.specs.Rounds.{round_texts, round_length, IsLawfulRound}
+use Rattle.grove_store.specs.Rounds.{RunsBatches, round_texts, round_length, IsLawfulRound}
 use Rattle.grove_store.specs.declared.begun.Begun.{Begun}
 use Rattle.grove_store.specs.declared.begun.Begun.TheVariants.{Answered, Jobs}
 
@@ -79,10 +79,24 @@ abbrev pub AnswersJobs : StoreState → List Job → List ℕ → List (List ℕ
 AnswersJobs before jobs counts replies after = (lists : List (List Access)) → AreSettledJobs before.rows lists jobs
     → AnswersRound before lists counts replies after
 
+-- a round over lists that was run
+abbrev pub RunsLists : StoreState → List (List Access) → List ℕ → List (List ℕ) → StoreState → Type 0
+RunsLists before lists counts replies after = (batches : List (List (List Access))) → joined batches ≡ lists
+    → map length batches ≡ counts → RunsRound before batches replies after
+
+-- the same, over the jobs of the lists
+abbrev pub RunsJobs : StoreState → List Job → List ℕ → List (List ℕ) → StoreState → Type 0
+RunsJobs before jobs counts replies after = (lists : List (List Access)) → AreSettledJobs before.rows lists jobs
+    → RunsLists before lists counts replies after
+
 -- the replies of a lawful round of the first of the lines
 abbrev pub AnswersFirst : StoreState → List (List ℕ) → List (List ℕ) → StoreState → Type 0
 AnswersFirst before lines replies after = (length replies ≡ round_length before.rows lines)
     × IsLawfulRound before (take (length replies) lines) replies after
+
+-- the first of the lines were run, if they are batches
+abbrev pub RunsFirst : StoreState → List (List ℕ) → List (List ℕ) → StoreState → Type 0
+RunsFirst before lines replies after = RunsBatches before (take (length replies) lines) replies after
 
 -- jobs that are to be done: whatever they are answered, so much is answered by that
 pub record IsLeft (Answers : List (List ℕ) → StoreState → Type 0) (before : StoreState) (jobs : List Job)
@@ -98,6 +112,12 @@ pub record IsLeft (Answers : List (List ℕ) → StoreState → Type 0) (before 
 abbrev pub Begins : (List (List ℕ) → StoreState → Type 0) → StoreState → Begun → StoreState → Type 0
 Begins Answers before (Answered replies) after = Answers replies.items after
 Begins Answers before (Jobs jobs counts) after = IsLeft Answers before jobs.items counts.items × (after ≡ before)
+
+-- so much is answered, or it is by jobs that are left to do, if they are run
+abbrev pub BeginsRun : (List (List ℕ) → StoreState → Type 0) → StoreState → Begun → StoreState → Type 0
+BeginsRun Runs before (Answered replies) after = Runs replies.items after
+BeginsRun Runs before (Jobs jobs counts) after = (replies : List (List ℕ)) (left : StoreState)
+    → RunsJobs before jobs.items counts.items replies left → Runs replies left
 
 -- the one reply to a reweighing
 abbrev pub AnswersReweigh : StoreState → List (List ℕ) → StoreState → Type 0

@@ -70,11 +70,9 @@ waits_after jobs past waits = map (λ node. min 1000 (get_or waits node 0 + wait
 
 -- the store after a round
 abbrev pub store_after : StoreState → List Job → List Event → StoreState
-store_after before jobs past = record {
-  rows = before.rows;
+store_after before jobs past = record before {
   records = run_records jobs before.records past;
   waits = waits_after jobs past before.waits;
-  workers = before.workers;
   rounds = before.rounds + 1;
 }
 
@@ -114,6 +112,11 @@ AnswersLines before lines (Some batches) replies after =
     (0 < length lines) × (length (joined batches) ≤ 256)
     × (RunsRound before batches replies after ⊎ FailsRound before batches replies after)
 
+-- batches without fault were run, unless no further round can be counted
+abbrev pub RunsBatches : StoreState → List (List ℕ) → List (List ℕ) → StoreState → Type 0
+RunsBatches before lines replies after = (batches : List (List (List Access)))
+    → batches_in before.rows lines ≡ Some batches → before.rounds < 2 ^ 64 - 1 → RunsRound before batches replies after
+
 -- a lawful round: what lines are answered together, and the store that they leave
 pub record IsLawfulRound (before : StoreState) (lines replies : List (List ℕ)) (after : StoreState) : Type 0 where
   pub store : IsStore before
@@ -122,3 +125,8 @@ pub record IsLawfulRound (before : StoreState) (lines replies : List (List ℕ))
 -- a lawful answer: that of one line
 abbrev pub IsLawfulAnswer : StoreState → List ℕ → List ℕ → StoreState → Type 0
 IsLawfulAnswer before line reply after = IsLawfulRound before (line ∷ []) (reply ∷ []) after
+
+-- that of a store whose caller does all by itself: a batch is run
+abbrev pub IsAnswerAlone : StoreState → List ℕ → List ℕ → StoreState → Type 0
+IsAnswerAlone before line reply after = IsLawfulAnswer before line reply after
+    × RunsBatches before (line ∷ []) (reply ∷ []) after

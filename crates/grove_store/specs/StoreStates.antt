@@ -26,13 +26,8 @@ pub record IsStore (store : StoreState) : Type 0 where
 
 -- a store that has answered nothing yet
 abbrev pub opened : Rows → List ℤ → ℕ → StoreState
-opened rows records workers = record {
-  rows = rows;
-  records = records;
-  waits = replicate (length rows) 0;
-  workers = workers;
-  rounds = 0;
-}
+opened rows records workers =
+    record { rows = rows; records = records; waits = replicate (length rows) 0; workers = workers; rounds = 0 }
 
 -- how many nodes have another weight in the new rows than in the old ones
 abbrev pub changes : Rows → Rows → ℕ
@@ -40,10 +35,5 @@ changes old new = count_below (length old) (λ node. not (weight_of new node == 
 
 -- the store whose weights have learned from its waits, which begin anew
 abbrev pub reweighed_store : StoreState → StoreState
-reweighed_store before = record {
-  rows = reweighed before.waits before.rows;
-  records = before.records;
-  waits = replicate (length before.rows) 0;
-  workers = before.workers;
-  rounds = before.rounds;
-}
+reweighed_store before =
+    record before { rows = reweighed before.waits before.rows; waits = replicate (length before.rows) 0 }

@@ -1,7 +1,7 @@
 //! How a caller comes to what its lines are answered: it leads rounds, or waits for who does.
 ghost use Rattle.std.specs.Prelude.{◌≡◌, ◌<◌, [], length, All, IfOk};
 ghost use Rattle.std.specs.Vec.{vec_capacity};
-ghost use Rattle.grove_desk.specs.Receipts.{IsDeskReceipt};
+ghost use Rattle.grove_desk.specs.Histories.{IsDeskReceipt};
 ghost use Rattle.grove_desk.specs.Boards.{Holds, Takes};
 
 use super::ALONE;

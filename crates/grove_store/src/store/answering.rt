@@ -1,5 +1,5 @@
-ghost use Rattle.std.specs.Prelude.{◌≡◌, ◌<◌, ◌≤◌, length, map, take, All, IfOk, OnErr};
-ghost use Rattle.grove_store.specs.Rounds.{round_length, IsLawfulRound, IsLawfulAnswer};
+ghost use Rattle.std.specs.Prelude.{◌≡◌, ◌<◌, ◌≤◌, [], ◌∷◌, length, map, take, All, IfOk, OnErr};
+ghost use Rattle.grove_store.specs.Rounds.{round_length, IsLawfulRound, IsLawfulAnswer, RunsBatches};
 
 use crate::begun::Begun;
 use crate::crew::Workers;
@@ -35,6 +35,7 @@ impl Store {
     pub fn answer_alone(&mut self, alloc: Global, line: &[u8]) -> Result<Vec<u8>, NoMemory>
         requires { length line.now ≤ 1048576 }
         ensures lawful { IfOk result (λ reply. IsLawfulAnswer self.old line.now reply.items self.new) }
+        ensures whole { IfOk result (λ reply. RunsBatches self.old (line.now ∷ []) (reply.items ∷ []) self.new) }
         ensures err { OnErr result (self.new ≡ self.old) }
     {
         let line = Line::copied(alloc, line)?;

@@ -1,5 +1,5 @@
 ghost use Rattle.std.specs.Prelude.{◌≡◌, ◌<◌, ◌≤◌, length, map, All, IfOk, OnErr};
-ghost use Rattle.grove_store.specs.Parts.{AnswersFirst, Begins};
+ghost use Rattle.grove_store.specs.Parts.{AnswersFirst, RunsFirst, Begins, BeginsRun};
 
 use crate::begun::Begun;
 use crate::crew::{Alone, Crew};
@@ -22,6 +22,8 @@ impl Store {
         requires count { (0 < length lines.now) × (length lines.now ≤ 16) }
         ensures begun { IfOk result
             (λ begun. Begins (AnswersFirst self.old (map (λ line. line.now) lines.now)) self.old begun self.new) }
+        ensures runs { IfOk result
+            (λ begun. BeginsRun (RunsFirst self.old (map (λ line. line.now) lines.now)) self.old begun self.new) }
         ensures err { OnErr result (self.new ≡ self.old) }
     {
         let first = lines[0];
@@ -66,6 +68,8 @@ impl Store {
         requires count { (0 < length lines.now) × (length lines.now ≤ 16) }
         ensures answers { IfOk result
             (λ replies. AnswersFirst self.old (map (λ line. line.now) lines.now) replies.items self.new) }
+        ensures runs { IfOk result
+            (λ replies. RunsFirst self.old (map (λ line. line.now) lines.now) replies.items self.new) }
         ensures err { OnErr result (self.new ≡ self.old) }
     {
         match self.begin_round(&Alone, alloc, lines)? {

@@ -1,7 +1,7 @@
 ghost use Rattle.std.specs.Prelude.{◌≡◌, ◌-◌, ◌^◌, ◌<◌, ◌≤◌, length, sum, All, IfOk, OnErr};
 ghost use Rattle.grove_access.specs.Lists.{nodes_of, AreNodes};
 ghost use Rattle.grove_core.specs.Runs.{AllLegal};
-ghost use Rattle.grove_store.specs.Parts.{AnswersJobs, AnswersRound, Begins};
+ghost use Rattle.grove_store.specs.Parts.{AnswersJobs, AnswersRound, RunsJobs, RunsLists, Begins, BeginsRun};
 
 use crate::begun::Begun;
 use crate::crew::Crew;
@@ -30,6 +30,9 @@ impl Store {
         requires fit { All (λ list. AreNodes self.old.rows (nodes_of list)) round.lists.items }
         ensures begun { IfOk result
             (λ begun. Begins (AnswersRound self.old round.lists.items round.counts.items) self.old begun self.new) }
+        ensures runs { IfOk result
+            (λ begun. BeginsRun (λ replies after. self.old.rounds < 2 ^ 64 - 1
+            → RunsLists self.old round.lists.items round.counts.items replies after) self.old begun self.new) }
         ensures err { OnErr result (self.new ≡ self.old) }
     {
         let Round { counts, lists } = round;
@@ -88,6 +91,7 @@ impl Store {
         requires few { length jobs.now ≤ 256 }
         requires legal { AllLegal self.old.rows jobs.now }
         ensures round { IfOk result (λ replies. AnswersJobs self.old jobs.now counts.now replies.items self.new) }
+        ensures runs { IfOk result (λ replies. RunsJobs self.old jobs.now counts.now replies.items self.new) }
         ensures err { OnErr result (self.new ≡ self.old) }
     {
         let done = do_alone(alloc, &self.tree, &mut self.records, jobs)?;

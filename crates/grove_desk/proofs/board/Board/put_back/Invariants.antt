@@ -1,7 +1,7 @@
 use Rattle.std.proofs.Common.{◌≡◌}
 use Rattle.std.specs.Prelude.{All, IfOk}
 use Rattle.std.specs.Vec.{vec_capacity}
-use Rattle.grove_desk.specs.Receipts.{IsDeskReceipt}
+use Rattle.grove_desk.specs.Histories.{IsDeskReceipt}
 use Rattle.grove_desk.specs.Boards.{SlotHolds}
 use Rattle.grove_desk.proofs.board.Board.put_back.Given as goal
 

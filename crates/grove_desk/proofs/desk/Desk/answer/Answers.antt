@@ -5,7 +5,12 @@ pub returns-clause-line : goal.returns-clause-line
 returns-clause-line g c = IfOk-weaker c.answer_next.result _ _ (λ receipt is. is.line) c.answer_next.ensures.receipt
 
 pub returns-clause-allowed : goal.returns-clause-allowed
-returns-clause-allowed g c = IfOk-weaker c.answer_next.result _ _ (λ receipt is. is.allowed) c.answer_next.ensures.receipt
+returns-clause-allowed g c =
+    IfOk-weaker c.answer_next.result _ _ (λ receipt is. is.reached.allowed) c.answer_next.ensures.receipt
+
+pub returns-clause-reached : goal.returns-clause-reached
+returns-clause-reached g c =
+    IfOk-weaker c.answer_next.result _ _ (λ receipt is. is.reached) c.answer_next.ensures.receipt
 
 pub returns-clause-follows : goal.returns-clause-follows
 returns-clause-follows g c = IfOk-weaker c.answer_next.result _ _ (λ receipt is. is.follows) c.answer_next.ensures.receipt

@@ -15,3 +15,12 @@ returns-clause-begun g c =
     subst (λ (rows : Rows). AreSettledJobs rows lists c.in_ok-jobs.jobs.items)
     (ap (λ (s : StoreState). s.rows) c.self.view_is) c.in_ok-jobs.ensures.jobs in
     (jobs_left before lists c.in_ok-jobs.jobs.items _ room c.requires.counts c.requires.few settled, c.self.view_is)
+
+pub returns-clause-runs : goal.returns-clause-runs
+returns-clause-runs g c =
+    let before = c.args.self.now in
+    let lists = c.args.round.lists.items in
+    let settled : AreSettledJobs before.rows lists c.in_ok-jobs.jobs.items =
+    subst (λ (rows : Rows). AreSettledJobs rows lists c.in_ok-jobs.jobs.items)
+    (ap (λ (s : StoreState). s.rows) c.self.view_is) c.in_ok-jobs.ensures.jobs in
+    λ replies left runs room. runs lists settled

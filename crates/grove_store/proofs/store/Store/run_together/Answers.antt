@@ -1,5 +1,5 @@
 use Rattle.std.proofs.lemmas.Result.{IfOk-weaker}
-use Rattle.grove_store.proofs.Leaving.{leaves_round, put_in_place, fails_run}
+use Rattle.grove_store.proofs.Leaving.{leaves_round, put_in_place, run_answers, fails_run}
 use Rattle.grove_store.proofs.store.Store.run_together.Goals as goal
 
 pub invariant_of-self : goal.invariant_of-self
@@ -14,6 +14,7 @@ invariant_of-self g c = (
 
 pub returns-clause-round : goal.returns-clause-round
 returns-clause-round g c =
+    run_answers _ _ _ _ _
     (put_in_place _ _ c.args.jobs.now c.args.counts.now _ _ _ c.self.view_is c.self.invariant.0 c.requires.room
     (leaves_round _ c.args.jobs.now c.args.counts.now c.in-Ok.finished _ _ _ _ c.in-Ok.ensures.run
     c.in_ok-outcome.ensures.replies c.in_ok-outcome.ensures.records c.in_ok-outcome.ensures.waits
