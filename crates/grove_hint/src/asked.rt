@@ -12,17 +12,26 @@ pub enum Asked {
 }
 
 impl Asked {
-    /// The command's word, the members that its document has, and one that it may have.
-    pub(crate) fn reads(self) -> (&'static str, &'static [&'static str], &'static str) {
+    /// The command's word, and the members that its document has.
+    pub(crate) fn reads(self) -> (&'static str, &'static [&'static str]) {
         match self {
-            Asked::Judge => ("judge", &["nodes", "list", "plan"], ""),
-            Asked::Check => ("check", &["nodes", "list", "plan", "flow"], ""),
-            Asked::Plan => ("plan", &["nodes", "list"], ""),
-            Asked::Draw => ("draw", &["nodes", "list"], "plan"),
-            Asked::Run => ("run", &["nodes", "lists"], ""),
-            Asked::Audit => ("audit", &["nodes", "jobs", "events"], "standing"),
-            Asked::Tree => ("tree", &["nodes"], ""),
-            Asked::Serve => ("serve", &["nodes"], ""),
+            Asked::Judge => ("judge", &["nodes", "list", "plan"]),
+            Asked::Check => ("check", &["nodes", "list", "plan", "flow"]),
+            Asked::Plan => ("plan", &["nodes", "list"]),
+            Asked::Draw => ("draw", &["nodes", "list"]),
+            Asked::Run => ("run", &["nodes", "lists"]),
+            Asked::Audit => ("audit", &["nodes", "jobs", "events"]),
+            Asked::Tree => ("tree", &["nodes"]),
+            Asked::Serve => ("serve", &["nodes"]),
+        }
+    }
+
+    /// The members that its document may have.
+    pub(crate) fn may_read(self) -> &'static [&'static str] {
+        match self {
+            Asked::Draw => &["version", "plan"],
+            Asked::Audit => &["version", "standing"],
+            _ => &["version"],
         }
     }
 }

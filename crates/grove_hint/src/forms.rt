@@ -2,7 +2,7 @@
 use serde_json::Value;
 
 /// What has to stand somewhere.
-#[derive(Clone, Copy, PartialEq, Eq)]
+#[derive(Clone, Copy)]
 pub(crate) enum Form {
     Version,
     Parent,
@@ -27,51 +27,82 @@ pub(crate) enum Form {
     Standing,
 }
 
+/// The name of a member or an item, and what has to stand there.
+type Named = (&'static str, Form);
+
 /// May the member or item be absent?
 pub(crate) fn may_lack(name: &str) -> bool {
     matches!(name, "version" | "value" | "length")
 }
 
 impl Form {
-    /// The form of the member or item of this name.
-    pub(crate) fn of(name: &str) -> Form {
-        match name {
-            "version" => Form::Version,
-            "parent" => Form::Parent,
-            "name" | "node" => Form::Text,
-            "path" => Form::Path,
-            "weight" => Form::Weight,
-            "access" | "job" => Form::Short,
-            "value" | "number" => Form::Signed,
-            "above" | "held" | "first" | "last" | "own" => Form::Amount,
-            "length" => Form::Length,
-            "lists" => Form::Lists,
-            "standing" => Form::Standing,
-            _ => Form::Array,
+    /// Its members, or its items after the first word.
+    pub(crate) fn parts(self, word: &str) -> &'static [Named] {
+        match (self, word) {
+            (Form::Access, "get") => &[("path", Form::Path), ("length", Form::Length)],
+            (Form::Access, _) => {
+                &[
+                    ("path", Form::Path),
+                    ("number", Form::Signed),
+                    ("length", Form::Length),
+                ]
+            }
+            (Form::Step, "access") => &[("access", Form::Short)],
+            (Form::Step, _) => &[("path", Form::Path)],
+            (Form::Event, _) => &[("job", Form::Short)],
+            (Form::Document, _) => {
+                &[
+                    ("version", Form::Version),
+                    ("nodes", Form::Array),
+                    ("list", Form::Array),
+                    ("lists", Form::Lists),
+                    ("plan", Form::Array),
+                    ("flow", Form::Array),
+                    ("jobs", Form::Array),
+                    ("events", Form::Array),
+                    ("standing", Form::Standing),
+                ]
+            }
+            (Form::Check, _) => {
+                &[
+                    ("version", Form::Version),
+                    ("list", Form::Array),
+                    ("plan", Form::Array),
+                    ("flow", Form::Array),
+                ]
+            }
+            (Form::Row, _) => {
+                &[
+                    ("parent", Form::Parent),
+                    ("name", Form::Text),
+                    ("weight", Form::Weight),
+                    ("value", Form::Signed),
+                ]
+            }
+            (Form::FlowRow, _) => {
+                &[
+                    ("node", Form::Text),
+                    ("above", Form::Amount),
+                    ("held", Form::Amount),
+                    ("first", Form::Amount),
+                    ("last", Form::Amount),
+                    ("own", Form::Amount),
+                ]
+            }
+            (Form::Job, _) => &[("list", Form::Array), ("plan", Form::Array)],
+            (Form::Standing, _) => &[("records", Form::Array), ("replies", Form::Array)],
+            _ => &[],
         }
     }
 
-    /// The names of its members, or of its items after the first word.
-    pub(crate) fn names(self, word: &str) -> &'static [&'static str] {
-        match (self, word) {
-            (Form::Access, "get") => &["path", "length"],
-            (Form::Access, _) => &["path", "number", "length"],
-            (Form::Step, "access") => &["access"],
-            (Form::Step, _) => &["path"],
-            (Form::Event, _) => &["job"],
-            (Form::Document, _) => {
-                &[
-                    "version", "nodes", "list", "lists", "plan", "flow", "jobs", "events",
-                    "standing",
-                ]
+    /// Has it a member of this name?
+    pub(crate) fn has_member(self, name: &str) -> bool {
+        for (known, _) in self.parts("") {
+            if *known == name {
+                return true;
             }
-            (Form::Check, _) => &["version", "list", "plan", "flow"],
-            (Form::Row, _) => &["parent", "name", "weight", "value"],
-            (Form::FlowRow, _) => &["node", "above", "held", "first", "last", "own"],
-            (Form::Job, _) => &["list", "plan"],
-            (Form::Standing, _) => &["records", "replies"],
-            _ => &[],
         }
+        false
     }
 
     /// What the first word of an array is, how its words are introduced, and the words.
@@ -131,7 +162,28 @@ impl Form {
     }
 }
 
+/// The text that stands there; an empty one where there is none.
+pub(crate) fn text_of(value: Option<&Value>) -> &str {
+    match value {
+        Some(Value::String(text)) => text,
+        _ => "",
+    }
+}
+
+/// The number that stands there, if it is one from 0 on.
+pub(crate) fn number_of(value: Option<&Value>) -> Option<u64> {
+    value?.as_u64()
+}
+
+/// The items, where the value is an array.
+pub(crate) fn items_of(value: Option<&Value>) -> &[Value] {
+    match value {
+        Some(Value::Array(items)) => items,
+        _ => &[],
+    }
+}
+
 /// The number of items, where the value is an array.
 pub(crate) fn length_of(value: &Value) -> usize {
-    value.as_array().map_or(0, |items| items.len())
+    items_of(Some(value)).len()
 }

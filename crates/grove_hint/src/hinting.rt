@@ -1,21 +1,21 @@
 use crate::asked::Asked;
-use crate::forms::length_of;
+use crate::forms::{items_of, number_of};
 use crate::likeness::stray_member;
 use crate::places::{Subject, Whole};
-use crate::rules::{event_hint, flow_hint, plan_hint, standing_hint};
-use crate::shown::{Listed, Told};
-use crate::syntax::syntax_hint;
-use crate::trees::{no_path, tree_hint};
+use crate::sayings::Said;
+use crate::shown::{Listed, hint_that};
+use crate::syntax::{Input, NoJson};
 use grove_access::MOST_ACCESSES;
 use grove_base::{Hint, NoMemory};
 use grove_core::ReplayFault;
-use grove_proof::ProofFault;
 use grove_wire::{
     Fault, MOST_BYTES, MOST_EVENTS, MOST_HISTORY_BYTES, MOST_ITEMS, MOST_JOBS, MOST_LISTS, Part,
     Place, WireFault,
 };
 use serde_json::Value;
 use std::alloc::Global;
+use std::fmt;
+use std::fmt::{Display, Formatter, Write};
 
 /// What a person is told of a refusal: the command has refused these bytes for this fault; `document` is what they were
 /// read as, if they were.
@@ -26,120 +26,172 @@ pub fn hint(
     document: Option<&Value>,
     fault: Fault,
 ) -> Result<Hint, NoMemory> {
-    let told = match (fault, document) {
+    match (fault, document) {
         (Fault::Wire(WireFault::Limit(place)), _) if place.part == Part::Whole => {
-            let (command, _, _) = asked.reads();
-            let most = if asked == Asked::Audit {
-                MOST_HISTORY_BYTES
-            } else {
-                MOST_BYTES
-            };
-            format!(in alloc;
-                "the document has more than the {most} bytes that \"{command}\" takes"
-            )?
+            too_long(alloc, asked)
         }
-        (fault, Some(document)) => document_hint(alloc, asked, document, fault)?,
+        (fault, Some(document)) => document_hint(alloc, asked, document, fault),
         (fault, None) => match Value::from_slice(alloc, bytes) {
-            Ok(document) => document_hint(alloc, asked, &document, fault)?,
-            Err(error) if error.is_memory() => return Err(NoMemory),
-            Err(error) => syntax_hint(alloc, "the document", bytes, &error)?,
+            Ok(document) => document_hint(alloc, asked, &document, fault),
+            Err(error) => NoJson::new(alloc, Input::Document, bytes, error).hint(),
         },
+    }
+}
+
+/// That a document is too long for its command.
+fn too_long(alloc: Global, asked: Asked) -> Result<Hint, NoMemory> {
+    let (command, _) = asked.reads();
+    let most = match asked {
+        Asked::Audit => MOST_HISTORY_BYTES,
+        _ => MOST_BYTES,
     };
-    Hint::new(alloc, &told)
+    hint_that(
+        alloc,
+        &format_args!("the document has more than the {most} bytes that \"{command}\" takes"),
+    )
+}
+
+fn document_hint(
+    alloc: Global,
+    asked: Asked,
+    value: &Value,
+    fault: Fault,
+) -> Result<Hint, NoMemory> {
+    let subject = Subject {
+        alloc,
+        whole: Whole::Document(asked),
+        value,
+        tree: None,
+    };
+    hint_that(alloc, &Refused { subject, fault })
 }
 
 /// What a person is told of a document that is taken: of a member that nothing uses, if it resembles one that the
 /// command would use and that isn't there.
 pub fn oversight(alloc: Global, asked: Asked, document: &Value) -> Result<Option<Hint>, NoMemory> {
-    let told = stray_member(alloc, asked, document)?;
-    told.map(|told| Hint::new(alloc, &told)).transpose()
+    match stray_member(alloc, asked, document)? {
+        Some(stray) => Ok(Some(hint_that(alloc, &stray)?)),
+        None => Ok(None),
+    }
 }
 
 /// What a person is told who starts the command at a terminal, without a document.
 pub fn awaited(alloc: Global, asked: Asked) -> Result<Hint, NoMemory> {
-    let (command, members, _) = asked.reads();
+    let (command, members) = asked.reads();
     let members = Listed(members);
-    let awaited = format!(in alloc;
-        "\"{command}\" reads a JSON document with {members} from standard input, up to its end (Ctrl-D)"
-    )?;
-    Hint::new(alloc, &awaited)
-}
-
-/// What is wrong with a document. A member that nothing uses may be why something else is refused.
-fn document_hint(alloc: Global, asked: Asked, value: &Value, fault: Fault) -> Told {
-    let subject = Subject {
-        whole: Whole::Document(asked),
-        value,
-        tree: None,
-    };
-    let told = fault_hint(alloc, subject, fault)?;
-    let stray = match fault {
-        Fault::Wire(WireFault::Shape(_)) => None,
-        _ => stray_member(alloc, asked, value)?,
-    };
-    match stray {
-        Some(stray) => Ok(format!(in alloc; "{told}; {stray}")?),
-        None => Ok(told),
-    }
-}
-
-/// What is wrong with what is refused, by the fault and its place.
-pub(crate) fn fault_hint(alloc: Global, subject: Subject<'_>, fault: Fault) -> Told {
-    match fault {
-        Fault::Wire(fault) => unread(alloc, subject, fault),
-        Fault::Plan(fault) | Fault::Proof(ProofFault::Plan(fault)) => {
-            plan_hint(alloc, subject, None, fault)
-        }
-        Fault::Proof(fault) => flow_hint(alloc, subject, fault),
-        Fault::Replay(ReplayFault::BadPlan(job, fault)) => {
-            plan_hint(alloc, subject, Some(job), fault)
-        }
-        Fault::Replay(ReplayFault::BadEvent(event, fault)) => {
-            event_hint(alloc, subject, event, fault)
-        }
-        Fault::Replay(ReplayFault::Unfinished(job)) => {
-            format!(in alloc; "job {job} has steps left after the last event")
-        }
-        Fault::Standing(fault) => standing_hint(alloc, subject, fault),
-        Fault::Run(_) | Fault::Replay(ReplayFault::Memory) => no_known_fault(alloc),
-    }
-}
-
-/// What is said if nothing that was asked is wrong.
-pub(crate) fn no_known_fault(alloc: Global) -> Told {
-    String::from_str(
+    hint_that(
         alloc,
-        "it failed, though nothing is known to be wrong with the input",
+        &format_args!(
+            "\"{command}\" reads a JSON document with {members} from standard input, up to its end (Ctrl-D)"
+        ),
     )
 }
 
-/// Why what is refused isn't read.
-fn unread(alloc: Global, subject: Subject<'_>, fault: WireFault) -> Told {
-    match fault {
-        WireFault::Shape(place) => subject.misformed(alloc, place),
-        WireFault::NoPath(place) => no_path(alloc, subject, place),
-        WireFault::BadLength(place) => {
-            let access = subject.value_at(place).and_then(Value::as_array);
-            let slots = access.and_then(|items| items.last()?.as_u64()).unwrap_or(0);
-            let spot = subject.spot(place);
-            format!(in alloc; "{spot} is {slots} slots long, but an access has 1 to 1000")
+/// What is refused, and for which fault.
+#[derive(Clone, Copy)]
+pub(crate) struct Refused<'v> {
+    pub subject: Subject<'v>,
+    pub fault: Fault,
+}
+
+impl Display for Refused<'_> {
+    fn fmt<W: Write>(&self, f: &mut Formatter<W>) -> fmt::Result {
+        self.subject.refused(f, self.fault)?;
+        match (self.subject.whole, self.fault) {
+            (_, Fault::Wire(WireFault::Shape(_))) => Ok(()),
+            (Whole::Document(asked), _) => self.subject.stray(f, asked),
+            _ => Ok(()),
         }
-        WireFault::Limit(place) => beyond(alloc, subject, place),
-        WireFault::Tree(fault) => tree_hint(alloc, subject.items(Part::Nodes, None), fault),
-        WireFault::BadJson | WireFault::Memory => no_known_fault(alloc),
     }
 }
 
-/// A part of too many items.
-fn beyond(alloc: Global, subject: Subject<'_>, place: Place) -> Told {
-    let (most, items) = match (place.part, place.at) {
-        (Part::Lists, None) => (MOST_LISTS, "lists"),
-        (Part::Jobs, None) => (MOST_JOBS, "jobs"),
-        (Part::Events, _) => (MOST_EVENTS, "events"),
-        (Part::List | Part::Lists | Part::JobList, _) => (MOST_ACCESSES, "accesses"),
-        _ => (MOST_ITEMS, "items"),
-    };
-    let count = subject.value_at(place).map_or(0, length_of);
-    let spot = subject.spot(place);
-    format!(in alloc; "{spot} has {count} {items}, but at most {most} are allowed")
+impl<'v> Subject<'v> {
+    /// A member that nothing uses may be why something else is refused.
+    fn stray<W: Write>(self, f: &mut Formatter<W>, asked: Asked) -> fmt::Result {
+        match stray_member(self.alloc, asked, self.value)? {
+            Some(stray) => write!(f, "; {stray}"),
+            None => Ok(()),
+        }
+    }
+
+    /// What is wrong with what is refused, by the fault and its place.
+    fn refused<W: Write>(self, f: &mut Formatter<W>, fault: Fault) -> fmt::Result {
+        match fault {
+            Fault::Wire(WireFault::Shape(place)) => self.misformed(f, place),
+            Fault::Wire(WireFault::NoPath(place)) => self.no_path(f, place),
+            Fault::Wire(WireFault::Limit(place)) => self.beyond(f, place),
+            _ => write!(f, "{}", self.said_for(fault.name(), &fault)),
+        }
+    }
+
+    /// What is told of a fault of this name, and what is filled in.
+    fn said_for(self, name: &'static str, fault: &Fault) -> Said<'v> {
+        match *fault {
+            Fault::Wire(WireFault::BadLength(place)) => self.bad_length(name, place),
+            Fault::Wire(WireFault::Tree(fault)) => self.no_tree(name, fault),
+            Fault::Plan(fault) => self.no_plan(name, None, fault),
+            Fault::Proof(fault) => self.no_proof(name, fault),
+            Fault::Replay(ReplayFault::BadPlan(job, fault)) => {
+                self.no_plan(name, Some(job), fault)
+            }
+            Fault::Replay(ReplayFault::BadEvent(event, fault)) => self.no_event(name, event, fault),
+            Fault::Replay(ReplayFault::Unfinished(job)) => Said {
+                number: u64::from(job),
+                ..self.said(name)
+            },
+            Fault::Standing(fault) => self.no_standing(name, fault),
+            Fault::Wire(_) | Fault::Run(_) | Fault::Replay(ReplayFault::Memory) => {
+                self.said("memory")
+            }
+        }
+    }
+
+    /// What is told of the whole.
+    pub(crate) fn said(self, name: &'static str) -> Said<'v> {
+        let (part, at, item) = (Part::Whole, None, None);
+        self.said_of(name, Place { part, at, item })
+    }
+
+    /// What is told of an item of a part.
+    pub(crate) fn said_at(self, name: &'static str, part: Part, at: u32) -> Said<'v> {
+        let (at, item) = (Some(at), None);
+        self.said_of(name, Place { part, at, item })
+    }
+
+    /// What is told of a place, with nothing else filled in.
+    pub(crate) fn said_of(self, name: &'static str, place: Place) -> Said<'v> {
+        Said {
+            name,
+            spot: self.spot(place),
+            text: "",
+            second: "",
+            number: 0,
+            other: 0,
+        }
+    }
+
+    /// An access that has too few slots or too many.
+    fn bad_length(self, name: &'static str, place: Place) -> Said<'v> {
+        let slots = number_of(items_of(self.value_at(place)).last());
+        Said {
+            number: slots.unwrap_or(0),
+            ..self.said_of(name, place)
+        }
+    }
+
+    /// A part of too many items.
+    fn beyond<W: Write>(self, f: &mut Formatter<W>, place: Place) -> fmt::Result {
+        let (most, items) = match (place.part, place.at) {
+            (Part::Lists, None) => (MOST_LISTS, "lists"),
+            (Part::Jobs, None) => (MOST_JOBS, "jobs"),
+            (Part::Events, _) => (MOST_EVENTS, "events"),
+            (Part::List | Part::Lists | Part::JobList, _) => (MOST_ACCESSES, "accesses"),
+            _ => (MOST_ITEMS, "items"),
+        };
+        let (spot, count) = (self.spot(place), items_of(self.value_at(place)).len());
+        write!(
+            f,
+            "{spot} has {count} {items}, but at most {most} are allowed"
+        )
+    }
 }

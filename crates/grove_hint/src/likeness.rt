@@ -1,11 +1,11 @@
 //! Names that are likely meant to be others.
 use crate::asked::Asked;
-use crate::forms::Form;
-use crate::places::{Subject, Whole};
-use crate::shown::{Found, Quoted, Told};
-use grove_wire::Part;
+use crate::forms::{Form, items_of};
+use crate::shown::Quoted;
 use serde_json::Value;
 use std::alloc::{AllocError, Global};
+use std::fmt;
+use std::fmt::{Display, Formatter, Write};
 use strsim::osa_distance;
 
 /// How many members each row of a tree has.
@@ -18,17 +18,37 @@ pub(crate) fn resembles(alloc: Global, wanted: &str, name: &str) -> Result<bool,
     if name == wanted || name.len().abs_diff(wanted.len()) > most {
         return Ok(false);
     }
-    Ok(name.eq_ignore_ascii_case(wanted) || osa_distance(alloc, wanted, name)? <= most)
+    if name.eq_ignore_ascii_case(wanted) {
+        return Ok(true);
+    }
+    Ok(osa_distance(alloc, wanted, name)? <= most)
 }
 
-/// That a text resembles one of the words, where it does.
-pub(crate) fn near_word(alloc: Global, text: &str, words: &[&'static str]) -> Told {
+/// The first of the words that a text resembles.
+pub(crate) fn near_word(
+    alloc: Global,
+    text: &str,
+    words: &[&'static str],
+) -> Result<NearWord, AllocError> {
     for word in words {
         if resembles(alloc, word, text)? {
-            return format!(in alloc; ", but resembles \"{word}\"");
+            return Ok(NearWord(Some(*word)));
         }
     }
-    Ok(String::new(alloc))
+    Ok(NearWord(None))
+}
+
+/// That a text resembles a word, where it does.
+#[derive(Clone, Copy)]
+pub(crate) struct NearWord(Option<&'static str>);
+
+impl Display for NearWord {
+    fn fmt<W: Write>(&self, f: &mut Formatter<W>) -> fmt::Result {
+        match self.0 {
+            Some(word) => write!(f, ", but resembles \"{word}\""),
+            None => Ok(()),
+        }
+    }
 }
 
 /// The first member of an object that resembles the wanted one, where that isn't there, and whose name the form doesn't
@@ -44,9 +64,78 @@ pub(crate) fn near_member<'v>(
         _ => return Ok(None),
     };
     for (name, _) in members {
-        let is_known = form.names("").contains(&name.as_str());
-        if !is_known && resembles(alloc, wanted, name)? {
+        if !form.has_member(name) && resembles(alloc, wanted, name)? {
             return Ok(Some(Quoted(name)));
+        }
+    }
+    Ok(None)
+}
+
+/// A member that nothing uses and that resembles one that would be used.
+#[derive(Clone, Copy)]
+pub(crate) struct Stray<'v> {
+    near: Quoted<'v>,
+    /// The row of which it is a member, if it isn't one of the document.
+    row: Option<usize>,
+    wanted: &'static str,
+}
+
+impl Display for Stray<'_> {
+    fn fmt<W: Write>(&self, f: &mut Formatter<W>) -> fmt::Result {
+        let (near, wanted) = (self.near, self.wanted);
+        match self.row {
+            Some(row) => write!(
+                f,
+                "nothing uses {near} of nodes {row}, which resembles \"{wanted}\""
+            ),
+            None => write!(
+                f,
+                "nothing uses {near} of the document, which resembles \"{wanted}\""
+            ),
+        }
+    }
+}
+
+/// The first member that nothing uses and that resembles one that the command would use, but that isn't there.
+pub(crate) fn stray_member(
+    alloc: Global,
+    asked: Asked,
+    document: &Value,
+) -> Result<Option<Stray<'_>>, AllocError> {
+    let (_, names) = asked.reads();
+    for names in [asked.may_read(), names] {
+        if let Some(stray) = stray_among(alloc, names, document)? {
+            return Ok(Some(stray));
+        }
+    }
+    stray_value(alloc, items_of(document.get("nodes")))
+}
+
+/// The first member of a document that resembles one of these names.
+fn stray_among<'v>(
+    alloc: Global,
+    names: &'static [&'static str],
+    document: &'v Value,
+) -> Result<Option<Stray<'v>>, AllocError> {
+    for wanted in names {
+        if let Some(near) = near_member(alloc, Form::Document, document, wanted)? {
+            let (row, wanted) = (None, *wanted);
+            return Ok(Some(Stray { near, row, wanted }));
+        }
+    }
+    Ok(None)
+}
+
+/// The first member of a row that nothing uses and that resembles its value.
+fn stray_value(alloc: Global, rows: &[Value]) -> Result<Option<Stray<'_>>, AllocError> {
+    let wanted = "value";
+    for (at, row) in rows.iter().enumerate() {
+        if !has_more(row) {
+            continue;
+        }
+        if let Some(near) = near_member(alloc, Form::Row, row, wanted)? {
+            let row = Some(at);
+            return Ok(Some(Stray { near, row, wanted }));
         }
     }
     Ok(None)
@@ -54,35 +143,8 @@ pub(crate) fn near_member<'v>(
 
 /// Has a row of a tree more members than it needs?
 fn has_more(row: &Value) -> bool {
-    row.as_object()
-        .is_some_and(|members| members.len() > NEEDED)
-}
-
-/// The first member that nothing uses and that resembles one that the command would use, but that isn't there.
-pub(crate) fn stray_member(alloc: Global, asked: Asked, document: &Value) -> Found {
-    let (_, names, other) = asked.reads();
-    for wanted in ["version", other].iter().chain(names) {
-        if let Some(near) = near_member(alloc, Form::Document, document, wanted)? {
-            return Ok(Some(format!(in alloc;
-                "nothing uses {near} of the document, which resembles \"{wanted}\""
-            )?));
-        }
+    match row {
+        Value::Object(members) => members.len() > NEEDED,
+        _ => false,
     }
-    let subject = Subject {
-        whole: Whole::Document(asked),
-        value: document,
-        tree: None,
-    };
-    let rows = subject.items(Part::Nodes, None);
-    for (at, row) in rows.iter().enumerate() {
-        if !has_more(row) {
-            continue;
-        }
-        if let Some(near) = near_member(alloc, Form::Row, row, "value")? {
-            return Ok(Some(format!(in alloc;
-                "nothing uses {near} of nodes {at}, which resembles \"value\""
-            )?));
-        }
-    }
-    Ok(None)
 }

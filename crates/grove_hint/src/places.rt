@@ -1,26 +1,40 @@
 //! What stands at the place of a fault, and how the place is told.
 use crate::asked::Asked;
-use crate::differences::{difference, missing};
-use crate::forms::Form;
-use crate::shown::{Listed, Told};
+use crate::differences::Misfit;
+use crate::forms::{Form, items_of};
+use crate::shown::Listed;
 use grove_tree::Tree;
 use grove_wire::{Part, Place};
 use serde_json::Value;
 use std::alloc::Global;
 use std::fmt;
+use std::fmt::{Display, Formatter, Write};
 
 /// What is refused.
 #[derive(Clone, Copy)]
 pub(crate) enum Whole {
     Document(Asked),
     Check,
-    /// The list or the lists of a request of this name.
-    Lists(&'static str),
+    /// The list of a request `plan`.
+    List,
+    /// The lists of a request `batch`.
+    Lists,
+}
+
+impl Whole {
+    /// What it is that has a version.
+    pub(crate) fn noun(self) -> &'static str {
+        match self {
+            Whole::Check => "check",
+            _ => "document",
+        }
+    }
 }
 
 /// What is refused, with its value.
 #[derive(Clone, Copy)]
 pub(crate) struct Subject<'v> {
+    pub alloc: Global,
     pub whole: Whole,
     pub value: &'v Value,
     /// The tree of the store that a line is for, if it is known; a document has its own.
@@ -34,19 +48,21 @@ pub(crate) struct Spot {
     place: Place,
 }
 
-impl fmt::Display for Spot {
-    fn fmt<W: fmt::Write>(&self, f: &mut fmt::Formatter<W>) -> fmt::Result {
+impl Display for Spot {
+    fn fmt<W: Write>(&self, f: &mut Formatter<W>) -> fmt::Result {
         let place = self.place;
-        match (self.whole, place.part) {
-            (Whole::Check, Part::Whole) => return f.write_str("check"),
-            (_, Part::Whole) => return f.write_str("the document"),
-            (Whole::Lists(name), _) => f.write_str(name)?,
+        let word = match (self.whole, place.part) {
+            (Whole::Check, Part::Whole) => "check",
+            (_, Part::Whole) => "the document",
+            (Whole::List, _) => "plan",
+            (Whole::Lists, _) => "batch",
             _ => return write!(f, "{place}"),
+        };
+        match (place.at, place.item) {
+            (Some(at), Some(item)) => write!(f, "{word} {at} {item}"),
+            (Some(at), None) => write!(f, "{word} {at}"),
+            _ => f.write_str(word),
         }
-        for number in place.at.iter().chain(&place.item) {
-            write!(f, " {number}")?;
-        }
-        Ok(())
     }
 }
 
@@ -65,7 +81,7 @@ impl<'v> Subject<'v> {
             part => within(self.value.get(member_name(part))?, holder.at)?,
         };
         let part = match (self.whole, place.part) {
-            (Whole::Lists(_), _) | (_, Part::Whole) => object,
+            (Whole::List | Whole::Lists, _) | (_, Part::Whole) => object,
             (_, part) => object.get(member_name(part))?,
         };
         match holder.part {
@@ -77,46 +93,57 @@ impl<'v> Subject<'v> {
     /// The items of the part, which is a job's where there is one.
     pub(crate) fn items(self, part: Part, job: Option<u32>) -> &'v [Value] {
         let (at, item) = (job, None);
-        match self.value_at(Place { part, at, item }) {
-            Some(Value::Array(items)) => items,
-            _ => &[],
+        items_of(self.value_at(Place { part, at, item }))
+    }
+
+    /// The rows of the tree.
+    pub(crate) fn rows(self) -> &'v [Value] {
+        self.items(Part::Nodes, None)
+    }
+
+    /// Is it a document, which has the tree that it is about?
+    pub(crate) fn is_document(self) -> bool {
+        matches!(self.whole, Whole::Document(_))
+    }
+
+    /// Why what stands at the place isn't of its form, or that nothing stands there.
+    pub(crate) fn misformed<W: Write>(self, f: &mut Formatter<W>, place: Place) -> fmt::Result {
+        match self.value_at(place) {
+            Some(value) => self.misfit(place, value).difference(f),
+            None => self.missing(f, place),
         }
     }
 
-    /// Why what stands at the place isn't of its form.
-    pub(crate) fn misformed(self, alloc: Global, place: Place) -> Told {
-        let Some(value) = self.value_at(place) else {
-            return self.missing(alloc, place);
-        };
-        let spot = self.spot(place);
-        if let Some(told) = difference(alloc, self.form_at(place), spot, value)? {
-            return Ok(told);
+    fn misfit(self, place: Place, value: &'v Value) -> Misfit<'v> {
+        Misfit {
+            subject: self,
+            spot: self.spot(place),
+            form: self.form_at(place),
+            value,
         }
-        let whole = match self.whole {
-            Whole::Check => "check",
-            _ => "document",
-        };
-        format!(in alloc;
-            "{spot} has a length, which is read only if the {whole} has \"version\":2"
-        )
     }
 
-    /// A part that isn't there.
-    fn missing(self, alloc: Global, place: Place) -> Told {
+    /// That a part isn't there.
+    fn missing<W: Write>(self, f: &mut Formatter<W>, place: Place) -> fmt::Result {
         let (name, holder) = (member_name(place.part), holder_of(place));
         let object = self.value_at(holder).unwrap_or(self.value);
-        let told = missing(alloc, self.form_at(holder), self.spot(holder), object, name)?;
-        let (Whole::Document(asked), Part::Whole) = (self.whole, holder.part) else {
-            return Ok(told);
-        };
+        self.misfit(holder, object).missing(f, name)?;
+        match (self.whole, holder.part) {
+            (Whole::Document(asked), Part::Whole) => self.unread_by(f, asked, name),
+            _ => Ok(()),
+        }
+    }
+
+    /// What the command reads that misses a member of this name.
+    fn unread_by<W: Write>(self, f: &mut Formatter<W>, asked: Asked, name: &str) -> fmt::Result {
         let other = match name {
-            "list" if object.get("lists").is_some() => ", but \"lists\", which \"run\" reads",
-            "lists" if object.get("list").is_some() => ", but \"list\", which \"plan\" reads",
+            "list" if self.value.get("lists").is_some() => ", but \"lists\", which \"run\" reads",
+            "lists" if self.value.get("list").is_some() => ", but \"list\", which \"plan\" reads",
             _ => "",
         };
-        let (command, members, _) = asked.reads();
+        let (command, members) = asked.reads();
         let members = Listed(members);
-        format!(in alloc; "{told}{other}; \"{command}\" reads {members}")
+        write!(f, "{other}; \"{command}\" reads {members}")
     }
 
     /// The form of what stands at the place.
@@ -132,7 +159,8 @@ impl<'v> Subject<'v> {
             (Part::Events, Some(_), _) => Form::Event,
             (Part::StandingRecords, Some(_), _) => Form::Signed,
             (Part::StandingReplies, _, Some(_)) => Form::Reply,
-            (part, None, _) => Form::of(member_name(part)),
+            (Part::Lists, None, _) => Form::Lists,
+            (Part::Standing, None, _) => Form::Standing,
             _ => Form::Array,
         }
     }
@@ -167,5 +195,8 @@ pub(crate) fn member_name(part: Part) -> &'static str {
 }
 
 fn within(value: &Value, at: Option<u32>) -> Option<&Value> {
-    at.map_or(Some(value), |at| value.get(at as usize))
+    match at {
+        Some(at) => value.get(at as usize),
+        None => Some(value),
+    }
 }

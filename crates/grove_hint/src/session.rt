@@ -1,17 +1,22 @@
 //! What is wrong with a line of a session.
-use crate::hinting::fault_hint;
+use crate::hinting::Refused;
 use crate::likeness::near_word;
 use crate::places::{Subject, Whole};
-use crate::shown::{Described, Listed, Quoted, Told};
-use crate::syntax::syntax_hint;
+use crate::shown::{Described, Listed, Quoted, hint_that};
+use crate::syntax::{Input, NoJson};
 use grove_base::{Hint, NoMemory};
 use grove_tree::Tree;
 use grove_wire::Fault;
 use serde_json::Value;
-use std::alloc::{AllocError, Global};
+use std::alloc::Global;
+use std::fmt;
+use std::fmt::{Display, Formatter, Write};
 
 /// The greatest number of bytes of a line that is looked into, so that a hint takes little memory.
 const MOST_READ: usize = 65_536;
+
+/// The requests that there are.
+static REQUESTS: [&str; 5] = ["plan", "check", "batch", "weights", "reweigh"];
 
 /// What a person is told of a session's line that is refused for this fault, by the names of the store's tree if it is
 /// known.
@@ -21,45 +26,91 @@ pub fn hint_of_request(
     line: &[u8],
     fault: Fault,
 ) -> Result<Hint, NoMemory> {
-    let told = if line.len() > MOST_READ {
-        format!(in alloc; "the line has more than the {MOST_READ} bytes that a hint looks into")?
-    } else {
-        line_hint(alloc, tree, line, fault)?
-    };
-    Hint::new(alloc, &told)
-}
-
-fn line_hint(alloc: Global, tree: Option<&Tree>, line: &[u8], fault: Fault) -> Told {
+    if line.len() > MOST_READ {
+        return hint_that(
+            alloc,
+            &format_args!("the line has more than the {MOST_READ} bytes that a hint looks into"),
+        );
+    }
     match Value::from_slice(alloc, line) {
-        Ok(value) => request_hint(alloc, tree, &value, fault),
-        Err(error) if error.is_memory() => Err(AllocError),
-        Err(error) => syntax_hint(alloc, "the line", line, &error),
+        Ok(value) => {
+            let value = &value;
+            let line = Line {
+                alloc,
+                tree,
+                value,
+                fault,
+            };
+            hint_that(alloc, &line)
+        }
+        Err(error) => NoJson::new(alloc, Input::Line, line, error).hint(),
     }
 }
 
-fn request_hint(alloc: Global, tree: Option<&Tree>, line: &Value, fault: Fault) -> Told {
-    let Value::Object(members) = line else {
-        let (found, form) = (Described(line), r#"{"plan":[..]}"#);
-        return format!(in alloc;
-            "the line is {found}, but has to be an object with one member, as {form}"
-        );
-    };
-    let (1, Some((name, value))) = (members.len(), members.first_key_value()) else {
-        let count = members.len();
-        return format!(in alloc;
-            "the line is an object with {count} members, but a request has just one, as {{\"plan\":[..]}}"
-        );
-    };
-    let whole = match name.as_str() {
-        "plan" | "weights" | "reweigh" => Whole::Lists("plan"),
-        "batch" => Whole::Lists("batch"),
-        "check" => Whole::Check,
-        name => {
-            let names = &["plan", "check", "batch", "weights", "reweigh"];
-            let (shown, near) = (Quoted(name), near_word(alloc, name, names)?);
-            let five = Listed(names);
-            return format!(in alloc; "{shown} is no request{near}; the five are {five}");
+/// A line that is JSON and is refused.
+#[derive(Clone, Copy)]
+struct Line<'v> {
+    alloc: Global,
+    tree: Option<&'v Tree>,
+    value: &'v Value,
+    fault: Fault,
+}
+
+impl Display for Line<'_> {
+    fn fmt<W: Write>(&self, f: &mut Formatter<W>) -> fmt::Result {
+        let Value::Object(members) = self.value else {
+            let (found, form) = (Described(self.value), r#"{"plan":[..]}"#);
+            return write!(
+                f,
+                "the line is {found}, but has to be an object with one member, as {form}"
+            );
+        };
+        let (1, Some((name, value))) = (members.len(), members.first_key_value()) else {
+            let count = members.len();
+            return write!(
+                f,
+                "the line is an object with {count} members, but a request has just one, as {{\"plan\":[..]}}"
+            );
+        };
+        match whole_of(name) {
+            Some(whole) => self.request_hint(f, whole, value),
+            None => no_request(f, self.alloc, name),
         }
-    };
-    fault_hint(alloc, Subject { whole, value, tree }, fault)
+    }
+}
+
+impl Line<'_> {
+    /// What is wrong with a request, of which there is this whole.
+    fn request_hint<W: Write>(
+        &self,
+        f: &mut Formatter<W>,
+        whole: Whole,
+        value: &Value,
+    ) -> fmt::Result {
+        let subject = Subject {
+            alloc: self.alloc,
+            whole,
+            value,
+            tree: self.tree,
+        };
+        let fault = self.fault;
+        write!(f, "{}", Refused { subject, fault })
+    }
+}
+
+/// What a request of this name has in it.
+fn whole_of(name: &str) -> Option<Whole> {
+    match name {
+        "plan" | "weights" | "reweigh" => Some(Whole::List),
+        "batch" => Some(Whole::Lists),
+        "check" => Some(Whole::Check),
+        _ => None,
+    }
+}
+
+/// That no request has this name.
+fn no_request<W: Write>(f: &mut Formatter<W>, alloc: Global, name: &str) -> fmt::Result {
+    let near = near_word(alloc, name, &REQUESTS)?;
+    let (name, five) = (Quoted(name), Listed(&REQUESTS));
+    write!(f, "{name} is no request{near}; the five are {five}")
 }
