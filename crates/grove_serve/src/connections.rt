@@ -4,6 +4,7 @@ use crate::busy::turn_away;
 use crate::event::Event;
 use crate::host::Host;
 use crate::minutes::log_minutes;
+use crate::remedy::Remedy;
 use crate::service::{Door, Service, Talk};
 use crate::slots::Slots;
 use crate::talking::{Caller, serve_caller};
@@ -16,13 +17,13 @@ use std::marker::Brand;
 use std::net::SocketAddr;
 use std::{io, thread};
 
-/// The system's numbers of the errors that there is no descriptor left for this process, and none for any.
-const NO_DESCRIPTOR_HERE: i32 = 24;
-
-const NO_DESCRIPTOR_AT_ALL: i32 = 23;
+/// After so many failures to accept a connection there is a pause, however soon they pass, so that those which last
+/// take next to no time of the processor.
+const FAILURES: u64 = 64;
 
 /// Serves connections, as many at once as there are slots, until none can be accepted any more and the others have
-/// ended. A connection that there is no descriptor for waits for one; one that no thread can be started for is closed.
+/// ended. A connection that there is no descriptor or no memory for waits for it; one that no thread can be started for
+/// is closed.
 pub fn serve<R: Host>(rt: &R, service: Service) {
     serve_as::<Brand, R>(rt, service);
 }
@@ -92,7 +93,7 @@ fn welcome<B: Opening + Send + Sync, R: Host>(rt: &R, desk: &Desk<B>, slots: &Sl
     thread::scope(thread::scope_env(), rt, |scope| {
         for _ in rt.forever() {
             match next_caller(rt, slots, door) {
-                Ok(Some(caller)) => {
+                Arrival::Caller(caller) => {
                     let (connection, place) = (caller.number, caller.place);
                     let spawned = scope.spawn(move || serve_caller(rt, desk, slots, caller));
                     if spawned.is_err() {
@@ -100,16 +101,27 @@ fn welcome<B: Opening + Send + Sync, R: Host>(rt: &R, desk: &Desk<B>, slots: &Sl
                         slots.pool(door.talk).leave(rt, place);
                     }
                 }
-                Ok(None) => {}
-                Err(_) => break,
+                Arrival::Nobody => {}
+                Arrival::Never => break,
             }
         }
     });
 }
 
-/// The next connection, in a place of the pool; nobody, if there was no place or no descriptor for it, which is waited
-/// for then. A connection that isn't told so isn't accepted until there is a place for it.
-fn next_caller<R: Host>(rt: &R, slots: &Slots, door: &Door) -> io::Result<Option<Caller>> {
+/// What comes of waiting for a connection.
+#[derive(Drop)]
+enum Arrival {
+    /// One that has a place.
+    Caller(Caller),
+    /// There was no place for it, or it couldn't be accepted.
+    Nobody,
+    /// None can be accepted any more.
+    Never,
+}
+
+/// The next connection, in a place of the pool. A connection that isn't told that there is none isn't accepted until
+/// there is a place for it.
+fn next_caller<R: Host>(rt: &R, slots: &Slots, door: &Door) -> Arrival {
     let pool = slots.pool(door.talk);
     let place = if slots.patience().tells_busy {
         None
@@ -121,30 +133,52 @@ fn next_caller<R: Host>(rt: &R, slots: &Slots, door: &Door) -> io::Result<Option
             let number = note_arrival(rt, slots, door.talk, address);
             let talk = door.talk;
             match place.or_else(|| pool.take_free(rt)) {
-                Some(place) => Ok(Some(Caller {
+                Some(place) => Arrival::Caller(Caller {
                     stream,
                     number,
                     talk,
                     place,
-                })),
+                }),
                 None => {
                     turn_away(rt, slots, &stream, talk, number);
-                    Ok(None)
+                    Arrival::Nobody
                 }
             }
         }
-        Err(error) if lacks_descriptor(&error) => {
-            if let Some(log) = slots.log() {
-                log.lack_descriptor(rt);
-            }
+        Err(error) => {
             if let Some(place) = place {
                 pool.leave(rt, place);
             }
-            pool.wait(rt);
-            Ok(None)
+            await_remedy(rt, slots, door.talk, number_of(&error))
         }
-        Err(error) => Err(error),
     }
+}
+
+/// Counts and logs that a connection that talks so couldn't be accepted, for an error of this number, and waits until
+/// another one may be.
+fn await_remedy<R: Host>(rt: &R, slots: &Slots, talk: Talk, error: Option<u64>) -> Arrival {
+    let failures = slots.metrics().traffic(talk).failed_accepts.count_next();
+    let remedy = Remedy::of_error(error);
+    if let Some(log) = slots.log() {
+        match remedy {
+            Remedy::Again => log.write_failure(rt, Event::NotAccepted { talk, error }),
+            Remedy::Await(lack) => log.lack(rt, lack),
+            Remedy::Stop => log.write(rt, Event::Stopped { talk, error }),
+        }
+    }
+    match remedy {
+        Remedy::Again if failures % FAILURES > 0 => Arrival::Nobody,
+        Remedy::Again | Remedy::Await(_) => {
+            slots.pool(talk).wait(rt);
+            Arrival::Nobody
+        }
+        Remedy::Stop => Arrival::Never,
+    }
+}
+
+/// The system's number of the error, if it is one of the system's.
+fn number_of(error: &io::Error) -> Option<u64> {
+    u64::try_from(error.raw_os_error()?).ok()
 }
 
 /// Counts and logs that a connection was accepted, and gives its number.
@@ -153,7 +187,7 @@ fn note_arrival<R: Host>(rt: &R, slots: &Slots, talk: Talk, address: SocketAddr)
     let Some(log) = slots.log() else {
         return 0;
     };
-    log.have_descriptor();
+    log.lack_nothing();
     let connection = log.next_number();
     let accepted = Event::Accepted {
         connection,
@@ -167,12 +201,4 @@ fn log_event<R: Host>(rt: &R, slots: &Slots, event: Event<'_>) {
     if let Some(log) = slots.log() {
         log.write(rt, event);
     }
-}
-
-/// Whether a descriptor is all that is lacking.
-fn lacks_descriptor(error: &io::Error) -> bool {
-    matches!(
-        error.raw_os_error(),
-        Some(NO_DESCRIPTOR_HERE | NO_DESCRIPTOR_AT_ALL)
-    )
 }

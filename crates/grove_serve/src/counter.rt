@@ -17,6 +17,11 @@ impl Counter {
         self.add(1);
     }
 
+    /// Counts one more, and gives the count with it.
+    pub fn count_next(&self) -> u64 {
+        self.count.fetch_add(1, Ordering::SeqCst).wrapping_add(1)
+    }
+
     pub fn add(&self, count: u64) {
         self.count.fetch_add(count, Ordering::SeqCst);
     }

@@ -1,5 +1,7 @@
 use crate::ending::Ending;
+use crate::remedy::Lack;
 use crate::seconds::Seconds;
+use crate::service::Talk;
 use std::net::SocketAddr;
 
 /// What a log says of a server.
@@ -33,8 +35,18 @@ pub enum Event<'a> {
     },
     /// No thread could be started that accepts at the port for HTTP.
     NoHttp,
-    /// No descriptor is left for the next connection.
-    NoDescriptor,
+    /// There is none of this for the next connection.
+    Lacks(Lack),
+    /// The next connection couldn't be accepted, for an error of this number; the one after it is waited for.
+    NotAccepted {
+        talk: Talk,
+        error: Option<u64>,
+    },
+    /// No connection can be accepted any more that talks so, for an error of this number.
+    Stopped {
+        talk: Talk,
+        error: Option<u64>,
+    },
     /// A minute is over.
     Minute(Minute),
     /// So many events of a second were too many.
@@ -82,7 +94,10 @@ impl Event<'_> {
             Event::TurnedAway { .. } => "turned-away",
             Event::NoThread { .. } => "no-thread",
             Event::NoHttp => "no-http",
-            Event::NoDescriptor => "no-descriptor",
+            Event::Lacks(Lack::Descriptor) => "no-descriptor",
+            Event::Lacks(Lack::Memory) => "no-memory",
+            Event::NotAccepted { .. } => "not-accepted",
+            Event::Stopped { .. } => "stopped",
             Event::Minute(_) => "minute",
             Event::LeftOut { .. } => "left-out",
         }
@@ -92,8 +107,10 @@ impl Event<'_> {
         match self {
             Event::Accepted { .. } | Event::Minute(_) => Level::Info,
             Event::Ended { ending, .. } => ending.level(),
-            Event::Refused { .. } | Event::TurnedAway { .. } | Event::LeftOut { .. } => Level::Warn,
-            Event::NoThread { .. } | Event::NoHttp | Event::NoDescriptor => Level::Error,
+            Event::Refused { .. } | Event::TurnedAway { .. } => Level::Warn,
+            Event::NotAccepted { .. } | Event::LeftOut { .. } => Level::Warn,
+            Event::NoThread { .. } | Event::NoHttp => Level::Error,
+            Event::Lacks(_) | Event::Stopped { .. } => Level::Error,
         }
     }
 }

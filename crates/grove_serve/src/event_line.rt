@@ -63,7 +63,14 @@ fn write_data<W: fmt::Write>(fields: &mut Fields<'_, W>, event: &Event<'_>) -> f
         Event::TurnedAway { connection } | Event::NoThread { connection } => {
             fields.number("connection", *connection)
         }
-        Event::NoHttp | Event::NoDescriptor => Ok(()),
+        Event::NoHttp | Event::Lacks(_) => Ok(()),
+        Event::NotAccepted { talk, error } | Event::Stopped { talk, error } => {
+            fields.text("protocol", talk.protocol())?;
+            match error {
+                Some(error) => fields.number("os_error", *error),
+                None => Ok(()),
+            }
+        }
         Event::Minute(minute) => write_minute(fields, minute),
         Event::LeftOut { events } => fields.number("events", *events),
     }

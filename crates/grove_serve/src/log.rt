@@ -1,5 +1,6 @@
 use crate::event::Event;
 use crate::event_line::EventLine;
+use crate::remedy::Lack;
 use crate::service::LogForm;
 use jiff::Timestamp;
 use std::sync::atomic::{AtomicBool, AtomicU64, Ordering};
@@ -16,7 +17,7 @@ pub struct Log {
     /// Whoever writes a line has it meanwhile.
     pen: Mutex<Pen>,
     connections: AtomicU64,
-    /// It was told that no descriptor is left, and no connection was accepted since.
+    /// It was told what is lacking for the next connection, and none was accepted since.
     is_wanting: AtomicBool,
     /// No more connections are accepted.
     is_closed: Mutex<bool>,
@@ -31,19 +32,28 @@ struct Pen {
     lines: u32,
     /// How many events were too many.
     left_out: u64,
+    /// It was told that a connection couldn't be accepted.
+    has_failure: bool,
+}
+
+impl Pen {
+    /// Nothing was written in this second.
+    fn new(second: i64) -> Pen {
+        Pen {
+            second,
+            lines: 0,
+            left_out: 0,
+            has_failure: false,
+        }
+    }
 }
 
 impl Log {
     /// A log whose lines have this form.
     pub fn new(form: LogForm) -> Log {
-        let pen = Pen {
-            second: 0,
-            lines: 0,
-            left_out: 0,
-        };
         Log {
             form,
-            pen: Mutex::new(pen),
+            pen: Mutex::new(Pen::new(0)),
             connections: AtomicU64::new(0),
             is_wanting: AtomicBool::new(false),
             is_closed: Mutex::new(false),
@@ -55,10 +65,16 @@ impl Log {
     pub fn write<R: Wait + Clock + Eprint>(&self, rt: &R, event: Event<'_>) {
         let mut pen = self.pen.lock(rt);
         let time = self.turn_to_now(rt, &mut pen);
-        if pen.lines < MOST_LINES {
-            self.write_line(rt, &mut pen, time, event);
-        } else {
-            pen.left_out = pen.left_out.saturating_add(1);
+        self.write_or_count(rt, &mut pen, time, event);
+    }
+
+    /// Writes that a connection couldn't be accepted, once in a second.
+    pub fn write_failure<R: Wait + Clock + Eprint>(&self, rt: &R, event: Event<'_>) {
+        let mut pen = self.pen.lock(rt);
+        let time = self.turn_to_now(rt, &mut pen);
+        if !pen.has_failure {
+            pen.has_failure = true;
+            self.write_or_count(rt, &mut pen, time, event);
         }
     }
 
@@ -74,16 +90,20 @@ impl Log {
         let second = time.as_second();
         if pen.second != second {
             let events = pen.left_out;
-            *pen = Pen {
-                second,
-                lines: 0,
-                left_out: 0,
-            };
+            *pen = Pen::new(second);
             if events > 0 {
                 self.write_line(rt, pen, time, Event::LeftOut { events });
             }
         }
         time
+    }
+
+    fn write_or_count<R: Eprint>(&self, rt: &R, pen: &mut Pen, time: Timestamp, event: Event<'_>) {
+        if pen.lines < MOST_LINES {
+            self.write_line(rt, pen, time, event);
+        } else {
+            pen.left_out = pen.left_out.saturating_add(1);
+        }
     }
 
     fn write_line<R: Eprint>(&self, rt: &R, pen: &mut Pen, time: Timestamp, event: Event<'_>) {
@@ -100,15 +120,15 @@ impl Log {
             .wrapping_add(1)
     }
 
-    /// Writes that no descriptor is left for the next connection, once until one is accepted.
-    pub fn lack_descriptor<R: Wait + Clock + Eprint>(&self, rt: &R) {
+    /// Writes what is lacking for the next connection, once until one is accepted.
+    pub fn lack<R: Wait + Clock + Eprint>(&self, rt: &R, lack: Lack) {
         if !self.is_wanting.swap(true, Ordering::SeqCst) {
-            self.write(rt, Event::NoDescriptor);
+            self.write(rt, Event::Lacks(lack));
         }
     }
 
-    /// A connection was accepted.
-    pub fn have_descriptor(&self) {
+    /// A connection was accepted, so nothing is lacking.
+    pub fn lack_nothing(&self) {
         self.is_wanting.store(false, Ordering::SeqCst);
     }
 

@@ -41,6 +41,8 @@ pub struct RefusalCount {
 #[derive(Drop)]
 pub struct Traffic {
     pub accepted: Counter,
+    /// How often the next connection couldn't be accepted.
+    pub failed_accepts: Counter,
     /// Connections that have or had a slot, and of these the ones that left it.
     pub begun: Counter,
     pub left: Counter,
@@ -119,6 +121,7 @@ impl Traffic {
     fn new() -> Traffic {
         Traffic {
             accepted: Counter::new(),
+            failed_accepts: Counter::new(),
             begun: Counter::new(),
             left: Counter::new(),
             turned_away: Counter::new(),

@@ -92,6 +92,12 @@ const ACCEPTED: Family = Family {
     help: "Connections that were accepted, by protocol.",
 };
 
+const FAILED_ACCEPTS: Family = Family {
+    name: "grove_failed_accepts_total",
+    kind: Kind::Counter,
+    help: "Tries to accept a connection that failed, by protocol.",
+};
+
 const TURNED_AWAY: Family = Family {
     name: "grove_turned_away_connections_total",
     kind: Kind::Counter,
@@ -197,11 +203,11 @@ fn write_slots(text: &mut Exposition, slots: &Slots) -> Result<(), NoMemory> {
     let (tcp, http) = (Talk::Lines, Talk::Requests);
     let metrics = slots.metrics();
     text.begin(IN_USE)?;
-    text.labelled(IN_USE, protocol("tcp"), metrics.traffic(tcp).in_use())?;
-    text.labelled(IN_USE, protocol("http"), metrics.traffic(http).in_use())?;
+    text.labelled(IN_USE, protocol(tcp), metrics.traffic(tcp).in_use())?;
+    text.labelled(IN_USE, protocol(http), metrics.traffic(http).in_use())?;
     text.begin(SLOTS)?;
-    text.labelled(SLOTS, protocol("tcp"), u64::from(slots.pool(tcp).slots()))?;
-    text.labelled(SLOTS, protocol("http"), u64::from(slots.pool(http).slots()))
+    text.labelled(SLOTS, protocol(tcp), u64::from(slots.pool(tcp).slots()))?;
+    text.labelled(SLOTS, protocol(http), u64::from(slots.pool(http).slots()))
 }
 
 /// What came and went at each port.
@@ -209,6 +215,12 @@ fn write_traffic(text: &mut Exposition, metrics: &Metrics) -> Result<(), NoMemor
     let tcp = metrics.traffic(Talk::Lines);
     let http = metrics.traffic(Talk::Requests);
     by_protocol(text, ACCEPTED, &tcp.accepted, &http.accepted)?;
+    by_protocol(
+        text,
+        FAILED_ACCEPTS,
+        &tcp.failed_accepts,
+        &http.failed_accepts,
+    )?;
     by_protocol(text, TURNED_AWAY, &tcp.turned_away, &http.turned_away)?;
     by_protocol(text, IDLED, &tcp.idled, &http.idled)?;
     by_protocol(text, RECEIVED, &tcp.bytes_received, &http.bytes_received)?;
@@ -223,8 +235,8 @@ fn by_protocol(
     http: &Counter,
 ) -> Result<(), NoMemory> {
     text.begin(family)?;
-    text.labelled(family, protocol("tcp"), tcp.get())?;
-    text.labelled(family, protocol("http"), http.get())
+    text.labelled(family, protocol(Talk::Lines), tcp.get())?;
+    text.labelled(family, protocol(Talk::Requests), http.get())
 }
 
 /// The waits and the weight of each node, by its path.
@@ -262,9 +274,9 @@ fn write_node(
     text.labelled(family, label, u64::from(value))
 }
 
-fn protocol(name: &'static str) -> Label<'static> {
+fn protocol(talk: Talk) -> Label<'static> {
     Label {
         name: "protocol",
-        value: name,
+        value: talk.protocol(),
     }
 }

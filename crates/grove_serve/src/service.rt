@@ -53,6 +53,16 @@ pub enum Talk {
     Requests,
 }
 
+impl Talk {
+    /// The name of the protocol, as the metrics and the log have it.
+    pub fn protocol(self) -> &'static str {
+        match self {
+            Talk::Lines => "tcp",
+            Talk::Requests => "http",
+        }
+    }
+}
+
 /// What is done with connections that idle, and with those that find no slot.
 #[derive(Clone, Copy)]
 pub struct Patience {

@@ -7,6 +7,7 @@ use crate::room::state_request;
 use crate::service::Talk;
 use crate::slots::Slots;
 use crate::timed_stream::{Awaited, TimedStream};
+use crate::timed_writer::TimedWriter;
 use crate::watching::{ServedDesk, session_at};
 use grove_desk::{Desk, Opening};
 use grove_page::{PAGE, Site, serve_page};
@@ -122,10 +123,10 @@ fn answer_in_time<'a, B: Opening, R: Host>(
     let reader = guest.reader(stream);
     let timed = TimedStream::new(rt, reader, Awaited::Line, longest, &is_late);
     let mut source = ReaderSource::new(timed);
-    let mut sink = WriterSink::new(guest.writer(stream));
+    let mut sink = WriterSink::new(TimedWriter::new(guest.writer(stream), &is_late));
     let hints = guest.slots().hints();
     match session_at(rt, desk, guest, hints, &mut source, &mut sink) {
-        Err(SessionFault::Read) if is_late.get() => Ending::Idle(seconds),
+        Err(SessionFault::Read | SessionFault::Write(_)) if is_late.get() => Ending::Idle(seconds),
         ended => Ending::of_session(ended),
     }
 }
