@@ -16,14 +16,10 @@ abbrev pub is_told : Rows → Part → ℕ → Bool
 is_told rows Whole node = true
 is_told rows (Below top) node = is_above rows top node
 
--- the nodes that are told of, in the tree's order
-abbrev pub nodes_told : Rows → Part → List ℕ
-nodes_told rows part = passing_below (length rows) (is_told rows part)
-
--- where each of them is, its record, its waits and its weight, and how many rounds were run
+-- in the tree's order, where each of them is, its record, its waits and its weight, and how many rounds were run
 abbrev pub line_of_nodes : Rows → List ℤ → List ℕ → ℕ → Part → List ℕ
 line_of_nodes rows records waits round part = compact_text (object
-    (member (codes "nodes") (array_of (node_data rows records waits) (nodes_told rows part))
+    (member (codes "nodes") (array_of (node_data rows records waits) (passing_below (length rows) (is_told rows part)))
     (member (codes "round") (count_data round) no_members))) ++ 10 ∷ []
 
 -- the part with a node and those below it, if there is such a node; or the whole

@@ -28,8 +28,7 @@ use Rattle.grove_page.specs.Queries.{NodesQuery, IsRead}
 use Rattle.grove_page.specs.NodeLines.{line_of_nodes, part_of}
 use Rattle.grove_page.specs.Routes.{asks_for_hints, route_of}
 
--- a page's text, the names that requests may have for its host, the store that its desk was opened with, and whether
--- each refusal has a hint
+-- a page's text, the names that its host may have in requests, its desk's opening store, whether refusals have hints
 pub record PageState : Type 0 where
   pub page : List ℕ
   pub hosts : List (List ℕ)
@@ -51,14 +50,6 @@ html =
 abbrev pub json : List Header
 json = (codes "content-type", codes "application/json; charset=utf-8") ∷ guards
 
--- its content is what is counted of a server
-abbrev pub metrics_fields : List Header
-metrics_fields = (codes "content-type", codes "text/plain; version=0.0.4; charset=utf-8") ∷ guards
-
--- the methods that there are, and lines of JSON
-abbrev pub json_for : List ℕ → List Header
-json_for methods = (codes "allow", methods) ∷ json
-
 -- the line that says why nothing else is said
 abbrev pub error_line : List ℕ → List ℕ
 error_line name = codes "{\"error\":\"" ++ (name ++ codes "\"}\n")
@@ -75,8 +66,7 @@ abbrev pub ends_refused : Result ℕ SessionFault → Told → Bool
 ends_refused (Ok count) told = (count == 1) && not (is_accepted told)
 ends_refused (Err fault) told = false
 
--- the replies to all lines; those before the line for which there was no memory, or whose answer wasn't its; or none,
--- where they have more bytes than go into a response
+-- the replies to all lines; those before one that found no memory or a foreign answer; or none if they are too long
 abbrev pub TellsSession : Result ℕ SessionFault → List ℕ → Response → Type 0
 TellsSession (Ok count) out r = IsResponse (if is_refused (Ok count) out then 400 else 200) json out r
 TellsSession (Err Memory) out r = IsResponse 503 json (out ++ error_line (codes "memory")) r
@@ -87,8 +77,7 @@ TellsSession (Err Turns) out r = IsResponse 500 json (out ++ error_line (codes "
 
 -- a session over the body, as far as it was read
 pub record Visits {S : Type 0} (shared : Bool) (lawful : Lawful S) (old : S) (body : List ℕ)
-    (result : Result ℕ SessionFault)
-    (out : List ℕ) (new : S) : Type 0 where
+    (result : Result ℕ SessionFault) (out : List ℕ) (new : S) : Type 0 where
   pub input : List ℕ
   pub left : List ℕ
   pub read : body ≡ input ++ left
@@ -114,16 +103,13 @@ abbrev pub TakesLines : Bool → CallerState → List ℕ → Response → Type 
 TakesLines true before body r = IsResponse 413 json (error_line (codes "lines")) r
 TakesLines false before body r = AnswersBody before body r
 
--- a body after which the connection ends
-abbrev pub is_long_body : List ℕ → Bool
-is_long_body body = nat_lt 65536 (length body)
-
 -- a reply, and that the connection ends after it
 pub record EndsWith (reply r : Response) : Type 0 where
   pub status : r.status ≡ reply.status
   pub fields : fields_of r ≡ fields_of reply ++ (codes "connection", codes "close") ∷ []
   pub body : r.body ≡ reply.body
 
+-- after a long body the connection ends
 abbrev pub TakesBody : Bool → CallerState → List ℕ → Response → Type 0
 TakesBody false before body r = TakesLines (has_many_lines body) before body r
 TakesBody true before body r =
@@ -131,44 +117,32 @@ TakesBody true before body r =
 
 -- ---- stores
 
--- a store as a document, which opens one of the same tree and records
-abbrev pub document_line : StoreState → List ℕ
-document_line store = document_text store.rows store.records ++ 10 ∷ []
+abbrev pub LacksMemory : Response → Type 0
+LacksMemory r = IsResponse 503 json (error_line (codes "memory")) r
 
--- where each node of a part is, its record, its waits and its weight
-abbrev pub nodes_line : StoreState → Part → List ℕ
-nodes_line store part = line_of_nodes store.rows store.records store.waits store.rounds part
-
--- the reply tells of a store to which lawful rounds lead from the opening one, or that there is no memory for it
-abbrev pub TellsStore : (StoreState → List ℕ) → StoreState → Response → Type 0
-TellsStore line_of opening r =
-    ((store : StoreState) × Led opening store × IsResponse 200 json (line_of store) r)
-    ⊎ IsResponse 503 json (error_line (codes "memory")) r
+-- the document of a store to which lawful rounds lead from the opening one; or that there is no memory for it
+abbrev pub TellsDocument : StoreState → Response → Type 0
+TellsDocument opening r = ((store : StoreState) × Led opening store
+    × IsResponse 200 json (document_text store.rows store.records ++ 10 ∷ []) r) ⊎ LacksMemory r
 
 -- what is counted of a server, of which no clause says more, or that there is no memory for it
 abbrev pub TellsMetrics : Response → Type 0
-TellsMetrics r =
-    ((text : List ℕ) × IsResponse 200 metrics_fields text r) ⊎ IsResponse 503 json (error_line (codes "memory")) r
+TellsMetrics r = ((text : List ℕ)
+    × IsResponse 200 ((codes "content-type", codes "text/plain; version=0.0.4; charset=utf-8") ∷ guards) text r)
+    ⊎ LacksMemory r
 
 -- ---- nodes
-
-abbrev pub LacksMemory : Response → Type 0
-LacksMemory r = IsResponse 503 json (error_line (codes "memory")) r
 
 -- the reply tells of the part of a store, or that there is no such node
 abbrev pub TellsPart : StoreState → Option Part → Response → Type 0
 TellsPart store None r = IsResponse 400 json (error_line (codes "no-path")) r
-TellsPart store (Some part) r = IsResponse 200 json (nodes_line store part) r
+TellsPart store (Some part) r =
+    IsResponse 200 json (line_of_nodes store.rows store.records store.waits store.rounds part) r
 
--- of a store to which lawful rounds lead from the opening one
-abbrev pub TellsBelow : Option (List ℕ) → StoreState → Response → Type 0
-TellsBelow path opening r =
-    (store : StoreState) × Led opening store × TellsPart store (part_of store.rows path) r
-
--- what the query asks is told, or that it asks nothing, or that there is no memory for it
+-- of such a store what the query asks; or that it asks nothing, or that there is no memory for it
 abbrev pub AnswersQuery : List ℕ → StoreState → Response → Type 0
-AnswersQuery query opening r =
-    ((asked : NodesQuery) × IsRead query asked × TellsBelow asked.below opening r)
+AnswersQuery query opening r = ((asked : NodesQuery) × IsRead query asked
+    × ((store : StoreState) × Led opening store × TellsPart store (part_of store.rows asked.below) r))
     ⊎ ((((asked : NodesQuery) → IsRead query asked → ⊥) × IsResponse 400 json (error_line (codes "query")) r)
     ⊎ LacksMemory r)
 
@@ -177,26 +151,22 @@ AnswersQuery query opening r =
 abbrev pub IsReplyTo : PageState → Option (List ℕ) → List ℕ → Route → Response → Type 0
 IsReplyTo state query body Page r = IsResponse 200 html state.page r
 IsReplyTo state query body Lines r =
-    TakesBody (is_long_body body) (caller (state.hints || asks_for_hints query) state.opening) body r
-IsReplyTo state query body Document r = TellsStore document_line state.opening r
+    TakesBody (nat_lt 65536 (length body)) (caller (state.hints || asks_for_hints query) state.opening) body r
+IsReplyTo state query body Document r = TellsDocument state.opening r
 IsReplyTo state query body Nodes r = AnswersQuery (unwrap_or query []) state.opening r
 IsReplyTo state query body Health r = IsResponse 200 json (codes "{\"status\":\"ok\"}\n") r
 IsReplyTo state query body Metrics r = TellsMetrics r
-IsReplyTo state query body OnlyLook r = IsResponse 405 (json_for (codes "GET, HEAD")) (error_line (codes "method")) r
+IsReplyTo state query body OnlyLook r =
+    IsResponse 405 ((codes "allow", codes "GET, HEAD") ∷ json) (error_line (codes "method")) r
 IsReplyTo state query body LookOrSend r =
-    IsResponse 405 (json_for (codes "GET, HEAD, POST")) (error_line (codes "method")) r
+    IsResponse 405 ((codes "allow", codes "GET, HEAD, POST") ∷ json) (error_line (codes "method")) r
 IsReplyTo state query body ForeignPage r = IsResponse 403 json (error_line (codes "origin")) r
 IsReplyTo state query body Nowhere r = IsResponse 404 json (error_line (codes "not-found")) r
 
--- the reply to a request for this server
-abbrev pub IsHereReply : PageState → Request (List ℕ) → Response → Type 0
-IsHereReply state request r =
-    let head = head_of request in
-    IsReplyTo state (uri_query head.uri) (body_of request) (route_of head.method (uri_path head.uri) head.headers) r
-
 -- what is replied to a request: nothing but a refusal, where it names another host
 pub record IsPageReply (state : PageState) (request : Request (List ℕ)) (r : Response) : Type 0 where
-  pub here : IsForHere state.hosts (head_of request) → IsHereReply state request r
+  pub here : IsForHere state.hosts (head_of request) → let head = head_of request in
+      IsReplyTo state (uri_query head.uri) (body_of request) (route_of head.method (uri_path head.uri) head.headers) r
   pub elsewhere : (IsForHere state.hosts (head_of request) → ⊥) → IsResponse 421 json (error_line (codes "host")) r
 
 -- a connection that was served as HTTP asks, with such a reply to each request

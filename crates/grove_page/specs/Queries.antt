@@ -9,13 +9,10 @@ pub record NodesQuery : Type 0 where
   pub after : Option ℕ
   pub below : Option (List ℕ)
 
--- what a name or a value stands for, as in forms
-abbrev pub text_in : List ℕ → List ℕ
-text_in encoded = utf8_lossy (decode encoded)
-
--- the values beside this name
+-- the values beside this name, each decoded as in forms
 abbrev pub values_beside : List ℕ → List (List ℕ × List ℕ) → List (List ℕ)
-values_beside name pairs = map (λ pair. text_in pair.1) (filter (λ pair. bytes_eq (text_in pair.0) name) pairs)
+values_beside name pairs = map (λ pair. utf8_lossy (decode pair.1))
+    (filter (λ pair. bytes_eq (utf8_lossy (decode pair.0)) name) pairs)
 
 -- a whole number below 2 ^ 64 in decimal digits
 pub record IsRound (text : List ℕ) (round : ℕ) : Type 0 where

@@ -22,18 +22,15 @@ is_of_host [] hosts = true
 is_of_host (origin ∷ []) (host ∷ []) = bytes_eq origin (codes "http://" ++ host)
 is_of_host _ _ = false
 
--- no page sends the request, or one of the server that it is sent to
-abbrev pub is_from_here : Entries FieldValue → Bool
-is_from_here fields = is_of_host (values_of fields (codes "origin")) (values_of fields (codes "host"))
-
 -- `HEAD` asks for what `GET` does
 abbrev pub look_of : List ℕ → Route → Route
 look_of method seen = if bytes_eq method (codes "GET") || bytes_eq method (codes "HEAD") then seen else OnlyLook
 
--- lines can be sent there, too
+-- lines can be sent there, too, but by no page of another host
 abbrev pub look_or_send_of : List ℕ → Entries FieldValue → Route
 look_or_send_of method fields =
-    if bytes_eq method (codes "POST") then (if is_from_here fields then Lines else ForeignPage)
+    if bytes_eq method (codes "POST") then (if is_of_host (values_of fields (codes "origin"))
+    (values_of fields (codes "host")) then Lines else ForeignPage)
     else if bytes_eq method (codes "GET") || bytes_eq method (codes "HEAD") then Page
     else LookOrSend
 

@@ -1,6 +1,6 @@
-ghost use Rattle.std.specs.Prelude.{◌≡◌, IfOk};
-ghost use Rattle.grove_page.specs.NodeLines.{IsWithin};
-ghost use Rattle.grove_page.specs.Pages.{document_line, nodes_line};
+ghost use Rattle.std.specs.Prelude.{◌≡◌, ◌++◌, ◌∷◌, [], IfOk};
+ghost use Rattle.grove_wire.specs.Documents.{document_text};
+ghost use Rattle.grove_page.specs.NodeLines.{IsWithin, line_of_nodes};
 
 use crate::Paths;
 use crate::nodes::{Part, line_of_nodes};
@@ -11,7 +11,7 @@ use std::alloc::Global;
 
 /// The store as a document, on a line.
 pub(crate) fn document_line(alloc: Global, store: &Store) -> Result<Vec<u8>, NoMemory>
-    ensures { IfOk result (λ line. line.items ≡ document_line store.now) }
+    ensures { IfOk result (λ line. line.items ≡ document_text store.now.rows store.now.records ++ 10 ∷ []) }
 {
     let mut line = document_text(alloc, store.tree(), store.records())?.into_bytes();
     line.push(b'\n')?;
@@ -26,7 +26,8 @@ pub(crate) fn nodes_line(
     part: &Part,
 ) -> Result<Vec<u8>, NoMemory>
     requires { IsWithin store.now.rows part.now }
-    ensures { IfOk result (λ line. line.items ≡ nodes_line store.now part.now) }
+    ensures { IfOk result (λ line. line.items
+        ≡ line_of_nodes store.now.rows store.now.records store.now.waits store.now.rounds part.now) }
 {
     line_of_nodes(
         alloc,

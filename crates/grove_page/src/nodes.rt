@@ -1,9 +1,10 @@
 ghost use Rattle.std.specs.Prelude.{◌≡◌, ◌<◌, ◌++◌, false, IfOk, IfSome, OnOk, length};
 ghost use Rattle.std.specs.Option.{ForSome};
 ghost use Rattle.serde_json.specs.Written.{compact_text, comma_if};
+ghost use Rattle.grove_base.specs.Numbers.{passing_below};
 ghost use Rattle.grove_tree.specs.Weights.{unweighed};
 ghost use Rattle.grove_wire.specs.Documents.{node_data};
-ghost use Rattle.grove_page.specs.NodeLines.{line_of_nodes, is_told, IsWithin, nodes_told, part_of};
+ghost use Rattle.grove_page.specs.NodeLines.{line_of_nodes, is_told, IsWithin, part_of};
 ghost use Rattle.grove_page.specs.NodeTexts.{entries_text, entry_start, entry_end};
 
 use crate::paths::{Paths, start_of};
@@ -94,7 +95,8 @@ fn write_nodes(
     requires paths { ForSome paths (λ paths. unweighed paths.now ≡ unweighed tree.now) }
     requires part { IsWithin tree.now part.now }
     ensures { OnOk result (line.new.items
-        ≡ line.old.items ++ entries_text tree.now records.now waits.now false (nodes_told tree.now part.now)) }
+        ≡ line.old.items ++ entries_text tree.now records.now waits.now false
+        (passing_below (length tree.now) (is_told tree.now part.now))) }
 {
     let mut later = false;
     for number in 0..tree.len() {

@@ -1,11 +1,11 @@
 ghost use Rattle.std.specs.Prelude.{◌≡◌, ◌++◌, codes, bytes_eq};
-ghost use Rattle.grove_page.specs.Routes.{is_from_here};
+ghost use Rattle.grove_page.specs.Routes.{is_of_host, values_of};
 
 use http::{HeaderMap, HeaderValue, header};
 
 /// Does no page send these fields, or a page of the host that they name?
 pub(crate) fn is_from_here(fields: &HeaderMap<HeaderValue>) -> bool
-    ensures { result ≡ is_from_here fields.now }
+    ensures { result ≡ is_of_host (values_of fields.now (codes "origin")) (values_of fields.now (codes "host")) }
 {
     let mut origins = fields.get_all(header::ORIGIN).iter();
     let Some(origin) = origins.next() else {

@@ -109,6 +109,8 @@ svg .stroke { stroke: var(--ink); stroke-width: 3; }
 svg .work { fill: var(--work); }
 svg .word { fill: var(--word); font-weight: 600; font-size: 12px; text-anchor: middle; }
 details { margin: .5rem 0; }
+dialog { max-width: 44rem; color: inherit; background: var(--paper); border: 1px solid var(--ink); border-radius: 4px; }
+dialog::backdrop { background: rgb(0 0 0 / .5); }
 summary { cursor: pointer; }
 @media (max-width: 62rem) { .tall { max-height: 60vh; } }
 @media (max-width: 30rem) {
@@ -155,7 +157,7 @@ summary { cursor: pointer; }
   </div>
   <div class="row asks">
     <label>Heat by <select id="by"><option>weight</option><option>waits</option></select></label>
-    <button id="reweigh" type="button">Reweigh</button>
+    <button id="reweigh" type="button" title="new weights, made of the old ones and the waits">Reweigh</button>
     <span id="reweighed" role="status"></span>
     <button id="only" type="button" aria-pressed="false" hidden>Only those</button>
   </div>
@@ -195,6 +197,16 @@ summary { cursor: pointer; }
   <div id="answers" aria-live="polite"></div>
 </section>
 </main>
+<dialog id="lowering" aria-labelledby="lowering-title">
+  <h2 id="lowering-title">Lower the weights?</h2>
+  <p id="lowers"></p>
+  <p>A reweighing halves what each weight is above 1, and then adds the node's waits. Waits come of long rounds only,
+    those of 65,536 steps or more. It can't be undone.</p>
+  <div class="row">
+    <button id="lower" type="button">Lower them</button>
+    <button id="keep" type="button" autofocus>Keep them</button>
+  </div>
+</dialog>
 <script>
 "use strict";
 const byId = (id) => document.getElementById(id);
@@ -439,9 +451,31 @@ function forgetReweighing(words) {
   setOnly(false);
 }
 
+/** The nodes whose weights a reweighing would lower, if there are no waits, so that it would do nothing else. */
+function loweredAlone() {
+  return tree.some(({ node }) => node.waits > 0) ? [] : tree.filter(({ node }) => node.weight > 1);
+}
+
+/** Asks whether these weights are to be lowered. */
+function isToLower(entries) {
+  const dialog = byId("lowering");
+  const greatest = Math.max(...entries.map(({ node }) => node.weight));
+  const after = 1 + Math.floor((greatest - 1) / 2);
+  const falling = `${counted(entries.length, "weight")} of ${tree.length}`;
+  byId("lowers").textContent = `No node has waits. So ${falling} would fall, `
+    + `the greatest from ${greatest} to ${after}, and none would rise.`;
+  dialog.returnValue = "";
+  dialog.showModal();
+  return new Promise((resolve) => {
+    dialog.addEventListener("close", () => resolve(dialog.returnValue === "lower"), { once: true });
+  });
+}
+
 async function reweigh() {
   try {
     await look();
+    const lowered = loweredAlone();
+    if (lowered.length && !await isToLower(lowered)) return;
     const [reply] = await repliesTo(['{"reweigh":null}']);
     if (reply.error) throw new Refused(faultText(reply));
     forgetReweighing("no weight changed");
@@ -962,6 +996,9 @@ async function checked(line) {
 
 byId("follow").addEventListener("click", toggleFollowing);
 byId("reweigh").addEventListener("click", reweigh);
+for (const answer of ["lower", "keep"]) {
+  byId(answer).addEventListener("click", () => byId("lowering").close(answer));
+}
 byId("only").addEventListener("click", () => {
   setOnly(!view.isOnlyChanged);
   showFromTop();

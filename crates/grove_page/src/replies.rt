@@ -1,7 +1,7 @@
-ghost use Rattle.std.specs.Prelude.{◌≡◌, ◌++◌, OnOk, codes, IsTrue};
+ghost use Rattle.std.specs.Prelude.{◌≡◌, ◌++◌, ◌∷◌, OnOk, codes, IsTrue};
 ghost use Rattle.http_header.specs.FieldValue.{is_visible_text};
 ghost use Rattle.http_server.specs.Response.{IsBlank, IsResponse, fields_of};
-ghost use Rattle.grove_page.specs.Pages.{guards, html, json, json_for, metrics_fields, error_line};
+ghost use Rattle.grove_page.specs.Pages.{guards, html, json, error_line};
 
 use bytes::{BufMut, Bytes};
 use http::{HeaderValue, StatusCode, header};
@@ -62,7 +62,8 @@ pub(crate) fn fill_whole(response: &mut Response, line: Vec<u8>) -> Result<(), A
 /// What is counted of a server.
 pub(crate) fn fill_metrics(response: &mut Response, text: &str) -> Result<(), AllocError>
     requires { IsBlank response.old }
-    ensures { OnOk result (IsResponse 200 metrics_fields text.now response.new) }
+    ensures { OnOk result (IsResponse 200
+        ((codes "content-type", codes "text/plain; version=0.0.4; charset=utf-8") ∷ guards) text.now response.new) }
 {
     let kind = HeaderValue::from_static("text/plain; version=0.0.4; charset=utf-8");
     response.add_header(header::CONTENT_TYPE, kind)?;
@@ -74,7 +75,8 @@ pub(crate) fn fill_metrics(response: &mut Response, text: &str) -> Result<(), Al
 pub(crate) fn fill_allowed(response: &mut Response, methods: &'static str) -> Result<(), AllocError>
     requires blank { IsBlank response.old }
     requires visible { IsTrue (is_visible_text methods.now) }
-    ensures { OnOk result (IsResponse 405 (json_for methods.now) (error_line (codes "method")) response.new) }
+    ensures { OnOk result (IsResponse 405 ((codes "allow", methods.now) ∷ json) (error_line (codes "method"))
+        response.new) }
 {
     response.status = StatusCode::METHOD_NOT_ALLOWED;
     response.add_header(header::ALLOW, HeaderValue::from_static(methods))?;

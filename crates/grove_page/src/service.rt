@@ -1,8 +1,11 @@
-ghost use Rattle.std.specs.Prelude.{◌≡◌, ◌==◌, ◌++◌, ◌⊎◌, ℕ, count_by, OnOk, OnErr, IfOk, codes};
+ghost use Rattle.std.specs.Prelude.{◌≡◌, ◌==◌, ◌++◌, ◌⊎◌, ℕ, nat_lt, length, count_by, OnOk, OnErr, IfOk, codes};
+ghost use Rattle.http.specs.Request.{head_of, body_of};
+ghost use Rattle.http_uri.specs.Uri.{uri_path, uri_query};
 ghost use Rattle.http_server.specs.Response.{IsBlank, IsResponse};
-ghost use Rattle.grove_page.specs.Pages.{json, error_line, document_line, has_many_lines, is_long_body};
-ghost use Rattle.grove_page.specs.Pages.{IsHereReply, AnswersBody, TakesLines, TakesBody, TellsStore, TellsSession};
-ghost use Rattle.grove_page.specs.Pages.{is_refused, AnswersQuery, TellsBelow, TellsPart, LacksMemory, TellsMetrics};
+ghost use Rattle.grove_page.specs.Pages.{json, error_line, has_many_lines, is_refused};
+ghost use Rattle.grove_page.specs.Pages.{IsReplyTo, AnswersBody, TakesLines, TakesBody, TellsDocument, TellsSession};
+ghost use Rattle.grove_page.specs.Pages.{AnswersQuery, TellsPart, LacksMemory, TellsMetrics};
+ghost use Rattle.grove_page.specs.Routes.{route_of};
 ghost use Rattle.grove_page.specs.NodeLines.{part_of};
 ghost use Rattle.grove_store.specs.StoreStates.{StoreState};
 ghost use Rattle.grove_desk.specs.Desks.{TellsLater};
@@ -107,7 +110,8 @@ impl<'a, R: AllocGlobal, F: Front<R>> PageService<'a, R, F> {
     /// What is asked for by a request for this server.
     fn answer(&self, request: &Request<Bytes>, response: &mut Response) -> Result<(), AllocError>
         requires { IsBlank response.old }
-        ensures { OnOk result (IsHereReply self.now request.now response.new) }
+        ensures { OnOk result (let head = head_of request.now in IsReplyTo self.now (uri_query head.uri)
+            (body_of request.now) (route_of head.method (uri_path head.uri) head.headers) response.new) }
     {
         let path = request.uri().path();
         match route_for(request.method().as_str(), path, request.headers()) {
@@ -135,7 +139,7 @@ impl<'a, R: AllocGlobal, F: Front<R>> PageService<'a, R, F> {
         response: &mut Response,
     ) -> Result<(), AllocError>
         requires { IsBlank response.old }
-        ensures { OnOk result (TakesBody (is_long_body lines.now) (caller hints self.now.opening) lines.now
+        ensures { OnOk result (TakesBody (nat_lt 65536 (length lines.now)) (caller hints self.now.opening) lines.now
             response.new) }
     {
         self.take_lines(lines, hints, response)?;
@@ -185,7 +189,7 @@ impl<'a, R: AllocGlobal, F: Front<R>> PageService<'a, R, F> {
     /// The store as a document.
     fn tell_document(&self, response: &mut Response) -> Result<(), AllocError>
         requires { IsBlank response.old }
-        ensures { OnOk result (TellsStore document_line self.now.opening response.new) }
+        ensures { OnOk result (TellsDocument self.now.opening response.new) }
     {
         match self.front.snapshot(self.rt) {
             Ok(store) => fill_line(response, document_line(self.rt.alloc(), &store)),
@@ -210,7 +214,8 @@ impl<'a, R: AllocGlobal, F: Front<R>> PageService<'a, R, F> {
     /// What is asked of the nodes.
     fn tell_asked(&self, asked: &NodesQuery, response: &mut Response) -> Result<(), AllocError>
         requires { IsBlank response.old }
-        ensures { OnOk result (TellsBelow asked.now.below self.now.opening response.new ⊎ LacksMemory response.new) }
+        ensures { OnOk result (((store : StoreState) × Led self.now.opening store
+            × TellsPart store (part_of store.rows asked.now.below) response.new) ⊎ LacksMemory response.new) }
     {
         match self.store_for(asked) {
             Ok(store) => self.tell_part(&store, asked, response),

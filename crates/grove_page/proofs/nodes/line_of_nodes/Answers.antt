@@ -1,12 +1,13 @@
-use Rattle.std.proofs.Common.{codes, decimal, false, sym, ◌∙◌}
-use Rattle.grove_page.specs.NodeLines.{nodes_told}
+use Rattle.std.proofs.Common.{codes, decimal, false, length, sym, ◌∙◌}
+use Rattle.grove_base.specs.Numbers.{passing_below}
+use Rattle.grove_page.specs.NodeLines.{is_told}
 use Rattle.grove_page.specs.NodeTexts.{entries_text}
 use Rattle.grove_page.proofs.NodeTexts.{all_written, whole_text}
 use Rattle.grove_page.proofs.nodes.line_of_nodes.Goals as goal
 
 pub returns : goal.returns
 returns c =
-    let nodes = nodes_told c.args.tree.now c.args.part.now in
+    let nodes = passing_below (length c.args.tree.now) (is_told c.args.tree.now c.args.part.now) in
     let told = entries_text c.args.tree.now c.args.records.now c.args.waits.now false nodes in
     all_written c.in_ok-line.line.items c.extend_from_slice.new.self.items c.write_nodes.new.line.items
     c.extend_from_slice-2.new.self.items
