@@ -14,10 +14,7 @@ use Rattle.grove_wire.specs.declared.place.Part.TheVariants.{Whole}
 use Rattle.grove_wire.specs.Outcomes.{◌>>=◌, or_fault, Gives}
 use Rattle.grove_wire.specs.Places.{whole_of}
 use Rattle.grove_wire.specs.Reading.{value_of, object_at, version_in, document_within, document_of, history_of}
-use Rattle.grove_words.specs.declared.order.Command.{Command}
-use Rattle.grove_words.specs.declared.order.Command.TheVariants.{Judge, Check, Plan, Draw, Run, Audit, Tree, Table}
-use Rattle.grove_words.specs.declared.order.Command.TheVariants.{Serve, Page}
-use Rattle.grove.specs.Outcomes.{document_for, text_of_table}
+use Rattle.grove.specs.Outcomes.{text_of_table}
 
 -- a document that tells a version that there is
 abbrev versioned : Data → Result Data WireFault
@@ -63,24 +60,11 @@ level_text bytes d is =
     (past_limit (nat_lt 4194304 (length bytes)) d _ is) in
     subst (λ (x : Data). depth x ≤ 127) (sym same) (omega arith)
 
--- so for each command
-pub shallow_for : (command : Command) (bytes : List ℕ) (d : Data) → document_for command bytes ≡ Ok d → depth d ≤ 127
-unfolding document_of history_of
-shallow_for Judge bytes d is = level_within 4194304 bytes d is
-shallow_for Check bytes d is = level_within 4194304 bytes d is
-shallow_for (Plan in_document) bytes d is = level_within 4194304 bytes d is
-shallow_for (Draw form) bytes d is = level_within 4194304 bytes d is
-shallow_for (Run workers) bytes d is = level_within 4194304 bytes d is
-shallow_for Audit bytes d is = level_within 67108864 bytes d is
-shallow_for (Tree adds_parents) bytes d is = level_text bytes d is
-shallow_for Table bytes d is = level_within 4194304 bytes d is
-shallow_for (Serve serving) bytes d is = level_within 4194304 bytes d is
-shallow_for (Page serving) bytes d is = level_within 4194304 bytes d is
-
 -- what a reader gives of them
 pub shallow_document : {T : Type 0} (seen : T → Data) (bytes : List ℕ) (result : Result T WireFault) → Gives seen result (document_of bytes)
     → IfOk result (λ (x : T). depth (seen x) ≤ 127)
-shallow_document seen bytes (Ok x) gives = shallow_for Judge bytes (seen x) gives
+unfolding document_of
+shallow_document seen bytes (Ok x) gives = level_within 4194304 bytes (seen x) gives
 shallow_document seen bytes (Err fault) gives = tt
 
 pub shallow_text : {T : Type 0} (seen : T → Data) (bytes : List ℕ) (result : Result T WireFault)
@@ -91,5 +75,6 @@ shallow_text seen bytes (Err fault) gives = tt
 
 pub shallow_history : {T : Type 0} (seen : T → Data) (bytes : List ℕ) (result : Result T WireFault) → Gives seen result (history_of bytes)
     → IfOk result (λ (x : T). depth (seen x) ≤ 127)
-shallow_history seen bytes (Ok x) gives = shallow_for Audit bytes (seen x) gives
+unfolding history_of
+shallow_history seen bytes (Ok x) gives = level_within 67108864 bytes (seen x) gives
 shallow_history seen bytes (Err fault) gives = tt

@@ -1,9 +1,4 @@
-pub mod NoOrders
-pub mod AnsweredOrders
-pub mod Orders
-pub mod Invitations
 pub mod Printing
 pub mod Saying
 pub mod Texts
 pub mod Levels
-pub mod Hinted

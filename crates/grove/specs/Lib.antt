@@ -1,6 +1,4 @@
 pub mod Answers
-pub mod Askings
-pub mod Endings
+pub mod Lines
 pub mod Outcomes
 pub mod Runs
-pub mod Saving

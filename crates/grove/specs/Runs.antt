@@ -1,89 +1,64 @@
--- What the program does by its words.
-use Rattle.std.specs.Prelude.{◌≡◌, ◌≢◌, ◌≤◌, ◌⊎◌, ℕ, Bool, true, false, List, Option, None, IfSome}
-use Rattle.std.specs.Io.KnownBytes.{Keeps}
-use Rattle.grove_words.specs.CommandLines.{calls, serves, Verb, Ask, AreWrong, AskFor, AskToExplain, AskToServe}
-use Rattle.grove_words.specs.CommandLines.{AskToShow, NameDevice}
-use Rattle.grove.specs.Endings.{MayHint, MayHintEach, SaysListening, SaysRefusal, SaysSomething, SaysWhy}
-use Rattle.grove.specs.Outcomes.{IsOutcomeFor, Prints}
+-- What the program does, as far as it is known what standard input had, and what the outputs have.
+use Rattle.std.specs.Prelude.{◌≡◌, ◌≢◌, ◌≤◌, ◌⊎◌, ℕ, Bool, true, false, List, [], take, Option, None, Some}
+use Rattle.std.specs.Io.KnownBytes.{Appends, Keeps}
+use Rattle.grove_words.specs.declared.order.Command.{Command}
+use Rattle.grove_words.specs.declared.order.Command.TheVariants.{Serve, Page}
+use Rattle.grove_words.specs.declared.order.Document.{Document}
+use Rattle.grove_words.specs.declared.order.Document.TheVariants.{StandardInput, Named}
+use Rattle.grove_words.specs.declared.order.Order.{Order}
+use Rattle.grove_words.specs.declared.order.Order.TheVariants.{Do, Ask, Save}
+use Rattle.grove_answer.specs.Outcomes.{Outcome}
+use Rattle.grove.specs.Lines.{refusal_line}
+use Rattle.grove.specs.Outcomes.{outcome_status, outcome_text, IsOutcome}
 
--- what is left of standard input, and what is on standard output and standard error, as far as it is known; and which
--- have failed
-pub record Streams : Type 0 where
-  pub input : Option (List ℕ)
-  pub input_failed : Bool
-  pub output : Option (List ℕ)
-  pub output_failed : Bool
-  pub errors : Option (List ℕ)
-  pub errors_failed : Bool
+-- the status of a command that is done; one that serves goes on until something stops it
+abbrev pub done_status : Command → ℕ
+done_status (Serve serving) = 3
+done_status (Page serving) = 3
+done_status _ = 0
 
-abbrev pub streams : Option (List ℕ) → Bool → Option (List ℕ) → Bool → Option (List ℕ) → Bool → Streams
-streams input input_failed output output_failed errors errors_failed = record {
-  input = input;
-  input_failed = input_failed;
-  output = output;
-  output_failed = output_failed;
-  errors = errors;
-  errors_failed = errors_failed;
-}
+-- what a command may say of standard input, if its bytes are known, and else of some bytes
+abbrev pub MaySayOf : Command → Document → Option (List ℕ) → Outcome → Type 0
+MaySayOf command StandardInput (Some bytes) outcome = IsOutcome command bytes outcome
+MaySayOf command StandardInput None outcome = (bytes : List ℕ) × IsOutcome command bytes outcome
+MaySayOf command (Named name) known outcome = (bytes : List ℕ) × IsOutcome command bytes outcome
 
--- the words ask to ask a server
-abbrev pub AskToAsk : List (List ℕ) → Type 0
-AskToAsk words = (name : Option (List ℕ)) × AskFor words Ask name
+-- standard output got the text of what may be said, whose status is this one if what is done has the status `done`
+abbrev pub IsPrinted : (Outcome → Type 0) → ℕ → Option (List ℕ) → Option (List ℕ) → ℕ → Type 0
+IsPrinted MaySay done old new status = (outcome : Outcome) × MaySay outcome × (status ≡ outcome_status done outcome)
+    × Appends old new (outcome_text outcome)
 
--- what is answered to an order
-pub record Answers (words : List (List ℕ)) (before after : Streams) (status : ℕ) : Type 0 where
-  -- a document is answered: standard input, if it is known; and some bytes, in any case
-  pub answered : (verb : Verb) → AskFor words verb None → calls verb ≡ false
-      → IfSome before.input (λ document. Prints (IsOutcomeFor words verb document) status before.output after.output)
-  pub read : (verb : Verb) (name : Option (List ℕ)) → AskFor words verb name → calls verb ≡ false
-      → (bytes : List ℕ) × Prints (IsOutcomeFor words verb bytes) status before.output after.output
-  -- serving ends only by a refusal, or by what stops it
-  pub served : (verb : Verb) (name : Option (List ℕ)) → AskFor words verb name → serves verb ≡ true → (status ≡ 1)
-      ⊎ (status ≡ 3)
-  pub refused : status ≡ 1 → SaysRefusal before.output after.output ⊎ AskToAsk words
-  pub taken : (verb : Verb) (name : Option (List ℕ)) → AskFor words verb name → status ≢ 2
+-- or it got nothing; or it failed, and got only the first bytes of such a text
+abbrev pub IsCutOff : (Outcome → Type 0) → Option (List ℕ) → Option (List ℕ) → Bool → Type 0
+IsCutOff MaySay old new fails = Keeps old new
+    ⊎ ((fails ≡ true) × (outcome : Outcome) × MaySay outcome × (count : ℕ)
+    × Appends old new (take count (outcome_text outcome)))
 
--- what words are told that are no order
-pub record Tells (words : List (List ℕ)) (before after : Streams) (status : ℕ) : Type 0 where
-  pub wrong : AreWrong words → (status ≡ 2) ⊎ (status ≡ 3)
-  pub shown : AskToShow words → ((status ≡ 0) × SaysSomething before.output after.output) ⊎ (status ≡ 3)
-  pub complained : status ≡ 2 → SaysSomething before.errors after.errors
-  pub quiet_output : status ≡ 2 → Keeps before.output after.output
-  pub sound_errors : status ≡ 2 → after.errors_failed ≡ before.errors_failed
+-- standard output got the line of some refusal
+abbrev pub SaysRefusal : Option (List ℕ) → Option (List ℕ) → Type 0
+SaysRefusal old new = (fault : List ℕ) × Appends old new (refusal_line fault)
 
--- why the program stops
-pub record Stops (words : List (List ℕ)) (before after : Streams) (ended : ℕ) : Type 0 where
-  pub status : ended ≤ 3
-  pub blamed : ended ≡ 3 → after.errors_failed ≡ false
-      → SaysWhy (AskToExplain words true)
-      ((after.input_failed ≡ true) ⊎ ((after.output_failed ≡ true) ⊎ NameDevice words))
-      ((after.input_failed ≡ before.input_failed)
-      × (after.output_failed ≡ before.output_failed)) before.errors after.errors
-  pub unprinted : ended ≡ 3 → after.output_failed ≡ false
-      → Keeps before.output after.output
-      ⊎ (SaysListening (AskToServe words) before.output after.output ⊎ AskToAsk words)
+-- an order was done, or given up: standard input, standard output before and after, whether that failed, the status
+abbrev pub IsDone : Order → Option (List ℕ) → Option (List ℕ) → Option (List ℕ) → Bool → ℕ → Type 0
+IsDone (Do command document) input old new fails status =
+    IsPrinted (MaySayOf command document input) (done_status command) old new status
+    ⊎ ((status ≡ 3) × IsCutOff (MaySayOf command document input) old new fails)
+IsDone (Ask server lines) input old new fails status = (status ≤ 1) ⊎ (status ≡ 3)
+IsDone (Save server file) input old new fails status =
+    (((status ≡ 0) × Keeps old new) ⊎ ((status ≡ 1) × SaysRefusal old new))
+    ⊎ ((status ≡ 3) × (fails ≡ false → Keeps old new))
 
--- what it spares where it doesn't stop
-pub record Spares (words : List (List ℕ)) (before after : Streams) (status : ℕ) : Type 0 where
-  pub hinted : status ≤ 1 → MayHint before.errors_failed after.errors_failed before.errors after.errors
-      ⊎ (AskToAsk words × MayHintEach before.errors_failed after.errors_failed before.errors after.errors)
-  pub quiet_errors : AskToShow words → status ≤ 1 → Keeps before.errors after.errors
-  pub sound_input : status ≤ 2 → after.input_failed ≡ before.input_failed
-  pub sound_output : status ≤ 2 → after.output_failed ≡ before.output_failed
+-- the document of an order is in a file
+abbrev pub HasFile : Order → Type 0
+HasFile (Do command (Named name)) = Unit {0}
+HasFile _ = ⊥
 
--- what the words do to the streams, and the status that they end with
-pub record Does (words : List (List ℕ)) (before after : Streams) (status : ℕ) : Type 0 where
-  pub answers : Answers words before after status
-  pub tells : Tells words before after status
-  pub stops : Stops words before after status
-  pub spares : Spares words before after status
+-- an output got some text
+abbrev pub SaysSomething : Option (List ℕ) → Option (List ℕ) → Type 0
+SaysSomething old new = (text : List ℕ) × (text ≢ []) × Appends old new text
 
--- whoever types a document may be told before which one is awaited
-pub record Invites (is_typed : Bool) (before after : Streams) : Type 0 where
-  pub others : after ≡ record before { errors = after.errors; errors_failed = after.errors_failed }
-  pub hint : MayHint before.errors_failed after.errors_failed before.errors after.errors
-  pub quiet : is_typed ≡ false → after ≡ before
-
-abbrev pub DoesAt : Bool → List (List ℕ) → Streams → Streams → ℕ → Type 0
-DoesAt is_typed words before after status =
-    (invited : Streams) × Invites is_typed before invited × Does words invited after status
+-- words that are no order were told something: help on standard output, or on standard error what is wrong with them
+abbrev pub IsTold : Option (List ℕ) → Option (List ℕ) → Bool → Option (List ℕ) → Option (List ℕ) → ℕ → Type 0
+IsTold old new fails old_errors new_errors status = ((status ≡ 0) × SaysSomething old new)
+    ⊎ (((status ≡ 2) × Keeps old new × SaysSomething old_errors new_errors)
+    ⊎ ((status ≡ 3) × (fails ≡ false → Keeps old new)))

@@ -41,11 +41,6 @@ pub enum Stop {
 }
 
 impl From<ReadFault> for Stop {
-    ghost use Rattle.grove.specs.Answers.{stop_of};
-    ghost use Rattle.std.specs.Prelude.{◌≡◌};
-
-    ghost from_gives = { λ fault stop. stop ≡ stop_of fault };
-
     fn from(fault: ReadFault) -> Stop {
         match fault {
             ReadFault::Device => Stop::Device(None),
@@ -55,22 +50,12 @@ impl From<ReadFault> for Stop {
 }
 
 impl From<AllocError> for Stop {
-    ghost use Rattle.std.specs.Prelude.{◌≡◌};
-    ghost use Rattle.grove.specs.declared.answer.Stop.TheVariants.{Memory};
-
-    ghost from_gives = { λ _ stop. stop ≡ Memory };
-
     fn from(_error: AllocError) -> Stop {
         Stop::Memory
     }
 }
 
 impl<T: Drop> From<AllocFailed<T>> for Stop {
-    ghost use Rattle.std.specs.Prelude.{◌≡◌};
-    ghost use Rattle.grove.specs.declared.answer.Stop.TheVariants.{Memory};
-
-    ghost from_gives = { λ _ stop. stop ≡ Memory };
-
     fn from(_error: AllocFailed<T>) -> Stop {
         Stop::Memory
     }

@@ -1,14 +1,12 @@
-ghost use Rattle.std.specs.Prelude.{◌≡◌, ◌≤◌, true, false, ⊤, Result, Ok, IfOk, IfErr, IfSome};
+ghost use Rattle.std.specs.Prelude.{◌≡◌, ◌≤◌, Result, Ok, IfOk, IfSome};
 ghost use Rattle.serde_json.specs.Data.{Data, depth};
 ghost use Rattle.serde_json.specs.View.{view};
 ghost use Rattle.grove_wire.specs.declared.fault.WireFault.{WireFault};
-ghost use Rattle.grove_words.specs.CommandLines.{has_place, serves};
-ghost use Rattle.grove_words.specs.Orders.{verb_for};
 ghost use Rattle.grove_answer.specs.Outcomes.{ThenSays};
 ghost use Rattle.grove_answer.specs.Says.{refusal_outcome, Says};
 ghost use Rattle.grove.specs.Answers.{IsAnswerTo};
-ghost use Rattle.grove.specs.Endings.{Blames};
 ghost use Rattle.grove.specs.Outcomes.{document_for, MaySay};
+ghost use Rattle.grove.specs.Runs.{done_status};
 
 use crate::answer::{Answer, Cause, Response, Stop};
 use crate::document::read_for;
@@ -34,9 +32,8 @@ pub fn response_to<R: Host + Files<File = File> + Net<Listener = TcpListener, St
     command: &Command<'_>,
     bytes: &[u8],
 ) -> Result<Response, Stop>
-    ensures said { IfOk result (λ response. IsAnswerTo command.now (document_for command.now bytes.now)
+    ensures { IfOk result (λ response. IsAnswerTo command.now (document_for command.now bytes.now)
         response.answer) }
-    ensures blamed { IfErr result (Blames (has_place (verb_for command.now) ≡ true) ⊤) }
 {
     let alloc = rt.alloc();
     match read_for(alloc, command, bytes) {
@@ -60,8 +57,7 @@ fn answer_to<R: Host + Files<File = File> + Net<Listener = TcpListener, Stream =
     document: &Value,
 ) -> Result<Answer, Stop>
     requires { depth (view document.now) ≤ 127 }
-    ensures said { IfOk result (IsAnswerTo command.now (Ok (view document.now))) }
-    ensures blamed { IfErr result (Blames (has_place (verb_for command.now) ≡ true) ⊤) }
+    ensures { IfOk result (IsAnswerTo command.now (Ok (view document.now))) }
 {
     let alloc = rt.alloc();
     match command {
@@ -82,10 +78,9 @@ fn answer_to<R: Host + Files<File = File> + Net<Listener = TcpListener, Stream =
 
 /// The answer that a command's result makes: its lines, or the line that says what is refused.
 fn done(alloc: Global, lines: Result<String, Refusal>) -> Result<Answer, Stop>
-    ensures said { (command : Command) (document : Data) → serves (verb_for command) ≡ false
+    ensures { (command : Command) (document : Data) → done_status command ≡ 0
         → Says (MaySay command document) lines
         → IfOk result (IsAnswerTo command (Ok document)) }
-    ensures memory { IfErr result (λ stop. stop ≡ Stop.Memory) }
 {
     match lines {
         Ok(lines) => Ok(Answer::Done(lines)),
@@ -95,13 +90,13 @@ fn done(alloc: Global, lines: Result<String, Refusal>) -> Result<Answer, Stop>
 
 /// The answer that a refusal makes.
 pub fn refused(alloc: Global, refusal: Refusal) -> Result<Answer, Stop>
-    ensures said { (command : Command) (found : Result Data WireFault)
+    ensures { (command : Command) (found : Result Data WireFault)
         → IfSome (refusal_outcome refusal) (ThenSays found (MaySay command))
         → IfOk result (IsAnswerTo command found) }
-    ensures memory { IfErr result (λ stop. stop ≡ Stop.Memory) }
 {
     match refusal {
         Refusal::Fault { fault, text } => {
+            let text = text.as_str();
             let line = format!(in alloc; "refused {text}\n")?;
             Ok(Answer::Refused {
                 line,
@@ -125,10 +120,7 @@ fn plan_for(alloc: Global, document: &Value, in_document: bool) -> Result<String
 }
 
 /// The form of a drawing that the words ask for.
-fn form_of(form: WrittenForm) -> Form
-    ensures svg { form ≡ WrittenForm.Svg → result ≡ Form.Svg }
-    ensures text { form ≡ WrittenForm.Text → result ≡ Form.Text }
-{
+fn form_of(form: WrittenForm) -> Form {
     match form {
         WrittenForm::Svg => Form::Svg,
         WrittenForm::Text => Form::Text,

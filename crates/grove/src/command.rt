@@ -1,10 +1,6 @@
-ghost use Rattle.std.specs.Prelude.{◌≡◌, ◌≢◌, ℕ, List, Option, None, false, map, string_bytes, IfOk, IfErr};
-ghost use Rattle.grove_words.specs.CommandLines.{calls, Verb, AskFor};
+ghost use Rattle.std.specs.Prelude.{◌≡◌, ◌≢◌, ◌≤◌, ◌⊎◌, IfOk, OnErr};
 ghost use Rattle.grove_words.specs.NoOrders.{HasText};
-ghost use Rattle.grove_words.specs.Invocations.{name_in};
-ghost use Rattle.grove.specs.Answers.{HasFile, IsCommandDone, IsGivenUp, IsObeyed, IsStopped, IsToldNoOrder};
-ghost use Rattle.grove.specs.Endings.{MayHint};
-ghost use Rattle.grove.specs.Runs.{streams, Does, DoesAt};
+ghost use Rattle.grove.specs.Runs.{HasFile, IsDone, IsTold};
 
 use crate::answer::{Response, Stop};
 use crate::answering::response_to;
@@ -18,86 +14,72 @@ use crate::output::{add, print, report, say_stop, tell};
 use crate::saving::save;
 use grove_serve::Host;
 use grove_session::{Sink, Source};
-use grove_words::{Command, Document, NoOrder, Order, order_of};
+use grove_words::{Command, Document, Invocation, NoOrder, Order, order_of};
 use std::alloc::Global;
 use std::fs::File;
 use std::net::{Net, TcpListener, TcpStream};
 use std::rt::Files;
 
 /// Does what the words after the program's name ask for, and gives the status of the process: 0 done, 1 refused,
-/// 2 wrong words, found before anything is read, 3 no answer or one that couldn't be printed. A document without
-/// a name is read from `input`. Beside a refusal of the document a hint may go to `err`, and beside an answer to one
-/// that has a member which nothing uses and which resembles one that is used.
-#[tactic(auto, using(crate::proofs::Invitations::uninvited_does))]
+/// 2 wrong words, found before anything is read, 3 no answer or one that couldn't be printed. Where a document is to be
+/// read from an input that `is_typed`, `err` says first which one is awaited.
 pub fn run_command<
     R: Host + Files<File = File> + Net<Listener = TcpListener, Stream = TcpStream>,
     I: Source + Explained,
     O: Sink + Explained,
     E: Sink,
->(rt: &R, words: &[String], input: &mut I, out: &mut O, err: &mut E) -> u8
-    ensures done { Does (map string_bytes words.now)
-        (streams (I.remaining input.old) (I.has_failed input.old) (O.contents out.old) (O.has_failed out.old)
-        (E.contents err.old) (E.has_failed err.old))
-        (streams (I.remaining input.new) (I.has_failed input.new) (O.contents out.new) (O.has_failed out.new)
-        (E.contents err.new) (E.has_failed err.new)) result }
-    ensures unread { result ≡ 2 → input.new ≡ input.old }
-    ensures apart { (verb : Verb) (name : Option (List ℕ)) → AskFor (map string_bytes words.now) verb name
-        → calls verb ≡ false
-        → name ≢ None → input.new ≡ input.old }
-{
-    run_at(rt, words, false, input, out, err)
-}
-
-/// The same. Where the input `is_typed`, `err` says first which document is awaited.
-pub fn run_at<
-    R: Host + Files<File = File> + Net<Listener = TcpListener, Stream = TcpStream>,
-    I: Source + Explained,
-    O: Sink + Explained,
-    E: Sink,
 >(rt: &R, words: &[String], is_typed: bool, input: &mut I, out: &mut O, err: &mut E) -> u8
-    ensures done { DoesAt is_typed (map string_bytes words.now)
-        (streams (I.remaining input.old) (I.has_failed input.old) (O.contents out.old) (O.has_failed out.old)
-        (E.contents err.old) (E.has_failed err.old))
-        (streams (I.remaining input.new) (I.has_failed input.new) (O.contents out.new) (O.has_failed out.new)
-        (E.contents err.new) (E.has_failed err.new)) result }
+    ensures done { ((order : Order)
+        × IsDone order (I.remaining input.old) (O.contents out.old) (O.contents out.new) (O.has_failed out.new) result)
+        ⊎ IsTold (O.contents out.old) (O.contents out.new) (O.has_failed out.new)
+        (E.contents err.old) (E.contents err.new) result }
     ensures unread { result ≡ 2 → input.new ≡ input.old }
-    ensures apart { (verb : Verb) (name : Option (List ℕ)) → AskFor (map string_bytes words.now) verb name
-        → calls verb ≡ false
-        → name ≢ None → input.new ≡ input.old }
 {
     match order_of(rt.alloc(), words) {
         Ok(invocation) => {
-            invite(rt.alloc(), &invocation.order, is_typed, err);
-            match obey(rt, &invocation.order, input, out, err) {
-                Ok(status) => status,
-                Err(why) => {
-                    let streams = StreamErrors {
-                        input: input.error(),
-                        output: out.error(),
-                    };
-                    say_stop(rt.alloc(), why, &invocation, streams, err)
-                }
+            if is_typed {
+                invite(rt.alloc(), &invocation.order, err);
             }
+            carry_out(rt, &invocation, input, out, err)
         }
         Err(why) => say_no_order(why, out, err),
     }
 }
 
 /// Says on standard error which document is to be typed, where one is.
-#[tactic(auto, using(crate::proofs::Printing::no_hint))]
-fn invite<E: Sink>(alloc: Global, order: &Order<'_>, is_typed: bool, err: &mut E)
-    ensures hint { MayHint (E.has_failed err.old) (E.has_failed err.new) (E.contents err.old) (E.contents err.new) }
-    ensures quiet { is_typed ≡ false → err.new ≡ err.old }
-{
-    if !is_typed {
-        return;
-    }
+fn invite<E: Sink>(alloc: Global, order: &Order<'_>, err: &mut E) {
     if let Order::Do {
         command,
         document: Document::StandardInput,
     } = order
     {
         add(alloc, awaited_by(alloc, command), err);
+    }
+}
+
+/// Does what is ordered, and gives the status of the process. A document without a name is read from `input`. Beside a
+/// refusal of the document a hint may go to `err`, and beside an answer to one that has a member which nothing uses and
+/// which resembles one that is used.
+pub fn carry_out<
+    R: Host + Files<File = File> + Net<Listener = TcpListener, Stream = TcpStream>,
+    I: Source + Explained,
+    O: Sink + Explained,
+    E: Sink,
+>(rt: &R, invocation: &Invocation<'_>, input: &mut I, out: &mut O, err: &mut E) -> u8
+    ensures done { IsDone invocation.now.order (I.remaining input.old)
+        (O.contents out.old) (O.contents out.new) (O.has_failed out.new) result }
+    ensures taken { result ≢ 2 }
+    ensures apart { HasFile invocation.now.order → input.new ≡ input.old }
+{
+    match obey(rt, &invocation.order, input, out, err) {
+        Ok(status) => status,
+        Err(why) => {
+            let streams = StreamErrors {
+                input: input.error(),
+                output: out.error(),
+            };
+            say_stop(rt.alloc(), why, invocation, streams, err)
+        }
     }
 }
 
@@ -108,16 +90,11 @@ fn obey<
     O: Sink,
     E: Sink,
 >(rt: &R, order: &Order<'_>, input: &mut I, out: &mut O, err: &mut E) -> Result<u8, Stop>
-    ensures obeyed { IfOk result (IsObeyed order.now
-        (streams (I.remaining input.old) (I.has_failed input.old) (O.contents out.old) (O.has_failed out.old)
-        (E.contents err.old) (E.has_failed err.old))
-        (streams (I.remaining input.new) (I.has_failed input.new) (O.contents out.new) (O.has_failed out.new)
-        (E.contents err.new) (E.has_failed err.new))) }
-    ensures given_up { IfErr result (IsGivenUp order.now
-        (streams (I.remaining input.old) (I.has_failed input.old) (O.contents out.old) (O.has_failed out.old)
-        (E.contents err.old) (E.has_failed err.old))
-        (streams (I.remaining input.new) (I.has_failed input.new) (O.contents out.new) (O.has_failed out.new)
-        (E.contents err.new) (E.has_failed err.new))) }
+    ensures done { IfOk result (IsDone order.now (I.remaining input.old)
+        (O.contents out.old) (O.contents out.new) (O.has_failed out.new)) }
+    ensures stopped { OnErr result (IsDone order.now (I.remaining input.old)
+        (O.contents out.old) (O.contents out.new) (O.has_failed out.new) 3) }
+    ensures few { IfOk result (λ status. status ≤ 1) }
     ensures apart { HasFile order.now → input.new ≡ input.old }
 {
     let _held = Placeholders::for_order(rt, order);
@@ -142,17 +119,12 @@ fn do_command<
     out: &mut O,
     err: &mut E,
 ) -> Result<u8, Stop>
-    ensures done { IfOk result (IsCommandDone command.now (name_in document.entry)
-        (streams (I.remaining input.old) (I.has_failed input.old) (O.contents out.old) (O.has_failed out.old)
-        (E.contents err.old) (E.has_failed err.old))
-        (streams (I.remaining input.new) (I.has_failed input.new) (O.contents out.new) (O.has_failed out.new)
-        (E.contents err.new) (E.has_failed err.new))) }
-    ensures stopped { IfErr result (IsStopped command.now (name_in document.entry)
-        (streams (I.remaining input.old) (I.has_failed input.old) (O.contents out.old) (O.has_failed out.old)
-        (E.contents err.old) (E.has_failed err.old))
-        (streams (I.remaining input.new) (I.has_failed input.new) (O.contents out.new) (O.has_failed out.new)
-        (E.contents err.new) (E.has_failed err.new))) }
-    ensures apart { name_in document.entry ≢ None → input.new ≡ input.old }
+    ensures done { IfOk result (IsDone (Order.Do command.now document.entry) (I.remaining input.old)
+        (O.contents out.old) (O.contents out.new) (O.has_failed out.new)) }
+    ensures stopped { OnErr result (IsDone (Order.Do command.now document.entry) (I.remaining input.old)
+        (O.contents out.old) (O.contents out.new) (O.has_failed out.new) 3) }
+    ensures few { IfOk result (λ status. status ≤ 1) }
+    ensures apart { HasFile (Order.Do command.now document.entry) → input.new ≡ input.old }
 {
     let bytes = document_bytes(rt, command, document, input)?;
     let Response { answer, hint } = response_to(rt, command, &bytes)?;
@@ -164,10 +136,8 @@ fn do_command<
 /// Tells what there is to tell to words that are no order, and gives the status of the process.
 pub fn say_no_order<O: Sink, E: Sink>(why: NoOrder, out: &mut O, err: &mut E) -> u8
     requires { HasText why }
-    ensures { IsToldNoOrder why
-        (streams None false (O.contents out.old) (O.has_failed out.old) (E.contents err.old) (E.has_failed err.old))
-        (streams None false (O.contents out.new) (O.has_failed out.new) (E.contents err.new)
-        (E.has_failed err.new)) result }
+    ensures { IsTold (O.contents out.old) (O.contents out.new) (O.has_failed out.new)
+        (E.contents err.old) (E.contents err.new) result }
 {
     match why {
         NoOrder::Shown(lines) => match tell(&lines, out) {

@@ -1,11 +1,11 @@
-ghost use Rattle.std.specs.Prelude.{◌≡◌, ◌≢◌, ◌≤◌, ◌⊎◌, true, None, IfOk, IfErr, OnOk};
+ghost use Rattle.std.specs.Prelude.{◌≡◌, ◌≤◌, IfOk};
 ghost use Rattle.serde_json.specs.Data.{depth};
 ghost use Rattle.serde_json.specs.View.{view};
 ghost use Rattle.grove_wire.specs.Outcomes.{Gives};
-ghost use Rattle.grove_words.specs.Invocations.{name_in};
+ghost use Rattle.grove_words.specs.declared.order.Order.TheVariants.{Do};
 ghost use Rattle.grove.specs.Answers.{most_bytes, IsAsGoodAs};
-ghost use Rattle.grove.specs.Endings.{Blames};
 ghost use Rattle.grove.specs.Outcomes.{document_for, text_of_table, utf8_text};
+ghost use Rattle.grove.specs.Runs.{HasFile};
 
 use crate::answer::Stop;
 use crate::explained::Explained;
@@ -37,12 +37,8 @@ pub fn document_bytes<R: Host + Files, I: Source>(
     input: &mut I,
 ) -> Result<Vec<u8>, Stop>
     ensures read { IfOk result
-        (λ bytes. IsAsGoodAs command.now (name_in document.entry) (I.remaining input.old) bytes.items) }
-    ensures sound { OnOk result (I.has_failed input.new ≡ I.has_failed input.old) }
-    ensures blamed { IfErr result
-        (Blames ((I.has_failed input.new ≡ true) ⊎ (name_in document.entry ≢ None))
-        (I.has_failed input.new ≡ I.has_failed input.old)) }
-    ensures apart { name_in document.entry ≢ None → input.new ≡ input.old }
+        (λ bytes. IsAsGoodAs command.now document.entry (I.remaining input.old) bytes.items) }
+    ensures apart { HasFile (Do command.now document.entry) → input.new ≡ input.old }
 {
     let most = most_bytes(command);
     match document {

@@ -1,6 +1,3 @@
-ghost use Rattle.std.specs.Prelude.{◌≡◌, ◌≢◌, true, None, IfOk, IfSome, string_bytes};
-ghost use Rattle.grove.specs.Endings.{IsReasonLine};
-
 use crate::answer::Stop;
 use crate::server::Loss;
 use grove_base::{NoMemory, said};
@@ -63,10 +60,7 @@ pub fn reason_for(
     why: Stop,
     invocation: &Invocation<'_>,
     streams: StreamErrors,
-) -> Option<String>
-    ensures line { IfSome result (λ line. IsReasonLine (string_bytes line)) }
-    ensures asked { result ≢ None → invocation.now.explain ≡ true }
-{
+) -> Option<String> {
     if !invocation.explain {
         return None;
     }
@@ -78,9 +72,7 @@ pub fn reason_for(
     reason_line(alloc, &invocation.order, failure).ok()
 }
 
-fn reason_line(alloc: Global, order: &Order<'_>, failure: Failure) -> Result<String, NoMemory>
-    ensures { IfOk result (λ line. IsReasonLine (string_bytes line)) }
-{
+fn reason_line(alloc: Global, order: &Order<'_>, failure: Failure) -> Result<String, NoMemory> {
     let reason = said(alloc, &reason(alloc, order, failure)?)?;
     Ok(format!(in alloc; "{reason}\n")?)
 }

@@ -1,9 +1,6 @@
-ghost use Rattle.grove.specs.Endings.{AreHintLines};
-
 use grove_base::{Hint, NoMemory};
 use serde_json::Value;
 use std::alloc::{AllocError, Global};
-use std::marker::Model;
 
 /// So many hints are kept at most, so that they take little memory.
 const MOST_HINTS: u32 = 100;
@@ -15,20 +12,8 @@ pub struct HintLines {
     count: u32,
 }
 
-impl Model for HintLines {
-    ghost use Rattle.std.specs.Prelude.{ℕ, List, string_bytes};
-    ghost use Rattle.grove.specs.Endings.{AreHintLines};
-
-    ghost Value = { List ℕ };
-
-    ghost view = { λ lines. string_bytes lines.text };
-
-    ghost invariant = { λ lines. AreHintLines (string_bytes lines.text) };
-}
-
 impl HintLines {
     /// No lines.
-    #[tactic(auto, using(crate::proofs::Hinted::no_lines))]
     pub fn new(alloc: Global) -> HintLines {
         HintLines {
             text: String::new(alloc),
@@ -50,9 +35,7 @@ impl HintLines {
     }
 
     /// The lines.
-    pub fn as_str(&self) -> &str
-        ensures { AreHintLines result.now }
-    {
+    pub fn as_str(&self) -> &str {
         &self.text
     }
 }

@@ -2,7 +2,7 @@
 #![tactic(auto)]
 
 use answer::Stop;
-use command::{run_at, run_command, say_no_order};
+use command::{run_command, say_no_order};
 use file_sink::FileSink;
 use file_source::FileSource;
 use grove_session::WriterSink;
@@ -46,8 +46,7 @@ fn main(rt: HostRuntime) -> ExitCode {
     let mut err = WriterSink::new(rt.stderr());
     let status = match env::args(&rt) {
         Ok(words) => match words.skip(1).collect::<Vec<String>>(rt.alloc()) {
-            Ok(words) if is_typed => run_at(&rt, &words, true, &mut input, &mut out, &mut err),
-            Ok(words) => run_command(&rt, &words, &mut input, &mut out, &mut err),
+            Ok(words) => run_command(&rt, &words, is_typed, &mut input, &mut out, &mut err),
             Err(_) => report(Stop::Memory, &mut err),
         },
         Err(error) if error.kind() == ErrorKind::OutOfMemory => report(Stop::Memory, &mut err),

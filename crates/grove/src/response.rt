@@ -1,6 +1,3 @@
-ghost use Rattle.std.specs.Prelude.{◌≡◌, Ok, IfOk, IsOkAnd, OnOk, is_ok, true};
-ghost use Rattle.grove.specs.Saving.{IsWholeDocument};
-
 use grove_answer::Refusal;
 use grove_wire::{WireFault, read_document, read_tree};
 use std::alloc::{AllocError, Global};
@@ -26,9 +23,7 @@ impl From<AllocError> for NoDocument {
 }
 
 /// The document that is the body of a response.
-pub fn document_in<'a>(alloc: Global, response: &'a [u8]) -> Result<&'a [u8], NoDocument>
-    ensures { IfOk result (λ body. IsWholeDocument body.now) }
-{
+pub fn document_in<'a>(alloc: Global, response: &'a [u8]) -> Result<&'a [u8], NoDocument> {
     let Some((head, body)) = parts_of(response) else {
         return Err(refused(alloc, "not-http"));
     };
@@ -48,9 +43,7 @@ pub fn document_in<'a>(alloc: Global, response: &'a [u8]) -> Result<&'a [u8], No
 }
 
 /// Sees that the bytes are a document with a tree.
-fn see_document(alloc: Global, body: &[u8]) -> Result<(), NoDocument>
-    ensures { OnOk result (IsWholeDocument body.now) }
-{
+fn see_document(alloc: Global, body: &[u8]) -> Result<(), NoDocument> {
     let document = match read_document(alloc, body) {
         Ok(document) => document,
         Err(fault) => return Err(no_document(alloc, fault)),
@@ -63,7 +56,7 @@ fn see_document(alloc: Global, body: &[u8]) -> Result<(), NoDocument>
 
 fn no_document(alloc: Global, fault: WireFault) -> NoDocument {
     match Refusal::of_wire(alloc, &fault) {
-        Refusal::Fault { text, .. } => NoDocument::Refused(text),
+        Refusal::Fault { text, .. } => NoDocument::Refused(text.into_string()),
         Refusal::Memory => NoDocument::Memory,
     }
 }

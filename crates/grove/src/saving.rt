@@ -1,6 +1,6 @@
-ghost use Rattle.std.specs.Prelude.{◌≡◌, ◌≢◌, ◌⊎◌, ⊤, false, IfOk, IfErr, OnOk};
+ghost use Rattle.std.specs.Prelude.{◌≡◌, ◌≤◌, ◌⊎◌, false, IfOk, OnErr};
 ghost use Rattle.std.specs.Io.KnownBytes.{Keeps};
-ghost use Rattle.grove.specs.Endings.{Blames, SaysRefusal};
+ghost use Rattle.grove.specs.Runs.{SaysRefusal};
 
 use crate::answer::Stop;
 use crate::explained::Explained;
@@ -35,10 +35,8 @@ pub fn save<R: Host + Files + Net<Listener = TcpListener, Stream = TcpStream>, O
     ensures saved { IfOk result
         (λ status. ((status ≡ 0) × Keeps (O.contents out.old) (O.contents out.new))
         ⊎ ((status ≡ 1) × SaysRefusal (O.contents out.old) (O.contents out.new))) }
-    ensures sound { OnOk result (O.has_failed out.new ≡ O.has_failed out.old) }
-    ensures unprinted { IfErr result (λ _. O.has_failed out.new ≡ false
-        → Keeps (O.contents out.old) (O.contents out.new)) }
-    ensures blamed { IfErr result (Blames ⊤ (O.has_failed out.new ≡ O.has_failed out.old)) }
+    ensures unprinted { OnErr result (O.has_failed out.new ≡ false → Keeps (O.contents out.old) (O.contents out.new)) }
+    ensures few { IfOk result (λ status. status ≤ 1) }
 {
     let alloc = rt.alloc();
     let response = fetched(rt, alloc, server)?;

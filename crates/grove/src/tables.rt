@@ -1,4 +1,4 @@
-ghost use Rattle.std.specs.Prelude.{◌≡◌, Ok, Err, IfOk, IfErr, string_bytes};
+ghost use Rattle.std.specs.Prelude.{◌≡◌, Ok, Err, IfOk, string_bytes};
 ghost use Rattle.serde_json.specs.View.{view};
 ghost use Rattle.grove_words.specs.declared.order.Command.TheVariants.{Tree, Table};
 ghost use Rattle.grove_answer.specs.Says.{Says};
@@ -14,8 +14,7 @@ use std::alloc::Global;
 
 /// The answer to the text of a table: a document of its tree, or why there is none.
 pub fn answer_to_table(alloc: Global, text: &Value, adds_parents: bool) -> Result<Answer, Stop>
-    ensures said { IfOk result (IsAnswerTo (Tree adds_parents) (Ok (view text.now))) }
-    ensures memory { IfErr result (λ stop. stop ≡ Stop.Memory) }
+    ensures { IfOk result (IsAnswerTo (Tree adds_parents) (Ok (view text.now))) }
 {
     let made = match text.as_str() {
         Some(text) => document_of(alloc, text, absent_for(adds_parents)),

@@ -24,8 +24,7 @@ no_memory fault other is = let never : true ≡ false = subst (λ f. wants_memor
 own_faultless : (task : Task) (own : Option (List Step)) (picture : Option Picture) → PicturesOwn task own picture
     → option_and_then (plan_fault_of task.tree (nodes_of task.list)) own ≡ None
 own_faultless task None picture pictures = refl
-own_faultless task (Some steps) None pictures = absurd pictures
-own_faultless task (Some steps) (Some picture) pictures = legal_faultless task.tree (nodes_of task.list) steps pictures.0
+own_faultless task (Some steps) picture pictures = legal_faultless task.tree (nodes_of task.list) steps pictures.0
 
 -- whatever text is made of a drawing may be said
 pub says_drawn : (found : Result (Task × Option (List Step)) WireFault) (drawing : Drawing) (text : List ℕ) → IsOkAnd found (λ sketch. IsDrawingOf sketch.0 sketch.1 drawing)

@@ -3,9 +3,9 @@ pub mod Batches
 pub mod Differences
 pub mod Drawings
 pub mod Faults
+pub mod FirstLines
 pub mod Fitting
 pub mod Records
 pub mod SameReplies
 pub mod Saying
-pub mod OneLine
 pub mod PlannedDocuments

@@ -1,5 +1,5 @@
 -- For the proofs alone: what is said of each fault for which a document is refused.
-use Rattle.std.specs.Prelude.{◌≡◌, ℕ, Bool, true, false, string_bytes, codes, decimal, List, ◌++◌}
+use Rattle.std.specs.Prelude.{◌≡◌, Bool, true, false}
 use Rattle.grove_tree.specs.Trees.{Rows}
 use Rattle.grove_plan.specs.declared.fault.PlanFault.TheVariants as plan
 use Rattle.grove_proof.specs.declared.fault.ProofFault.TheVariants as proof
@@ -8,24 +8,10 @@ use Rattle.grove_core.specs.declared.run_fault.RunFault.TheVariants as run
 use Rattle.grove_wire.specs.declared.fault.WireFault.TheVariants as wire
 use Rattle.grove_wire.specs.declared.faults.Fault.{Fault}
 use Rattle.grove_wire.specs.declared.faults.Fault.TheVariants.{Wire, Plan, Proof, Run, Replay, Standing}
-use Rattle.grove_wire.specs.declared.faults.StandingFault.{StandingFault}
-use Rattle.grove_wire.specs.declared.faults.StandingFault.TheVariants.{Record, Replies}
+use Rattle.grove_wire.specs.Texts.{FaultFits as PlanFaultFits, ProofFaultFits, RunFaultFits, ReplayFaultFits}
 use Rattle.grove_answer.specs.declared.refusal.Refusal.{Refusal}
 use Rattle.grove_answer.specs.declared.refusal.Refusal.TheVariants as refusal
-use Rattle.grove_wire.specs.Texts.{wire_text, plan_text, proof_text, run_text, replay_text, FaultFits as PlanFaultFits}
-use Rattle.grove_wire.specs.Texts.{ProofFaultFits, RunFaultFits, ReplayFaultFits}
-
-abbrev pub standing_text : StandingFault → List ℕ
-standing_text (Record node) = codes "standing records " ++ decimal node
-standing_text (Replies job) = codes "standing replies " ++ decimal job
-
-abbrev pub fault_text : Rows → Fault → List ℕ
-fault_text rows (Wire fault) = wire_text fault
-fault_text rows (Plan fault) = plan_text rows fault
-fault_text rows (Proof fault) = proof_text rows fault
-fault_text rows (Run fault) = run_text rows fault
-fault_text rows (Replay fault) = replay_text rows fault
-fault_text rows (Standing fault) = standing_text fault
+use Rattle.grove_answer.specs.Outcomes.{fault_line}
 
 -- the nodes that it names are nodes of the tree
 abbrev pub NamesNodes : Rows → Fault → Type 0
@@ -48,5 +34,5 @@ wants_memory _ = false
 -- a refusal is for the fault and has its text, unless memory is wanting
 abbrev pub IsToldFault : Rows → Fault → Refusal → Type 0
 IsToldFault rows fault (refusal.Fault told text) =
-    (told ≡ fault) × (string_bytes text ≡ fault_text rows fault) × (wants_memory fault ≡ false)
+    (told ≡ fault) × (text ≡ fault_line rows fault) × (wants_memory fault ≡ false)
 IsToldFault rows fault refusal.Memory = Unit {0}

@@ -2,4 +2,3 @@ pub mod Outcomes
 pub mod Faults
 pub mod Says
 pub mod PlannedDocuments
-pub mod Laws

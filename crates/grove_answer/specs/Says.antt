@@ -8,7 +8,7 @@ use Rattle.grove_answer.specs.Outcomes.{Outcome}
 
 -- the outcome that a refusal tells; out of memory is none
 abbrev pub refusal_outcome : Refusal → Option Outcome
-refusal_outcome (Fault fault text) = Some (Err (string_bytes text))
+refusal_outcome (Fault fault text) = Some (Err text)
 refusal_outcome Memory = None
 
 -- the calls have an outcome that may be said, or none

@@ -1,12 +1,11 @@
-ghost use Rattle.std.specs.Prelude.{◌≡◌, ◌≤◌, ◌<◌, ◌^◌, length, map, option_map, Some, OnOk, IfErr};
+ghost use Rattle.std.specs.Prelude.{◌≡◌, ◌≤◌, ◌<◌, ◌^◌, length, map, option_map, OnOk, IfErr};
 ghost use Rattle.serde_json.specs.View.{view};
 ghost use Rattle.grove_core.specs.Kept.{past_of};
 ghost use Rattle.grove_core.specs.Runs.{IsFinished};
 ghost use Rattle.grove_core.specs.Openings.{AllFit};
 ghost use Rattle.grove_wire.specs.Histories.{said_standing};
-ghost use Rattle.grove_answer.specs.Faults.{standing_text};
 ghost use Rattle.grove_answer.specs.Says.{Says};
-ghost use Rattle.grove_answer.specs.Outcomes.{ThenSays, history_in, IsAudited, IsMisstated, Stands};
+ghost use Rattle.grove_answer.specs.Outcomes.{ThenSays, history_in, IsAudited, IsMisstated};
 
 use crate::reading::{History, read_history};
 use crate::refusal::{Refusal, or_refuse};
@@ -33,13 +32,13 @@ fn audit_history(alloc: Global, history: &History) -> Result<String, Refusal>
     requires fits { AllFit history.now.tree history.now.jobs.items }
     requires few { length history.now.jobs.items ≤ 256 }
     requires short { length history.now.events.items ≤ 1048576 }
-    ensures { Says (IsAudited (record {
-      tree = history.now.tree;
-      records = history.now.records;
-      jobs = history.now.jobs.items;
-      events = history.now.events.items;
-      standing = option_map said_standing history.now.standing;
-    })) result }
+    ensures { Says (IsAudited (
+      history.now.tree,
+      history.now.records,
+      history.now.jobs.items,
+      history.now.events.items,
+      option_map said_standing history.now.standing,
+    )) result }
 {
     let History {
         tree,
@@ -61,13 +60,13 @@ fn finished_lines(
     standing: &Option<Standing>,
 ) -> Result<String, Refusal>
     requires { IsFinished core.now.jobs (past_of core.now) }
-    ensures { Says (IsAudited (record {
-      tree = core.now.tree;
-      records = core.now.opening;
-      jobs = core.now.jobs;
-      events = core.now.history;
-      standing = option_map said_standing standing.now;
-    })) result }
+    ensures { Says (IsAudited (
+      core.now.tree,
+      core.now.opening,
+      core.now.jobs,
+      core.now.history,
+      option_map said_standing standing.now,
+    )) result }
 {
     // That there is a record for each node is told with the jobs, and that nodes are few with their number.
     let _jobs = core.jobs();
@@ -88,11 +87,10 @@ fn finished_lines(
 fn stand(said: &Standing, records: &[i64], replies: &[&[Reply]]) -> Result<(), StandingFault>
     requires records { length records.now < 2 ^ 32 }
     requires replies { length replies.now < 2 ^ 32 }
-    ensures stands { OnOk result
-        (Stands (Some (said_standing said.now)) records.now (map (λ list. list.now) replies.now)) }
+    ensures records { OnOk result ((said_standing said.now).0 ≡ records.now) }
+    ensures replies { OnOk result ((said_standing said.now).1 ≡ map (λ list. list.now) replies.now) }
     ensures misstated { IfErr result
-        (λ fault. IsMisstated (Some (said_standing said.now)) records.now (map (λ list. list.now) replies.now)
-        (standing_text fault)) }
+        (IsMisstated (said_standing said.now) records.now (map (λ list. list.now) replies.now)) }
 {
     if let Some(node) = other_record(&said.records, records) {
         return Err(StandingFault::Record(node));

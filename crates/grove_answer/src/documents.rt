@@ -3,11 +3,11 @@ ghost use Rattle.serde_json.specs.Data.{Data, depth};
 ghost use Rattle.serde_json.specs.Find.{get};
 ghost use Rattle.serde_json.specs.View.{view};
 ghost use Rattle.grove_build.specs.Batches.{IsPlanned as IsPlannedList};
-ghost use Rattle.grove_wire.specs.Reading.{plan_in, flow_in};
+ghost use Rattle.grove_wire.specs.Reading.{value_of, plan_in, flow_in};
 ghost use Rattle.grove_wire.specs.Writing.{PlanFits, FlowFits, plan_data, flow_data};
 ghost use Rattle.grove_answer.specs.Says.{IsFitting, Says};
-ghost use Rattle.grove_answer.specs.Outcomes.{ThenSays, task_in};
-ghost use Rattle.grove_answer.specs.PlannedDocuments.{planned_document, IsTextOf, IsPlannedDocument};
+ghost use Rattle.grove_answer.specs.Outcomes.{ThenSays, task_in, IsPlannedDocument};
+ghost use Rattle.grove_answer.specs.PlannedDocuments.{planned_document};
 
 use crate::reading::{Task, read_task};
 use crate::refusal::{Refusal, or_refuse};
@@ -24,7 +24,7 @@ use std::alloc::{AllocError, Global};
 /// What else it has stays.
 pub fn planned_document(alloc: Global, document: &Value) -> Result<String, Refusal>
     requires { depth (view document.now) ≤ 127 }
-    ensures { Says (ThenSays (task_in (view document.now)) (IsPlannedDocument (view document.now))) result }
+    ensures { Says (ThenSays (task_in (view document.now)) IsPlannedDocument) result }
 {
     let task = or_refuse(alloc, read_task(alloc, document))?;
     planned_task(alloc, &task, document)
@@ -34,7 +34,7 @@ fn planned_task(alloc: Global, task: &Task, document: &Value) -> Result<String, 
     requires fits { IsFitting task.now }
     requires read { task_in (view document.now) ≡ Ok task.now }
     requires shallow { depth (view document.now) ≤ 127 }
-    ensures { Says (IsPlannedDocument (view document.now) task.now) result }
+    ensures { Says (IsPlannedDocument task.now) result }
 {
     let planned = plan(alloc, &task.tree, &task.list)?;
     Ok(planned_line(alloc, task, &planned, document)?)
@@ -49,7 +49,7 @@ fn planned_line(
     requires planned { IsPlannedList task.now.tree task.now.list planned.now }
     requires read { task_in (view document.now) ≡ Ok task.now }
     requires shallow { depth (view document.now) ≤ 127 }
-    ensures { IfOk result (λ line. IsPlannedDocument (view document.now) task.now (Ok (string_bytes line))) }
+    ensures { IfOk result (λ line. IsPlannedDocument task.now (Ok (string_bytes line))) }
 {
     let whole = with_plan(alloc, &task.tree, &planned.plan, &planned.flow, document)?;
     Ok(line_of(alloc, &whole)?)
@@ -87,7 +87,7 @@ fn with_plan(
 /// The text of a value, with a line feed after it.
 fn line_of(alloc: Global, value: &Value) -> Result<String, AllocError>
     requires { depth (view value.now) ≤ 127 }
-    ensures { IfOk result (λ line. (text : List ℕ) × IsTextOf (view value.now) text
+    ensures { IfOk result (λ line. (text : List ℕ) × (value_of text ≡ Some (view value.now))
         × (string_bytes line ≡ text ++ codes "\n")) }
 {
     let mut line = value.to_string(alloc)?;

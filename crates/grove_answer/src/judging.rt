@@ -6,8 +6,8 @@ ghost use Rattle.grove_answer.specs.Outcomes.{ThenSays, trial_in, judge_lines, I
 
 use crate::reading::{Task, read_trial};
 use crate::refusal::{Refusal, or_refuse};
-use crate::texts::{numbers_of, numbers_text, replies_text};
-use grove_access::run_alone;
+use crate::texts::{numbers_of, numbers_text, push_told, replies_text};
+use grove_access::{Reply, run_alone};
 use grove_base::NoMemory;
 use grove_plan::judge;
 use grove_wire::Fault;
@@ -41,7 +41,20 @@ fn judge_lines(alloc: Global, task: Task, cost: u64) -> Result<String, NoMemory>
     } = task;
     let replies = run_alone(alloc, &mut records, &list)?;
     let numbers = numbers_of(alloc, &tree, &records)?;
-    let replies = replies_text(alloc, &replies)?;
-    let records = numbers_text(alloc, &numbers)?;
-    Ok(format!(in alloc; "cost {cost}\nreplies {replies}\nrecords {records}\n")?)
+    told_lines(alloc, cost, &replies, &numbers)
+}
+
+fn told_lines(
+    alloc: Global,
+    cost: u64,
+    replies: &[Reply],
+    records: &[i64],
+) -> Result<String, NoMemory>
+    ensures { IfOk result (λ lines. string_bytes lines ≡ judge_lines cost replies.now records.now) }
+{
+    let mut lines = format!(in alloc; "cost {cost}")?;
+    push_told(&mut lines, "\nreplies ", replies_text(alloc, replies)?)?;
+    push_told(&mut lines, "\nrecords ", numbers_text(alloc, records)?)?;
+    lines.push_str("\n")?;
+    Ok(lines)
 }

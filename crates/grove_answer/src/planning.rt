@@ -8,6 +8,7 @@ ghost use Rattle.grove_answer.specs.Outcomes.{ThenSays, task_in, plan_lines, IsP
 
 use crate::reading::read_task;
 use crate::refusal::{Refusal, or_refuse};
+use crate::texts::push_told;
 use grove_access::AccessList;
 use grove_base::NoMemory;
 use grove_build::{Planned, plan};
@@ -50,8 +51,12 @@ fn plan_lines(
     ensures { IfOk result (λ lines. string_bytes lines ≡ plan_lines tree.now planned.now) }
 {
     let mut paths = PathCache::new(alloc, tree)?;
-    let steps = plan_text(alloc, &mut paths, &planned.plan)?;
-    let flow = flow_text(alloc, &mut paths, &planned.flow)?;
     let cost = planned.cost;
-    Ok(format!(in alloc; "cost {cost}\nplan {steps}\nflow {flow}\n")?)
+    let mut lines = format!(in alloc; "cost {cost}")?;
+    let steps = plan_text(alloc, &mut paths, &planned.plan)?;
+    push_told(&mut lines, "\nplan ", steps)?;
+    let flow = flow_text(alloc, &mut paths, &planned.flow)?;
+    push_told(&mut lines, "\nflow ", flow)?;
+    lines.push_str("\n")?;
+    Ok(lines)
 }

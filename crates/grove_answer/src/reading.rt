@@ -141,13 +141,13 @@ pub struct History {
 /// The document's tree, jobs and events, and what is said to stand, if anything.
 #[tactic(auto, unfolding(crate::specs::Outcomes::history_in))]
 pub fn read_history(alloc: Global, document: &Value) -> Result<History, WireFault>
-    ensures read { Gives (λ history. record {
-      tree = history.tree;
-      records = history.records;
-      jobs = history.jobs.items;
-      events = history.events.items;
-      standing = option_map said_standing history.standing;
-    }) result (history_in (view document.now)) }
+    ensures read { Gives (λ history. (
+      history.tree,
+      history.records,
+      history.jobs.items,
+      history.events.items,
+      option_map said_standing history.standing,
+    )) result (history_in (view document.now)) }
     ensures records { IfOk result (λ history. length history.records ≡ length history.tree) }
     ensures fits { IfOk result (λ history. AllFit history.tree history.jobs.items) }
     ensures few { IfOk result (λ history. length history.jobs.items ≤ 256) }

@@ -1,8 +1,11 @@
 ghost use Rattle.std.specs.Prelude.{◌≡◌, ℕ, List, [], IfOk, IfErr, IsErrAnd, Ok, string_bytes};
 ghost use Rattle.grove_tree.specs.Trees.{Rows};
 ghost use Rattle.grove_wire.specs.declared.faults.Fault.TheVariants.{Wire};
-ghost use Rattle.grove_answer.specs.Faults.{fault_text, standing_text, wants_memory, NamesNodes, IsToldFault};
+ghost use Rattle.grove_wire.specs.declared.faults.Fault.TheVariants.{Standing};
+ghost use Rattle.grove_answer.specs.Faults.{wants_memory, NamesNodes, IsToldFault};
+ghost use Rattle.grove_answer.specs.Outcomes.{fault_text};
 
+use crate::Line;
 use grove_base::NoMemory;
 use grove_core::{ReplayFault, RunFault};
 use grove_plan::PlanFault;
@@ -18,7 +21,7 @@ use std::alloc::{AllocError, AllocFailed, Global};
 #[derive(Debug, Drop)]
 pub enum Refusal {
     /// What is wrong with the document, and the text that says so.
-    Fault { fault: Fault, text: String },
+    Fault { fault: Fault, text: Line },
     /// A growth was refused.
     Memory,
 }
@@ -30,7 +33,7 @@ impl Refusal {
         ensures { IsToldFault tree.now fault result }
     {
         let text = fault_text(alloc, tree, &fault);
-        told(fault, text)
+        told(alloc, fault, text)
     }
 
     /// The refusal for a fault of reading, which needs no tree.
@@ -38,19 +41,22 @@ impl Refusal {
         ensures { IsToldFault [] (Wire fault.now) result }
     {
         let text = wire_fault_text(alloc, fault);
-        told(Fault::Wire(*fault), text)
+        told(alloc, Fault::Wire(*fault), text)
     }
 }
 
 /// The refusal for the fault, where this is its text.
-fn told(fault: Fault, text: Result<String, NoMemory>) -> Refusal
+fn told(alloc: Global, fault: Fault, text: Result<String, NoMemory>) -> Refusal
     ensures { (rows : Rows) → IfOk text (λ text. string_bytes text ≡ fault_text rows fault)
         → IsToldFault rows fault result }
 {
     if wants_memory(&fault) {
         return Refusal::Memory;
     }
-    match text {
+    let Ok(text) = text else {
+        return Refusal::Memory;
+    };
+    match Line::of(alloc, text) {
         Ok(text) => Refusal::Fault { fault, text },
         Err(NoMemory) => Refusal::Memory,
     }
@@ -84,7 +90,7 @@ fn fault_text(alloc: Global, tree: &Tree, fault: &Fault) -> Result<String, NoMem
 }
 
 fn standing_text(alloc: Global, fault: StandingFault) -> Result<String, NoMemory>
-    ensures { IfOk result (λ text. string_bytes text ≡ standing_text fault) }
+    ensures { IfOk result (λ text. string_bytes text ≡ fault_text [] (Standing fault)) }
 {
     match fault {
         StandingFault::Record(node) => Ok(format!(in alloc; "standing records {node}")?),

@@ -11,7 +11,7 @@ ghost use Rattle.grove_answer.specs.Outcomes.{ThenSays, batch_in, batch_lines, r
 
 use crate::reading::{Batch, read_batch};
 use crate::refusal::{Refusal, or_refuse};
-use crate::texts::{counts_text, lists_text, numbers_of, numbers_text};
+use crate::texts::{counts_text, lists_text, numbers_of, numbers_text, push_told};
 use grove_access::{Records, Reply};
 use grove_base::NoMemory;
 use grove_build::settled_jobs;
@@ -106,11 +106,13 @@ fn batch_lines(
         (λ lines. string_bytes lines ≡ batch_lines order.now (map (λ list. list.now) replies.now)
         records.now waits.now) }
 {
-    let order = counts_text(alloc, order)?;
-    let replies = lists_text(alloc, replies)?;
-    let records = numbers_text(alloc, records)?;
-    let waits = counts_text(alloc, waits)?;
-    Ok(format!(in alloc; "order {order}\nreplies {replies}\nrecords {records}\nwaits {waits}\n")?)
+    let mut lines = String::new(alloc);
+    push_told(&mut lines, "order ", counts_text(alloc, order)?)?;
+    push_told(&mut lines, "\nreplies ", lists_text(alloc, replies)?)?;
+    push_told(&mut lines, "\nrecords ", numbers_text(alloc, records)?)?;
+    push_told(&mut lines, "\nwaits ", counts_text(alloc, waits)?)?;
+    lines.push_str("\n")?;
+    Ok(lines)
 }
 
 /// The waits of each node.

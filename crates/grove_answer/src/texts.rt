@@ -1,4 +1,4 @@
-ghost use Rattle.std.specs.Prelude.{◌≡◌, length, map, IfOk, string_bytes};
+ghost use Rattle.std.specs.Prelude.{◌≡◌, ◌++◌, length, map, IfOk, OnOk, string_bytes};
 ghost use Rattle.serde_json.specs.Written.{compact_text};
 ghost use Rattle.grove_wire.specs.Writing.{array_of, count_data, number_data, reply_data};
 
@@ -7,6 +7,14 @@ use grove_base::NoMemory;
 use grove_tree::{Node, Tree};
 use grove_wire::{counts_value, lists_value, numbers_value, replies_value};
 use std::alloc::{AllocError, Global};
+
+/// Adds a word and what it tells to lines.
+pub fn push_told(lines: &mut String, word: &str, told: String) -> Result<(), AllocError>
+    ensures { OnOk result (string_bytes lines.new ≡ string_bytes lines.old ++ word.now ++ string_bytes told) }
+{
+    lines.push_str(word)?;
+    lines.push_str(&told)
+}
 
 /// The replies of a list, as JSON.
 #[tactic(auto, using(grove_wire::proofs::Floatless::replies_have_no_float))]

@@ -1,6 +1,1 @@
-pub mod CommandLines
-pub mod Invocations
 pub mod NoOrders
-pub mod Orders
-pub mod PlainWords
-pub mod Steps

@@ -1,36 +1,36 @@
-ghost use Rattle.std.specs.Prelude.{◌≡◌, codes, true, Some, IfOk};
-ghost use Rattle.clap.specs.Words.{App, Shape, app_of, with_subcommand};
-ghost use Rattle.clap.specs.declared.builder.action.ArgAction.TheVariants.{Append};
-ghost use Rattle.grove_words.specs.CommandLines.{Plan, Draw, Run, Tree, Serve, Page, Ask, Save};
-ghost use Rattle.grove_words.specs.CommandLines.{address_option, calling, command_with, flag, grove_command};
-ghost use Rattle.grove_words.specs.CommandLines.{numbered, port_option, reading, serving, shape_for, valued};
-ghost use Rattle.grove_words.specs.CommandLines.{workers_option};
-ghost use Rattle.grove_words.specs.Steps.{no_command, HasRule, HasShape};
-
 use clap::{Arg, ArgAction, value_parser};
 use std::alloc::{AllocError, Global};
 
 /// The program's version.
 const VERSION: &str = "0.2.0";
 
+/// For how many seconds a connection may be let idle at most, where there is a limit: a day.
+const LONGEST_IDLE: i64 = 86_400;
+
+/// How many connections over HTTP are served at once at most.
+const MOST_HTTP_SEATS: i64 = 1_024;
+
 /// The one definition of the command line.
-pub fn command_line<'a>(alloc: Global) -> Result<clap::Command<'a>, AllocError>
-    ensures { IfOk result (λ command. app_of command ≡ grove_command) }
-{
-    let about = "Judge a plan: its cost, and the replies and records of its list";
-    let judges = add(program(alloc), reading(alloc, "judge", about));
-    let about = "Check a plan and its flow: its cost, if no legal plan for the list costs less";
-    let checks = add(judges, reading(alloc, "check", about));
+pub fn command_line<'a>(alloc: Global) -> Result<clap::Command<'a>, AllocError> {
+    let judges = add(program(alloc), judge(alloc));
+    let checks = add(judges, check(alloc));
     let plans = add(checks, plan(alloc));
     let draws = add(plans, draw(alloc));
     let runs = add(draws, run(alloc));
-    let about = "Audit a history: what its events give, if they are a finished run";
-    let audits = add(runs, reading(alloc, "audit", about));
+    let audits = add(runs, audit(alloc));
     let trees = add(audits, tree(alloc));
     let serves = add(trees, serve(alloc));
     let pages = add(serves, page(alloc));
     let asks = add(pages, ask(alloc));
     add(asks, save(alloc))
+}
+
+/// The program with one more command, if there was memory for both.
+fn add<'a>(
+    program: Result<clap::Command<'a>, AllocError>,
+    command: Result<clap::Command<'a>, AllocError>,
+) -> Result<clap::Command<'a>, AllocError> {
+    program?.subcommand(command?)
 }
 
 /// The command of a word, to show how it is used; the program if it isn't one of those whose words clap takes without
@@ -46,22 +46,8 @@ pub fn command_named<'a>(alloc: Global, word: &str) -> Result<clap::Command<'a>,
     }
 }
 
-/// The program with one more command, where there was memory for both.
-fn add<'a>(
-    program: Result<clap::Command<'a>, AllocError>,
-    command: Result<clap::Command<'a>, AllocError>,
-) -> Result<clap::Command<'a>, AllocError>
-    ensures { (app : App) (shape : Shape) → IfOk program.entry (λ program. app_of program ≡ app)
-        → IfOk command.entry (HasShape shape)
-        → IfOk result (λ added. app_of added ≡ with_subcommand app shape) }
-{
-    program?.subcommand(command?)
-}
-
 /// The program before it has its commands.
-fn program<'a>(alloc: Global) -> Result<clap::Command<'a>, AllocError>
-    ensures { IfOk result (λ command. app_of command ≡ no_command) }
-{
+fn program<'a>(alloc: Global) -> Result<clap::Command<'a>, AllocError> {
     let named = clap::Command::new(alloc, "grove").bin_name("grove")?;
     Ok(
         named.version(VERSION).no_binary_name(true).about(
@@ -70,27 +56,36 @@ fn program<'a>(alloc: Global) -> Result<clap::Command<'a>, AllocError>
     )
 }
 
-fn plan<'a>(alloc: Global) -> Result<clap::Command<'a>, AllocError>
-    ensures { IfOk result (HasShape (shape_for Plan)) }
-{
+fn judge<'a>(alloc: Global) -> Result<clap::Command<'a>, AllocError> {
+    let about = "Judge a plan: its cost, and the replies and records of its list";
+    reading(alloc, "judge", about)
+}
+
+fn check<'a>(alloc: Global) -> Result<clap::Command<'a>, AllocError> {
+    let about = "Check a plan and its flow: its cost, if no legal plan for the list costs less";
+    reading(alloc, "check", about)
+}
+
+fn plan<'a>(alloc: Global) -> Result<clap::Command<'a>, AllocError> {
     let about = "Plan a list: the cheapest plan, and the flow that proves it";
     let help = "Print the whole document, with the plan and the flow in it";
     reading(alloc, "plan", about)?.arg(flag(alloc, "document", help))
 }
 
-fn draw<'a>(alloc: Global) -> Result<clap::Command<'a>, AllocError>
-    ensures { IfOk result (HasShape (shape_for Draw)) }
-{
+fn draw<'a>(alloc: Global) -> Result<clap::Command<'a>, AllocError> {
     let about = "Draw a list's cheapest plan, and above it the document's own, if it has one";
     let help = "Print lines for a terminal instead of SVG";
     reading(alloc, "draw", about)?.arg(flag(alloc, "text", help))
 }
 
-fn run<'a>(alloc: Global) -> Result<clap::Command<'a>, AllocError>
-    ensures { IfOk result (HasShape (shape_for Run)) }
-{
+fn run<'a>(alloc: Global) -> Result<clap::Command<'a>, AllocError> {
     let about = "Run a batch of lists at once: their serial order, replies, records and waits";
     reading(alloc, "run", about)?.arg(workers(alloc))
+}
+
+fn audit<'a>(alloc: Global) -> Result<clap::Command<'a>, AllocError> {
+    let about = "Audit a history: what its events give, if they are a finished run";
+    reading(alloc, "audit", about)
 }
 
 /// A command that reads a document.
@@ -98,9 +93,7 @@ fn reading<'a>(
     alloc: Global,
     name: &'static str,
     about: &'static str,
-) -> Result<clap::Command<'a>, AllocError>
-    ensures { IfOk result (HasShape (command_with name.now reading)) }
-{
+) -> Result<clap::Command<'a>, AllocError> {
     let document = Arg::new(alloc, "DOC").help("The file to read; by default standard input");
     clap::Command::new(alloc, name)
         .about(about)
@@ -109,9 +102,7 @@ fn reading<'a>(
 }
 
 /// The command for trees by path.
-fn tree<'a>(alloc: Global) -> Result<clap::Command<'a>, AllocError>
-    ensures { IfOk result (HasShape (shape_for Tree)) }
-{
+fn tree<'a>(alloc: Global) -> Result<clap::Command<'a>, AllocError> {
     let about = "Make a document from CSV lines 'path,weight,value', or such lines from a document";
     let csv = "Read a document, and print its tree as CSV";
     let parents = "Add each parent that has no line, with weight 1 and value 0";
@@ -121,9 +112,7 @@ fn tree<'a>(alloc: Global) -> Result<clap::Command<'a>, AllocError>
 }
 
 /// The command that serves sessions, and can serve over HTTP too.
-fn serve<'a>(alloc: Global) -> Result<clap::Command<'a>, AllocError>
-    ensures { IfOk result (HasShape (shape_for Serve)) }
-{
+fn serve<'a>(alloc: Global) -> Result<clap::Command<'a>, AllocError> {
     let about = "Serve sessions with the records of a tree over TCP";
     serving(alloc, "serve", about)?
         .arg(http(alloc))?
@@ -131,9 +120,7 @@ fn serve<'a>(alloc: Global) -> Result<clap::Command<'a>, AllocError>
 }
 
 /// The command that serves over HTTP alone.
-fn page<'a>(alloc: Global) -> Result<clap::Command<'a>, AllocError>
-    ensures { IfOk result (HasShape (shape_for Page)) }
-{
+fn page<'a>(alloc: Global) -> Result<clap::Command<'a>, AllocError> {
     let about = "Serve the records of a tree over HTTP, with a page to look at them";
     serving(alloc, "page", about)
 }
@@ -143,9 +130,7 @@ fn serving<'a>(
     alloc: Global,
     name: &'static str,
     about: &'static str,
-) -> Result<clap::Command<'a>, AllocError>
-    ensures { IfOk result (HasShape (command_with name.now serving)) }
-{
+) -> Result<clap::Command<'a>, AllocError> {
     let any_port = "Listen on any free port, instead of --port";
     let busy = "If all connection slots are taken, refuse a new connection; by default it waits";
     let verbose = "Log each connection on standard error, and each minute what was done";
@@ -169,9 +154,7 @@ fn serving<'a>(
 }
 
 /// The command that asks the server at a port.
-fn ask<'a>(alloc: Global) -> Result<clap::Command<'a>, AllocError>
-    ensures { IfOk result (HasShape (shape_for Ask)) }
-{
+fn ask<'a>(alloc: Global) -> Result<clap::Command<'a>, AllocError> {
     let about = "Send lines to a server, and print its replies";
     let help = "The lines to send; by default those of standard input";
     let lines = Arg::new(alloc, "LINE").action(ArgAction::Append).help(help);
@@ -179,9 +162,7 @@ fn ask<'a>(alloc: Global) -> Result<clap::Command<'a>, AllocError>
 }
 
 /// The command that writes the document of the server at a port into a file.
-fn save<'a>(alloc: Global) -> Result<clap::Command<'a>, AllocError>
-    ensures { IfOk result (HasShape (shape_for Save)) }
-{
+fn save<'a>(alloc: Global) -> Result<clap::Command<'a>, AllocError> {
     let about = "Save a server's tree and records in a file, over HTTP";
     let help = "The file to write; an existing one is replaced in one step";
     let file = Arg::new(alloc, "FILE").help(help).required(true);
@@ -193,9 +174,7 @@ fn calling<'a>(
     alloc: Global,
     name: &'static str,
     about: &'static str,
-) -> Result<clap::Command<'a>, AllocError>
-    ensures { IfOk result (HasShape (command_with name.now calling)) }
-{
+) -> Result<clap::Command<'a>, AllocError> {
     clap::Command::new(alloc, name)
         .about(about)
         .arg(port(alloc, "The server's port").required(true))?
@@ -203,75 +182,57 @@ fn calling<'a>(
         .arg(explain(alloc))
 }
 
-fn document<'a>(alloc: Global) -> Arg<'a>
-    ensures { HasRule (record (valued (codes "DOC") (codes "tree")) { required = true }) result }
-{
+fn document<'a>(alloc: Global) -> Arg<'a> {
     let help = "The file of the document with the tree and its records";
     valued(alloc, "DOC", "tree", "DOC", help).required(true)
 }
 
-fn explain<'a>(alloc: Global) -> Arg<'a>
-    ensures { HasRule (flag (codes "explain")) result }
-{
+fn explain<'a>(alloc: Global) -> Arg<'a> {
     let help = "If a file or a port fails, print the system's reason on standard error";
     flag(alloc, "explain", help)
 }
 
-fn workers<'a>(alloc: Global) -> Arg<'a>
-    ensures { HasRule workers_option result }
-{
+fn workers<'a>(alloc: Global) -> Arg<'a> {
     let help = "How many threads run lists at once";
     valued(alloc, "workers", "workers", "N", help)
         .value_parser(value_parser!(u32).range(1..=16))
         .default_value("4")
 }
 
-fn idle<'a>(alloc: Global) -> Arg<'a>
-    ensures { HasRule (numbered (codes "idle") 1 86400) result }
-{
+fn idle<'a>(alloc: Global) -> Arg<'a> {
     let help = "Close a connection that sends no whole line for so long; by default none is closed";
-    valued(alloc, "idle", "idle", "SECONDS", help).value_parser(value_parser!(u32).range(1..=86400))
+    valued(alloc, "idle", "idle", "SECONDS", help).value_parser(value_parser!(u32).range(
+        1..=LONGEST_IDLE,
+    ))
 }
 
-fn port<'a>(alloc: Global, help: &'static str) -> Arg<'a>
-    ensures { HasRule port_option result }
-{
+fn port<'a>(alloc: Global, help: &'static str) -> Arg<'a> {
     valued(alloc, "port", "port", "P", help).value_parser(value_parser!(u16).range(1..=65535))
 }
 
-fn http<'a>(alloc: Global) -> Arg<'a>
-    ensures { HasRule (numbered (codes "http") 1 65535) result }
-{
+fn http<'a>(alloc: Global) -> Arg<'a> {
     let help = "Serve the page and its requests over HTTP too, at this port";
     valued(alloc, "http", "http", "PORT", help).value_parser(value_parser!(u16).range(1..=65535))
 }
 
-fn http_seats<'a>(alloc: Global) -> Arg<'a>
-    ensures { HasRule (numbered (codes "http-seats") 1 1024) result }
-{
+fn http_seats<'a>(alloc: Global) -> Arg<'a> {
     let help = "How many connections over HTTP are served at once; by default 64";
     valued(alloc, "http-seats", "http-seats", "N", help).value_parser(value_parser!(u32).range(
-        1..=1024,
+        1..=MOST_HTTP_SEATS,
     ))
 }
 
-fn log<'a>(alloc: Global) -> Arg<'a>
-    ensures { HasRule (valued (codes "log") (codes "log")) result }
-{
+fn log<'a>(alloc: Global) -> Arg<'a> {
     let help = "The form of the log of --verbose: text or json; by default text";
     valued(alloc, "log", "log", "FORM", help)
 }
 
-fn host<'a>(alloc: Global) -> Arg<'a>
-    ensures { HasRule (record (valued (codes "host") (codes "host")) { action = Some Append }) result }
-{
+fn host<'a>(alloc: Global) -> Arg<'a> {
     let help = "A name that requests over HTTP may use for this host; may be repeated";
     valued(alloc, "host", "host", "NAME", help).action(ArgAction::Append)
 }
 
-fn address<'a>(alloc: Global, word: &'static str, help: &'static str) -> Arg<'a>
-    ensures { HasRule (address_option word.now) result }
-{
+fn address<'a>(alloc: Global, word: &'static str, help: &'static str) -> Arg<'a> {
     valued(alloc, "address", word, "ADDRESS", help).default_value("127.0.0.1")
 }
 
@@ -282,9 +243,7 @@ fn valued<'a>(
     word: &'static str,
     value: &'static str,
     help: &'static str,
-) -> Arg<'a>
-    ensures { HasRule (valued name.now word.now) result }
-{
+) -> Arg<'a> {
     Arg::new(alloc, name)
         .long(word)
         .value_name(value)
@@ -292,9 +251,7 @@ fn valued<'a>(
 }
 
 /// A flag, set by its word after two hyphens.
-fn flag<'a>(alloc: Global, word: &'static str, help: &'static str) -> Arg<'a>
-    ensures { HasRule (flag word.now) result }
-{
+fn flag<'a>(alloc: Global, word: &'static str, help: &'static str) -> Arg<'a> {
     Arg::new(alloc, word)
         .long(word)
         .action(ArgAction::SetTrue)

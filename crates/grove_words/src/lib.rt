@@ -2,7 +2,6 @@
 #![tactic(auto)]
 
 pub use command_line::order_of;
-pub use laws::word_laws;
 pub use no_order::{NoOrder, not_text};
 pub use order::{
     Command, Document, Form, Invocation, LogForm, Order, Patience, Place, Port, Serving, Workers,
@@ -11,7 +10,6 @@ pub use order::{
 mod command_line;
 mod definitions;
 mod hosts;
-mod laws;
 mod log_form;
 mod no_order;
 mod options;

@@ -1,7 +1,3 @@
-ghost use Rattle.std.specs.Prelude.{◌≡◌, ◌≢◌};
-ghost use Rattle.grove_words.specs.CommandLines.{log_word};
-ghost use Rattle.grove_words.specs.Steps.{NamesLog};
-
 use crate::order::LogForm;
 use std::str::FromStr;
 
@@ -11,8 +7,6 @@ pub struct NoLogForm;
 
 impl FromStr for LogForm {
     type Err = NoLogForm;
-
-    ghost from_str_gives = { NamesLog };
 
     fn from_str(word: &str) -> Result<LogForm, NoLogForm> {
         match word {

@@ -1,6 +1,5 @@
-ghost use Rattle.std.specs.Prelude.{◌≡◌, ◌≢◌, ◌⊎◌, [], IfOk, string_bytes};
-ghost use Rattle.clap.specs.Values.{kind_of};
-ghost use Rattle.grove_words.specs.NoOrders.{HasText, TellsShown, TellsWrong};
+ghost use Rattle.std.specs.Prelude.{◌≢◌, [], IfOk, string_bytes};
+ghost use Rattle.grove_words.specs.NoOrders.{HasText, TellsWrong};
 
 use crate::definitions::command_named;
 use clap::Error;
@@ -20,31 +19,30 @@ pub enum NoOrder {
 
 /// What words that aren't text are told.
 pub fn not_text(alloc: Global) -> NoOrder
-    ensures wrong { TellsWrong result }
-    ensures text { HasText result }
+    ensures { TellsWrong result }
 {
-    match wrong(alloc, "", "an argument of the command line is not UTF-8") {
-        Ok(error) => no_order(alloc, &error, ""),
+    match not_text_lines(alloc) {
+        Ok(lines) => NoOrder::Wrong(lines),
         Err(AllocError) => NoOrder::Memory,
     }
 }
 
+fn not_text_lines(alloc: Global) -> Result<String, AllocError>
+    ensures { IfOk result (λ lines. string_bytes lines ≢ []) }
+{
+    let error = wrong(alloc, "", "an argument of the command line is not UTF-8")?;
+    lines_of(alloc, &error, "")
+}
+
 /// What the words of a command are told that clap takes, and that are no order all the same, with how the command is
 /// used. No word stands for words of which nobody knows the command.
-pub fn wrong(alloc: Global, word: &str, message: &str) -> Result<Error, AllocError>
-    ensures { IfOk result (λ error. kind_of error ≡ ErrorKind.InvalidValue) }
-{
+pub fn wrong(alloc: Global, word: &str, message: &str) -> Result<Error, AllocError> {
     command_named(alloc, word)?.error(ErrorKind::InvalidValue, message)
 }
 
 /// What clap says to words that are no order: the help that they ask for, or what is wrong with them, and then the tip.
 pub fn no_order(alloc: Global, error: &Error, tip: &str) -> NoOrder
-    ensures memory { kind_of error.now ≡ ErrorKind.OutOfMemory → result ≡ NoOrder.Memory }
-    ensures wrong { kind_of error.now ≢ ErrorKind.DisplayHelp → kind_of error.now ≢ ErrorKind.DisplayVersion
-        → TellsWrong result }
-    ensures shown { (kind_of error.now ≡ ErrorKind.DisplayHelp) ⊎ (kind_of error.now ≡ ErrorKind.DisplayVersion)
-        → TellsShown result }
-    ensures text { HasText result }
+    ensures { HasText result }
 {
     if error.kind() == ErrorKind::OutOfMemory {
         return NoOrder::Memory;

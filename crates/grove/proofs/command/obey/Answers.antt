@@ -1,26 +1,24 @@
-use Rattle.std.proofs.Common.{refl, rules}
-use Rattle.grove.proofs.Orders.{is_asked, is_lost, is_saved, is_unsaved, same_streams}
+use Rattle.std.proofs.Common.{inl, inr, refl}
+use Rattle.std.proofs.lemmas.Result.{IfOk-weaker}
+use Rattle.grove.proofs.Printing.{on_err, on_err_weaker}
 use Rattle.grove.proofs.command.obey.Goals as goal
 
-pub returns-in-Do-clause-obeyed : goal.returns-in-Do-clause-obeyed
-returns-in-Do-clause-obeyed g c = rw c.in-Do.is c.do_command.ensures.done
+pub returns-in-Do-clause-done : goal.returns-in-Do-clause-done
+returns-in-Do-clause-done g c = rw c.in-Do.is c.do_command.ensures.done
 
-pub returns-in-Do-clause-given_up : goal.returns-in-Do-clause-given_up
-returns-in-Do-clause-given_up g c = rw c.in-Do.is c.do_command.ensures.stopped
+pub returns-in-Do-clause-stopped : goal.returns-in-Do-clause-stopped
+returns-in-Do-clause-stopped g c = rw c.in-Do.is c.do_command.ensures.stopped
 
-pub returns-in-Ask-clause-obeyed : goal.returns-in-Ask-clause-obeyed
-returns-in-Ask-clause-obeyed g c =
-    rw c.in-Ask.is (is_asked _ _ c.ask.result c.ask.ensures.status c.ask.ensures.sound c.ask.ensures.hinted)
+pub returns-in-Ask-clause-done : goal.returns-in-Ask-clause-done
+returns-in-Ask-clause-done g c = rw c.in-Ask.is (IfOk-weaker c.ask.result _ _ (λ status few. inl few) c.ask.ensures)
 
-pub returns-in-Ask-clause-given_up : goal.returns-in-Ask-clause-given_up
-returns-in-Ask-clause-given_up g c =
-    rw c.in-Ask.is (is_lost _ _ c.ask.result c.ask.ensures.blamed
-    (same_streams g.E.Sink.contents g.E.Sink.has_failed _ _ c.ask.result c.ask.ensures.quiet))
+pub returns-in-Ask-clause-stopped : goal.returns-in-Ask-clause-stopped
+returns-in-Ask-clause-stopped g c = rw c.in-Ask.is (on_err c.ask.result (inr refl))
 
-pub returns-clause-obeyed : goal.returns-clause-obeyed
-returns-clause-obeyed g c =
-    rw c.in-Save.is (is_saved _ _ c.save.result c.save.ensures.saved (search rules) (refl, refl))
+pub returns-clause-done : goal.returns-clause-done
+returns-clause-done g c =
+    rw c.in-Save.is (IfOk-weaker c.save.result _ _ (λ status saved. inl saved) c.save.ensures.saved)
 
-pub returns-clause-given_up : goal.returns-clause-given_up
-returns-clause-given_up g c =
-    rw c.in-Save.is (is_unsaved _ _ c.save.result c.save.ensures.unprinted (search rules) (refl, refl))
+pub returns-clause-stopped : goal.returns-clause-stopped
+returns-clause-stopped g c =
+    rw c.in-Save.is (on_err_weaker c.save.result (λ kept. inr (refl, kept)) c.save.ensures.unprinted)

@@ -13,13 +13,11 @@ of-requires c = replay_fault_fits c.args.history.now.tree c.deref.result.now c.d
 pub returns-in-Ok : goal.returns-in-Ok
 returns-in-Ok c =
     rw (← c.deref.ensures.value, ← c.deref-2.ensures.value)
-    (subst (λ (core : CoreState). Says
-    (IsAudited record {
-      tree = core.tree;
-      records = core.opening;
-      jobs = core.jobs;
-      events = core.history;
-      standing
-          = option_map said_standing c.args.history.now.standing;
-    }) c.finished_lines.result)
+    (subst (λ (core : CoreState). Says (IsAudited (
+      core.tree,
+      core.opening,
+      core.jobs,
+      core.history,
+      option_map said_standing c.args.history.now.standing,
+    )) c.finished_lines.result)
     c.in-Ok.ensures.replayed c.finished_lines.ensures)

@@ -1,4 +1,4 @@
-use Rattle.std.proofs.Common.{◌≡◌, ◌≤◌, ◌∙◌, List, Some, ap, sym, subst, length, map, arith}
+use Rattle.std.proofs.Common.{◌≡◌, ◌≤◌, ◌∙◌, List, ap, sym, subst, length, map, arith}
 use Rattle.std.proofs.lemmas.List.{length-map}
 use Rattle.grove_base.specs.Numbers.{numbers_below}
 use Rattle.grove_base.proofs.Counting.{numbers_length}
@@ -9,9 +9,9 @@ use Rattle.grove_core.proofs.RunSteps.{deeds_length}
 use Rattle.grove_core.specs.Runs.{replies_of}
 use Rattle.grove_wire.specs.Histories.{said_standing}
 use Rattle.grove_wire.specs.declared.faults.Fault.TheVariants.{Standing}
-use Rattle.grove_answer.specs.Faults.{standing_text, IsToldFault}
+use Rattle.grove_answer.specs.Faults.{IsToldFault}
 use Rattle.grove_answer.specs.Outcomes.{IsMisstated}
-use Rattle.grove_answer.proofs.Audits.{finished_history, says_misstated}
+use Rattle.grove_answer.proofs.Audits.{serial_run, says_misstated}
 use Rattle.grove_answer.proofs.auditing.finished_lines.Goals as goal
 
 pub numbers_of-requires : goal.numbers_of-requires
@@ -43,20 +43,13 @@ returns-in-Err c =
     c.deref.ensures.value ∙ c.in_ok-records.ensures ∙ c.records.ensures in
     let replies : map (λ list. list.now) c.deref-in-Some.result.now ≡ replies_of c.args.core.now.jobs c.args.core.now.opening (past_of c.args.core.now) =
     ap (map (λ list. list.now)) c.deref-in-Some.ensures.value ∙ c.in_ok-replies.ensures in
-    rw c.in-Some.is (says_misstated record {
-      tree = core.tree;
-      records = core.opening;
-      jobs = core.jobs;
-      events = core.history;
-      standing = Some
-          (said_standing c.in-Some.said);
-    } c.in-Err.fault c.of.result
-    (finished_history core.tree core.opening core.jobs core.history
-    (Some (said_standing c.in-Some.said)) c.jobs-jobs.ensures.tree c.jobs-jobs.ensures.legal c.jobs-jobs.ensures.run
-    c.requires)
-    (subst (λ (left : List (List Reply)). IsMisstated (Some (said_standing c.in-Some.said))
-    (run_records core.jobs core.opening (past_of core)) left (standing_text c.in-Err.fault)) replies
-    (subst (λ stood. IsMisstated (Some (said_standing c.in-Some.said)) stood
-    (map (λ list. list.now) c.deref-in-Some.result.now)
-    (standing_text c.in-Err.fault)) records c.in-Err.ensures.misstated))
+    let said = said_standing c.in-Some.said in
+    rw c.in-Some.is (says_misstated core.tree core.opening core.jobs core.history said c.in-Err.fault c.of.result
+    c.jobs-jobs.ensures.legal
+    (serial_run core.tree core.jobs core.opening (past_of core) c.jobs-jobs.ensures.tree c.jobs-jobs.ensures.legal
+    c.jobs-jobs.ensures.run c.requires)
+    (subst (λ (left : List (List Reply)). IsMisstated said (run_records core.jobs core.opening (past_of core)) left
+    c.in-Err.fault) replies
+    (subst (λ stood. IsMisstated said stood (map (λ list. list.now) c.deref-in-Some.result.now) c.in-Err.fault) records
+    c.in-Err.ensures.misstated))
     (subst (λ tree. IsToldFault tree (Standing c.in-Err.fault) c.of.result) c.tree-tree.ensures c.of.ensures))

@@ -1,10 +1,12 @@
-use Rattle.std.proofs.Common.{◌≡◌, ◌++◌, ℕ, List, ap}
-use Rattle.std.specs.Prelude.{codes, Ok, string_bytes}
+use Rattle.std.proofs.Common.{◌≡◌, ◌++◌, ◌∙◌, ℕ, List, ap}
+use Rattle.std.specs.Prelude.{codes, option_map, Ok, Some, string_bytes}
 use Rattle.serde_json.specs.View.{view}
 use Rattle.grove_access.specs.Lists.{nodes_of, lengths_of}
 use Rattle.grove_plan.specs.Plans.{cost}
 use Rattle.grove_wire.proofs.LeastFits.{plan_fits, flow_fits}
-use Rattle.grove_answer.specs.PlannedDocuments.{planned_document, IsTextOf}
+use Rattle.grove_wire.specs.Reading.{value_of}
+use Rattle.grove_answer.specs.Outcomes.{claim_in}
+use Rattle.grove_answer.specs.PlannedDocuments.{planned_document}
 use Rattle.grove_answer.proofs.PlannedDocuments.{claims, planned_level}
 use Rattle.grove_answer.proofs.documents.planned_line.Goals as goal
 
@@ -28,6 +30,9 @@ returns c =
     let planned = c.args.planned.now in
     let d = view c.args.document.now in
     let whole = planned_document task.tree planned.plan planned.flow d in
-    let said : (text : List ℕ) × IsTextOf whole text × (string_bytes c.in_ok-line_of.field-0 ≡ text ++ codes "\n") = rw c.in_ok-whole.ensures.value at c.in_ok-line_of.ensures in
-    let claimed = claims task planned.plan planned.flow c.in_ok-whole.ensures.plan c.in_ok-whole.ensures.flow d c.requires.read in
-    (planned, c.requires.planned, claimed, (said.0, said.1, ap Ok said.2))
+    let said : (text : List ℕ) × (value_of text ≡ Some whole)
+    × (string_bytes c.in_ok-line_of.field-0 ≡ text ++ codes "\n") =
+    rw c.in_ok-whole.ensures.value at c.in_ok-line_of.ensures in
+    let claimed =
+    claims task planned.plan planned.flow c.in_ok-whole.ensures.plan c.in_ok-whole.ensures.flow d c.requires.read in
+    (planned, c.requires.planned, (said.0, ap (option_map claim_in) said.1 ∙ ap Some claimed, ap Ok said.2))

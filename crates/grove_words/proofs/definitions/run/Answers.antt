@@ -1,6 +1,0 @@
-use Rattle.std.proofs.lemmas.Result.{IfOk-weaker}
-use Rattle.grove_words.proofs.Rules.{one_more}
-use Rattle.grove_words.proofs.definitions.run.Goals as goal
-
-pub returns : goal.returns
-returns c = IfOk-weaker c.arg.result _ _ (λ command adds. one_more adds c.in_ok-reading.ensures c.workers.ensures) c.arg.ensures
