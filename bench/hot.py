@@ -1,7 +1,7 @@
 #!/usr/bin/env python3
 """Times jobs by settled plans, and by what one would take in place of the tree protocol: record locks in sorted order.
 
-    usage: bench/hot.py [--grove PROGRAM] [--by COMMAND] [--runs N] [--workers N,..] [SHAPE ..]
+    usage: bench/hot.py [--own | --python] [--grove PROGRAM] [--by COMMAND] [--runs N] [--workers N,..] [SHAPE ..]
                                            (default: the proved program, 5 runs, 1, 4, 16 and 64 workers, all shapes)
 
 A shape is a tree and 64 lists of 8 accesses, each of which takes a millisecond. Its lists are done in these ways:
@@ -17,9 +17,12 @@ A shape is a tree and 64 lists of 8 accesses, each of which takes a millisecond.
 - early up, late up: the same in the opposite order, from the last node of the tree up to the root.
 
 bench/hot.rs, compiled here by `rustc`, does the jobs, in all ways by the same workers, queues and sleeps. COMMAND, as
-`chrt -f 50`, starts it. Each case is done N times, all cases in turn. A row of the table has for each number of workers
-the median in milliseconds, with the least and the most in brackets, and what the plans cost together by the tree's
-weights; the last line has the load of the machine meanwhile.
+`chrt -f 50`, starts it. With --own the program's own workers do them in place of it, settled and all first alone, by
+`grove_bench runs`; of these there are at most 16. With --python there is one way more: settled plans by `Locks` of
+bindings/python, in threads of this process; tools/library has to have made the library. Each case is done N times, all
+cases in turn. A row of the table has for each number of workers the median in milliseconds, with the least and the most
+in brackets, and what the plans cost together by the tree's weights; the last line has the load of the machine
+meanwhile.
 
 Each plan is tested before it is timed: its accesses are the list's, each while its node is held, and it obeys the tree
 protocol, or the rules of `RecordLocks`. By either no jobs wait for each other in a circle. A run has to end in time,
@@ -35,22 +38,30 @@ import statistics
 import subprocess
 import sys
 import tempfile
-from collections import Counter
-from dataclasses import dataclass
+import threading
+import time
+from collections import Counter, deque
+from dataclasses import dataclass, replace
 from pathlib import Path
 from random import Random
-from typing import Callable, Optional, Union
+from typing import Callable, Iterable, Optional, Union
 
 TOP = Path(__file__).resolve().parent.parent
 sys.dont_write_bytecode = True
 sys.path.insert(0, str(TOP / "tests"))
+sys.path.insert(1, str(TOP / "bindings/python"))
+import calls  # noqa: E402
+from pickbracken import Locks as NodeLocks  # noqa: E402
 from plans import Locks, cost_of_plan, fault_of_steps  # noqa: E402
 from tree import Tree  # noqa: E402
 
 PROGRAM = TOP / "crates/grove/out/grove"
+OWN_WAYS = ("settled", "all first")
 WORKERS = "1,4,16,64"
 JOBS = 64
 ACCESSES = 8
+# How long an access takes.
+SLOT = 0.001
 # How many accesses of a job are work at a user, beside those that count it.
 WORK = 5
 # A run takes half a second if the jobs are done one after the other.
@@ -287,29 +298,46 @@ WAYS = {
 
 @dataclass(frozen=True)
 class Case:
-    """A shape's jobs in one way: what their plans cost, the plans as bench/hot.rs reads them, and the records after."""
+    """A shape's jobs in one way: what their plans cost, the plans as bench/hot.rs reads them, tree and jobs as
+    `grove_bench runs` does, and the records after. Those with a shape are done by `Locks` of bindings/python."""
 
     name: str
     cost: int
     text: str
+    own: str
     records: list[int]
+    shape: Optional[Shape] = None
 
 
-def cases_of(program: str, name: str) -> list[Case]:
+def cases_of(program: str, name: str, ways: Iterable[str], in_python: bool) -> list[Case]:
     made = SHAPES[name]()
     planner = Planner(program, made.rows, Tree(made.rows))
-    return [case_of(planner, made.lists, f"`{name}`, {way}", WAYS[way]) for way in WAYS]
+    cases = [case_of(planner, made, f"`{name}`, {way}", WAYS[way]) for way in ways]
+    if in_python:
+        settled = case_of(planner, made, f"`{name}`, settled, in Python", WAYS["settled"])
+        cases.append(replace(settled, shape=made))
+    return cases
 
 
-def case_of(planner: Planner, lists: list[list[Access]], name: str, way: Way) -> Case:
-    tree, plans = planner.tree, [way.plan(planner, accesses) for accesses in lists]
+def case_of(planner: Planner, made: Shape, name: str, way: Way) -> Case:
+    tree, lists = planner.tree, made.lists
+    plans = [way.plan(planner, accesses) for accesses in lists]
     for accesses, steps in zip(lists, plans):
         fault = fault_of_steps(tree, accesses, steps, way.rules(tree))
         assert fault is None, (name, fault, accesses, steps)
     lines = [str(len(tree.paths)), *(line_of(tree, *each) for each in zip(lists, plans))]
     counts = Counter(node for accesses in lists for node in tree.accessed(accesses))
     records = [counts[node] for node in range(len(tree.paths))]
-    return Case(name, sum(cost_of_plan(tree, *each) for each in zip(lists, plans)), "\n".join(lines), records)
+    own = [calls.tree_numbers([(row["parent"], row["weight"]) for row in made.rows]), str(len(lists))]
+    own += [job_of(tree, *each) for each in zip(lists, plans)]
+    cost = sum(cost_of_plan(tree, *each) for each in zip(lists, plans))
+    return Case(name, cost, "\n".join(lines), "\n".join(own), records)
+
+
+def job_of(tree: Tree, accesses: list[Access], steps: list[Step]) -> str:
+    """A job as `grove_bench runs` reads it."""
+    named = [(kind, what if isinstance(what, int) else tree.node_of[what]) for kind, what in steps]
+    return calls.job_numbers([(node, 1) for node in tree.accessed(accesses)], named)
 
 
 def line_of(tree: Tree, accesses: list[Access], steps: list[Step]) -> str:
@@ -332,6 +360,44 @@ def milliseconds(command: list[str], case: Case, workers: int) -> float:
     return int(spent) / 1e6
 
 
+def own_milliseconds(by: list[str], case: Case, workers: int) -> float:
+    """A run by the program's own workers, after one that isn't timed."""
+    text = "\n".join([f"{workers} 1 1", case.own])
+    ran = subprocess.check_output([*by, str(calls.PROGRAM), "runs"], input=text, text=True, timeout=2 * SECONDS_ALLOWED)
+    return int(ran.split()[1]) / 1e6
+
+
+def python_milliseconds(case: Case, shape: Shape, workers: int) -> float:
+    """A run by `Locks`, whose plans are made before."""
+    tree = Tree(shape.rows)
+    records = dict.fromkeys(tree.paths, 0)
+    locks = NodeLocks(dict(zip(tree.paths, [int(row["weight"] or 0) for row in shape.rows])))
+    left = deque([path for _, path, _ in accesses] for accesses in shape.lists)
+    for paths in left:
+        locks.transaction(paths)
+    begin = threading.Barrier(workers + 1)
+
+    def work() -> None:
+        begin.wait()
+        while left:
+            with locks.transaction(left.popleft()) as accesses:
+                for _, path in accesses:
+                    before = records[path]
+                    time.sleep(SLOT)
+                    records[path] = before + 1
+
+    threads = [threading.Thread(target=work) for _ in range(workers)]
+    for thread in threads:
+        thread.start()
+    begin.wait()
+    begun = time.monotonic()
+    for thread in threads:
+        thread.join(SECONDS_ALLOWED)
+    spent = time.monotonic() - begun
+    assert list(records.values()) == case.records, (case.name, workers, records)
+    return 1e3 * spent
+
+
 def spread(times: list[float]) -> str:
     return f"{statistics.median(times):.0f} ({min(times):.0f} to {max(times):.0f})"
 
@@ -342,12 +408,16 @@ def numbers(text: str) -> list[int]:
 
 def words_given() -> argparse.Namespace:
     read = argparse.ArgumentParser(description="Times jobs by settled plans and by record locks.")
+    read.add_argument("--own", action="store_true")
+    read.add_argument("--python", action="store_true")
     read.add_argument("--grove", default=str(PROGRAM), metavar="PROGRAM")
     read.add_argument("--by", type=str.split, default=[], metavar="COMMAND")
     read.add_argument("--runs", type=int, default=5, metavar="N")
     read.add_argument("--workers", type=numbers, default=WORKERS, metavar="N,..")
     read.add_argument("shapes", nargs="*", default=list(SHAPES), metavar="SHAPE")
     given = read.parse_args()
+    if given.own and given.python:
+        read.error("--own has no threads of Python")
     if not set(given.shapes) <= set(SHAPES):
         read.error(f"the shapes are {', '.join(SHAPES)}")
     return given
@@ -365,13 +435,18 @@ def main() -> None:
     given = words_given()
     if not Path(given.grove).exists():
         sys.exit(f"no program {given.grove}: ./grove prove")
-    cases = [case for name in given.shapes for case in cases_of(given.grove, name)]
+    if given.own and not calls.PROGRAM.exists():
+        sys.exit(f"no program {calls.PROGRAM}: cd crates/grove_bench && rt run")
+    ways = OWN_WAYS if given.own else WAYS
+    cases = [case for name in given.shapes for case in cases_of(given.grove, name, ways, given.python)]
     times: dict[tuple[str, int], list[float]] = {}
     loads = []
     with tempfile.TemporaryDirectory(prefix="grove-hot-") as folder:
-        command = [*given.by, str(built(folder))]
+        command = given.by if given.own else [*given.by, str(built(folder))]
+        time_one = own_milliseconds if given.own else milliseconds
         for _, case, workers in itertools.product(range(given.runs), cases, given.workers):
-            times.setdefault((case.name, workers), []).append(milliseconds(command, case, workers))
+            by_locks = case.shape and python_milliseconds(case, case.shape, workers)
+            times.setdefault((case.name, workers), []).append(by_locks or time_one(command, case, workers))
             loads.append(os.getloadavg()[0])
     show(given, cases, times)
     print(f"load {min(loads):.1f} to {max(loads):.1f}")

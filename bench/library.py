@@ -1,5 +1,6 @@
 #!/usr/bin/env python3
-"""Times plans by the library inside Python and Rust, beside `grove plan` as a process, and prints microseconds.
+"""Times plans by the library inside Python and Rust, beside `grove plan` as a process, and transactions by `Locks` of
+bindings/python beside plain locks, and prints microseconds.
 
     usage: bench/library.py [--grove PROGRAM] [--runs N]        (default: the proved program, 200 runs)
 
@@ -9,31 +10,39 @@ Each plan is made in these ways, in turn, N times each; of the process there are
 - Python, Rust by document: the same text by a call over the document's bytes;
 - Python, Rust by kept tree: a plan as a value of the list's accesses, over a tree that the library keeps.
 
-The lists: that of examples/settings.json, and the largest, 64 accesses that force 2,049 of 4,096 nodes. The median is
-printed, and in brackets the least. bench/library.rs, compiled here by `cargo`, is the part in Rust; tools/library has
-to have made the library. Each way has to give the same plan.
+The lists: that of examples/settings.json, and the largest, 64 accesses that force 2,049 of 4,096 nodes. Then come 400
+transactions of two of 64 leaves that do next to nothing, by one thread and by one task, in turn and N times: with
+sorted locks of the two leaves, and by plans that are kept. The last is how long a list takes until it has its plan, of
+a shape that has been planned or hasn't. The median is printed, and in brackets the least. bench/library.rs, compiled
+here by `cargo`, is the part in Rust; tools/library has to have made the library. Each way has to give the same plan.
 """
 from __future__ import annotations
 
 import argparse
+import asyncio
 import json
 import os
 import statistics
 import subprocess
 import sys
 import tempfile
+import threading
 import time
 from dataclasses import dataclass
 from pathlib import Path
-from typing import Callable, Union
+from random import Random
+from typing import Awaitable, Callable, Union
 
 TOP = Path(__file__).resolve().parent.parent
 sys.dont_write_bytecode = True
 sys.path.insert(0, str(TOP / "bindings/python"))
-from pickbracken import Access, Tree, document, plan  # noqa: E402
+from pickbracken import Access, AsyncLocks, Locks, Tree, document, plan  # noqa: E402
 
 PROGRAM = TOP / "crates/grove/out/grove"
 DEPTH, NODES, ACCESSES = 32, 4_096, 64
+LEAVES = [f"/g{number % 8}/leaf{number}" for number in range(64)]
+WEIGHTS = {"/": 64, **{f"/g{number}": 8 for number in range(8)}, **dict.fromkeys(LEAVES, 1)}
+TRANSACTIONS = 400
 MANIFEST = """\
 [package]
 name = "library"
@@ -102,7 +111,9 @@ def main() -> None:
     with tempfile.TemporaryDirectory(prefix="grove-bench-") as room:
         rust = built(Path(room))
         for case in (settings(), largest()):
-            tell(case, timed(case, given.grove, given.runs, rust))
+            tell(case.name, timed(case, given.grove, given.runs, rust))
+    tell("a transaction of 2 accesses", transactions(given.runs))
+    tell("a list that comes first, of 2 accesses", first_times(given.runs))
     print(f"load of the machine: {' '.join(f'{load:.1f}' for load in os.getloadavg())}")
 
 
@@ -159,10 +170,87 @@ def built(room: Path) -> Path:
     return room / "target/release/library"
 
 
-def tell(case: Case, times: dict[str, list[float]]) -> None:
-    print(case.name)
-    for name, seconds in times.items():
-        print(f"  {name:22}{1e6 * statistics.median(seconds):10,.0f} µs ({1e6 * min(seconds):,.0f})")
+def pairs(seed: int) -> list[tuple[str, ...]]:
+    drawn = Random(seed)
+    return [tuple(drawn.sample(LEAVES, 2)) for _ in range(TRANSACTIONS)]
+
+
+def transactions(runs: int) -> dict[str, list[float]]:
+    """The seconds that a transaction takes, in each run of all of them."""
+    records, locks, plain = dict.fromkeys(LEAVES, 0), Locks(WEIGHTS), {path: threading.Lock() for path in LEAVES}
+    todo = pairs(1)
+
+    def by_sorted_locks() -> None:
+        for pair in todo:
+            first, second = sorted(pair)
+            with plain[first], plain[second]:
+                for path in pair:
+                    records[path] += 1
+
+    def planned() -> None:
+        for pair in todo:
+            with locks.transaction(pair) as accesses:
+                for _, path in accesses:
+                    records[path] += 1
+
+    planned()
+    times: dict[str, list[float]] = {"threads, sorted locks": [], "threads, planned": []}
+    for _ in range(runs):
+        times["threads, sorted locks"].append(once(by_sorted_locks) / TRANSACTIONS)
+        times["threads, planned"].append(once(planned) / TRANSACTIONS)
+    need(sum(records.values()) == 2 * TRANSACTIONS * (2 * runs + 1), "an access was lost")
+    return times | asyncio.run(transactions_of_a_task(runs))
+
+
+async def transactions_of_a_task(runs: int) -> dict[str, list[float]]:
+    records, locks, plain = dict.fromkeys(LEAVES, 0), AsyncLocks(WEIGHTS), {path: asyncio.Lock() for path in LEAVES}
+    todo = pairs(1)
+
+    async def by_sorted_locks() -> None:
+        for pair in todo:
+            first, second = sorted(pair)
+            async with plain[first], plain[second]:
+                for path in pair:
+                    records[path] += 1
+
+    async def planned() -> None:
+        for pair in todo:
+            async with locks.transaction(pair) as accesses:
+                async for _, path in accesses:
+                    records[path] += 1
+
+    async def once_awaited(way: Callable[[], Awaitable[None]]) -> float:
+        begun = time.perf_counter()
+        await way()
+        return (time.perf_counter() - begun) / TRANSACTIONS
+
+    await planned()
+    times: dict[str, list[float]] = {"asyncio, sorted locks": [], "asyncio, planned": []}
+    for _ in range(runs):
+        times["asyncio, sorted locks"].append(await once_awaited(by_sorted_locks))
+        times["asyncio, planned"].append(await once_awaited(planned))
+    need(sum(records.values()) == 2 * TRANSACTIONS * (2 * runs + 1), "an access was lost")
+    return times
+
+
+def first_times(runs: int) -> dict[str, list[float]]:
+    """The seconds until a list has its plan that had none: of a shape that hasn't been planned either, and that has."""
+    times: dict[str, list[float]] = {"a new shape": [], "a known shape": []}
+    for _ in range(runs):
+        locks = Locks(WEIGHTS)
+        for path in LEAVES:
+            locks.run([path], lambda number, path: None)
+        times["a new shape"].append(once(lambda: locks.transaction([LEAVES[0], LEAVES[1]])))
+        times["a known shape"].append(once(lambda: locks.transaction([LEAVES[2], LEAVES[3]])))
+    return times
+
+
+def tell(name: str, times: dict[str, list[float]]) -> None:
+    print(name)
+    for way, seconds in times.items():
+        median, least = 1e6 * statistics.median(seconds), 1e6 * min(seconds)
+        digits = 0 if median >= 100 else 1
+        print(f"  {way:22}{median:10,.{digits}f} µs ({least:,.{digits}f})")
 
 
 def need(is_so: bool, otherwise: str) -> None:

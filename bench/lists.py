@@ -9,7 +9,13 @@ from __future__ import annotations
 
 import json
 import random
+import sys
 from dataclasses import dataclass
+from pathlib import Path
+
+sys.dont_write_bytecode = True
+sys.path.insert(0, str(Path(__file__).resolve().parent.parent / "tests"))
+import calls  # noqa: E402
 
 DEEPEST = 32
 ACCESSES = 64
@@ -125,15 +131,8 @@ def document(case):
 
 
 def numbers(case):
-    """What `grove_bench plan` reads: each node's parent (its own number for the root) and weight; each access's node
-    and length."""
-    words = [len(case.rows)]
-    for number, (parent, weight) in enumerate(case.rows):
-        words += [number if parent is None else parent, weight]
-    words.append(len(case.accesses))
-    for node, length in case.accesses:
-        words += [node, length]
-    return " ".join(map(str, words))
+    """What `grove_bench plan` reads: a tree and a list."""
+    return f"{calls.tree_numbers(case.rows)} {calls.list_numbers(case.accesses)}"
 
 
 def forced(case):
@@ -151,9 +150,8 @@ def forced(case):
 
 
 def network(case):
-    """What `grove_bench solve` and the peer read: the numbers of variables and of arcs; of each arc where it begins,
-    where it ends and its least; each variable's need; each one's place to begin from. Row k is the variables 2k and
-    2k + 1, its lock and its release, and the last variable is the base."""
+    """What `grove_bench solve` and the peer read. Row k is the variables 2k and 2k + 1, its lock and its release, and
+    the last variable is the base."""
     nodes = forced(case)
     places = {node: k for k, node in enumerate(nodes)}
     base = 2 * len(nodes)
@@ -172,9 +170,4 @@ def network(case):
         arcs.append((2 * k, 2 * k + 1, 0))
     needs = [need for node in nodes for need in (-case.rows[node][1], case.rows[node][1])] + [0]
     start = [place for _ in nodes for place in (0, slots)] + [0]
-    return network_text(arcs, needs, start)
-
-
-def network_text(arcs, needs, start):
-    lines = [f"{len(needs)} {len(arcs)}", *(" ".join(map(str, arc)) for arc in arcs)]
-    return "\n".join([*lines, " ".join(map(str, needs)), " ".join(map(str, start))])
+    return calls.network_numbers(arcs, needs, start, slots)

@@ -1,6 +1,6 @@
-//! The batches of jobs that `grove_bench batches` runs, by the same plans, with a Mutex a node and nothing else: no
-//! core, no history, no serial order. Each line has what was done, by how many workers, and the nanoseconds. Each is
-//! done once before, so that what is timed is warm.
+//! The batches of jobs that bench/batches.py has `grove_bench` run, by the same plans, with a Mutex a node and nothing
+//! else: no core, no history, no serial order. Each line has what was done, by how many workers, and the nanoseconds.
+//! Each is done once before, so that what is timed is warm.
 use std::hint::black_box;
 use std::sync::atomic::{AtomicUsize, Ordering};
 use std::sync::{Mutex, MutexGuard};

@@ -104,8 +104,7 @@ def planner_seconds(where: serve.Tree, asked: list[list[serve.Access]]) -> float
     rows = [(row["parent"], row["weight"]) for row in json.loads(where.document)["nodes"]]
     numbers = {path: number for number, path in enumerate(where.paths)}
     cases = [lists.Case("", rows, [(numbers[access[1]], 1) for access in one]) for one in asked[:: FIRST // SAMPLED]]
-    told = [peer.told(peer.output([peer.BENCH, "plan"], lists.numbers(case))) for case in cases]
-    return statistics.mean(times["plan"][0] for times in told) / 1e9
+    return statistics.mean(peer.planned(case)[0]["plan"] for case in cases) / 1e9
 
 
 def first(folder: str, given: argparse.Namespace) -> Iterator[Row]:

@@ -1,93 +1,100 @@
+ghost use Rattle.std.specs.Prelude.{◌≡◌, ◌≤◌, length, All};
 ghost use Rattle.grove_access.specs.Lists.{nodes_of, AreNodes};
 
-use crate::laps::Laps;
-use crate::listing::read_list;
+use crate::numbers::{next_count, next_list, next_lists, next_tree};
 use anyhow::{Result, ensure};
 use grove_access::AccessList;
-use grove_build::{Layer, Planned, plan, plan_watched};
+use grove_build::{Planned, plan, plan_batch};
 use grove_plan::judge;
 use grove_proof::check;
-use grove_tree::Tree;
+use grove_span::span;
+use grove_tree::{OpenGate, Tree};
+use std::alloc::AllocGlobal;
+use std::rt::Clock;
+use std::str::SplitWhitespace;
+use std::thread::Threads;
 use std::time::Instant;
 
-/// Of so many runs the least time is told.
+/// How often a list is planned.
 const RUNS: u32 = 50;
 
-/// The layers by their names.
-const LAYERS: [(&str, Layer); 8] = [
-    ("span", Layer::Span),
-    ("network", Layer::Network),
-    ("walk", Layer::Walk),
-    ("test", Layer::Test),
-    ("search", Layer::Search),
-    ("latest", Layer::Latest),
-    ("layout", Layer::Layout),
-    ("rows", Layer::Rows),
-];
-
-/// Times the planner on the list of standard input, each layer and as a whole, and the judge and the checker on its
-/// plan. Prints nanoseconds, how many runs had a search, and the cost.
-pub fn time(rt: &HostRuntime) -> Result<()> {
-    let listed = read_list(rt)?;
-    ensure!(
-        listed.list.fits(&listed.tree),
-        "the list is of another tree"
-    );
-    time_layers(rt, &listed.tree, &listed.list)?;
-    time_plan(rt, &listed.tree, &listed.list)?;
-    time_checks(rt, &listed.tree, &listed.list)
-}
-
-fn time_layers(rt: &HostRuntime, tree: &Tree, list: &AccessList) -> Result<()>
-    requires { AreNodes tree.now (nodes_of list.now) }
-{
-    let mut laps = Laps::new(rt);
-    for _run in 0..RUNS {
-        laps.begin();
-        plan_watched(rt.alloc(), tree, list, &mut laps)?;
-    }
-    tell_laps(rt, &laps)
-}
-
-fn tell_laps(rt: &HostRuntime, laps: &Laps) -> Result<()> {
-    for (name, layer) in LAYERS {
-        let least = laps.least[layer as usize];
-        println!(rt; "{name} {least}")?;
-    }
-    println!(rt; "searches {}", laps.searches)?;
+/// Prints what was done and the nanoseconds that it took.
+pub fn tell<R: Print + Clock>(rt: &R, what: &str, since: Instant) -> Result<()> {
+    let spent = since.elapsed(rt)?.as_nanos();
+    println!(rt; "{what} {spent}")?;
     Ok(())
 }
 
-fn time_plan(rt: &HostRuntime, tree: &Tree, list: &AccessList) -> Result<()>
-    requires { AreNodes tree.now (nodes_of list.now) }
-{
-    let mut least = u128::MAX;
+/// Times the span of a list, its plan, and the judge and the checker of that, each 50 times, and prints the costs.
+pub fn time_plan<R: AllocGlobal + Print + Clock>(
+    rt: &R,
+    told: &mut SplitWhitespace<'_>,
+) -> Result<()> {
+    let tree = next_tree(rt.alloc(), told)?;
+    let list = next_list(rt.alloc(), &tree, told)?;
     for _run in 0..RUNS {
-        let since = Instant::now(rt)?;
-        plan(rt.alloc(), tree, list)?;
-        least = since.elapsed(rt)?.as_nanos().min(least);
+        time_calls(rt, &tree, &list)?;
     }
-    println!(rt; "plan {least}")?;
     Ok(())
 }
 
-fn time_checks(rt: &HostRuntime, tree: &Tree, list: &AccessList) -> Result<()>
+fn time_calls<R: AllocGlobal + Print + Clock>(rt: &R, tree: &Tree, list: &AccessList) -> Result<()>
     requires { AreNodes tree.now (nodes_of list.now) }
 {
+    let since = Instant::now(rt)?;
+    span(rt.alloc(), tree, list)?;
+    tell(rt, "span", since)?;
+    let since = Instant::now(rt)?;
     let planned = plan(rt.alloc(), tree, list)?;
-    time_checks_of(rt, tree, list, &planned)
+    tell(rt, "plan", since)?;
+    time_checks(rt, tree, list, &planned)
 }
 
-/// Times the judge and the checker, which judges too.
-fn time_checks_of(rt: &HostRuntime, tree: &Tree, list: &AccessList, planned: &Planned) -> Result<()>
+/// Times the judge, and the checker, which judges too.
+fn time_checks<R: AllocGlobal + Print + Clock>(
+    rt: &R,
+    tree: &Tree,
+    list: &AccessList,
+    planned: &Planned,
+) -> Result<()>
     requires { AreNodes tree.now (nodes_of list.now) }
 {
     let since = Instant::now(rt)?;
     let judged = judge(rt.alloc(), tree, list, &planned.plan)?;
-    println!(rt; "judge {}", since.elapsed(rt)?.as_nanos())?;
+    tell(rt, "judge", since)?;
     let since = Instant::now(rt)?;
     let checked = check(rt.alloc(), tree, list, &planned.plan, &planned.flow)?;
-    println!(rt; "check {}", since.elapsed(rt)?.as_nanos())?;
+    tell(rt, "check", since)?;
     println!(rt; "cost {judged} {checked}")?;
     Ok(())
+}
+
+/// Times a batch by so many workers, whose number comes before the tree and the lists.
+pub fn time_plans<R: AllocGlobal + Print + Clock + Threads + Sync>(
+    rt: &R,
+    told: &mut SplitWhitespace<'_>,
+) -> Result<()> {
+    let workers = next_count(told)?;
+    let tree = next_tree(rt.alloc(), told)?;
+    let lists = next_lists(rt.alloc(), &tree, told)?;
+    time_batch(rt, &tree, &lists, workers)
+}
+
+fn time_batch<R: AllocGlobal + Print + Clock + Threads + Sync>(
+    rt: &R,
+    tree: &Tree,
+    lists: &[AccessList],
+    workers: u32,
+) -> Result<()> {
+    ensure!(
+        1 <= workers && workers <= 16,
+        "there are too few workers or too many"
+    );
+    ensure!(
+        lists.len() <= 256 && lists.iter().all(|list| list.fits(tree)),
+        "the lists don't fit"
+    );
+    let since = Instant::now(rt)?;
+    plan_batch(rt, rt.alloc(), tree, lists, workers, &OpenGate)?;
+    tell(rt, "plans", since)
 }

@@ -1,133 +1,158 @@
-ghost use Rattle.std.specs.Prelude.{◌<◌};
+ghost use Rattle.std.specs.Prelude.{◌≡◌, ◌≤◌, length};
+ghost use Rattle.grove_core.specs.Runs.{AllLegal};
 
-use crate::again::running::open;
-use crate::branches::{BRANCHES, branches, each_end};
-use crate::steps::{lock, unlock};
-use crate::watch::Watch;
-use anyhow::{Result, bail};
+use crate::numbers::{next_count, next_jobs, next_tree, zeros};
+use crate::planning::tell;
+use anyhow::{Result, ensure};
 use grove_access::Records;
-use grove_core::{Core, Event, Job, serial_order};
-use grove_plan::{Plan, Step};
-use grove_tree::Tree;
-use std::alloc::Global;
+use grove_core::{Core, Event, Job, all_fit, judge_all, serial_order};
+use grove_plan::Step;
+use grove_run::{run_batch, run_legal};
+use grove_tree::{Gate, Tree};
+use std::alloc::AllocGlobal;
+use std::rt::Clock;
+use std::str::SplitWhitespace;
+use std::sync::Wait;
+use std::thread::{Threads, sleep};
+use std::time::{Duration, Instant};
 
-const JOBS: u32 = 256;
+/// More rounds than a run here takes, of which each has a try of each job.
+const ROUNDS: u32 = 1 << 22;
 
-/// How many nodes each chain of its tree has.
-pub const DEPTH: u32 = 32;
-/// At least as many as a plan here has.
-const STEPS: usize = 8_256;
-
-/// Times 256 jobs of 64 accesses over 2,049 nodes each: a round-robin of `Take`s to the end, and the serial order.
-pub fn time(rt: &HostRuntime) -> Result<()> {
-    let tree = tree(rt.alloc())?;
-    let jobs = jobs(rt.alloc(), &tree)?;
-    let records = zeros(rt.alloc(), tree.len())?;
-    time_core(rt, &tree, &records, &jobs)
+/// A gate at which each access takes so many milliseconds: its worker sleeps before it. The job holds its nodes
+/// meanwhile, and the worker no lock of the run's own. Before locks and unlocks nobody sleeps.
+#[derive(Drop)]
+struct Work<'a, R> {
+    rt: &'a R,
+    jobs: &'a [Job],
+    slot: u64,
 }
 
-fn time_core(rt: &HostRuntime, tree: &Tree, records: &Records, jobs: &[Job]) -> Result<()> {
-    let watch = Watch::start(rt)?;
-    let mut core = open(rt, tree, records, jobs)?;
-    time_opened(rt, watch, &mut core)
-}
-
-fn time_opened(rt: &HostRuntime, mut watch: Watch, core: &mut Core) -> Result<()> {
-    watch.lap(rt, "open")?;
-    time_run(rt, core)?;
-    time_order(rt, core)
-}
-
-fn time_run(rt: &HostRuntime, core: &mut Core) -> Result<()> {
-    let mut watch = Watch::start(rt)?;
-    let rounds = take_in_turn(core);
-    watch.lap(rt, "run")?;
-    println!(rt; "  {rounds} rounds of {JOBS} tries")?;
-    Ok(())
-}
-
-fn time_order(rt: &HostRuntime, core: &Core) -> Result<()> {
-    if !core.is_finished() {
-        bail!("some job is left");
+impl<R: Clock> Gate for Work<'_, R> {
+    fn at(&self, txn: u32, step: u32) {
+        let job = self.jobs.get(txn as usize);
+        let step = job.and_then(|job| job.plan.steps().get(step as usize));
+        if let Some(Step::Access(_)) = step {
+            sleep(self.rt, Duration::from_millis(self.slot));
+        }
     }
-    let mut watch = Watch::start(rt)?;
-    let finished = serial_order(rt.alloc(), core)?.len();
-    watch.lap(rt, "order")?;
-    let steps = core.history().len();
-    println!(rt; "  {finished} jobs finished in {steps} steps")?;
+
+    fn is_open(&self) -> bool {
+        self.slot == 0
+    }
+}
+
+/// Runs the same jobs again and again by so many workers, after a first time that isn't told and judges their plans.
+/// Before the tree and the jobs stand how many workers there are, how many runs, and how many milliseconds an access
+/// takes.
+pub fn time_runs<R: AllocGlobal + Print + Clock + Threads + Wait + Sync>(
+    rt: &R,
+    told: &mut SplitWhitespace<'_>,
+) -> Result<()> {
+    let workers = next_count(told)?;
+    let runs = next_count(told)?;
+    let slot = u64::from(next_count(told)?);
+    let tree = next_tree(rt.alloc(), told)?;
+    let jobs = next_jobs(rt.alloc(), &tree, told)?;
+    let work = Work {
+        rt,
+        jobs: &jobs,
+        slot,
+    };
+    run_once(rt, &tree, &work, workers as usize)?;
+    run_often(rt, &tree, &work, workers as usize, runs)
+}
+
+/// The run that isn't told, by which the plans are judged.
+fn run_once<R: AllocGlobal + Print + Clock + Threads + Wait + Sync>(
+    rt: &R,
+    tree: &Tree,
+    work: &Work<'_, R>,
+    workers: usize,
+) -> Result<()> {
+    let records = zeros(rt.alloc(), tree)?;
+    ensure!(
+        records.fits(tree) && all_fit(tree, work.jobs) && work.jobs.len() <= 256,
+        "the jobs don't fit"
+    );
+    run_batch(rt, rt.alloc(), tree, &records, work.jobs, workers, work)?;
     Ok(())
 }
 
-/// The tree of the jobs.
-pub fn tree(alloc: Global) -> Result<Tree> {
-    branches(alloc, DEPTH)
+fn run_often<R: AllocGlobal + Print + Clock + Threads + Wait + Sync>(
+    rt: &R,
+    tree: &Tree,
+    work: &Work<'_, R>,
+    workers: usize,
+    runs: u32,
+) -> Result<()> {
+    let jobs = work.jobs;
+    let records = zeros(rt.alloc(), tree)?;
+    ensure!(
+        records.fits(tree) && all_fit(tree, jobs) && jobs.len() <= 256,
+        "the jobs don't fit"
+    );
+    judge_all(rt.alloc(), tree, jobs)?;
+    for _run in 0..runs {
+        let since = Instant::now(rt)?;
+        run_legal(rt, rt.alloc(), tree, &records, jobs, workers, work)?;
+        tell(rt, "run", since)?;
+    }
+    Ok(())
 }
 
-/// Records of this many nodes, all 0.
-pub fn zeros(alloc: Global, nodes: u32) -> Result<Records> {
-    let zeros = vec![in alloc; 0i64; nodes as usize]?;
-    Ok(Records::new(alloc, &zeros)?)
+/// Opens a core of the jobs that come after their tree, tries a step of each in turn until none is accepted, and asks
+/// for the serial order.
+pub fn time_core<R: AllocGlobal + Print + Clock>(
+    rt: &R,
+    told: &mut SplitWhitespace<'_>,
+) -> Result<()> {
+    let tree = next_tree(rt.alloc(), told)?;
+    let jobs = next_jobs(rt.alloc(), &tree, told)?;
+    let records = zeros(rt.alloc(), &tree)?;
+    open_core(rt, &tree, &records, &jobs)
 }
 
-/// Tries one `Take` of each job in turn, until a round has none that is accepted. Gives the number of rounds before.
-fn take_in_turn(core: &mut Core) -> usize {
-    let most = JOBS as usize * STEPS;
-    for round in 0..most {
+fn open_core<R: AllocGlobal + Print + Clock>(
+    rt: &R,
+    tree: &Tree,
+    records: &Records,
+    jobs: &[Job],
+) -> Result<()> {
+    ensure!(
+        records.fits(tree) && all_fit(tree, jobs) && jobs.len() <= 256,
+        "the jobs don't fit"
+    );
+    let since = Instant::now(rt)?;
+    let mut core = Core::open(rt.alloc(), tree, records, jobs)?;
+    tell(rt, "open", since)?;
+    run_core(rt, &mut core)
+}
+
+fn run_core<R: AllocGlobal + Print + Clock>(rt: &R, core: &mut Core) -> Result<()> {
+    let since = Instant::now(rt)?;
+    let rounds = take_in_turn(core);
+    tell(rt, "run", since)?;
+    ensure!(core.is_finished(), "some job is left");
+    let since = Instant::now(rt)?;
+    let finished = serial_order(rt.alloc(), core)?.len();
+    tell(rt, "order", since)?;
+    let steps = core.history().len();
+    println!(rt; "{finished} jobs finished in {steps} steps and {rounds} rounds")?;
+    Ok(())
+}
+
+/// Tries a `Take` of each job in turn, until a round has none that is accepted. Gives the number of rounds before.
+fn take_in_turn(core: &mut Core) -> u32 {
+    let jobs = core.jobs().len() as u32;
+    for round in 0..ROUNDS {
         let mut accepted = false;
-        for txn in 0..JOBS {
+        for txn in 0..jobs {
             accepted |= core.step(Event::Take(txn)).is_ok();
         }
         if !accepted {
             return round;
         }
     }
-    most
-}
-
-/// The jobs, over their tree.
-pub fn jobs(alloc: Global, tree: &Tree) -> Result<Vec<Job>> {
-    let mut jobs = Vec::with_capacity(alloc, JOBS as usize)?;
-    for _txn in 0..JOBS {
-        jobs.push(job(alloc, tree)?)?;
-    }
-    Ok(jobs)
-}
-
-fn job(alloc: Global, tree: &Tree) -> Result<Job> {
-    let steps = chain_by_chain(alloc)?;
-    if steps.len() > STEPS {
-        bail!("a plan has too many steps");
-    }
-    Ok(Job {
-        list: each_end(alloc, tree, DEPTH)?,
-        plan: Plan::new(steps),
-    })
-}
-
-/// Locks the root and the first node of each chain, lets the root go, and goes down one chain after the other, each
-/// node let go when the next is locked.
-fn chain_by_chain(alloc: Global) -> Result<Vec<Step>> {
-    let mut steps = Vec::with_capacity(alloc, STEPS)?;
-    steps.push(lock(0))?;
-    for branch in 0..BRANCHES {
-        steps.push(lock(branch * DEPTH + 1))?;
-    }
-    steps.push(unlock(0))?;
-    for branch in 0..BRANCHES {
-        go_down(&mut steps, branch)?;
-    }
-    Ok(steps)
-}
-
-fn go_down(steps: &mut Vec<Step>, branch: u32) -> Result<()>
-    requires { branch < 64 }
-{
-    let first = branch * DEPTH + 1;
-    for level in 1..DEPTH {
-        steps.push(lock(first + level))?;
-        steps.push(unlock(first + level - 1))?;
-    }
-    steps.push(Step::Access(branch))?;
-    steps.push(unlock(first + DEPTH - 1))?;
-    Ok(())
+    ROUNDS
 }

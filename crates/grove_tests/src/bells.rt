@@ -1,15 +1,12 @@
-use crate::cues::{Cue, Cues};
-use crate::fixtures::{lock, read, tree_of, unlock};
+use crate::cues::Cue;
+use crate::fixtures::{Host, lock, read, tree_of, unlock};
 use crate::scripts::{Script, job_of, reads};
-use grove_access::Records;
-use grove_core::{Job, all_fit};
+use crate::sleepers::{TIMES, run_by_cues};
+use grove_core::Job;
 use grove_plan::Step;
-use grove_run::run_batch;
 use grove_tree::Tree;
 use std::alloc::Global;
 use std::process::Abort;
-use std::sync::Wait;
-use std::thread::Threads;
 
 /// Two nodes that share a bell, since their numbers are 16 apart.
 const HIGH: u32 = 1;
@@ -55,8 +52,8 @@ fn reads_down(rt: &impl Abort, alloc: Global, tree: &Tree, high: u32, low: u32) 
 /// The first job holds the low node, for which the second waits with the middle one in hand. For that the third waits
 /// with the high node in hand, and for this the fourth, who came to the bell first. Then the first job lets the low
 /// node go.
-fn cues(rt: &impl Abort, alloc: Global) -> Cues {
-    let cues = vec![in alloc;
+fn cues<R: Host>(rt: &R) -> Vec<Cue> {
+    let cues = vec![in rt.alloc();
         Cue::new((1, 0), (0, 1), 0),
         Cue::new((3, 0), (2, 1), 0),
         Cue::new((2, 1), (3, 0), 1_000),
@@ -64,16 +61,7 @@ fn cues(rt: &impl Abort, alloc: Global) -> Cues {
         Cue::new((1, 2), (2, 2), 0),
         Cue::new((0, 1), (2, 2), 2_000),
     ];
-    Cues::new(cues.expect(rt, "room for cues"))
-}
-
-fn run<R: Abort + Threads + Wait + Sync>(rt: &R, alloc: Global, tree: &Tree, jobs: &[Job]) {
-    let records = Records::new(alloc, &[0; 18]).expect(rt, "room for records");
-    assert!(rt; records.fits(tree) && all_fit(tree, jobs) && jobs.len() <= 256);
-    let cues = cues(rt, alloc);
-    let finished = run_batch(rt, alloc, tree, &records, jobs, 4, &cues);
-    assert!(rt; finished.is_ok());
-    assert!(rt; cues.have_come());
+    cues.expect(rt, "room for cues")
 }
 
 #[test]
@@ -86,7 +74,7 @@ fn who_waits_for_a_node_is_woken_beside_those_of_another(rt: HostRuntime) {
         reads_down(&rt, alloc, &tree, HIGH, MIDDLE),
         reads(&rt, alloc, &tree, HIGH),
     ];
-    for _ in 0..20 {
-        run(&rt, alloc, &tree, &jobs);
+    for _ in 0..TIMES {
+        run_by_cues(&rt, &tree, &[0; 18], &jobs, 4, cues(&rt));
     }
 }

@@ -11,13 +11,10 @@ pub trait Host: AllocGlobal + Abort + Threads + Wait + Sync {}
 
 impl<R: AllocGlobal + Abort + Threads + Wait + Sync> Host for R {}
 
-/// The root of the trees with two leaves.
-pub const ROOT: u32 = 0;
-
-/// Its first leaf, `/a`.
+/// The first leaf of the trees with two, `/a`.
 pub const A: u32 = 1;
 
-/// Its second leaf, `/b`.
+/// The second one, `/b`.
 pub const B: u32 = 2;
 
 /// A tree of the rows with these parents, names and weights.
@@ -36,12 +33,7 @@ pub fn tree_of(rt: &impl Abort, alloc: Global, rows: &[(Option<u32>, &str, u32)]
 
 /// A root with two leaves; each node weighs 1.
 pub fn two_leaves(rt: &impl Abort, alloc: Global) -> Tree {
-    leaves_below(rt, alloc, 1)
-}
-
-/// A root of this weight with two leaves that weigh 1 each.
-pub fn leaves_below(rt: &impl Abort, alloc: Global, weight: u32) -> Tree {
-    let rows = [(None, "", weight), (Some(0), "a", 1), (Some(0), "b", 1)];
+    let rows = [(None, "", 1), (Some(0), "a", 1), (Some(0), "b", 1)];
     tree_of(rt, alloc, &rows)
 }
 

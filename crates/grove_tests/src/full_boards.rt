@@ -48,7 +48,7 @@ fn add<B: Opening, R: Host>(rt: &R, desk: &Desk<B>, hold: &Hold) {
 /// Seventeen ask beside a round that is held until there is no room for a further line.
 fn seventeen_beside<B: Opening + Send + Sync, R: Host>(rt: &R, desk: &Desk<B>, hold: &Hold) {
     thread::scope(thread::scope_env(), rt, |scope| {
-        let holds = scope.spawn(move || drop(get_held(rt, desk, hold)));
+        let holds = scope.spawn(move || get_held(rt, desk, hold));
         assert!(rt; holds.is_ok() && hold.is_reached());
         for _ in 0..17 {
             let asks = scope.spawn(move || add(rt, desk, hold));
@@ -61,7 +61,7 @@ fn seventeen_beside<B: Opening + Send + Sync, R: Host>(rt: &R, desk: &Desk<B>, h
 
 #[test]
 fn no_more_than_16_lines_wait_and_the_next_one_is_answered_later(rt: HostRuntime) {
-    let store = small_store(&rt, 1);
+    let store = small_store(&rt);
     seventeen_ask::<Brand, HostRuntime>(&rt, store);
 }
 

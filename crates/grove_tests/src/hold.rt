@@ -1,5 +1,5 @@
 use crate::fixtures::Host;
-use grove_desk::{Desk, Opening, Receipt};
+use grove_desk::{Desk, Opening};
 use grove_tree::Gate;
 use std::sync::atomic::{AtomicBool, AtomicU32, Ordering};
 use std::thread::yield_now;
@@ -26,7 +26,6 @@ pub struct Hold {
     is_held: AtomicBool,
     may_go: AtomicBool,
     gave_up: AtomicBool,
-    is_over: AtomicBool,
     came: AtomicU32,
 }
 
@@ -36,7 +35,6 @@ impl Hold {
             is_held: AtomicBool::new(false),
             may_go: AtomicBool::new(false),
             gave_up: AtomicBool::new(false),
-            is_over: AtomicBool::new(false),
             came: AtomicU32::new(0),
         }
     }
@@ -61,11 +59,6 @@ impl Hold {
         self.may_go.store(true, Ordering::SeqCst);
     }
 
-    /// Has the one who asked for the round got a receipt?
-    pub fn is_over(&self) -> bool {
-        self.is_over.load(Ordering::SeqCst)
-    }
-
     /// Was the round never let go?
     pub fn gave_up(&self) -> bool {
         self.gave_up.load(Ordering::SeqCst)
@@ -84,8 +77,7 @@ impl Gate for Hold {
 }
 
 /// Asks for a round that is held.
-pub fn get_held<B: Opening, R: Host>(rt: &R, desk: &Desk<B>, hold: &Hold) -> Receipt {
+pub fn get_held<B: Opening, R: Host>(rt: &R, desk: &Desk<B>, hold: &Hold) {
     let answered = desk.answer(rt, rt.alloc(), None, GET, hold);
-    hold.is_over.store(true, Ordering::SeqCst);
-    answered.expect(rt, "a receipt")
+    assert!(rt; answered.is_ok());
 }

@@ -49,7 +49,7 @@ fn ask<B: Opening, R: Host>(rt: &R, desk: &Desk<B>, turn: u32) {
 /// Three ask, one after the other, beside a round that is held until all three wait.
 fn three_beside<B: Opening + Send + Sync, R: Host>(rt: &R, desk: &Desk<B>, hold: &Hold) {
     thread::scope(thread::scope_env(), rt, |scope| {
-        let holds = scope.spawn(move || drop(get_held(rt, desk, hold)));
+        let holds = scope.spawn(move || get_held(rt, desk, hold));
         assert!(rt; holds.is_ok() && hold.is_reached());
         for turn in 0..3 {
             let asks = scope.spawn(move || ask(rt, desk, turn));
@@ -61,7 +61,7 @@ fn three_beside<B: Opening + Send + Sync, R: Host>(rt: &R, desk: &Desk<B>, hold:
 
 #[test]
 fn lines_that_a_round_leaves_over_are_answered_in_order(rt: HostRuntime) {
-    let store = small_store(&rt, 1);
+    let store = small_store(&rt);
     two_are_left_over::<Brand, HostRuntime>(&rt, store);
 }
 

@@ -35,9 +35,9 @@ const TOGETHER: [&[u8]; 2] = [
 
 #[test]
 fn lines_that_come_together_are_done_in_turn_or_together(rt: HostRuntime) {
-    let store = small_store(&rt, 1);
+    let store = small_store(&rt);
     lines_are_done::<Brand, HostRuntime>(&rt, store, false, FOUND[0], APART);
-    let store = small_store(&rt, 1);
+    let store = small_store(&rt);
     lines_are_done::<Brand, HostRuntime>(&rt, store, true, FOUND[1], TOGETHER);
 }
 

@@ -1,4 +1,5 @@
 ghost use Rattle.std.specs.Prelude.{◌≡◌, ℕ, ◌+◌, ◌*◌, ◌<◌, length, pos, negsuc, true};
+ghost use Rattle.std.specs.Prelude.{◌≤ℤ◌};
 ghost use Rattle.grove_flow.specs.Networks.{AreArcsOf, HasOwnArcs, IsArcOf, IsMet, IsModest, IsNetwork, IsStart};
 ghost use Rattle.grove_flow.specs.Networks.{arc_at, place};
 
@@ -56,7 +57,8 @@ fn is_arc(arc: Arc, count: usize) -> bool
     (arc.from as usize) < count && (arc.to as usize) < count && is_modest(arc.least)
 }
 
-fn is_modest(number: i64) -> bool
+/// Whether a number is near enough to 0 for a place.
+pub fn is_modest(number: i64) -> bool
     ensures { result ≡ true → IsModest number }
 {
     -1_048_576 <= number && number <= 1_048_576
@@ -99,6 +101,18 @@ fn are_modest(places: &[i64]) -> bool
 {
     for place in places {
         if !is_modest(*place) {
+            return false;
+        }
+    }
+    true
+}
+
+/// Whether no place is above the highest one.
+pub fn are_at_most(places: &[i64], top: i64) -> bool
+    ensures { result ≡ true → (v : ℕ) → v < length places.now → place places.now v ≤ℤ top }
+{
+    for place in places {
+        if *place > top {
             return false;
         }
     }
