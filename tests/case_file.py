@@ -97,6 +97,8 @@ def add_connection(case, kind, manners, body):
         case.connections.append(Connection(bytes_of(body, manners)))
     elif kind == "talk":
         lines = [bytes_of(line + "\n", manners) for line in body.split("\n")[:-1]]
+        if not lines or len(lines) % 2:
+            raise BadCase("a talk has lines, and a reply to each")
         lines = [line.removesuffix(b"\n") + b"\n" for line in lines]
         case.connections.append(Connection(b"".join(lines[::2]), "", b"".join(lines[1::2])))
     elif case.connections and not case.connections[-1].replies:

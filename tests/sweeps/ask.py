@@ -6,9 +6,11 @@ from __future__ import annotations
 import errno
 import json
 import os
+import signal
 import socket
 import struct
 import subprocess
+import time
 from collections.abc import Iterable
 from functools import partial
 
@@ -16,13 +18,16 @@ from server import HOST, Serving, free_port
 from store import Store, compact
 
 from sweeps.canned import Canned
-from sweeps.connections import ADD, REPLIES, TEXT, TREE, WEIGHTS
 from sweeps.program import DEVICE, Ran, Tally, Try, because, run
 from sweeps.talks import lines_of, look, note_replies
+from sweeps.ten_lines import ADD, REPLIES, TEXT, TREE, WEIGHTS
 
 TRIED = "runs of the client, and lines that they asked"
 BAD = b'{"batch":3}\n'
 OK, REFUSED = 0, 1
+REPLY = b'{"places":[0],"replies":[[1]],"round":1}\n'
+# For how long a silent server is waited for here, and how long a client may take to end.
+WAITED, LONGEST = 2.0, 30.0
 # So many hints of one run are printed.
 MOST_HINTS = 100
 # A line has at most so many bytes.
@@ -43,6 +48,7 @@ def tries(program: str, room: str) -> list[Try]:
         Try("standard input and output that fail", partial(streams, program)),
         Try("standard streams that are closed", partial(closed, program)),
         Try("bytes as they come", partial(exact, program)),
+        Try("a server that falls silent", partial(silent, program)),
     ]
 
 
@@ -186,6 +192,40 @@ def explained(program: str, tally: Tally) -> None:
         tally.compare("a connection that is reset", ask(program, server.port, "--explain", text=ADD), wanted)
 
 
+class Silent(Canned):
+    """A server that answers a line, and then says nothing until its client has left."""
+
+    def say(self, connection: socket.socket) -> None:
+        connection.recv(1 << 16)
+        connection.sendall(REPLY)
+        while connection.recv(1 << 16):
+            pass
+
+
+def silent(program: str, tally: Tally) -> None:
+    """A batch may take long, so a reply is waited for as long as nobody ends that. What came before is printed already,
+    and a signal ends the client, whichever a person or a script sends."""
+    for number in (signal.SIGTERM, signal.SIGINT, signal.SIGHUP):
+        with Silent() as server:
+            end_by(program, server.port, number, tally)
+
+
+def end_by(program: str, port: int, number: signal.Signals, tally: Tally) -> None:
+    # (who ignores a signal, as under nohup, has children that ignore it)
+    words = ["env", "--default-signal", program, "ask", "--port", str(port)]
+    with subprocess.Popen(words, stdin=subprocess.PIPE, stdout=subprocess.PIPE, stderr=subprocess.PIPE) as started:
+        started.stdin.write(2 * ADD)
+        started.stdin.flush()
+        came = started.stdout.readline()
+        tally.note("the first reply", None if came == REPLY else f"came {came!r}")
+        time.sleep(WAITED)
+        tally.note("the wait", None if started.poll() is None else f"status {started.poll()}")
+        started.send_signal(number)
+        out, err = started.communicate(timeout=LONGEST)
+        is_well = (started.returncode, out, err) == (-number, b"", b"")
+        tally.note(f"its end by {number.name}", None if is_well else f"{started.returncode} {out!r} {err!r}")
+
+
 class Broken(Canned):
     """A server that reads a line, and resets the connection."""
 
@@ -223,10 +263,13 @@ def closed(program: str, tally: Tally) -> None:
 
 
 def exact(program: str, tally: Tally) -> None:
-    """Replies of any bytes are printed as they are; those that begin as an error does give status 1."""
-    odd = (b" \t\x00\xff\r\n", b"\n", b'{"error":"busy"}\n', b'{"error" :1}\n', b"x" * 100_000 + b"\n")
-    for replies in ((reply,) for reply in odd):
-        status = REFUSED if replies[0].startswith(b'{"error":') else OK
+    """Replies of any bytes are printed as they are, those of several reads too, and in the order in which they came.
+    Those that begin as an error does give status 1."""
+    each = bytes(value for value in range(256) if value != ord("\n"))
+    long = bytes(each[at * at % 251 + at % 5] for at in range(100_000))
+    odd = (b" \t\x00\xff\r\n", b"\n", b'{"error":"busy"}\n', b'{"error" :1}\n', each + b"\n", long + b"\n")
+    for replies in (*((reply,) for reply in odd), odd, odd[::-1]):
+        status = REFUSED if any(reply.startswith(b'{"error":') for reply in replies) else OK
         with Replying(*replies) as server:
             came = ask(program, server.port, text=len(replies) * ADD)
             tally.compare(f"{replies[0][:40]!r}", came, Ran(status, b"".join(replies), b""))

@@ -20,9 +20,10 @@ from history import fault_of_history
 from server import Serving, connected, talk, talk_in_turn
 from store import Store, compact
 
-from sweeps.connections import ADD, GET, TREE, WEIGHTS, flood
+from sweeps.connections import flood
 from sweeps.program import Tally, Try, until_well
 from sweeps.talks import note_replies
+from sweeps.ten_lines import ADD, GET, TREE, WEIGHTS
 
 TRIED = "lines of clients among others that are broken"
 GOOD = 8

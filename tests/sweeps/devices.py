@@ -27,6 +27,16 @@ MOST_CALLS = 20_000
 # A terminal holds no more than this before it is read. Ctrl-D is typed at the end of an input.
 TERMINAL_HOLDS = 4000
 END_OF_INPUT = b"\x04"
+# The members of the document that each command awaits; `tree` awaits a table.
+AWAITED = {
+    "judge": ("nodes", "list", "plan"),
+    "check": ("nodes", "list", "plan", "flow"),
+    "plan": ("nodes", "list"),
+    "draw": ("nodes", "list"),
+    "run": ("nodes", "lists"),
+    "audit": ("nodes", "jobs", "events"),
+    "tree": (),
+}
 # What `--explain` says before the system's reason.
 NO_READ, NO_WRITE = "cannot read standard input", "cannot write standard output"
 # If standard error fails too, nothing can be printed.
@@ -41,6 +51,7 @@ def tries(program: str, room: str) -> list[Try]:
         Try("why standard output failed", partial(explained_output, program)),
         Try("why standard input failed", partial(explained_input, program)),
         Try("why a call failed", partial(explained_call, program, library)),
+        Try("standard output that takes nothing", partial(idle_output, program, library)),
         Try("each write of standard output", partial(fail_each, program, library, "output")),
         Try("each read of standard input", partial(fail_each, program, library, "input")),
         Try("standard error while there is an answer", partial(unused_errors, program)),
@@ -104,6 +115,14 @@ def explained_call(program: str, library: str, tally: Tally) -> None:
             with failing(library, kind, 1, {}) as (how, _):
                 ran = run(program, *asked.words, text=asked.text, **how)
             tally.compare(f"{asked.name}, {kind}", ran, because(reason, errno.EIO))
+
+
+def idle_output(program: str, library: str, tally: Tally) -> None:
+    """Each write takes no byte, and reports no fault."""
+    for asked in examples():
+        surroundings = {**os.environ, "LD_PRELOAD": library, "OUTPUT_AT_MOST": "0"}
+        ran = run(program, *asked.words, text=asked.text, env=surroundings)
+        tally.compare(f"{asked.name}, nothing taken", ran, DEVICE)
 
 
 def cut_output(program: str, tally: Tally) -> None:
@@ -227,14 +246,30 @@ def endless(program: str, tally: Tally) -> None:
 
 
 def terminal(program: str, tally: Tally) -> None:
-    """At a terminal it is said what is awaited there, unless the document has a name."""
+    """At a terminal it is said what is awaited there, word for word, unless the document has a name."""
     for asked in (it for it in examples() if it.status == 0 and len(it.text) < TERMINAL_HOLDS):
-        awaited = b'hint: "%s" reads a JSON document with ' % asked.words[0].encode()
+        awaited = awaited_by(asked.words[0])
         ran = typed(program, asked.words, asked.text)
-        is_well = ran == Ran(0, asked.output, b"") and ran.hint.startswith(awaited)
-        tally.note(asked.name, None if is_well else f"wanted {asked.output!r} and a line {awaited!r}..; came {ran}")
+        is_well = ran == Ran(0, asked.output, b"") and ran.hint == awaited
+        fault = f"wanted {asked.output!r} and {awaited!r}; came {ran}, {ran.hint!r}"
+        tally.note(asked.name, None if is_well else fault)
+    for command in AWAITED:
+        ran = typed(program, (command,), b"/\n" if command == "tree" else b"{}")
+        is_well = (ran.hint + ran.err).startswith(awaited_by(command)) and ran.status == (0 if command == "tree" else 1)
+        tally.note(command, None if is_well else f"wanted {awaited_by(command)!r}; came {ran}")
     for asked in named_examples():
         tally.note(asked.name, asked.fault(typed(program, asked.words, b"")))
+
+
+def awaited_by(command: str) -> bytes:
+    """What is said of the input that the command awaits."""
+    if command == "tree":
+        said = "reads lines of path,weight,value from standard input, up to their end (Ctrl-D)"
+    else:
+        *others, last = (f'"{member}"' for member in AWAITED[command])
+        members = f"{', '.join(others)} and {last}" if others else last
+        said = f"reads a JSON document with {members} from standard input, up to its end (Ctrl-D)"
+    return f'hint: "{command}" {said}\n'.encode()
 
 
 def typed(program: str, words: tuple[str, ...], text: bytes) -> Ran:

@@ -1,17 +1,17 @@
 """Drawings of seeded documents, of which half have a plan of their own: the bars and costs are those of the plans, as
-tests/plans.py works them out, in the SVG and in the text alike. The SVG is well-formed; no bar lies over another, and
-each lies between the lines of its slots."""
+tests/plans.py works them out, in the SVG and in the text alike. So is each other text in them. The SVG is well-formed;
+no bar lies over another, and each lies between the lines of its slots. Names and columns are as wide as they may be."""
 
 from __future__ import annotations
 
 import json
 import re
 from functools import partial
-from itertools import combinations
+from itertools import accumulate, combinations
 from typing import Iterator
 from xml.etree import ElementTree
 
-from plans import bars_of_plan, cost_of_plan
+from plans import bars_of_plan, cost_of_plan, length_of
 from tree import Tree
 
 from sweeps.documents import put_back, seeded
@@ -22,8 +22,16 @@ SEEDED = 200
 SVG = "{http://www.w3.org/2000/svg}"
 
 
+# How wide the names of a drawing in letters are at most, and of how many accesses each has room for its word.
+WIDEST_NAME, FEW = 30, 12
+NEAR = (-1, 0, 1, 2)
+
+
 def tries(program: str, _room: str) -> list[Try]:
-    return [Try(f"seeded document {seed}", partial(draw_each, program, seed)) for seed in range(SEEDED)]
+    return [Try(f"seeded document {seed}", partial(draw_each, program, seed)) for seed in range(SEEDED)] + [
+        Try("names about as long as there is room for", partial(widest_names, program)),
+        Try("about as many accesses as have room for their words", partial(few_accesses, program)),
+    ]
 
 
 def draw_each(program: str, seed: int, tally: Tally) -> None:
@@ -49,10 +57,42 @@ def whole_plan(document: dict) -> list:
 
 def told_of(document: dict, steps: list) -> dict:
     tree = Tree(document["nodes"])
+    bars = bars_of_plan(tree, document["list"], steps)
     return {
         "cost": cost_of_plan(tree, document["list"], steps),
-        "bars": bars_of_plan(tree, document["list"], steps),
+        "bars": bars,
+        "rows": [row_of(tree, document["list"], bar, at == 0) for at, bar in enumerate(bars)],
+        "times": times_of(document["list"]),
+        "accesses": [access_line(at, access) for at, access in enumerate(document["list"])],
     }
+
+
+def times_of(accesses: list) -> list[int]:
+    """The slots at which the accesses begin, and the one at which the last ends."""
+    return list(accumulate(map(length_of, accesses), initial=0))
+
+
+def row_of(tree: Tree, accesses: list, bar: tuple, is_first: bool) -> dict:
+    """The texts of a bar: its path, its name, its weight, the words of the accesses of its node, and its cost."""
+    path, lock, release, cost = bar
+    held = times_of(accesses)[release] - times_of(accesses)[lock]
+    weight = tree.weights[tree.node_of[path]]
+    words = [word for word, at, *_ in accesses if at == path]
+    name = path if is_first else path.rpartition("/")[2]
+    return {"path": path, "ends": (lock, release), "name": name, "words": words, "cost": (weight, held, cost)}
+
+
+def access_line(at: int, access: list) -> str:
+    """What is told of an access below the drawing."""
+    word, path, *numbers = access
+    number = f" {numbers[0]}" if word != "get" else ""
+    length = length_of(access)
+    return f"access {at}: {word} {path}{number}" + (f", {length} slots" if length != 1 else "")
+
+
+def saved_of(wanted: list[dict]) -> int | None:
+    """What the settled plan saves, if the document has one of its own."""
+    return wanted[0]["cost"] - wanted[1]["cost"] if len(wanted) == 2 else None
 
 
 def drawing_fault(ran: Ran, read, wanted: list[dict]) -> str | None:
@@ -71,8 +111,11 @@ def in_svg(text: str, wanted: list[dict]) -> Iterator[str]:
         return
     plans = [it for it in top.iter(f"{SVG}g") if it.get("class") == "plan"]
     came = [{"cost": int(it.get("data-cost")), "bars": [bar_in(row) for row in rows_in(it)]} for it in plans]
-    if came != wanted:
+    if came != [{"cost": it["cost"], "bars": it["bars"]} for it in wanted]:
         yield f"wanted {wanted}; came {came}"
+    shown = ["".join(it.itertext()) for it in top.iter() if it.tag in (f"{SVG}text", f"{SVG}title")]
+    if shown != texts_of(wanted):
+        yield f"wanted the texts {texts_of(wanted)}; came {shown}"
     if any(sum(bar[-1] for bar in it["bars"]) != it["cost"] for it in came):
         yield f"the bars don't add up to the cost: {came}"
     boxes = [box for it in top.iter() if (box := box_of(it)) and "bar" in it.get("class", "")]
@@ -81,6 +124,21 @@ def in_svg(text: str, wanted: list[dict]) -> Iterator[str]:
     yield from (f"a bar is outside: {box}" for box in boxes if box[0] < 0 or box[2] > width)
     for plan in plans:
         yield from misplaced(plan)
+
+
+def texts_of(wanted: list[dict]) -> list[str]:
+    """All texts of an SVG, in their order."""
+    texts = []
+    titles = ("The settled plan",) if len(wanted) == 1 else ("The document's plan", "The settled plan")
+    for title, it in zip(titles, wanted):
+        texts += [f"{title}: cost {it['cost']}", "node", "weight", "weight × slots = cost", *map(str, it["times"])]
+        for row in it["rows"]:
+            lock, release = row["ends"]
+            weight, held, cost = row["cost"]
+            texts += [f"{row['path']}: locked before access {lock}, released before access {release}"]
+            texts += [row["name"], str(weight), *row["words"], f"{weight} × {held} = {cost}"]
+    saved = [f"The settled plan saves {saved_of(wanted)}"] if saved_of(wanted) is not None else []
+    return [*texts, *saved, *wanted[-1]["accesses"]]
 
 
 def rows_in(plan) -> list:
@@ -124,5 +182,38 @@ def in_text(text: str, wanted: list[dict]) -> Iterator[str]:
         yield f"wanted the bars {bars}; came {rows}"
     if len(wanted) == 2 and f"\nsaved: {costs[0] - costs[1]}\n" not in text:
         yield "what is saved isn't told"
-    if any(len(line) > 130 for line in text.splitlines()):
+    lines = text.splitlines()
+    if any(len(line) > 130 for line in lines):
         yield "a line is longer than a terminal is wide"
+    accesses = [line for line in lines if line.startswith("access ")]
+    if accesses != wanted[-1]["accesses"]:
+        yield f"wanted the accesses {wanted[-1]['accesses']}; came {accesses}"
+    if rows != [row["cost"] for it in wanted for row in it["rows"]]:
+        yield f"the rows are {rows}"
+
+
+# ---- as wide as there is room for
+
+
+def widest_names(program: str, tally: Tally) -> None:
+    """A path of so many letters is shown whole; of a longer one its last letters stand behind two dots."""
+    for more in NEAR:
+        first, name = "n" * 20, "m" * (WIDEST_NAME + more - 22)
+        names = enumerate(("", first, name))
+        rows = [{"parent": at - 1 if at else None, "name": each, "weight": 1} for at, each in names]
+        path = f"/{first}/{name}"
+        ran = run(program, "draw", "--text", text=json.dumps({"nodes": rows, "list": [["get", path]]}).encode())
+        wanted = path if len(path) <= WIDEST_NAME else f"..{path[2 - WIDEST_NAME :]}"
+        shown = ran.out.decode().splitlines()[2].split(" ")[0] if ran.status == 0 else ""
+        tally.note(f"{len(path)} letters", None if shown == wanted else f"wanted {wanted!r}; came {ran}")
+
+
+def few_accesses(program: str, tally: Tally) -> None:
+    """Of so many accesses each has room for its word, however short it is beside another; of more there need not be."""
+    rows = [{"parent": 0 if at else None, "name": name, "weight": 1} for at, name in enumerate(("", "a", "b"))]
+    for more in NEAR:
+        accesses = [["take", "/a", 1, 1000]] + [["take", "/b", 1, 1]] * (FEW + more - 1)
+        document = {"version": 2, "nodes": rows, "list": accesses}
+        ran = run(program, "draw", "--text", text=json.dumps(document).encode())
+        words, wanted = ran.out.count(b"take", 0, ran.out.find(b"access 0")), FEW + more if more <= 0 else 1
+        tally.note(f"{FEW + more} accesses", None if words == wanted else f"{words} words, {ran.out.decode()}")

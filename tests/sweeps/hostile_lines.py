@@ -20,9 +20,9 @@ from server import PIECE, Serving, connected
 from store import Store
 from web import Client
 
-from sweeps.connections import TREE, WEIGHTS
 from sweeps.program import Tally, Try
 from sweeps.talks import note_replies
+from sweeps.ten_lines import TREE, WEIGHTS
 
 TRIED = "lines of the longest length, and honest ones beside them"
 LONGEST_LINE = 1_048_576

@@ -1,5 +1,5 @@
 """Plans that a store keeps: a list that is asked for again costs fewer growths than at first, and as few once 1,024
-plans are kept in all. So it isn't planned again."""
+plans are kept in all. So it isn't planned again; but it is once there was one more."""
 
 from __future__ import annotations
 
@@ -28,6 +28,7 @@ FIRST = [["get", f"/n{number % 8}"] for number in range(64)]
 BEFORE = [["get", f"/n{(number + 1) % 8}"] for number in range(64)]
 # With those two, as many as are kept.
 OTHERS = [[["get", f"/n{number // 1000}", number % 1000 + 1]] for number in range(MOST_KEPT - 2)]
+ONE_MORE = [["get", "/n15"]]
 
 
 def tries(program: str, room: str) -> list[Try]:
@@ -57,18 +58,22 @@ def ask_again(program: str, library: str, line_of, others: Iterable[bytes], tall
         for line in others:
             ask(line, tally)
         at_last = ask(line_of(FIRST), tally)
+        ask(line_of(ONE_MORE), tally)
+        afterwards = ask(line_of(FIRST), tally)
     tally.blame("again", None if again < at_first else f"{at_first} growths at first, and {again} again")
     tally.blame(f"with {MOST_KEPT} kept", None if at_last == again else f"{again} growths again, and {at_last} at last")
+    fault = f"{again} growths again, and {afterwards} afterwards"
+    tally.blame("with one more", None if afterwards > again else fault)
 
 
 @contextlib.contextmanager
-def asking(program: str, library: str) -> Iterator:
+def asking(program: str, library: str, document: bytes = DOCUMENT) -> Iterator:
     """A call that has a line answered by a server, and gives the growths that it took."""
     ends, tell = os.pipe()
     surroundings = {**os.environ, "LD_PRELOAD": library, "GROWTHS_TELL": str(tell)}
     try:
         os.set_blocking(ends, False)
-        with Serving(program, DOCUMENT, env=surroundings, pass_fds=(tell,)) as server:
+        with Serving(program, document, env=surroundings, pass_fds=(tell,)) as server:
             with connected(server.port) as connection, connection.makefile("rb") as replies:
                 yield partial(growths_of, connection, replies, ends)
     finally:

@@ -2,25 +2,28 @@
 
 from __future__ import annotations
 
+import itertools
 import json
 import os
+import re
 import shutil
 import socket
 import subprocess
 import time
-from contextlib import ExitStack
+from contextlib import ExitStack, suppress
 from functools import partial
 from pathlib import Path
 
-from exposition import KIND, BadText, families_in, samples_in
+from exposition import KIND, BadText, Family, families_in, samples_in
 from server import Serving, connected, free_port
 from store import MOST_LINE
-from web import Client, request
+from web import Client, post, request
 
-from sweeps.connections import ADD, GET, TREE, WEIGHTS
+from sweeps.idle import UNTAKEN, large_tree, narrow
 from sweeps.preloaded import library_of
 from sweeps.program import Tally, Try
 from sweeps.talks import lines_of
+from sweeps.ten_lines import ADD, GET, TREE, WEIGHTS
 
 TRIED = "counts of a server"
 SLOTS, HTTP_SLOTS = 16, 64
@@ -40,6 +43,23 @@ PLANNED = (
     (ABSENT, 6, 5, 3),
     (GET, 7, 6, 3),
 )
+# What each port has a column of, and the lines of a client there that sends no more.
+COLUMNS = ("accepted_connections", "turned_away_connections", "idled_connections", "received_bytes", "sent_bytes")
+PROTOCOLS = ("tcp", "http")
+LINES_CLOSED = (b"".join(LINES), post(b"".join(LINES)))
+LATE = 2
+# So long that those who come late find all slots taken, on a machine with other work too.
+IDLE = ("--idle", "6")
+# Turns, each fourth of which is long, and the least share of the time seen outside that it may have.
+TURNS, LEAST_SHARE = 12, 50
+TIMES = "grove_round_duration_seconds"
+STEPS = ("1", "2", "5")
+BOUNDS = (*(f"0.{'0' * zeros}{step}" for zeros in (4, 3, 2, 1, 0) for step in STEPS), "1", "2", "5", "10", "+Inf")
+LEAVES = [f"n{number}" for number in range(1, 2000)]
+ROOT = {"parent": None, "name": "", "weight": 5}
+LARGE = json.dumps({"nodes": [ROOT] + [{"parent": 0, "name": name, "weight": 1} for name in LEAVES]}).encode()
+LISTS = [[["get", f"/{LEAVES[(at * 7 + each * 13) % len(LEAVES)]}"] for each in range(64)] for at in range(256)]
+LONG_LINE = json.dumps({"batch": LISTS}).encode() + b"\n"
 # How many looks wait, and within how many seconds they have left their slots.
 LOOKS, SOON = 8, 10.0
 MEMORY = "process_resident_memory_bytes"
@@ -57,6 +77,8 @@ STATMS = (
     (b"900 %d 20 3 0 9 0\n" % (2**64 // PAGE), None),
     (b"900 %d 20 3 0 9 0\n" % 2**64, None),
 )
+# Which families there are.
+PAGES = Path(__file__).parents[2] / "docs/PAGE.md"
 # How long a count that follows an answer may be waited for.
 LONGEST = 60.0
 
@@ -73,7 +95,10 @@ def tries(program: str, room: str) -> list[Try]:
         Try("looks that are left", partial(left_looks, program)),
         Try("connections that come and go", partial(come_and_go, program)),
         Try("connections that idle or find no slot", partial(idle_and_busy, program)),
+        Try("what comes and goes at each port", partial(columns, program)),
+        Try("how long turns take", partial(times_of_turns, program)),
         Try("at a page alone", partial(at_a_page, program)),
+        Try("the families", partial(families, program)),
         Try("what promtool says", partial(checked, program)),
     ]
 
@@ -149,8 +174,6 @@ def lines_and_bytes(program: str, tally: Tally) -> None:
         once_well(server.http, wanted, "after the lines", tally)
         started = metrics_at(server.http)["process_start_time_seconds"]
         tally.note("the start", None if before - 2 <= started <= time.time() else f"it is {started}")
-        sum_of_times = metrics_at(server.http)["grove_round_duration_seconds_sum"]
-        tally.note("the times", None if 0 < sum_of_times < LONGEST else f"their sum is {sum_of_times}")
 
 
 def bodies(program: str, tally: Tally) -> None:
@@ -288,17 +311,137 @@ def come_and_go(program: str, tally: Tally) -> None:
 
 
 def idle_and_busy(program: str, tally: Tally) -> None:
-    """Connections that idle are counted when they are ended, and so are those that find no slot."""
-    with Both(program, "--busy", "--idle", "1") as server, ExitStack() as room:
-        clients = [room.enter_context(connected(server.port)) for _ in range(SLOTS)]
-        once_well(server.http, by_protocol("grove_connections", SLOTS), "all are there", tally)
-        with connected(server.port) as late:
-            tally.note("the late one", None if b"busy" in late.recv(100) else "it isn't turned away")
-        for client in clients:
-            client.recv(1)
-        wanted = {**by_protocol("grove_idled_connections_total", SLOTS), **by_protocol("grove_connections", 0)}
-        turned = by_protocol("grove_turned_away_connections_total", 1, 0)
-        once_well(server.http, {**wanted, **turned}, "in the end", tally)
+    """Connections that idle are counted when they are ended, those that take no replies among them, and so are those
+    that find no slot."""
+    with Both(program, "--busy", *IDLE, document=large_tree()) as server, ExitStack() as room:
+        for protocol, port, slots in (("tcp", server.port, SLOTS), ("http", server.http, HTTP_SLOTS)):
+            clients = [room.enter_context(narrow(port)) for _ in range(slots)]
+            for client, text in zip(clients[::2], itertools.cycle(UNTAKEN[protocol][:1])):
+                client.sendall(text)
+            in_use = f'grove_connections{{protocol="{protocol}"}}'
+            once_well(server.http, {in_use: slots}, f"all are there over {protocol}", tally)
+            with connected(port) as late:
+                tally.note(f"late over {protocol}", None if b"busy" in late.recv(1000) else "it isn't turned away")
+            for client in clients[1::2]:
+                client.recv(1)
+        wanted = by_protocol("grove_idled_connections_total", SLOTS, HTTP_SLOTS)
+        turned = by_protocol("grove_turned_away_connections_total", 1, 1)
+        once_well(server.http, {**wanted, **turned, **by_protocol("grove_connections", 0, 1)}, "in the end", tally)
+
+
+class Looking:
+    """Looks at the metrics, each over a connection of its own, whose bytes are known."""
+
+    ASKED = request("GET", "/metrics", None, "connection: close")
+
+    def __init__(self, port: int):
+        self.port, self.looks, self.came = port, 0, 0
+
+    def look(self) -> tuple[dict[str, float], dict[str, float]]:
+        """What is told, and what of it is of the looks themselves: of this one all but its response."""
+        self.looks += 1
+        own = {
+            'grove_accepted_connections_total{protocol="http"}': self.looks,
+            'grove_received_bytes_total{protocol="http"}': self.looks * len(self.ASKED),
+            'grove_sent_bytes_total{protocol="http"}': self.came,
+        }
+        came = all_of(self.port, self.ASKED)
+        self.came += len(came)
+        return samples_in(came.partition(b"\r\n\r\n")[2].decode()), own
+
+    def note_columns(self, wanted: dict[str, tuple[float, float]], where: str, tally: Tally) -> None:
+        """Compares what came over TCP and over HTTP beside the looks, once what follows an answer is counted."""
+        ends = time.monotonic() + LONGEST
+        while True:
+            told, own = self.look()
+            names = {f'{name}{{protocol="{which}"}}': at for name in wanted for at, which in enumerate(PROTOCOLS)}
+            came = {key: told[key] - own.get(key, 0) for key in names}
+            right = {key: wanted[key.partition("{")[0]][at] for key, at in names.items()}
+            if came == right or time.monotonic() > ends:
+                note(right, came, where, tally)
+                return
+            time.sleep(0.02)
+
+
+def all_of(port: int, text: bytes) -> bytes:
+    """All that comes back to this, up to the end."""
+    with connected(port) as client:
+        client.sendall(text)
+        return b"".join(iter(partial(client.recv, 1 << 16), b""))
+
+
+def columns(program: str, tally: Tally) -> None:
+    """The same happens at one port and then at the other: each column is what happened at its port."""
+    names = [f"grove_{name}_total" for name in COLUMNS]
+    with Both(program, "--busy", *IDLE, "--http-seats", str(SLOTS)) as server:
+        looking, happened = Looking(server.http), [[0] * len(COLUMNS), [0] * len(COLUMNS)]
+        for at, port in enumerate((server.port, server.http)):
+            count, sent, came = 3 + at, 0, 0
+            for _ in range(count):
+                text = LINES_CLOSED[at]
+                sent, came = sent + len(text), came + len(server_said(port, text))
+            happened[at] = [count, 0, 0, sent, came]
+            wanted = dict(zip(names, zip(*happened)))
+            looking.note_columns(wanted, f"lines over {PROTOCOLS[at]}", tally)
+            with ExitStack() as room:
+                clients = [room.enter_context(connected(port)) for _ in range(SLOTS)]
+                once_in_use(looking, PROTOCOLS[at], SLOTS)
+                for _ in range(LATE + at):
+                    server_said(port, LINES_CLOSED[at])
+                for client in clients:
+                    client.recv(1)
+            happened[at] = [count + SLOTS + LATE + at, LATE + at, SLOTS, sent, came]
+            wanted = dict(zip(names, zip(*happened)))
+            looking.note_columns(wanted, f"idle and late over {PROTOCOLS[at]}", tally)
+
+
+def once_in_use(looking: Looking, protocol: str, count: int) -> None:
+    """Waits until so many connections have a slot, but for the look that asks. (It may have none.)"""
+    ends = time.monotonic() + LONGEST
+    while looking.look()[0][f'grove_connections{{protocol="{protocol}"}}'] < count and time.monotonic() < ends:
+        time.sleep(0.01)
+
+
+def server_said(port: int, text: bytes) -> bytes:
+    """All that comes back to a client that sends no more than this. (One that is too late may be closed before it has
+    sent that.)"""
+    came = b""
+    with connected(port) as client:
+        with suppress(OSError):
+            client.sendall(text)
+            client.shutdown(socket.SHUT_WR)
+        with suppress(ConnectionError):
+            while piece := client.recv(1 << 16):
+                came += piece
+    return came
+
+
+def times_of_turns(program: str, tally: Tally) -> None:
+    """Of each turn the time is within what passed outside, and a long one's is a part of it that shows its unit. It is
+    in the bucket of the least bound that it is within."""
+    with Both(program, document=LARGE) as server, connected(server.port) as client, client.makefile("rb") as replies:
+        before = metrics_at(server.http)
+        for number in range(TURNS):
+            line = LONG_LINE if number % 4 == 3 else b'{"weights":null}\n'
+            started = time.monotonic()
+            client.sendall(line)
+            reply = replies.readline()
+            passed = time.monotonic() - started
+            after = metrics_at(server.http)
+            took = round(after[TIMES + "_sum"] - before[TIMES + "_sum"], 6)
+            least = passed / LEAST_SHARE if line == LONG_LINE else 0.0
+            is_well = least <= took <= passed and reply.startswith((b'{"places"', b'{"waits"'))
+            tally.note(f"turn {number}", None if is_well else f"of {passed:.6f} s {took:.6f} s were counted")
+            note_bucket(before, after, took, f"turn {number}", tally)
+            before = after
+
+
+def note_bucket(before: dict[str, float], after: dict[str, float], took: float, where: str, tally: Tally) -> None:
+    """Just the buckets of bounds that aren't less have one more."""
+    for bound in BOUNDS:
+        key = f'{TIMES}_bucket{{le="{bound}"}}'
+        more, wanted = after[key] - before[key], 1 if took <= float(bound) else 0
+        tally.note(f"{where}, {bound}", None if more == wanted else f"of a time of {took} came {more}")
 
 
 def at_a_page(program: str, tally: Tally) -> None:
@@ -315,6 +458,34 @@ def at_a_page(program: str, tally: Tally) -> None:
             head = client.next("HEAD")
             tally.note("HEAD", None if (head.status, head.body) == (200, b"") else f"came {head}")
             tally.note("the form", None if families_in(seen.body.decode()) else "there is nothing")
+
+
+def families(program: str, tally: Tally) -> None:
+    """The families are those of docs/PAGE.md, in their order, each of its kind and with its label, and no two have the
+    same help. When the server was started is told to the second."""
+    rows = re.findall(r"^\| (`[a-z_`, {}]+`) \| (counter|gauge|histogram) \|", PAGES.read_text(), re.MULTILINE)
+    wanted = [(*named, kind) for names, kind in rows for named in re.findall(r"`([a-z_]+)(?:\{([a-z]+)\})?`", names)]
+    before = time.time()
+    with Both(program) as server:
+        after = time.time()
+        server.talk(b"\n")
+        with Client(server.http) as client:
+            text = client.get("/metrics?nodes=1").body.decode()
+    found = families_in(text)
+    came = [(name, label_of(family), family.kind) for name, family in found.items()]
+    tally.note("the families", None if came == wanted and wanted else f"wanted {wanted}; came {came}")
+    helps = re.findall(r"^# HELP [a-z_]+ (.*)$", text, re.MULTILINE)
+    tally.note("the helps", None if len(set(helps)) == len(helps) == len(found) else f"came {helps}")
+    started = found["process_start_time_seconds"].samples["process_start_time_seconds"]
+    is_well = int(before) <= started <= after and started == int(started)
+    tally.note("the start", None if is_well else f"{started} isn't from {before} to {after}")
+
+
+def label_of(family: Family) -> str:
+    """The name of the label that all samples of a family have, but for the bounds of buckets; nothing if they have
+    none."""
+    labels = {key.partition("{")[2].partition("=")[0] for key in family.samples if "_bucket{" not in key}
+    return labels.pop() if len(labels) == 1 else f"{labels}"
 
 
 def checked(program: str, tally: Tally) -> None:

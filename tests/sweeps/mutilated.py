@@ -1,8 +1,10 @@
-"""Mutilated documents by a seeded generator: an answer, or a refusal in one line with a hint beside it."""
+"""Mutilated documents by a seeded generator: an answer, or a refusal in one line with a hint beside it, which tells of
+the same place and quotes as JSON does."""
 
 from __future__ import annotations
 
 import json
+import re
 from functools import partial
 from random import Random
 
@@ -19,6 +21,11 @@ NUMBERS = [-(2**63) - 1, -(2**63), -1, 0, 1, 2, 3, 1000, 1001, 2**31, 2**32 - 1,
 NUMBERS += [2**63 - 1, 2**63, 2**64 - 1, 2**64, 1.0, -0.0, 1e2, 1e300]
 TEXTS = ["/", "", "/a", "/a/", "//a", "/b", "a", "A", "é", "\ud800", "a" * 33]
 TEXTS += ["lock", "unlock", "access", "get", "set", "add"]
+# What a hint calls the parts that refusals name in other words; and the parts that both name alike.
+PARTS = {"row": "nodes", "step": "plan", "rows": "flow", "sign": "flow"}
+PARTS |= {"lock-balance": "flow", "release-balance": "flow"}
+SAME_PARTS = ("nodes", "list", "plan", "flow")
+QUOTED = re.compile(r'"(?:[^"\\]|\\.)*"')
 VALUES = [None, True, False, [], {}, [[]], "1"]
 
 
@@ -54,14 +61,14 @@ def planned(program: str, text: bytes) -> bytes:
 
 def ask(program: str, command: str, document: bytes, where: str, tally: Tally) -> int | None:
     ran = run(program, command, text=document)
-    tally.note(f"{where}, {command}", told(form_fault(command, ran) or unhinted(ran), document))
+    tally.note(f"{where}, {command}", told(form_fault(command, ran) or hint_fault(ran), document))
     return cost_of(command, ran)
 
 
 def plan(program: str, document: bytes, where: str, tally: Tally) -> int | None:
     """Asks for a plan, and has it checked."""
     ran = run(program, "plan", text=document)
-    tally.note(f"{where}, plan", told(form_fault("plan", ran) or unhinted(ran), document))
+    tally.note(f"{where}, plan", told(form_fault("plan", ran) or hint_fault(ran), document))
     cost = cost_of("plan", ran)
     if cost is not None:
         checked = run(program, "check", text=put_back(document, ran.out))
@@ -71,9 +78,34 @@ def plan(program: str, document: bytes, where: str, tally: Tally) -> int | None:
     return cost
 
 
-def unhinted(ran: Ran) -> str | None:
-    """What is wrong with a refusal that has no hint beside it."""
-    return f"a refusal without a hint: {ran}" if ran.status == 1 and not ran.hint else None
+def hint_fault(ran: Ran) -> str | None:
+    """What is wrong with the hint of a refusal: it isn't there, tells of another place, or quotes what is no JSON."""
+    if ran.status != 1:
+        return None
+    hint = ran.hint.decode()
+    place = place_in(ran.out.decode().split()[1:])
+    if not hint or place and not re.search(rf"(?<![\w\"]){place}(?!\w| \d)", hint):
+        return f"a refusal with a hint of no or another place: {ran} {hint!r}"
+    if "JSON" not in hint and not all(is_text(quoted) for quoted in QUOTED.findall(hint)):
+        return f"a hint that quotes no JSON: {hint!r}"
+    return None
+
+
+def place_in(words: list[str]) -> str | None:
+    """The place that a refusal names, in the words of a hint. `no member` has the member's name in quotes."""
+    match words:
+        case [_, part, *numbers] if part in SAME_PARTS:
+            return " ".join((part, *numbers)) if numbers else f'"?{part}"?'
+        case [name, number, *_] if name in PARTS and number.isdigit():
+            return f"{PARTS[name]} {number}"
+    return None
+
+
+def is_text(quoted: str) -> bool:
+    try:
+        return isinstance(json.loads(quoted), str)
+    except ValueError:
+        return False
 
 
 def told(fault: str | None, document: bytes) -> str | None:

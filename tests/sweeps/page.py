@@ -23,11 +23,12 @@ from server import HOST, PIECE, BadServer, Serving, connected
 from store import MOST_LINE, Store, compact
 from web import BadResponse, Client, chunked, post, request, responses_in
 
-from sweeps.connections import ADD, GET, TEXT, TREE, WEIGHTS
+from sweeps.browser import Browser
 from sweeps.crowds import SLOTS, is_silent
 from sweeps.documents import seeded
 from sweeps.hostile_lines import note_memory, taken
 from sweeps.program import Tally, Try
+from sweeps.ten_lines import ADD, GET, TEXT, TREE, WEIGHTS
 
 TRIED = "requests, most of them hostile"
 SEEDED = 8
@@ -53,6 +54,19 @@ STATUSES = {100, 200, 400, 403, 404, 405, 413, 414, 421, 431, 501}
 PORT = 0
 REFUSED = b'{"batch":[[["get","/c"]]]}'
 LOOK = ("GET", "/nodes", None)
+# What is clicked once the page asks whether weights are to be lowered, if it does; the weights then, and what it says.
+CLICKS = [
+    ("document.getElementById('keep').click()", [5, 1, 1], ""),
+    ("document.getElementById('lowering').close()", [5, 1, 1], ""),
+    ("document.getElementById('lower').click()", [3, 1, 1], "1 weight changed at "),
+    ("document.getElementById('lower').click()", [2, 1, 1], "1 weight changed at "),
+    ("document.getElementById('lower').click()", [1, 1, 1], "1 weight changed at "),
+    (None, [1, 1, 1], "no weight changed"),
+]
+FALLS = r"1 weight of 3 would fall, the greatest from [0-9]+ to [0-9]+, and none would rise\."
+ASKS = re.compile(r"No node has waits\. So " + FALLS)
+# How long a click that does nothing is watched.
+SHORT = 0.3
 # The fields of requests that a page sends: the first three are of a page of the server.
 ORIGINS = [
     (f"origin: http://{HOST}",),
@@ -160,6 +174,7 @@ def tries(program: str, room: str) -> list[Try]:
         Try("as many nodes as there may be", partial(many_nodes, program)),
         Try("as many replies as a response may have", partial(most_replies, program)),
         Try("what the page asks", partial(what_the_page_asks, program)),
+        Try("when the page asks for a reweighing", partial(when_it_reweighs, program)),
         Try("nodes below each", partial(below_each, program)),
         Try("waiting for a round", partial(waiting, program)),
         Try("waiting in vain", partial(waiting_in_vain, program)),
@@ -389,6 +404,39 @@ def connections(program: str, tally: Tally) -> None:
 
 
 # ---- looks that wait, and at a part
+
+
+def when_it_reweighs(program: str, tally: Tally) -> None:
+    """Nothing but a click on `Reweigh` asks for one, and where there are no waits only an answer to the page's question
+    does. In a browser that is tried, if there is Chromium; else what the script says is looked at alone."""
+    script = PAGE.read_text()
+    called = script.partition("async function reweigh()")[2].partition("\n}\n")[0]
+    guard = r"if \(lowered\.length && !await isToLower\(lowered\)\) return;"
+    is_guarded = re.search(guard + r".*\{\"reweigh\":null\}", called, re.S)
+    is_well = is_guarded and len(re.findall(r"\breweigh\(\)|, reweigh\b", script)) == 2
+    tally.note("the script", None if is_well else f"it has {called!r}")
+    if Browser.is_there():
+        clicks_on_reweigh(program, tally)
+
+
+def clicks_on_reweigh(program: str, tally: Tally) -> None:
+    """What clicks on the page's buttons leave of the weights, each time with what the page says."""
+    with serving(program, TREE) as server, Browser(f"http://{HOST}:{server.port}/") as page:
+        page.until("document.querySelectorAll('#nodes td.weight').length == 3")
+        for number, (press, left, told) in enumerate(CLICKS):
+            page.run("document.getElementById('reweighed').textContent = ''")
+            page.run("document.getElementById('reweigh').click()")
+            if press:
+                page.until("document.getElementById('lowering').open")
+                told_before = page.run("document.getElementById('lowers').textContent")
+                tally.note(f"question {number}", None if ASKS.fullmatch(told_before) else f"it says {told_before!r}")
+                page.run(press)
+                page.until("!document.getElementById('lowering').open")
+            page.until(f"document.getElementById('reweighed').textContent.startsWith({told!r})")
+            time.sleep(0 if told else SHORT)
+            with Client(server.port) as client:
+                weights = json.loads(client.post(WEIGHTS).body)["weights"]
+            tally.note(f"click {number}", None if weights == left else f"wanted {left}; came {weights}")
 
 
 def below_each(program: str, tally: Tally) -> None:

@@ -11,11 +11,11 @@ from server import NotListening
 from store import Store
 from web import Client
 
-from sweeps.connections import ADD, GET, TEXT, TREE, WEIGHTS
 from sweeps.page import LOOK, serving
 from sweeps.preloaded import library_of
 from sweeps.program import MEMORY, Ran, Tally, Try
 from sweeps.server_growths import parts_of
+from sweeps.ten_lines import ADD, GET, TEXT, TREE, WEIGHTS
 
 TRIED = "growths of a server of pages refused, each alone, and the requests asked after it"
 # What shows which lines had an effect: the records and weights, and how many rounds were run.

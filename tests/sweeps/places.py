@@ -1,6 +1,6 @@
-"""Servers at addresses of both kinds, at ports of their own and at any that is free: each says where it is, and
-answers there. At an address that isn't this machine's, and at a port in use: `device`, and before it the reason if
-`--explain` asks for it."""
+"""Servers of each kind at addresses of both kinds, at ports of their own and at any that is free: each says where it
+is, and answers there. At an address that isn't this machine's, and at a port in use: `device`, and before it the reason
+if `--explain` asks for it."""
 
 from __future__ import annotations
 
@@ -10,12 +10,12 @@ import socket
 from contextlib import ExitStack
 from functools import partial
 
-from server import NotListening, Serving, connected, free_port
+from server import NotListening, free_port
 from store import Store
 
-from sweeps.connections import TREE, WEIGHTS
+from sweeps.doors import DOORS, Asking, Door
 from sweeps.program import DEVICE, Ran, Tally, Try, because
-from sweeps.talks import note_replies
+from sweeps.ten_lines import TREE, WEIGHTS
 
 TRIED = "places that a server was given"
 # Those of this machine; the last two are any address of it, asked at the first ones.
@@ -34,10 +34,15 @@ MANY = 8
 
 def tries(program: str, _room: str) -> list[Try]:
     here = [(address, asked) for address, asked in ADDRESSES if is_here(asked)]
-    return [Try(f"at {address}", partial(serve_at, program, address, asked)) for address, asked in here] + [
-        Try("many at any port", partial(serve_many, program)),
-        Try("a port in use", partial(serve_twice, program)),
-        Try("at no address of this machine", partial(serve_nowhere, program)),
+    parts = [
+        Try(f"{door.name}, at {address}", partial(serve_at, program, door, address, asked))
+        for door in DOORS
+        for address, asked in here
+    ]
+    parts += [Try(f"{door.name}, many at any port", partial(serve_many, program, door)) for door in DOORS[:2]]
+    parts += [Try(f"{door.name}, a port in use", partial(serve_twice, program, door)) for door in DOORS]
+    return parts + [
+        Try(f"{door.name}, at no address of this machine", partial(serve_nowhere, program, door)) for door in DOORS[:2]
     ]
 
 
@@ -51,49 +56,50 @@ def is_here(address: str) -> bool:
             return False
 
 
-def serve_at(program: str, address: str, asked: str, tally: Tally) -> None:
-    """At a port of its own, and at any: it says its address, and the port that it listens on, and answers there."""
+def serve_at(program: str, door: Door, address: str, asked: str, tally: Tally) -> None:
+    """At a port of its own, and at any: it says its address, and the port that it listens on, and answers there. (A
+    second port is never any.)"""
     store = Store(json.loads(TREE))
-    for any_port in (False, True):
-        with Serving(program, TREE, any_port=any_port, further=["--bind", address]) as server:
-            server.host = asked
-            note_replies(store, WEIGHTS, server.talk(WEIGHTS), f"{address}, port {server.port}", tally)
+    for any_port in (False,) if door.is_second else (False, True):
+        with door.serving(program, any_port=any_port, further=("--bind", address)) as server:
+            with Asking(door, server.port, WEIGHTS, asked) as client:
+                client.ask(store, f"{address}, port {server.port}", tally)
 
 
-def serve_many(program: str, tally: Tally) -> None:
+def serve_many(program: str, door: Door, tally: Tally) -> None:
     """Each has a port of its own."""
     with ExitStack() as room:
-        ports = [room.enter_context(Serving(program, TREE, any_port=True)).port for _ in range(MANY)]
+        ports = [room.enter_context(door.serving(program, any_port=True)).port for _ in range(MANY)]
         for port in ports:
-            with connected(port) as connection:
-                connection.sendall(WEIGHTS)
-                came = connection.makefile("rb").readline()
-            note_replies(Store(json.loads(TREE)), WEIGHTS, came, f"port {port}", tally)
+            with Asking(door, port, WEIGHTS) as client:
+                client.ask(Store(json.loads(TREE)), f"port {port}", tally)
     tally.note("the ports", None if len(set(ports)) == MANY else f"they are {ports}")
 
 
-def serve_twice(program: str, tally: Tally) -> None:
+def serve_twice(program: str, door: Door, tally: Tally) -> None:
     """At the address that another one has, but no other."""
-    with Serving(program, TREE, any_port=True) as server:
-        tally.compare("the same address", ended(program, server.port, "127.0.0.1"), DEVICE)
-        wanted = because(f"cannot listen on 127.0.0.1:{server.port}", errno.EADDRINUSE)
-        tally.compare("the same address, explained", ended(program, server.port, "127.0.0.1", "--explain"), wanted)
-        with Serving(program, TREE, port=server.port, further=["--bind", "127.0.0.2"]) as other:
+    with DOORS[0].serving(program, any_port=True) as server:
+        port = server.port
+        tally.compare("the same address", ended(program, door, "127.0.0.1", port=port), DEVICE)
+        wanted = because(f"cannot listen on 127.0.0.1:{port}", errno.EADDRINUSE)
+        came = ended(program, door, "127.0.0.1", "--explain", port=port)
+        tally.compare("the same address, explained", came, wanted)
+        with door.serving(program, port=port, further=("--bind", "127.0.0.2")) as other:
             tally.note("another address", None if other.is_running() else "it has ended")
 
 
-def serve_nowhere(program: str, tally: Tally) -> None:
+def serve_nowhere(program: str, door: Door, tally: Tally) -> None:
     free = free_port()
-    for port, place in ((None, NOWHERE), (free, f"{NOWHERE}:{free}")):
-        tally.compare(f"{NOWHERE}, port {port}", ended(program, port, NOWHERE), DEVICE)
+    for how, place in (({"any_port": True}, NOWHERE), ({"port": free}, f"{NOWHERE}:{free}")):
+        tally.compare(f"{place}", ended(program, door, NOWHERE, **how), DEVICE)
         wanted = because(f"cannot listen on {place}", errno.EADDRNOTAVAIL)
-        tally.compare(f"{NOWHERE}, port {port}, explained", ended(program, port, NOWHERE, "--explain"), wanted)
+        tally.compare(f"{place}, explained", ended(program, door, NOWHERE, "--explain", **how), wanted)
 
 
-def ended(program: str, port: int | None, address: str, *further: str) -> Ran:
+def ended(program: str, door: Door, address: str, *further: str, **how) -> Ran:
     """How a server that can't listen ends, at a port or at any."""
     try:
-        with Serving(program, TREE, port=port, any_port=port is None, further=["--bind", address, *further]):
+        with door.serving(program, further=("--bind", address, *further), **how):
             return Ran(None, b"", b"")
     except NotListening as why:
         return Ran(*why.ended)

@@ -2,6 +2,7 @@
 
 from __future__ import annotations
 
+import os
 import subprocess
 from pathlib import Path
 
@@ -14,3 +15,9 @@ def library_of(source: str, room: str) -> str:
     words = ["cc", "-O1", "-shared", "-fPIC", "-o", library, FOLDER / f"{source}.c", "-ldl"]
     subprocess.run(words, check=True, stdin=subprocess.DEVNULL)
     return library
+
+
+def failed_accepts(library: str, error: int, count: int, first: int = 1, port: int = 0) -> dict[str, str]:
+    """The surroundings in which so many calls for a connection fail with this error, at this port or at any."""
+    numbers = {"ACCEPT_ERROR": error, "FAILED_ACCEPTS": count, "FIRST_FAILED": first, "FAILED_PORT": port}
+    return {**os.environ, "LD_PRELOAD": library, **{name: str(number) for name, number in numbers.items()}}

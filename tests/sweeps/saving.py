@@ -7,6 +7,7 @@ import errno
 import json
 import os
 import socket
+import subprocess
 import time
 from contextlib import suppress
 from functools import partial
@@ -15,8 +16,9 @@ from pathlib import Path
 from server import HOST, Serving, free_port
 
 from sweeps.canned import Canned
-from sweeps.connections import TREE
-from sweeps.program import DEVICE, Ran, Tally, Try, because, run
+from sweeps.preloaded import library_of
+from sweeps.program import DEVICE, Ran, Tally, Try, because, run, until_well
+from sweeps.ten_lines import TREE
 
 TRIED = "runs of the client that saves"
 SAVED, REFUSED = Ran(0, b"", b""), 1
@@ -29,8 +31,13 @@ NO_RESPONSES = (
 )
 # Within how many seconds that is refused: long before `save` gives up a server that sends nothing.
 SOON = 15.0
+# For how many seconds a server may say nothing, and how many times as fast they pass here.
+SILENCE, FASTER = 60.0, 60
 # How long a server pauses between two pieces, and before the first if it is slow.
 PAUSE, SLOW = 0.02, 3.0
+# The most bytes of a document, and of what stands before it.
+MOST_DOCUMENT, MOST_HEAD = 4_194_304, 65_536
+OTHER_FIELDS = (b"Server: x", b"X-Content-Length: 7", b"Content: 7")
 DOCUMENT = b'{"nodes":[{"name":"","parent":null,"value":3,"weight":2}],"version":1}'
 
 
@@ -39,17 +46,21 @@ def tries(program: str, room: str) -> list[Try]:
         Try("a page's document", partial(page, program, room)),
         Try("no server", partial(nobody, program, room)),
         Try("responses that have a document", partial(documents, program, room)),
+        Try("the longest documents", partial(longest, program, room)),
+        Try("documents of every byte", partial(exact, program, room)),
         Try("responses that have none", partial(others, program, room)),
         Try("responses that are cut", partial(cut, program, room)),
         Try("responses in pieces", partial(pieces, program, room)),
         Try("a port of sessions", partial(sessions, program, room)),
         Try("no responses, and then nothing", partial(silent, program, room)),
+        Try("servers that fall silent", partial(fallen_silent, program, room)),
         Try("files that can't be written", partial(unwritable, program, room)),
+        Try("standard streams that are closed", partial(closed, program, room)),
     ]
 
 
-def save(program: str, port: int, file: Path, *words: str) -> Ran:
-    return run(program, "save", "--port", str(port), *words, str(file))
+def save(program: str, port: int, file: Path, *words: str, **how) -> Ran:
+    return run(program, "save", "--port", str(port), *words, str(file), **how)
 
 
 def note_folder(tally: Tally, what: str, file: Path, wanted: bytes | None) -> None:
@@ -136,9 +147,22 @@ def sized(body: bytes, status: bytes = b"200 OK") -> bytes:
     return response(body, b"Content-Length: %d" % len(body), status=status)
 
 
+class Heard(Responding):
+    """One that has all that its client sent, up to the end."""
+
+    def respond(self, connection: socket.socket) -> None:
+        connection.sendall(self.text)
+        connection.shutdown(socket.SHUT_WR)
+        while piece := connection.recv(4096):
+            self.head += piece
+
+
 def documents(program: str, room: str, tally: Tally) -> None:
-    """A document is taken however its head is written; it's asked for as a client of HTTP asks."""
-    for text in (sized(DOCUMENT), response(DOCUMENT, b"Server: x", b"content-length:%d" % len(DOCUMENT))):
+    """A document is taken however its head is written, and however long it is; it's asked for as a client of HTTP
+    asks."""
+    lengths = (b"Content-Length: %d", b"content-length:%d", b"CONTENT-LENGTH:  %d \t", b"cOnTeNt-LeNgTh:\t%d")
+    heads = [response(DOCUMENT, *before, length % len(DOCUMENT)) for length in lengths for before in ((), OTHER_FIELDS)]
+    for text in heads:
         file = fresh(room, "document")
         with Responding(text) as server:
             tally.compare(f"{text!r}", save(program, server.port, file), SAVED)
@@ -146,6 +170,46 @@ def documents(program: str, room: str, tally: Tally) -> None:
             wanted = f"GET /document HTTP/1.1\r\nHost: {place}\r\nConnection: close\r\n\r\n".encode()
             tally.note("what is asked", None if server.head == wanted else f"{server.head!r}")
         note_folder(tally, "the file", file, DOCUMENT)
+
+
+def longest(program: str, room: str, tally: Tally) -> None:
+    """The longest document, behind a head of any length up to the most, and one of a byte more."""
+    for more in (-1, 0, 1):
+        document = DOCUMENT.ljust(MOST_DOCUMENT + more)
+        for head in (0, MOST_HEAD):
+            fields = [b"x: " + b"x" * (head - 60)] if head else []
+            text = response(document, *fields, b"Content-Length: %d" % len(document))
+            padded = text.replace(b"x: ", b"x: " + b"x" * (head + len(document) - len(text)), 1) if head else text
+            note_longest(program, room, padded, document, more <= 0, tally)
+
+
+def note_longest(program: str, room: str, text: bytes, document: bytes, is_taken: bool, tally: Tally) -> None:
+    file, where = fresh(room, "longest"), f"{len(document)} bytes behind {len(text) - len(document)}"
+    with Responding(text) as server:
+        ran = save(program, server.port, file)
+    if is_taken:
+        tally.compare(where, ran, SAVED)
+    else:
+        tally.note(where, None if ran.status == REFUSED else f"came {ran}")
+    note_folder(tally, where, file, document if is_taken else OLD)
+
+
+def exact(program: str, room: str, tally: Tally) -> None:
+    """What is saved has the bytes that came: every one that a document may have, in strings and between them, a text
+    that is escaped in more ways than one, and as many bytes as a document may have."""
+    letters = [*range(0x20, 0x900), *range(0x900, 0x110000, 0x3C1)]
+    text = "".join(chr(code) for code in letters if chr(code) not in '"\\' and not 0xD800 <= code < 0xE000)
+    spaces = b" \t\r\n\r\n"
+    unused = b'"\\u0000\\n\\/' + text.encode() + b'/\\"\\ud83d\\ude00"'
+    odd = spaces.join((b"", b"{", b'"' + text.encode() + b'"', b":", unused, b",", DOCUMENT[1:], b""))
+    room_left = MOST_DOCUMENT - len(odd)
+    long = odd + bytes(spaces[at * at % 7 % 6] for at in range(room_left))
+    for document in (odd, spaces + DOCUMENT, DOCUMENT + spaces, long):
+        file = fresh(room, "exact")
+        with Responding(sized(document)) as server:
+            tally.compare(f"{len(document)} bytes", save(program, server.port, file), SAVED)
+        is_right = [each.read_bytes() for each in file.parent.iterdir()] == [document]
+        tally.note(f"the file of {len(document)} bytes", None if is_right else "it has others")
 
 
 def others(program: str, room: str, tally: Tally) -> None:
@@ -216,6 +280,30 @@ def silent(program: str, room: str, tally: Tally) -> None:
                 note_refused(program, server.port, file, f"{text[:20]!r} in {len(texts)} pieces", tally)
 
 
+def fallen_silent(program: str, room: str, tally: Tally) -> None:
+    """A server that says nothing, or a part of a document and then nothing, is given up after 60 seconds of that: here
+    they go faster. It is tried until a machine with other work gives it up soon."""
+    library, text = library_of("short_times", room), sized(DOCUMENT)
+    surroundings = {**os.environ, "LD_PRELOAD": library, "SHORTENED": str(FASTER)}
+    for said in (b"", text[:9], text[: -len(DOCUMENT)], text[:-1]):
+        look = partial(given_up, program, room, surroundings, said, tally)
+        until_well(look, f"the time after {len(said)} bytes", tally, 5)
+
+
+def given_up(program: str, room: str, surroundings: dict[str, str], said: bytes, tally: Tally) -> str | None:
+    """How long the server is waited for, if that is too long."""
+    file = fresh(room, "silence")
+    with Dripping(said) as server:
+        began = time.monotonic()
+        ran = save(program, server.port, file, "--explain", env=surroundings)
+        took = (time.monotonic() - began) * FASTER
+        wanted = because(f"lost the server at {HOST}:{server.port}: it sends nothing")
+        tally.compare(f"{len(said)} bytes", ran, wanted)
+    tally.note(f"the time after {len(said)} bytes", None if took >= SILENCE * 0.9 else f"it is {took:.1f} s")
+    note_folder(tally, "as it was", file, OLD)
+    return f"it is {took:.1f} s" if took > SILENCE * 1.4 else None
+
+
 def note_refused(program: str, port: int, file: Path, what: str, tally: Tally) -> None:
     """What comes is refused soon, and the file is as it was."""
     began = time.monotonic()
@@ -242,3 +330,22 @@ def unwritable(program: str, room: str, tally: Tally) -> None:
     with Responding(sized(DOCUMENT)) as server:
         tally.compare("a folder beside it", save(program, server.port, file), DEVICE)
     tally.note("as it was", None if file.read_bytes() == OLD else "changed")
+
+
+def closed(program: str, room: str, tally: Tally) -> None:
+    """The connection doesn't take the place of a closed stream: nothing that is printed goes to the server, and the
+    file is as it would be."""
+    refused = Ran(REFUSED, b"refused status 404\n", b"")
+    for text, left, ends in (
+        (sized(DOCUMENT), DOCUMENT, (SAVED, SAVED, SAVED)),
+        (sized(b"no", status=b"404 Not Found"), OLD, (refused, DEVICE, refused)),
+    ):
+        for stream, wanted in enumerate(ends):
+            file = fresh(room, "closed")
+            with Heard(text) as server:
+                how = {"stdin": subprocess.DEVNULL, "preexec_fn": partial(os.close, stream), "text": None}
+                tally.compare(f"stream {stream}, {text[:20]!r}", save(program, server.port, file, **how), wanted)
+            place = f"{HOST}:{server.port}"
+            asked = f"GET /document HTTP/1.1\r\nHost: {place}\r\nConnection: close\r\n\r\n".encode()
+            tally.note(f"what the server got, {stream}", None if server.head == asked else f"{server.head!r}")
+            note_folder(tally, f"the file, {stream}", file, left)

@@ -13,12 +13,12 @@ from typing import Iterator
 from server import Serving, talk_in_turn
 from store import Store
 
-from sweeps.connections import REPLIES, TEXT, TREE
 from sweeps.documents import EXAMPLES
 from sweeps.growths import is_told
 from sweeps.preloaded import library_of
 from sweeps.program import Tally, Try, run
 from sweeps.talks import note_replies
+from sweeps.ten_lines import REPLIES, TEXT, TREE
 
 TRIED = "reads and writes of a server that failed, each alone, and sessions with many of them interrupted"
 LINES = TEXT.splitlines(keepends=True)

@@ -10,11 +10,11 @@ import json
 from server import NotListening, Serving, ask_in_turn, connected, talk_in_turn
 from store import Store
 
-from sweeps.connections import REPLIES, TEXT, TREE
 from sweeps.preloaded import library_of
 from sweeps.program import MEMORY, Ran, Tally, Try
 from sweeps.server_growths import parts_of
 from sweeps.talks import lines_of, note_replies
+from sweeps.ten_lines import REPLIES, TEXT, TREE
 from sweeps.verbose import LINES, Telling, arrival, ended, fits, refusals, threadless_line
 
 TRIED = "growths of a server refused, each alone, and the lines asked after it"

@@ -12,10 +12,10 @@ from concurrent.futures import ThreadPoolExecutor
 from history import fault_of_history
 from server import NotListening, Serving, talk_in_turn
 
-from sweeps.connections import ADD, GET, TREE
 from sweeps.preloaded import library_of
 from sweeps.program import MEMORY, Ran, Tally, Try
 from sweeps.server_growths import parts_of
+from sweeps.ten_lines import ADD, GET, TREE
 
 TRIED = "growths of a server refused, each alone, while three clients shared rounds"
 # What each client sends, a line at a time.

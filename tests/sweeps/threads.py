@@ -23,7 +23,7 @@ from batches import MOST_WAITS, ROUND_SHAPES, ROUND_WORTH_THREADS, SHAPES, WORTH
 from batches import deep, fault_of_run, fault_of_waits, most_waits, of_steps, round_of_steps, steps_of
 from history import fault_of_history
 from server import SECONDS, Serving, talk
-from store import compact
+from store import MOST_WEIGHT, compact
 from tree import Tree
 
 from sweeps.preloaded import library_of
@@ -122,12 +122,13 @@ def run_alone(program: str, library: str, tally: Tally) -> None:
 
 @dataclass(frozen=True)
 class Served:
-    """The batches that clients sent, with what they were replied, the waits of each node, and what was counted of
-    threads."""
+    """The batches that clients sent, with what they were replied, the waits of each node, what was counted of threads,
+    and the replies by which new weights came of the waits."""
 
     batches: list[tuple[list, dict]]
     waits: list[int]
     told: bytes
+    learned: list[dict]
 
 
 @dataclass(frozen=True)
@@ -222,6 +223,7 @@ def note_clients(program: str, library: str, workers: int, document: dict, asked
         fault_of_history(document, served.batches),
         fault_of_waits(served.waits, [min(MOST_WAITS, waits) for waits in most]),
         fault_of_threads(served.told, len(asked), further, started),
+        fault_of_learned(served.learned),
     ]
     for fault in faults:
         tally.blame(f"by {workers}", fault)
@@ -237,12 +239,13 @@ def serve(program: str, library: str, workers: int, document: dict, asked: list,
     with counting(library) as (how, told):
         with Serving(program, text, workers, **how) as server, ThreadPoolExecutor(len(asked)) as pool:
             came = list(pool.map(partial(ask, server.port, ready), texts))
-        threads = told()
+            threads = told()
+            learned = [json.loads(reply) for reply in server.talk(WEIGHTS + REWEIGH + WEIGHTS).splitlines()]
     for fault in filter(None, map(fault_of_form, asked, came)):
         tally.note(f"by {workers}", fault)
         raise Enough
     batches = [pair for lists, replies in zip(asked, came) for pair in zip(lists, replies)]
-    return Served(batches, max((replies[-1]["waits"] for replies in came), key=sum), threads)
+    return Served(batches, max((replies[-1]["waits"] for replies in came), key=sum), threads, learned)
 
 
 def ask(port: int, ready: threading.Barrier, text: bytes) -> list[dict]:
@@ -265,6 +268,17 @@ def rounds_of(batches: list[tuple]) -> list[list]:
 
 
 # ---- new weights
+
+
+def fault_of_learned(replies: list[dict]) -> str | None:
+    """A new weight is half of what the old one was above 1, and its waits, above 1 again, at most 1,000; and the waits
+    begin anew."""
+    old, waited = replies[0]["weights"], replies[0]["waits"]
+    new = [min(MOST_WEIGHT, 1 + (weight - 1) // 2 + waits) for weight, waits in zip(old, waited)]
+    changed = sum(now != then for now, then in zip(old, new))
+    wanted = [{"changed": changed}, {"waits": [0] * len(old), "weights": new}]
+    well = replies[1:] == wanted
+    return None if well else f"new weights: wanted {short(compact(wanted))}; came {short(compact(replies))}"
 
 
 def reweigh(program: str, library: str, workers: int, tally: Tally) -> None:

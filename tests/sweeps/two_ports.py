@@ -10,14 +10,14 @@ import time
 from contextlib import ExitStack
 from functools import partial
 
-from server import HOST, Serving, connected, free_port
+from server import HOST, BadServer, Serving, connected, free_port
 from store import Store
 from web import Client, request, responses_in
 
-from sweeps.connections import ADD, GET, TREE
 from sweeps.metrics import Both, metrics_at
 from sweeps.program import DEVICE, Ran, Tally, Try, because, until_well
 from sweeps.talks import note_replies
+from sweeps.ten_lines import ADD, GET, TREE
 from sweeps.verbose import Telling, compare
 
 TRIED = "replies and responses at two ports"
@@ -26,6 +26,8 @@ SLOTS, HTTP_SLOTS = 16, 64
 ROOM = 8
 # How long the state of a server may take, and how often it is asked for.
 SOON, LOOKS = 0.1, 20
+# How often it is looked whether something is counted.
+MOST_LOOKS = 1000
 LONGEST = 60.0
 HEALTHY = b'{"status":"ok"}\n'
 RECEIVED = 'grove_received_bytes_total{protocol="http"}'
@@ -37,6 +39,8 @@ STATES = (
     b"GET /health HTTP/1.0\r\n\r\n",
     b"GET /health HTTP/1.0\r\nconnection: keep-alive\r\n\r\n",
 )
+# The longest head of a request that is answered without a slot, and within how many seconds it has to come.
+MOST_HEAD, HEAD_SECONDS = 2048, 1.0
 # The most nodes of a tree.
 NODES = 4096
 
@@ -56,6 +60,9 @@ def tries(program: str, room: str) -> list[Try]:
         Try("the last response of a connection without a slot", partial(last_response, program)),
         Try("who waits without a slot", partial(waits_without_slot, program)),
         Try("who is turned away without a slot", partial(turned_away, program)),
+        Try("as many without a slot as there may be", partial(as_many_without_slot, program)),
+        Try("heads about as long as they may be without a slot", partial(longest_head, program)),
+        Try("heads that come late without a slot", partial(late_heads, program)),
     ]
 
 
@@ -219,8 +226,9 @@ def last_response(program: str, tally: Tally) -> None:
     """A response without a slot says that the connection ends, whatever the request says, and nothing comes behind it.
     All bytes of the request are counted."""
     with Both(program, "--http-seats", "1") as server, ExitStack() as stack:
-        take_slots(stack, server.http, 1, b"POST / HTTP/1.1\r\n")
-        before = metrics_at(server.http)[RECEIVED]
+        slow = b"POST / HTTP/1.1\r\n"
+        take_slots(stack, server.http, 1, slow)
+        before = received_at(server.http, len(slow))
         for text in STATES:
             with connected(server.http) as client:
                 client.sendall(text + request("GET", "/health"))
@@ -231,6 +239,16 @@ def last_response(program: str, tally: Tally) -> None:
             counted, wanted = after - before, len(text) + len(request("GET", "/metrics"))
             tally.note(f"{text!r}", None if counted == wanted else f"wanted {wanted} bytes; came {counted}")
             before = after
+
+
+def received_at(port: int, others: int) -> float:
+    """How many bytes are counted, once so many are beside those of the looks at it."""
+    for looks in range(1, MOST_LOOKS):
+        received = metrics_at(port)[RECEIVED]
+        if received == others + looks * len(request("GET", "/metrics")):
+            return received
+        time.sleep(0.02)
+    raise BadServer(f"{others} bytes are never counted")
 
 
 def waits_without_slot(program: str, tally: Tally) -> None:
@@ -265,3 +283,72 @@ def turned_away(program: str, tally: Tally) -> None:
             tally.note(f"{text[:20]!r}", None if came.startswith(b"HTTP/1.1 503 ") else f"came {came!r}")
         with Client(server.http) as client:
             tally.note("health", None if client.get("/health").status == 200 else "it isn't answered")
+
+
+def as_many_without_slot(program: str, tally: Tally) -> None:
+    """Beside seven that wait the state is told, and beside eight it waits too, until one of those gets a slot."""
+    for begun in (b"", b"GET /healthy"):
+        with Both(program, "--http-seats", "1") as server, ExitStack() as stack:
+            slow = take_slots(stack, server.http, 1, b"POST / HTTP/1.1\r\n")
+            late = [stack.enter_context(Client(server.http)) for _ in range(ROOM - 1)]
+            for client in late:
+                client.send(begun or request("POST", "/", GET))
+            time.sleep(HEAD_SECONDS * 1.5)
+            note_state(server.http, 1, tally)
+            late.append(stack.enter_context(Client(server.http)))
+            late[-1].send(begun or request("POST", "/", GET))
+            probe = stack.enter_context(Client(server.http))
+            probe.send(request("GET", "/health"))
+            probe.connection.settimeout(HEAD_SECONDS * 1.5)
+            try:
+                tally.note("beside eight", f"came {probe.connection.recv(1)!r}")
+            except TimeoutError:
+                tally.note("beside eight", None)
+            probe.connection.settimeout(LONGEST)
+            for client in (*slow, *(each.connection for each in late)):
+                client.shutdown(socket.SHUT_RDWR)
+            came = probe.next()
+            tally.note("the one that waited", None if came and came.status == 200 else f"came {came}")
+
+
+def head_of(size: int) -> bytes:
+    """A request for the state with a head of so many bytes."""
+    return request("GET", "/health", None, "x: " + "x" * (size - len(request("GET", "/health", None, "x: "))))
+
+
+def longest_head(program: str, tally: Tally) -> None:
+    with Both(program, "--http-seats", "1", "--busy") as server, ExitStack() as stack:
+        take_slots(stack, server.http, 1, b"POST / HTTP/1.1\r\n")
+        time.sleep(0.2)
+        for size, status in ((MOST_HEAD - 1, 200), (MOST_HEAD, 200), (MOST_HEAD + 1, 503)):
+            with Client(server.http) as client:
+                client.send(head_of(size))
+                came = client.next()
+            tally.note(f"a head of {size} bytes", None if came.status == status else f"came {came}")
+
+
+def late_heads(program: str, tally: Tally) -> None:
+    """A head that comes in two parts, soon behind each other and not: its beginning alone is waited for no longer."""
+    with Both(program, "--http-seats", "1", "--busy") as server, ExitStack() as stack:
+        take_slots(stack, server.http, 1, b"POST / HTTP/1.1\r\n")
+        time.sleep(0.2)
+        with Client(server.http) as client:
+            client.send(request("GET", "/health")[:9])
+            time.sleep(HEAD_SECONDS / 4)
+            client.send(request("GET", "/health")[9:])
+            came = client.next()
+        tally.note("soon", None if came.status == 200 else f"came {came}")
+        for begun in (b"", request("GET", "/health")[:9]):
+            until_well(partial(long_look_at, server.http, begun, tally), f"how long {begun!r} is looked at", tally, 5)
+
+
+def long_look_at(port: int, begun: bytes, tally: Tally) -> str | None:
+    """How long the beginning of a head is looked at, if that is longer than it should be."""
+    with Client(port) as client:
+        client.send(begun)
+        started = time.monotonic()
+        came = client.next()
+        took = time.monotonic() - started
+    tally.note(f"{begun!r} alone", None if came.status == 503 else f"came {came}")
+    tally.note(f"how soon {begun!r} is given up", None if took >= HEAD_SECONDS * 0.9 else f"it took {took:.2f} s")
+    return f"it took {took:.2f} s" if took > HEAD_SECONDS * 2 else None

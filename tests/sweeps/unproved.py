@@ -14,8 +14,8 @@ from pathlib import Path
 
 from server import HOST, free_port, talk
 
-from sweeps.connections import TEXT, TREE
 from sweeps.program import Ran, Tally, Try
+from sweeps.ten_lines import TEXT, TREE
 
 TRIED = "answers and what is left behind"
 TOP = Path(__file__).resolve().parents[2]

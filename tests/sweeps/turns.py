@@ -1,0 +1,156 @@
+"""The turns of lines at the store, by what `/metrics` counts of them. A turn is held until so many lines wait: the next
+one has just these, up to sixteen. How long a turn takes is counted in its bucket, by clocks that go faster too. And who
+looks for a later round is told soon after it, whatever its number."""
+
+from __future__ import annotations
+
+import json
+import os
+import time
+from contextlib import ExitStack
+from functools import partial
+
+from batches import MOST_ACCESSES
+from server import Serving, connected
+from store import compact
+from web import Client, post, request
+
+from sweeps.looks import ADD_ONE, FLAT, comes_to_wait, holding, two_new_lists
+from sweeps.metrics import LARGE, LISTS, TIMES, Both, metrics_at, note_bucket
+from sweeps.preloaded import library_of
+from sweeps.program import Tally, Try, until_well
+from sweeps.ten_lines import ADD, TREE
+
+TRIED = "turns at the store"
+# How many lines come to wait: each bound of a bucket, one more, and one more than a turn has.
+COUNTS = (1, 2, 3, 4, 5, 8, 9, 16, 17)
+MOST_LINES = 16
+LINES = "grove_round_lines"
+LINE_BOUNDS = (1, 2, 4, 8, 16)
+# How many times as fast clocks go, and how many lists the batches have whose turns are timed: so their times lie close
+# to each other, from the first bounds to the last.
+CLOCKS = (1, 40, 1000)
+MANY_EMPTY = 100 * [b""]
+SIZES = sorted({round(1.25**power) for power in range(25)})
+# How many rounds are looked for, which is more than there are bells; how soon one is told of; and for how many seconds
+# a look waits at most, of which so many pass in one.
+ROUNDS, SOON = 20, 0.5
+LONGEST_LOOK, LOOK_CLOCK = 30, 10
+NEVER = "/nodes?after=18446744073709551615"
+
+
+def tries(program: str, room: str) -> list[Try]:
+    held, clock = library_of("hold_threads", room), library_of("fast_clock", room)
+    parts = [Try(f"turns of {count} lines", partial(together, program, held, count)) for count in COUNTS]
+    parts += [Try(f"times by a clock {times} times as fast", partial(timed, program, clock, times)) for times in CLOCKS]
+    return parts + [
+        Try("how soon a round is told of", partial(told_soon, program)),
+        Try("how long a look waits", partial(waits_in_vain, program, clock)),
+    ]
+
+
+def together(program: str, library: str, count: int, tally: Tally) -> None:
+    """While a turn is held, so many lines come to wait, each of its own client. They have one turn, but for those
+    beyond the most that one has."""
+    with ExitStack() as stack:
+        # (A thread of each client, and the one that accepts them.)
+        held = stack.enter_context(holding(library, 1 + count + 2))
+        seats = ("--http-seats", str(count + 1))
+        server = stack.enter_context(Both(program, *seats, document=compact({"nodes": FLAT}), workers=2, **held.how))
+        runs, *waiting = [stack.enter_context(Client(server.http)) for _ in range(count + 1)]
+        for client in (runs, *waiting):
+            client.get("/health")
+        before = counted_lines(runs)
+        runs.send(post(two_new_lists(0)))
+        tally.note("the turn that is held", None if held.is_held() else "it starts no thread")
+        for client in waiting:
+            comes_to_wait(server, partial(client.send, post(ADD_ONE)))
+        held.let_go(runs)
+        came = [client.next().status for client in (runs, *waiting)]
+        tally.note("the responses", None if came == [200] * (1 + count) else f"came {came}")
+        more = {key: value - before[key] for key, value in counted_lines(runs).items()}
+    sizes = [1, min(count, MOST_LINES), *([count - MOST_LINES] if count > MOST_LINES else [])]
+    wanted = {f'{LINES}_bucket{{le="{bound}"}}': sum(size <= bound for size in sizes) for bound in LINE_BOUNDS}
+    wanted |= {f'{LINES}_bucket{{le="+Inf"}}': len(sizes), f"{LINES}_count": len(sizes), f"{LINES}_sum": sum(sizes)}
+    tally.note("the turns", None if more == wanted else f"wanted {wanted}; came {more}")
+
+
+def counted_lines(client: Client) -> dict[str, float]:
+    """What is counted of how many lines turns have."""
+    text = client.get("/metrics").body.decode()
+    rows = [line.rpartition(" ") for line in text.splitlines() if line.startswith(LINES)]
+    return {name: float(value) for name, _, value in rows}
+
+
+def timed(program: str, library: str, times: int, tally: Tally) -> None:
+    """Batches of more and more lists, each of which is a turn. At a small store, of more and more accesses, and lines
+    that are empty, whose turns are the shortest."""
+    surroundings = {**os.environ, "LD_PRELOAD": library, "CLOCK_TIMES": str(times)}
+    large = [compact({"batch": LISTS[:size]}) for size in SIZES]
+    small = [compact({"batch": [[["get", "/a"]] * count]}) for count in range(MOST_ACCESSES)]
+    for document, lines in ((LARGE, large), (TREE, [*small, *MANY_EMPTY])):
+        with Both(program, document=document, env=surroundings) as server:
+            with connected(server.port) as client, client.makefile("rb") as replies:
+                before = metrics_at(server.http)
+                for number, line in enumerate(lines):
+                    started = time.monotonic()
+                    client.sendall(line + b"\n")
+                    reply = replies.readline()
+                    passed = (time.monotonic() - started) * times
+                    before = note_turn(server.http, before, passed, reply, f"line {number}", tally)
+
+
+def note_turn(
+    port: int, before: dict[str, float], passed: float, reply: bytes, where: str, tally: Tally
+) -> dict[str, float]:
+    """The turn took no longer than what passed, and is counted in the bucket of the least bound that it is within."""
+    after = metrics_at(port)
+    took = round(after[TIMES + "_sum"] - before[TIMES + "_sum"], 6)
+    is_well = 0 < took <= passed and reply.startswith((b'{"places"', b'{"error":"bad-json"'))
+    tally.note(where, None if is_well else f"of {passed:.6f} s {took:.6f} s were counted; {reply[:40]!r}")
+    note_bucket(before, after, took, where, tally)
+    return after
+
+
+# ---- looks
+
+
+def told_soon(program: str, tally: Tally) -> None:
+    """Whoever waits for a round is told of it soon, not only when it is looked whether it has left."""
+    with Serving(program, compact({"nodes": FLAT}), command="page") as server, ExitStack() as stack:
+        looks, adds = (stack.enter_context(Client(server.port)) for _ in range(2))
+        for client in (looks, adds):
+            client.get("/nodes")
+        for number in range(ROUNDS):
+            until_well(partial(late_look, server, looks, adds, tally), f"round {number}", tally, 5)
+
+
+def late_look(server: Serving, looks: Client, adds: Client, tally: Tally) -> str | None:
+    """How late a look is told of the next round, if it is late."""
+    now = json.loads(adds.get("/nodes").body)["round"]
+    comes_to_wait(server, partial(looks.send, request("GET", f"/nodes?after={now}")))
+    began = time.monotonic()
+    adds.post(ADD_ONE)
+    came = json.loads(looks.next().body)["round"]
+    took = time.monotonic() - began
+    tally.note(f"after {now}", None if came == now + 1 else f"came {came}")
+    return f"the look after {now} took {took:.2f} s" if took > SOON else None
+
+
+def waits_in_vain(program: str, library: str, tally: Tally) -> None:
+    """A look for a round that doesn't come waits for half a minute, by a clock that goes faster."""
+    until_well(partial(long_look, program, library, tally), "how long", tally, 5)
+
+
+def long_look(program: str, library: str, tally: Tally) -> str | None:
+    """How long the look waited, if it was longer than it should be."""
+    surroundings = {**os.environ, "LD_PRELOAD": library, "CLOCK_TIMES": str(LOOK_CLOCK)}
+    with Serving(program, compact({"nodes": FLAT}), command="page", env=surroundings) as server:
+        with Client(server.port) as client:
+            client.post(ADD)
+            began = time.monotonic()
+            came = client.get(NEVER)
+            took = (time.monotonic() - began) * LOOK_CLOCK
+    tally.note("the response", None if came.status == 200 else f"came {came}")
+    tally.note("not too soon", None if took > LONGEST_LOOK * 0.9 else f"it took {took:.1f} s")
+    return f"it took {took:.1f} s" if took > LONGEST_LOOK * 1.3 else None
