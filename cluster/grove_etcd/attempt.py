@@ -1,8 +1,8 @@
 """A worker's attempt at one job: group after group, with the work before each access, and a wait if a node is held.
 
-The job is the worker's as long as no other worker has put `u/NAME`, which guards each group and each sign of life. So
-of two workers at one job one finds its guard broken, and drops the job. When to take a job up is a guess by the clock.
-If it is wrong, the work is done again, and nothing else: the worker that does it is ended before (leash.py).
+The job is the worker's as long as no other worker has put `u/NAME`, which guards each group. So of two workers at one
+job one finds its guard broken, and drops the job. When to take a job up is a guess by the clock. If it is wrong, the
+work is done again, and nothing else: the worker that does it is ended before (leash.py).
 
 If there is work, the transaction of a job's last group also begins the worker's next job: a nested transaction takes
 the first group of that job, if its guards hold.
@@ -11,26 +11,35 @@ from __future__ import annotations
 
 import time
 from concurrent.futures import ThreadPoolExecutor
+from contextlib import contextmanager, nullcontext
 from dataclasses import dataclass, field, replace
-from functools import cached_property
+from functools import cached_property, partial
 from typing import Callable, Iterator, Optional
 
+from .dropping import LATE, drop, line_of
+from .failures import cut, why_of
 from .groups import Group, Limits, Turn, group_of, older_waiter, record_of
-from .jobs import Access, Event, Job, Kind, Progress, UnderWay, Waiter, written
+from .jobs import Access, Aside, Event, Job, Kind, Progress, Step, UnderWay, Waiter
 from .journal import Journal
 from .keys import Keys, last_part
 from .leash import now
-from .members import MOST_OPERATIONS, Lost, Members, pauses
-from .ready import MOST_INNER, Aside, Beginning, Ready
-from .refusals import Refused
+from .members import MOST_OPERATIONS, Lost, Members, Unfit, pauses
+from .ready import MOST_INNER, Beginning, MakesReady, Ready
+from .refusals import Failed, Refused
 from .seeing import MOST_READS, Seen, contested, is_last, left_by, reads_for, reads_of_steps, seen, window
-from .signs import PATIENCE, SIGNS, Abandoned, Signs, Stills
+from .sharing import Commits, Part
+from .signs import PATIENCE, Abandoned, Signs, Stills
+from .turns import FOREVER, WOKEN_SECONDS, Turns
 from .waiting import Watched, wait
-from .wire import Done, Found, Guard, Operation, choosing, deleting, other_than, putting, request_of, unchanged
+from .wire import Change, Done, Found, Guard, Operation, choosing, deleting, other_than, putting, unchanged
 
 # Does the work of an access while its node is held. It is called with the access, the record that it finds, and a token
 # that is the same for each try at this access, and differs from that of any other access.
 Work = Callable[[Access, int, str], None]
+# As long as this a pause lasts at most until it is looked whether the worker is to end.
+LONGEST_NAP_SECONDS = 0.5
+# What is said of a worker that was lost while there was work for it.
+LOST = "its worker ended, or gave no sign of life"
 
 
 @dataclass
@@ -50,20 +59,38 @@ class Means:
     # The group in progress is the last one.
     stopping: bool = False
     stills: Stills = field(default_factory=Stills)
-    ready: Aside = field(default_factory=Aside)
+    # So many jobs go on at once, each of which needs a turn for that; without turns, whoever calls decides.
+    turns: Optional[Turns] = None
+    # Threads that make transactions ready, and aren't used at present.
+    unused: list[MakesReady] = field(default_factory=list)
 
     @cached_property
     def signs(self) -> Signs:
-        return Signs(self.members, self.keys, self.patience, self.journal)
+        return Signs(self.members, self.keys, self.name, self.patience, self.journal)
+
+    @cached_property
+    def commits(self) -> Commits:
+        return Commits(self.members)
+
+    @contextmanager
+    def makes_ready(self) -> Iterator[MakesReady]:
+        makes = self.unused.pop() if self.unused else MakesReady()
+        yield makes
+        self.unused.append(makes)
+
+    @contextmanager
+    def waited(self) -> Iterator[None]:
+        """While a job waits, signs of life are given, and it needs no turn."""
+        with self.signs.during(), self.turns.waited() if self.turns else nullcontext():
+            yield
+
+    def takes_turn(self, seconds: float) -> bool:
+        return self.turns is None or self.turns.take_again(seconds)
 
     @cached_property
     def aside(self) -> ThreadPoolExecutor:
         """Reads more jobs while work goes on."""
         return ThreadPoolExecutor(1)
-
-    @property
-    def beat_seconds(self) -> float:
-        return self.patience / SIGNS
 
     def sign(self, waits: str | None = None, fails: int = 0, why: str = "") -> UnderWay:
         """What this worker puts for a job that it goes on with."""
@@ -71,7 +98,9 @@ class Means:
 
     def is_still(self, last: Abandoned, under_way: UnderWay) -> bool:
         """Has there been no sign of life for as long as this worker is patient, and as the last sign says?"""
-        return self.stills.is_still(*last, max(self.patience, under_way.patience))
+        patience = max(self.patience, under_way.patience)
+        own = self.stills.is_still(self.keys.under_way(last.name), last.revision, patience)
+        return self.stills.is_still(last.sign, last.signed, patience) and own if last.sign else own
 
 
 class Attempt:
@@ -81,18 +110,20 @@ class Attempt:
         # The job that the worker does next, and that job as it was seen at this one's last commit, which may begin it.
         self.following: Attempt | None = None
         self.ahead: Seen | None = None
-        # A job for which this one waits, and with which nobody goes on.
-        self.abandoned: Abandoned | None = None
+        # It has waited, so that others have gone on meanwhile; and it has a turn again.
+        self.has_waited, self.has_turn = False, True
+        # What is done as soon as it waits.
+        self.when_it_waits: Callable[[], None] = lambda: None
         # Others came to its nodes in between, and nobody had begun it.
         self.stepped_back = False
+        # It would wait, and too many do.
+        self.is_left_for_later = False
         self.limits = Limits(works=means.work is not None)
         self.worked_at: int | None = None
         # The group that follows the work, as it was made ready.
         self.ready: Ready | None = None
-        # When the job's last sign of life was sent that etcd has confirmed. None is given when a node is handed to the
-        # job.
+        # When the transaction was sent that put last that the job is this worker's.
         self.signed_at = 0.0
-        self.waits_since: float | None = None
         self.pauses: Iterator[float] = pauses()
         self.reads_at: dict[int, list[Operation]] = {}
 
@@ -102,37 +133,90 @@ class Attempt:
             if not found.is_for(self.means.name):
                 self.means.journal.log("dropped", job=self.job.name)
                 return
+            self.follow_drop(found)
             if self.means.stopping and self.worked_at != found.progress.step:
                 self.leave(found)
                 return
             found = self.go_on_or_set_aside(found)
 
     def go_on_or_set_aside(self, found: Seen) -> Seen | None:
-        """If a record is no number, the job is set aside, for an operator to look at."""
+        """What can't be done of a job, as if a record is no number, ends no worker: the job is set aside, for an
+        operator to look at."""
         try:
+            self.need_same_job(found)
             return self.go_on(found)
         except Refused as why:
             self.means.journal.log("stray", job=self.job.name, why=why)
             self.set_aside(found, str(why), 0)
-            return None
+        except Unfit as why:
+            self.set_aside(found, why_of(why), 0)
+        except (Lost, Failed):
+            raise
+        except Exception as why:  # a value in etcd that hasn't its form, whoever put it
+            self.set_aside(found, why_of(why), 0)
+        return None
+
+    def need_same_job(self, found: Seen) -> None:
+        """Refuses to go on if the job's key was put again, or is gone, as far as that was read."""
+        key = self.keys.job(self.job.name)
+        if found.reads_job and found.found.revision_of(key) != self.job.put_at:
+            raise Refused("job-rewritten" if key in found.found.entries else "job-gone")
 
     def go_on(self, found: Seen) -> Seen | None:
         """Does work, takes a group, or waits. Gives the job as it is then; None if there is no more to do."""
         progress = found.progress
         if progress.has_ended() and progress.groups:
             return None
+        if found.under_way is None and self.job.is_late():
+            return self.end_late(found)
         if self.needs_work(progress):
             return self.do_work(found)
         ready, self.ready = self.ready, None
         if ready is not None and ready.found is found and not (self.means.stopping and ready.begins):
             return self.make(ready)
         group = self.group(found)
-        return self.wait(found, group) if group.does_nothing() else self.commit(found, group)
+        if group.does_nothing():
+            return self.wait(found, group)
+        if found.under_way is None and self.is_one_too_many(group):
+            self.is_left_for_later = True
+            return None
+        return self.commit(found, group)
+
+    def is_one_too_many(self, group: Group) -> bool:
+        """Would the job wait, and do as many of this worker's jobs as may?"""
+        return group.blocked is not None and self.means.turns is not None and self.means.turns.is_full()
+
+    def follow_drop(self, found: Seen) -> None:
+        """From when the job is dropped on, it is another one."""
+        at = found.progress.dropped
+        if at is not None and len(self.job.plan) != found.progress.steps:
+            self.job = self.job.cut(at)
+            self.reads_at.clear()
+
+    def end_late(self, found: Seen) -> Seen | None:
+        self.means.journal.log("late", job=self.job.name)
+        changes = [deleting(self.keys.fresh(self.job.age, self.job.name))]
+        changes += drop(self.keys, self.job, found.progress, LATE)
+        self.members.write(changes, [found.claim(self.keys, self.job), self.is_same_job()])
+        return None
+
+    def is_same_job(self) -> Guard:
+        return unchanged(self.keys.job(self.job.name), self.job.put_at)
 
     def group(self, found: Seen) -> Group:
-        """The job's next group."""
+        """The job's next group. It ends before it would be more than one transaction takes."""
         steps = window(self.job, found.progress.step)
-        return group_of(self.keys, self.job, steps, found.progress, found.found, self.limits)
+        while True:
+            group = group_of(self.keys, self.job, steps, found.progress, found.found, self.limits)
+            if group.taken < 2 or self.size_of(found, group) + MOST_INNER <= MOST_OPERATIONS:
+                return group
+            steps = before_an_unlock(steps[: group.taken])
+
+    def size_of(self, found: Seen, group: Group) -> int:
+        """At most so many changes are the group's: those of the job itself, of nodes, of records and of those that are
+        handed a node."""
+        own = 5
+        return own + len(group.hands) + len(group.changed) + 3 * len(self.handed(found, group))
 
     def look(self, step: int, revision: int = 0) -> Seen | None:
         """Reads the job as it is now, or as of this revision or a later one; `step` is a guess of the next step."""
@@ -170,20 +254,28 @@ class Attempt:
         guards, changes = self.guards(found, group), self.changes(found, group)
         leaves = left_by(self.keys, self.job, group, self.means.sign())
         otherwise, then = self.reads(found.progress.step), self.reads_then(after, leaves)
+        about, inner = self.about(found, group), MOST_INNER
         if begins and max(len(guards), len(changes) + 1, len(otherwise)) + begins.size <= MOST_OPERATIONS:
-            then = [begins.operation()]
+            then, about, inner = [begins.operation()], about | begins.about, begins.size
         else:
             begins = None
             if len(changes) + len(then) > MOST_OPERATIONS - MOST_INNER:
                 then = []
-        request = request_of(guards, [*changes, *then], otherwise)
-        return Ready(found, group, request, leaves, begins, bool(then))
+        part = Part(guards, changes, then, otherwise, about, inner)
+        return Ready(found, group, part, leaves, begins, bool(then))
+
+    def about(self, found: Seen, group: Group) -> frozenset[str]:
+        """The nodes and the jobs that the group is about."""
+        nodes = {*group.locked, *group.hands, *group.records, *([group.blocked] if group.blocked else [])}
+        handed = {last_part(key) for key, _ in self.handed(found, group).values()}
+        line = line_of(self.job, found.progress)
+        return frozenset({*nodes, *handed, self.job.name, *([line] if line else [])})
 
     def make(self, ready: Ready) -> Seen | None:
         """Sends the transaction; gives the job as it is then."""
         step, sent_at = ready.found.progress.step, now()
         try:
-            done = self.members.make(ready.request)
+            done = self.means.commits.make(ready.part)
         except Lost as lost:
             return self.look_again(step, lost)
         if done.succeeded:
@@ -195,7 +287,7 @@ class Attempt:
     def committed(self, ready: Ready, done: Done) -> Seen | None:
         group = ready.group
         self.means.journal.log("commit")
-        self.limits, self.waits_since = Limits(works=self.limits.works), None
+        self.limits = Limits(works=self.limits.works)
         if group.blocked is not None:
             self.means.journal.log("waits", job=self.job.name, node=group.blocked)
         if ready.leaves is not None and ready.looks:
@@ -206,7 +298,10 @@ class Attempt:
         self.means.journal.log("ended", job=self.job.name, groups=after.groups)
         if self.following is not None:
             begun = ready.begins.leaves if ready.begins and done.ends_with_then() else None
-            self.ahead = self.following.found_after(done.found, begun, self.signed_at)
+            try:
+                self.ahead = self.following.found_after(done.found, begun, self.signed_at)
+            except Exception:  # likewise
+                self.ahead = None
         return None
 
     def found_after(self, found: Found, begun: Seen | None, ended_at: float) -> Seen | None:
@@ -231,10 +326,13 @@ class Attempt:
         following = self.following
         if following is None or self.means.stopping or not (self.limits.works and group.after().has_ended()):
             return None
-        ahead = following.found_in(found.found)
-        if ahead is None or ahead.under_way is not None:
+        try:
+            ahead = following.found_in(found.found)
+            if ahead is None or ahead.under_way is not None or following.job.is_late():
+                return None
+            return following.begin_after(ahead, group, set(self.handed(found, group)))
+        except Exception:  # it is raised again, and the next job set aside, once that is attempted by itself
             return None
-        return following.begin_after(ahead, group, set(self.handed(found, group)))
 
     def begin_after(self, found: Seen, ending: Group, handed: set[str]) -> Beginning | None:
         """The job's first group. A node that the ending job unlocks isn't free yet. If it is handed to a third job,
@@ -243,9 +341,11 @@ class Attempt:
         after, free = group.after(), ending.hands.keys() - handed
         if after.has_ended() or group.blocked in free or ending.hands.keys() & set(group.locked):
             return None
+        if self.is_one_too_many(group):
+            return None
         leaves = left_by(self.keys, self.job, group, self.means.sign())
         then = [*self.changes(found, group), *self.reads_then(after, leaves)]
-        return Beginning(self.guards(found, group), then, self.reads(0), leaves)
+        return Beginning(self.guards(found, group), then, self.reads(0), leaves, self.about(found, group))
 
     def give_way(self, group: Group, before: Seen, now: Seen | None) -> Seen | None:
         """If others came to a node in between, the job stands in line for it; if it isn't begun, it is left for
@@ -278,7 +378,8 @@ class Attempt:
         records = [self.keys.record(path) for path in group.records]
         same = [*owners, *records]
         same += [self.keys.progress(self.job.name), *(key for key, _ in self.handed(found, group).values())]
-        return [found.claim(self.keys, self.job), *(unchanged(key, found.found.revision_of(key)) for key in same)]
+        own = [found.claim(self.keys, self.job), self.is_same_job()]
+        return own + [unchanged(key, found.found.revision_of(key)) for key in same]
 
     def handed(self, found: Seen, group: Group) -> dict[str, tuple[str, Waiter]]:
         """The nodes that are unlocked and have a line, each with the key and the value of the first in it."""
@@ -286,8 +387,9 @@ class Attempt:
         for path in (path for path, held in group.hands.items() if not held):
             line = found.found.below(self.keys.waiters(path))
             first = min(line, default=None)
-            if first is not None and line[first].value:
-                handed[path] = first, Waiter.read(line[first].value)
+            waiter = waiter_of(line[first].value) if first is not None else None
+            if first is not None and waiter is not None:
+                handed[path] = first, waiter
         return handed
 
     def changes(self, found: Seen, group: Group) -> list[Operation]:
@@ -311,7 +413,7 @@ class Attempt:
         """The first in line takes the lock in the transaction that unlocks the node."""
         name = last_part(key)
         event = putting(self.keys.event(name, waiter.group), Event(1, False, {}, place).text())
-        return [deleting(key), putting(self.keys.progress(name), written(waiter.progress)), event]
+        return [deleting(key), putting(self.keys.progress(name), Progress.of(waiter.progress).text()), event]
 
     def progress_and_event(self, group: Group) -> list[Operation]:
         """Puts progress and event. If the group stops before a node, a nested transaction finds out whether it is held,
@@ -323,7 +425,7 @@ class Attempt:
             puts = [putting(self.keys.progress(self.job.name), after.text())]
             if group.blocked is not None:
                 own = self.keys.waiter(group.blocked, self.job.age, self.job.name)
-                puts.append(putting(own, Waiter.of(after).text()))
+                puts.append(putting(own, Waiter.after(after).text()))
             return [*puts, putting(event, group.event(is_held).text())]
 
         if group.blocked is None:
@@ -345,29 +447,42 @@ class Attempt:
         return self.limits.works and is_access and self.worked_at != progress.step
 
     def do_work(self, found: Seen) -> Seen | None:
-        """Does the work of the next access, with signs of life before it and in it. Meanwhile the group that follows is
-        made ready. It is sent if the work hasn't failed, and no sign was given."""
+        """Does the work of the next access, with signs of life before it and in it."""
         step = self.job.steps[found.progress.step]
         record = record_of(self.keys, step.path, found.found)
         under_way = found.under_way or self.means.sign()
-        if self.means.signs.is_wanted(self.signed_at):
-            return self.put_under_way(found, under_way)
-        failure: Exception | None = None
-        self.means.ready.begin(lambda: self.made_ready(found, self.group(found)))
-        self.means.signs.begin(self.job.name, found, self.signed_at)
-        try:
-            self.perform(self.job.accesses[step.access], record, f"{self.job.name}/{step.access}")
-        except Exception as why:  # any exception of the work means that it has failed
-            failure = why
-        finally:
-            last, self.ready = self.means.signs.end(), self.means.ready.end()
-        if last is None:
-            self.means.journal.log("dropped", job=self.job.name)
-            return None
+        with self.means.signs.during():
+            if not self.means.signs.is_sure(self.signed_at):
+                return self.put_under_way(found, under_way)
+            failure = self.failure_of(found, self.job.accesses[step.access], record, f"{self.job.name}/{step.access}")
         if failure is None:
-            self.worked_at = last.progress.step
-            return last
-        return self.fail(last, under_way.fails + 1, f"{type(failure).__name__}: {failure}")
+            self.worked_at = found.progress.step
+            return found
+        return self.fail(found, under_way.fails + 1, why_of(failure))
+
+    def failure_of(self, found: Seen, access: Access, record: int, token: str) -> BaseException | None:
+        """Does the work; meanwhile the group that follows is made ready."""
+        with self.means.makes_ready() as makes:
+            makes.begin(lambda: self.made_ready(found, self.group(found)))
+            self.means.signs.begin()
+            try:
+                self.perform(access, record, token)
+            except BaseException as why:  # whatever the work raises, SystemExit among them, means that it has failed
+                return why
+            finally:
+                self.means.signs.end()
+                self.ready = makes.end()
+        return None
+
+    def take_up(self, found: Seen, last: UnderWay, sign: Abandoned) -> Seen | None:
+        """Goes on with a job with which nobody does, unless its worker has given a sign since. A worker that was lost
+        at an access with work counts as a failure of it, since the work may be what has ended the worker."""
+        is_lost = last.by not in ("", self.means.name) and self.needs_work(found.progress)
+        fails, why = last.fails + is_lost, LOST if is_lost else last.why
+        if fails >= self.means.tries and is_lost:
+            self.set_aside(found, why, fails)
+            return None
+        return self.put_under_way(found, self.means.sign(last.waits, fails, why), sign)
 
     def perform(self, access: Access, record: int, token: str) -> None:
         """Calls the work, once for each try."""
@@ -384,35 +499,51 @@ class Attempt:
         return self.pause(found, self.means.sign(fails=fails, why=why))
 
     def pause(self, found: Seen, under_way: UnderWay) -> Seen | None:
-        """Waits until the next try, with signs of life."""
-        until = time.monotonic() + next(self.pauses)
-        last: Seen | None = found
-        while last is not None and last.is_for(self.means.name):
-            last = self.put_under_way(last, under_way)
-            left = until - time.monotonic()
-            if left <= 0 or self.means.stopping:
-                break
-            time.sleep(min(left, self.means.beat_seconds))
+        """Waits until the next try, with signs of life. Other jobs go on meanwhile."""
+        until, last = time.monotonic() + next(self.pauses), self.put_under_way(found, under_way)
+        self.following = None
+        self.when_it_waits()
+        with self.means.waited():
+            while last is not None and time.monotonic() < until and not self.means.stopping:
+                time.sleep(min(until - time.monotonic() + 0.001, LONGEST_NAP_SECONDS))
+        self.has_waited, self.has_turn = True, self.means.takes_turn(FOREVER)
         return last
 
     def set_aside(self, found: Seen, why: str, fails: int) -> None:
-        self.means.journal.log("set_aside", job=self.job.name, why=why)
-        self.put_under_way(found, UnderWay("", fails=fails, why=why, aside=True))
+        """Nobody goes on with the job until an operator says so. It keeps what it holds, and leaves the line in which
+        it stands."""
+        holds, groups = self.job.held_at(found.progress.step), found.progress.groups
+        self.means.journal.log("set_aside", job=self.job.name, why=cut(why), holds=" ".join(holds))
+        claim = found.claim(self.keys, self.job)
+        name = self.job.name
+        own = self.keys.under_way(name) if found.under_way else self.keys.fresh(self.job.age, name)
+        changes = [deleting(own), putting(self.keys.aside(name), Aside(cut(why), fails, holds, groups).text())]
+        path = line_of(self.job, found.progress)
+        if path is not None:
+            changes.append(deleting(self.keys.waiter(path, self.job.age, name)))
+        self.members.write(changes, [claim])
 
     def leave(self, found: Seen) -> None:
-        """Lets other workers go on with the job at once."""
+        """Lets other workers go on with the job at once. That is repeated until it is answered: as long as the job
+        names this worker, and that gives signs for others, nobody else takes it up."""
         if found.under_way is not None:
             self.means.journal.log("left", job=self.job.name)
-            self.put_under_way(found, replace(found.under_way, by=""))
+            left = putting(self.keys.under_way(self.job.name), replace(found.under_way, by="").text())
+            self.members.write([left], [found.claim(self.keys, self.job)])
 
-    def put_under_way(self, found: Seen, under_way: UnderWay) -> Seen | None:
-        """Puts the worker that goes on with the job; gives the job as it is then."""
+    def put_under_way(self, found: Seen, under_way: UnderWay, last: Abandoned | None = None) -> Seen | None:
+        """Puts the worker that goes on with the job; gives the job as it is then. If another worker has gone on with it
+        up to its last sign, that worker's next sign finds it."""
         changes = [putting(self.keys.under_way(self.job.name), under_way.text())]
+        guards = [found.claim(self.keys, self.job)]
+        if last is not None and last.sign:
+            guards.append(unchanged(last.sign, last.signed))
+            changes.append(deleting(last.sign))
         if found.under_way is None:
             changes.append(deleting(self.keys.fresh(self.job.age, self.job.name)))
         reads, sent_at = self.reads(found.progress.step), now()
         try:
-            done = self.members.commit([found.claim(self.keys, self.job)], changes, reads, reads)
+            done = self.members.commit(guards, changes, reads, reads)
         except Lost as lost:
             return self.look_again(found.progress.step, lost)
         if done.succeeded:
@@ -422,46 +553,75 @@ class Attempt:
     # Waiting
 
     def wait(self, found: Seen, group: Group) -> Seen | None:
-        """Waits for the job before this one in line, or if there is none for the node, until a sign of life is due."""
+        """Waits for the job before this one in line, or if there is none for the node. Meanwhile the worker's other
+        jobs go on. If they all go on once this one is woken, it is left for another worker."""
         path = str(group.blocked)
         before = older_waiter(self.keys, self.job, path, found.found) if self.limits.queues else None
-        revision, seconds = found.found.revision, max(0.0, self.sign_due() - now())
-        if before is not None:
-            # The node may be handed to this job all the same, by a job that hasn't seen those before it.
-            own = self.keys.waiter(path, self.job.age, self.job.name)
-            watched = Watched(before, own + "\0", (before, own))
-            came = wait(self.members, watched, revision, seconds, lambda change: change.value is None)
-            return self.look(found.progress.step, came.revision) if came else self.wait_on(found, path, before)
-        if group.turn is not Turn.HELD:
+        if before is None and group.turn is not Turn.HELD:
             return self.look(found.progress.step)
+        self.has_waited, self.following = True, None
+        self.when_it_waits()
+        with self.means.waited():
+            woken = self.woken(found, path, before)
+        self.has_turn = self.means.takes_turn(WOKEN_SECONDS)
+        if self.has_turn:
+            return woken()
+        self.leave(found)
+        return None
+
+    def woken(self, found: Seen, path: str, before: str | None) -> Callable[[], Seen | None]:
+        """Waits; gives how the job is then to be had."""
+        step = found.progress.step
+        wait_once = partial(self.wait_behind, found, path, before) if before else partial(self.wait_at, found, path)
+        while not self.means.stopping:
+            came = wait_once()
+            if came is not None:
+                return came
+            if before is not None and self.is_nobody(before):
+                self.limits = replace(self.limits, queues=False)
+                break
+        return partial(self.look, step)
+
+    def wait_behind(self, found: Seen, path: str, before: str) -> Callable[[], Seen | None] | None:
+        """The node may be handed to this job all the same, by a job that hasn't seen those before it."""
+        own = self.keys.waiter(path, self.job.age, self.job.name)
+        watched = Watched(before, own + "\0", (before, own))
+        came = self.await_change(watched, found, lambda change: change.value is None)
+        return partial(self.look, found.progress.step, came.revision) if came else None
+
+    def wait_at(self, found: Seen, path: str) -> Callable[[], Seen | None] | None:
         ours = ("", self.job.name)
-        owner = Watched(self.keys.owner(path))
-        came = wait(self.members, owner, revision, seconds, lambda change: change.value in ours)
-        if came and not came.value and self.limits.works:
+        came = self.await_change(Watched(self.keys.owner(path)), found, lambda change: change.value in ours)
+        if came is None:
+            return None
+        if not came.value and self.limits.works:
             # Before the work no record is needed, so nothing has to be read.
-            return found.freed(self.keys, path, came.revision)
-        step = found.progress.step + bool(came and came.value)
-        return self.look(step, came.revision) if came else self.wait_on(found, path, None)
+            freed = found.freed(self.keys, path, came.revision)
+            return lambda: freed
+        return partial(self.look, found.progress.step + bool(came.value), came.revision)
 
-    def sign_due(self) -> float:
-        return self.signed_at + self.means.beat_seconds
+    def await_change(self, watched: Watched, found: Seen, is_it: Callable[[Change], bool]) -> Change | None:
+        return wait(self.members, watched, found.found.revision, self.means.patience, is_it)
 
-    def wait_on(self, found: Seen, path: str, before: str | None) -> Seen | None:
-        """Gives a sign of life. If nobody goes on with the job for which this one waits, this one is left, or goes
-        first."""
-        begun_at = self.waits_since = self.waits_since or now()
-        other = last_part(before) if before else str(found.found.value(self.keys.owner(path)))
-        key = self.keys.under_way(other)
-        found_other = self.members.get(key)
-        last = Abandoned(other, found_other.revision_of(key))
-        text = found_other.value(key)
-        others = UnderWay.read(text) if text is not None else None
-        if others is not None and (others.by == "" or self.means.is_still(last, others)):
-            if not before:
-                self.abandoned = None if others.aside else last
-                self.leave(found)
-                return None
-            self.limits = replace(self.limits, queues=False)
-        elif others is None and before and now() - begun_at > self.means.patience:
-            self.limits = replace(self.limits, queues=False)
-        return self.put_under_way(found, found.under_way or self.means.sign(path))
+    def is_nobody(self, waiter: str) -> bool:
+        """Stands a job in line that isn't under way? It may have been set aside, or be gone."""
+        key = self.keys.under_way(last_part(waiter))
+        found = self.members.get(key, waiter)
+        return waiter in found.entries and key not in found.entries
+
+
+def before_an_unlock(steps: list[Step]) -> list[Step]:
+    """Fewer of these steps, so that none of those that are left out first is a lock: whether its node is held wouldn't
+    be looked at."""
+    numbers = range(len(steps) // 2, len(steps))
+    return steps[: next((number for number in numbers if steps[number].kind is not Kind.LOCK), len(steps) - 1)]
+
+
+def waiter_of(text: str) -> Waiter | None:
+    """What is put for the first in line, if that has its form; the node is handed to nobody otherwise."""
+    try:
+        waiter = Waiter.read(text)
+        Progress.of(waiter.progress)
+    except (ValueError, TypeError, AttributeError):
+        return None
+    return waiter

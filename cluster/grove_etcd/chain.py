@@ -5,25 +5,25 @@ node, how often its owner's key was put, and the revision that put its record la
 """
 from __future__ import annotations
 
-import json
 from collections import Counter
-from dataclasses import asdict, dataclass, field
+from dataclasses import dataclass, field
 from typing import Iterable
 
 from .groups import RECORD
 from .head import Head
-from .jobs import Kind, written
+from .jobs import Kind
 from .keys import Keys
 from .members import Members
 from .past import Past, Taken, in_order
 from .refusals import Refused
 from .seeing import window
+from .values import Value
 from .weights import Weight
 from .wire import Entry, Found, reading, reading_last
 
 
 @dataclass(frozen=True)
-class Left:
+class Left(Value):
     """What an epoch, or `load`, left of a node: the record, the revision of the write that left it, and how often the
     owner's key had been put by then."""
 
@@ -32,13 +32,6 @@ class Left:
     hands: int = 0
     # The revision at which the node was unlocked last.
     freed: int = 0
-
-    @staticmethod
-    def read(text: str) -> Left:
-        return Left(**json.loads(text))
-
-    def text(self) -> str:
-        return written(asdict(self))
 
 
 @dataclass
@@ -51,13 +44,24 @@ class Passing:
     writers: dict[str, Taken] = field(default_factory=dict)
     # The revision at which each node was unlocked last.
     freed: dict[str, int] = field(default_factory=dict)
-    # The jobs that locked each node, in order.
-    lockers: dict[str, list[str]] = field(default_factory=dict)
 
     def go_through(self, groups: Iterable[Taken]) -> None:
         for group in groups:
             self.pass_by(group)
             self.need_mark(group)
+
+    def leave(self, own: Passing) -> None:
+        """As if what some of the jobs did, which have ended, had come before."""
+        for path, hands in own.hands.items():
+            self.hands[path] -= hands
+            if not self.hands[path]:
+                del self.hands[path]
+        for path, group in own.writers.items():
+            if self.writers.get(path) is group:
+                del self.writers[path]
+        for path, revision in own.freed.items():
+            if self.freed.get(path) == revision:
+                del self.freed[path]
 
     def pass_by(self, group: Taken) -> None:
         """A group that locks or unlocks a node puts its owner's key. If the node is handed to the next job, that is one
@@ -68,7 +72,6 @@ class Passing:
         for step in group.steps:
             if step.kind is Kind.LOCK:
                 self.holders[step.path] = name
-                self.lockers.setdefault(step.path, []).append(name)
             elif step.kind is Kind.UNLOCK:
                 self.holders.pop(step.path, None)
                 self.freed[step.path] = group.revision
@@ -86,6 +89,8 @@ class Passing:
         steps of its window didn't look at the next step, and neither did one that was handed its node.)"""
         step, name = group.next_step, group.job.name
         if step is None or step.kind is not Kind.LOCK or group.event.mark or group.is_handed:
+            return
+        if group.event.dropped is not None:
             return
         holder = self.holders.get(step.path)
         if holder not in (None, name) and group.event.takes < len(window(group.job, group.first)):
@@ -109,15 +114,12 @@ class Node:
 class Chain:
     """An epoch's nodes, with all that was done since the last closed epoch."""
 
-    def __init__(
-        self, head: Head, number: int, nodes: dict[str, Node], epoch: list[Past], open_jobs: list[Past]
-    ) -> None:
-        """`open_jobs` are all those in no closed epoch, which includes those of an open epoch."""
+    def __init__(self, head: Head, number: int, nodes: dict[str, Node], epoch: list[Past], every: Passing) -> None:
+        """`every` is what all jobs did that are in no closed epoch, which include those of an open epoch."""
         self.head, self.number, self.nodes = head, number, nodes
         self.is_open = number == head.epoch
-        self.own, self.all = Passing(), Passing()
+        self.own, self.all = Passing(), every
         self.own.go_through(in_order(epoch))
-        self.all.go_through(in_order(open_jobs))
 
     def check(self) -> None:
         for path, node in self.nodes.items():
@@ -183,16 +185,19 @@ class Chain:
         return node.record.put_at if node.record and is_loaded else 0
 
 
-def nodes_at(members: Members, keys: Keys, paths: Iterable[str], epoch: int, head: Head) -> dict[str, Node]:
+def nodes_at(
+    members: Members, keys: Keys, paths: Iterable[str], epoch: int, head: Head, closed_at: int
+) -> dict[str, Node]:
     """These nodes at the head's revision, with what the last epoch before this one left of each, and the last closed
-    epoch."""
-    at, reads = head.revision, []
+    epoch. The last epoch was closed at a revision that may be later."""
+    at, reads, left_reads = head.revision, [], []
     paths = sorted(paths)
     for path in paths:
         reads += [reading(key, at) for key in (keys.record(path), keys.owner(path), keys.weight(path))]
-        reads.append(reading_last(keys.all_left(path), keys.left(path, epoch), at))
-        reads.append(reading_last(keys.all_left(path), keys.left(path, head.epoch), at))
+        left_reads.append(reading_last(keys.all_left(path), keys.left(path, epoch), closed_at))
+        left_reads.append(reading_last(keys.all_left(path), keys.left(path, head.epoch), closed_at))
     found = members.read_all(reads, at)
+    found.entries.update(members.read_all(left_reads, closed_at).entries)
     left: dict[str, list[tuple[int, Left]]] = {}
     prefix = keys.whole("b")[:-1]
     for key, entry in found.below(keys.whole("b")).items():

@@ -12,14 +12,15 @@ from typing import Any, Callable
 # A program imports this module before the others, which import these.
 try:
     import_module("grpc")
-    import_module("etcd3.etcdrpc")
+    import_module("google.protobuf.message_factory")
 except Exception as why:  # packages that don't go together raise errors of their own
     told = " ".join(str(why).split())
-    print(f"{Path(sys.argv[0]).name}: needs the Python packages etcd3 and grpcio ({told})", file=sys.stderr)
+    print(f"{Path(sys.argv[0]).name}: needs the Python packages grpcio and protobuf ({told})", file=sys.stderr)
     sys.exit(3)
 
 from .keys import Keys
 from .members import Credentials, Lost, Members, addresses_of
+from .nested import warning
 from .program import GROVE
 from .refusals import Failed, Refused
 
@@ -47,6 +48,21 @@ def with_grove(parser: argparse.ArgumentParser) -> argparse.ArgumentParser:
     return parser
 
 
+def seconds(text: str) -> float:
+    number = float(text)
+    if not 0 < number < float("inf"):
+        raise argparse.ArgumentTypeError(f"a time is more than 0: {text!r}")
+    return number
+
+
+def address(text: str) -> tuple[str, int]:
+    """Of `[ADDRESS:]PORT`; without an address it is this machine alone."""
+    host, _, port = text.rpartition(":")
+    if not port.isdecimal() or not 0 < int(port) < 65536:
+        raise argparse.ArgumentTypeError(f"it is [ADDRESS:]PORT, such as 9464: {text!r}")
+    return host or "127.0.0.1", int(port)
+
+
 def credentials_of(given: argparse.Namespace) -> Credentials:
     if (given.cert is None) != (given.key is None):
         raise ValueError("--cert and --key go together")
@@ -65,6 +81,12 @@ def run(parser: argparse.ArgumentParser, program: Program) -> None:
     except ValueError as bad:
         parser.error(str(bad))
     sys.exit(status_of(lambda: program(Members(addresses, credentials), keys, given)))
+
+
+def warn_of_rights(members: Members, keys: Keys) -> None:
+    told = warning(members, keys)
+    if told:
+        print(told, file=sys.stderr, flush=True)
 
 
 def status_of(program: Callable[[], Any]) -> int:

@@ -6,7 +6,7 @@ all of that state that the steps need. So the rules allow each step at the trans
 from __future__ import annotations
 
 import re
-from dataclasses import dataclass, field
+from dataclasses import dataclass, field, replace
 from enum import Enum
 
 from .documents import LEAST, MOST
@@ -91,7 +91,10 @@ class Group:
         stays = not self.taken
         marked = (is_held and self.may_mark) or (stays and old.marked)
         waits = self.blocked is not None or (stays and old.waits)
-        return Progress(old.step + self.taken, old.steps, old.groups + 1, marked, waits, old.replies + self.replies)
+        replies = old.replies + self.replies
+        return replace(
+            old, step=old.step + self.taken, groups=old.groups + 1, marked=marked, waits=waits, replies=replies
+        )
 
     def event(self, is_held: bool = False) -> Event:
         mark = is_held and self.may_mark

@@ -4,10 +4,10 @@ from __future__ import annotations
 import json
 from dataclasses import dataclass
 
-from .jobs import written
 from .keys import FORMAT, Keys
 from .members import Members
 from .refusals import Refused
+from .values import written
 from .wire import Found, Guard, unchanged
 
 
@@ -28,16 +28,21 @@ def head_text(epoch: int) -> str:
     return written({"format": FORMAT, "epoch": epoch})
 
 
-def head_of(keys: Keys, found: Found) -> Head:
+def head_of(keys: Keys, found: Found, revision: int = 0) -> Head:
     entry = found.entries.get(keys.head())
     if entry is None:
         raise Refused("other-format 1" if keys.old_head() in found.entries else "not-loaded")
     fields = json.loads(entry.value)
-    if fields["format"] != FORMAT:
+    if fields["format"] not in (FORMAT, FORMAT - 1):
         raise Refused(f"other-format {fields['format']}")
     if entry.version != fields["epoch"]:
         raise Refused("stray-head")
-    return Head(fields["epoch"], found.revision, entry.put_at, entry.made_at)
+    return Head(fields["epoch"], revision or found.revision, entry.put_at, entry.made_at)
+
+
+def head_at(members: Members, keys: Keys, revision: int) -> Head:
+    """The store as it stood at that revision."""
+    return head_of(keys, members.get(keys.head(), keys.old_head(), revision=revision), revision)
 
 
 def need_store(members: Members, keys: Keys) -> Head:

@@ -2,18 +2,17 @@
 from __future__ import annotations
 
 import json
+import time
 from dataclasses import dataclass, field, replace
 from enum import Enum
 from functools import cached_property
-from typing import Any, Iterable, Union
+from typing import Any, Optional, Union
+
+from .values import Value, written
 
 # As in a document: `["add","/a",1]`, `["lock","/a"]`, and 7, "ok", "range" or "short".
 Access = list[Union[str, int]]
 Reply = Union[int, str]
-
-
-def written(value: object) -> str:
-    return json.dumps(value, separators=(",", ":"))
 
 
 class Kind(Enum):
@@ -43,20 +42,28 @@ def slots_of(access: Access) -> int:
 
 @dataclass(frozen=True)
 class Job:
-    """A list with a legal plan, and a name; `age` is the time of its submission, in microseconds of some clock."""
+    """A list with a legal plan, and a name; `age` is the time of its submission, in microseconds of some clock, and
+    `by` the time until which it may be begun. `put_at` is the revision at which its key was put."""
 
     name: str
     age: int
     accesses: list[Access]
     plan: list[list[Any]]
+    by: Optional[int] = None
+    put_at: int = 0
 
     @staticmethod
-    def read(name: str, text: str) -> Job:
+    def read(name: str, text: str, put_at: int = 0) -> Job:
         fields = json.loads(text)
-        return Job(name, fields["age"], fields["list"], fields["plan"])
+        return Job(name, fields["age"], fields["list"], fields["plan"], fields.get("by"), put_at)
+
+    def is_late(self) -> bool:
+        """May it not be begun any more?"""
+        return self.by is not None and time.time_ns() // 1000 > self.by
 
     def text(self) -> str:
-        return written({"age": self.age, "list": self.accesses, "plan": self.plan})
+        deadline = {} if self.by is None else {"by": self.by}
+        return written({"age": self.age, "list": self.accesses, "plan": self.plan, **deadline})
 
     @cached_property
     def steps(self) -> list[Step]:
@@ -67,6 +74,10 @@ class Job:
             return Step(Kind.ACCESS, path_of_access(self.accesses[what]), what)
         return Step(Kind(kind), what)
 
+    def begins_at(self) -> str:
+        """The node of its first lock, by which workers share out jobs."""
+        return next((what for kind, what in self.plan if kind == Kind.LOCK.value), "")
+
     def nodes(self) -> set[str]:
         """The nodes that it locks or accesses."""
         return {step.path for step in self.steps} | set(map(path_of_access, self.accesses))
@@ -75,11 +86,28 @@ class Job:
         """Each step is an event, and so may be a wait for each lock."""
         return len(self.plan) + sum(step.kind is Kind.LOCK for step in self.steps)
 
+    def held_at(self, step: int) -> list[str]:
+        """The nodes that it holds before this step, in the order of their locks."""
+        held: dict[str, None] = {}
+        for each in self.steps[:step]:
+            if each.kind is Kind.LOCK:
+                held[each.path] = None
+            elif each.kind is Kind.UNLOCK:
+                held.pop(each.path, None)
+        return list(held)
+
+    def cut(self, step: int) -> Job:
+        """The job if it is dropped before this step: its accesses so far, by a plan that then lets go of what it
+        holds."""
+        done = sum(each.kind is Kind.ACCESS for each in self.steps[:step])
+        unlocks = [[Kind.UNLOCK.value, path] for path in reversed(self.held_at(step))]
+        return replace(self, accesses=self.accesses[:done], plan=[*self.plan[:step], *unlocks])
+
 
 @dataclass(frozen=True)
-class Progress:
+class Progress(Value):
     """How many steps are done, of how many and in how many groups; whether the next step has its mark, and stands in
-    the line of its node; and the replies."""
+    the line of its node; the replies; and the step before which the job was dropped, if it was."""
 
     step: int
     steps: int
@@ -87,59 +115,65 @@ class Progress:
     marked: bool = False
     waits: bool = False
     replies: list[Reply] = field(default_factory=list)
-
-    @staticmethod
-    def read(text: str) -> Progress:
-        return Progress(**json.loads(text))
-
-    def text(self) -> str:
-        return written(vars(self))
+    dropped: Optional[int] = None
 
     def has_ended(self) -> bool:
         return self.step == self.steps
 
+    def drop(self, job: Job) -> Progress:
+        """The progress of the job once it is dropped where it is."""
+        steps = len(job.cut(self.step).plan)
+        return replace(self, steps=steps, groups=self.groups + 1, marked=False, waits=False, dropped=self.step)
+
 
 @dataclass(frozen=True)
-class UnderWay:
-    """The worker that goes on with a job, and how often the work of the present access has failed. A job that is set
-    aside is taken up by nobody. One with an empty name for its worker is taken up at once, and any other no sooner than
-    `patience` seconds after this sign of life. `waits` is the node that the job waits for."""
+class UnderWay(Value):
+    """The worker that goes on with a job, and how often the work of the present access has failed, with the last
+    failure. A job with an empty name for its worker is taken up at once, and any other no sooner than `patience`
+    seconds after this sign of life. `waits` is the node that the job waits for."""
 
     by: str
-    waits: str | None = None
+    waits: Optional[str] = None
     fails: int = 0
     why: str = ""
-    aside: bool = False
     patience: float = 0.0
 
-    @staticmethod
-    def read(text: str) -> UnderWay:
-        return UnderWay(**json.loads(text))
+    def is_aside(self) -> bool:
+        """Was the job set aside by a version that had no key for that?"""
+        return bool(self.more.get("aside"))
 
-    def text(self) -> str:
-        return written(vars(self))
+    def need_form(self) -> UnderWay:
+        is_well = isinstance(self.by, str) and isinstance(self.patience, (int, float)) and isinstance(self.fails, int)
+        if not (is_well and isinstance(self.waits or "", str) and isinstance(self.why, str)):
+            raise ValueError(f"no sign of life: {self.text()}")
+        return self
 
 
 @dataclass(frozen=True)
-class Event:
+class Aside(Value):
+    """A job that is set aside, which nobody takes up: why, how often its work has failed, the nodes that it holds, and
+    how many groups it has taken."""
+
+    why: str
+    fails: int = 0
+    holds: list[str] = field(default_factory=list)
+    groups: int = 0
+
+
+@dataclass(frozen=True)
+class Event(Value):
     """What a group did: how many steps it took, whether it marked the next one, the records that it left, and its place
-    among the groups of its transaction."""
+    among the groups of its transaction; or why the job was dropped."""
 
     takes: int
     mark: bool
     records: dict[str, int]
     place: int = 0
-
-    @staticmethod
-    def read(text: str) -> Event:
-        return Event(**json.loads(text))
-
-    def text(self) -> str:
-        return written(vars(self))
+    dropped: Optional[str] = None
 
 
 @dataclass(frozen=True)
-class Waiter:
+class Waiter(Value):
     """A job in a node's line, with what is put for it when the node is handed to it: the number of its event, and its
     progress once it has the lock."""
 
@@ -147,17 +181,6 @@ class Waiter:
     progress: dict[str, Any]
 
     @staticmethod
-    def of(progress: Progress) -> Waiter:
+    def after(progress: Progress) -> Waiter:
         locked = replace(progress, step=progress.step + 1, groups=progress.groups + 1, marked=False, waits=False)
-        return Waiter(progress.groups, vars(locked))
-
-    @staticmethod
-    def read(text: str) -> Waiter:
-        return Waiter(**json.loads(text))
-
-    def text(self) -> str:
-        return written(vars(self))
-
-
-def nodes_of(jobs: Iterable[Job]) -> set[str]:
-    return {path for job in jobs for path in job.nodes()}
+        return Waiter(progress.groups, locked.members())

@@ -5,6 +5,7 @@ import logging
 import threading
 from collections import Counter
 from http.server import BaseHTTPRequestHandler, ThreadingHTTPServer
+from typing import Callable
 
 LOG = logging.getLogger("grove")
 # Events without a line, since there are so many.
@@ -15,11 +16,18 @@ FORM = """\
 # HELP grove_worker_events_total What happened to this worker, by event.
 # TYPE grove_worker_events_total counter
 """
+GAUGE = """\
+# HELP {name} {about}
+# TYPE {name} gauge
+{name} {value:g}
+"""
 
 
 class Journal:
     def __init__(self) -> None:
         self.counts: Counter[str] = Counter()
+        # What is at present so, by the name of its metric: what it is about, and how it is had.
+        self.gauges: dict[str, tuple[str, Callable[[], float]]] = {}
         self.lock = threading.Lock()
 
     def log(self, event: str, **facts: object) -> None:
@@ -33,7 +41,10 @@ class Journal:
         """In the text form of Prometheus."""
         with self.lock:
             counts = sorted(self.counts.items())
-        return FORM + "".join(f'grove_worker_events_total{{event="{event}"}} {count}\n' for event, count in counts)
+        events = "".join(f'grove_worker_events_total{{event="{event}"}} {count}\n' for event, count in counts)
+        return FORM + events + "".join(
+            GAUGE.format(name=name, about=about, value=value()) for name, (about, value) in sorted(self.gauges.items())
+        )
 
 
 def line_of(event: str, facts: dict[str, object]) -> str:

@@ -14,11 +14,13 @@ a job.
     v/PATH//AGE/NAME   a job that waits for the node, in the order in which they are woken; with what is put for it
                        when the node is handed to it
     p/NAME             the job: its list, plan and age; put once
-    q/AGE/NAME         is there until the job's first group is taken
+    q/AGE/NAME         is there until the job's first group is taken; with the node of its first lock
     u/NAME             is there from then on until the job ends: the worker that goes on with it, and for how long
-                       others wait for its next sign. It is put by each of the job's groups, by each sign of life, and
-                       by a worker that takes the job up; the guard of the next group, or sign, is that no other worker
-                       has put it
+                       others wait for its next sign. It is put by each of the job's groups, and by a worker that takes
+                       the job up; the guard of the next group is that no other worker has put it
+    s/WORKER           the last sign of life that a worker gave for all its jobs that wait or have work; deleted by who
+                       takes up one of them. The guard of the next sign is that nobody has
+    a/NAME             is there in place of `q` or `u` while the job is set aside: why, and what it holds
     j/NAME             the job's progress; put once by each group
     e/NAME/GROUP       what the group took, whether it marked the next step, the records that it left, and its place
                        among the groups of its transaction; put once
@@ -27,8 +29,9 @@ a job.
                        left it, and the version of `o/PATH`
     w/EPOCH/PATH       how often the node was waited for
     weighing           the last reweighing, and whether it is done
+    followed           the revision up to which `audit --follow` has come
 
-Workers write `r`, `o`, `v`, `q`, `u`, `j` and `e` alone; submitters `p` and `q`.
+Workers write `r`, `o`, `v`, `q`, `u`, `s`, `a`, `j` and `e` alone; submitters `p` and `q`.
 
 The chain: an epoch begins at a node with the last `b/PATH//EPOCH` before it, or with what `load` left: the record in
 `m/PATH`, and a key `r/PATH` put before `head` was made. The key `r/PATH` has to have been put last by that write, or by
@@ -42,8 +45,10 @@ import re
 NAME = re.compile(r"[a-z0-9_-]{1,32}")
 # Of a job: the ID given to `submit --id`, or a new one, and the number of the list.
 JOB_NAME = re.compile(r"[a-z0-9_-]{1,64}\.[0-9]{1,9}")
-# The format of the keys and their values as described here.
-FORMAT = 2
+# The kinds of keys that go on with a path.
+OF_NODES = set("mrovb")
+# The format of the keys and their values as described here. Stores of the format before are gone on with.
+FORMAT = 3
 
 
 class Keys:
@@ -87,6 +92,12 @@ class Keys:
     def under_way(self, name: str) -> str:
         return f"{self.store}/u/{name}"
 
+    def sign(self, worker: str) -> str:
+        return f"{self.store}/s/{worker}"
+
+    def aside(self, name: str) -> str:
+        return f"{self.store}/a/{name}"
+
     def progress(self, name: str) -> str:
         return f"{self.store}/j/{name}"
 
@@ -110,6 +121,14 @@ class Keys:
 
     def all_waits(self, epoch: int) -> str:
         return f"{self.store}/w/{epoch:010}/"
+
+    def followed(self) -> str:
+        return f"{self.store}/followed"
+
+    def parts(self, key: str) -> tuple[str, str]:
+        """The kind of a key, and what comes after it; of one of a node a path, but for what may follow that."""
+        kind, slash, rest = key[len(self.store) + 1 :].partition("/")
+        return kind, slash + rest if kind in OF_NODES else rest
 
     def weighing(self) -> str:
         return f"{self.store}/weighing"

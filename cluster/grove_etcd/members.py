@@ -12,13 +12,28 @@ from pathlib import Path
 from typing import Any, Callable, Iterator, Sequence
 
 import grpc
-from etcd3 import etcdrpc
-
+from . import etcdrpc
 from .refusals import Failed
-from .wire import Done, Found, Guard, Operation, Request, after, at_hand, counting, done, ranging, reading, request_of
+from .wire import (
+    Done,
+    Found,
+    Guard,
+    Operation,
+    Request,
+    after,
+    at_hand,
+    choosing,
+    counting,
+    done,
+    ranging,
+    reading,
+    request_of,
+)
 
 # Of operations in a transaction, and of its compares (etcd's default limit).
 MOST_OPERATIONS = 128
+# Of transactions within one that have few operations.
+MOST_WIDE = 64
 # Keys of one answer.
 PAGE = 2000
 # For how long one member is waited for, and for how long a call is repeated.
@@ -35,7 +50,8 @@ OPTIONS = [
     # So a connection that hangs, as one made while a member starts, isn't shared with other clients.
     ("grpc.use_local_subchannel_pool", 1),
 ]
-TRANSACT, WATCH = "/etcdserverpb.KV/Txn", "/etcdserverpb.Watch/Watch"
+RANGE, TRANSACT, WATCH = "/etcdserverpb.KV/Range", "/etcdserverpb.KV/Txn", "/etcdserverpb.Watch/Watch"
+AUTHENTICATE = "/etcdserverpb.Auth/Authenticate"
 # RESOURCE_EXHAUSTED is the answer of a member that has too much to do, or no space left.
 NO_ANSWER = {
     grpc.StatusCode.UNAVAILABLE,
@@ -46,6 +62,14 @@ NO_ANSWER = {
     grpc.StatusCode.ABORTED,
     grpc.StatusCode.RESOURCE_EXHAUSTED,
 }
+
+
+class Unfit(Failed):
+    """etcd doesn't take this transaction, whoever sends it: it is too large, or hasn't its form."""
+
+
+class Compacted(Failed):
+    """What was asked for was so long ago that etcd has it no more."""
 
 
 class Lost(Exception):
@@ -82,7 +106,16 @@ class Member:
     def __init__(self, address: str, credentials: Credentials) -> None:
         self.address, self.credentials = address, credentials
         self.channel = credentials.channel(address)
-        self.calls = etcdrpc.KVStub(self.channel)
+        self.range = self.channel.unary_unary(
+            RANGE,
+            request_serializer=etcdrpc.RangeRequest.SerializeToString,
+            response_deserializer=etcdrpc.RangeResponse.FromString,
+        )
+        self.enter = self.channel.unary_unary(
+            AUTHENTICATE,
+            request_serializer=etcdrpc.AuthenticateRequest.SerializeToString,
+            response_deserializer=etcdrpc.AuthenticateResponse.FromString,
+        )
         # Takes a request that is serialized already.
         self.transact = self.channel.unary_unary(TRANSACT, response_deserializer=etcdrpc.TxnResponse.FromString)
         # Takes a single request: a stream of them would need a thread for each watch.
@@ -98,7 +131,7 @@ class Member:
         if self.credentials.user is None:
             return
         request = etcdrpc.AuthenticateRequest(name=self.credentials.user, password=self.credentials.password or "")
-        answer = etcdrpc.AuthStub(self.channel).Authenticate(request, seconds)
+        answer = self.enter(request, seconds)
         self.token = (("token", answer.token),)
 
     def ask(self, call: Any, request: Any, seconds: float) -> Any:
@@ -124,6 +157,8 @@ class Members:
     ) -> None:
         """A member is waited for as long as `seconds` says."""
         self.seconds = seconds
+        # The watches that are waited for at present.
+        self.watches: set[Any] = set()
         self.members = [Member(address, credentials) for address in addresses]
         random.shuffle(self.members)
 
@@ -131,6 +166,11 @@ class Members:
     def asked(self) -> Member:
         """The member that is asked at present."""
         return self.members[0]
+
+    def has_user(self) -> bool:
+        """Is there a user, whose rights may be fewer than all?"""
+        credentials = self.asked.credentials
+        return credentials.user is not None or credentials.cert is not None
 
     def turn(self, from_member: Member) -> None:
         """Asks the next member from now on, unless that has been done already."""
@@ -150,19 +190,23 @@ class Members:
         found = self.read(list(map(at_hand, reads)))
         return found if found.revision >= revision else self.read(reads)
 
-    def read_all(self, reads: Sequence[Operation], revision: int) -> Found:
-        """Any number of reads that all name this revision."""
+    def read_all(self, reads: Sequence[Operation], revision: int = 0) -> Found:
+        """Any number of reads; if they all name this revision, at once."""
         whole = Found(revision)
         for start in range(0, len(reads), MOST_OPERATIONS):
             whole.entries.update(self.read(list(reads[start : start + MOST_OPERATIONS])).entries)
         return whole
 
-    def count(self, prefix: str) -> int:
+    def read_wide(self, parts: Sequence[list[Operation]]) -> Found:
+        """More than 128 reads at one revision, as transactions within one."""
+        return self.read([choosing([], part, []) for part in parts])
+
+    def count(self, prefix: str, revision: int = 0) -> int:
         """How many keys have this prefix."""
-        return int(self.range(counting(prefix)).count)
+        return int(self.range(counting(prefix, revision)).count)
 
     def range(self, request: Any) -> Any:
-        return self.call_until_answered(lambda member: member.ask(member.calls.Range, request, self.seconds))
+        return self.call_until_answered(lambda member: member.ask(member.range, request, self.seconds))
 
     def pages(self, prefix: str, revision: int = 0, keys_only: bool = False) -> Iterator[Found]:
         """The keys with this prefix, page by page, all as they stood at one revision."""
@@ -208,6 +252,11 @@ class Members:
         """Makes changes that are harmless if made twice; repeats them until they are made, or a guard doesn't hold."""
         return bool(self.transact(request_of(list(guards), changes, [])).succeeded)
 
+    def write_wide(self, parts: Sequence[Operation]) -> None:
+        """Makes transactions that are harmless if made twice, some in one."""
+        for start in range(0, len(parts), MOST_WIDE):
+            self.write(list(parts[start : start + MOST_WIDE]))
+
     def transact(self, request: Request) -> Any:
         """Makes a transaction that is harmless if made twice. It repeats it until there is an answer."""
         return self.call_until_answered(lambda member: member.ask(member.transact, request, self.seconds))
@@ -226,9 +275,17 @@ class Members:
                     raise no_answer from error
             time.sleep(pause)
 
+    def end_watches(self) -> None:
+        """Whoever waits for one goes on."""
+        for answers in list(self.watches):
+            answers.cancel()
+
     def close(self) -> None:
         for member in self.members:
             member.channel.close()
+
+
+KINDS = {grpc.StatusCode.INVALID_ARGUMENT: Unfit, grpc.StatusCode.OUT_OF_RANGE: Compacted}
 
 
 def pauses() -> Iterator[float]:
@@ -242,7 +299,7 @@ def pauses() -> Iterator[float]:
 def lost(member: Member, error: Any) -> Lost:
     """`Lost`, if the error means that there was no answer; any other one is raised with etcd's own message."""
     if error.code() not in NO_ANSWER:
-        raise Failed(f"etcd at {member.address}: {error.details()}") from error
+        raise KINDS.get(error.code(), Failed)(f"etcd at {member.address}: {error.details()}") from error
     return Lost(f"{member.address}: {error.details()}")
 
 

@@ -1,20 +1,22 @@
 """What jobs left in etcd, as of one revision: those in no closed epoch, and those of one epoch."""
 from __future__ import annotations
 
-import json
 from dataclasses import dataclass
 from typing import Iterable
 
-from .jobs import Event, Job, Kind, Progress, Step, written
+from .jobs import Event, Job, Kind, Progress, Step
+from .judging import read_job
 from .keys import Keys, last_part
 from .members import Members
 from .refusals import Refused
-from .wire import Found, reading, reading_below
+from .values import Value
+from .wire import Entry, Found, reading, reading_below
 
 
 @dataclass(frozen=True)
 class Taken:
-    """A group that a job took at a revision, with the number of its first step."""
+    """A group that a job took at a revision, with the number of its first step. Once the job is dropped, it is the one
+    that is left of it."""
 
     revision: int
     job: Job
@@ -39,29 +41,24 @@ class Taken:
 
 @dataclass(frozen=True)
 class Past:
-    """A job with its progress and its groups."""
+    """A job with its progress and its groups. One that was dropped is what is left of it."""
 
     job: Job
     progress: Progress
     taken: list[Taken]
+    # The nodes that it names, as it was submitted; none if it has done nothing.
+    nodes: frozenset[str] = frozenset()
 
     def has_ended(self) -> bool:
         return bool(self.taken) and self.progress.has_ended()
 
 
 @dataclass(frozen=True)
-class Epoch:
+class Epoch(Value):
     """The jobs of a closed epoch, and whether they are being forgotten."""
 
     jobs: list[str]
     going: bool = False
-
-    @staticmethod
-    def read(text: str) -> Epoch:
-        return Epoch(**json.loads(text))
-
-    def text(self) -> str:
-        return written({"jobs": self.jobs, "going": self.going})
 
 
 def epochs_of(members: Members, keys: Keys, revision: int = 0) -> dict[int, Epoch]:
@@ -70,15 +67,15 @@ def epochs_of(members: Members, keys: Keys, revision: int = 0) -> dict[int, Epoc
     return {int(last_part(key)): Epoch.read(entry.value) for key, entry in found.entries.items()}
 
 
-def job_names(members: Members, keys: Keys, revision: int) -> list[str]:
-    """The names of all jobs that aren't forgotten. Each job has been put once."""
-    names = []
-    for page in members.pages(keys.whole("p"), revision, keys_only=True):
-        for key, entry in page.entries.items():
-            if entry.version != 1:
-                raise Refused(f"job-rewritten {last_part(key)}")
-            names.append(last_part(key))
-    return names
+def names_below(members: Members, keys: Keys, kind: str, revision: int) -> set[str]:
+    pages = members.pages(keys.whole(kind), revision, keys_only=True)
+    return {last_part(key) for page in pages for key in page.entries}
+
+
+def begun_names(members: Members, keys: Keys, revision: int) -> list[str]:
+    """The names of all jobs that have begun, and aren't forgotten."""
+    pages = members.pages(keys.whole("j"), revision, keys_only=True)
+    return [last_part(key) for page in pages for key in page.entries]
 
 
 def pasts(members: Members, keys: Keys, names: Iterable[str], revision: int) -> dict[str, Past]:
@@ -96,19 +93,39 @@ def pasts(members: Members, keys: Keys, names: Iterable[str], revision: int) -> 
 
 
 def past_of(keys: Keys, name: str, found: Found, events: list[str]) -> Past:
-    text = found.value(keys.job(name))
-    if text is None:
+    if keys.job(name) not in found.entries:
         raise Refused(f"left-out {name}")
-    job = Job.read(name, text)
     standing = found.value(keys.progress(name))
-    progress = Progress.read(standing) if standing is not None else Progress(0, len(job.plan))
-    taken, step = [], 0
+    progress = Progress.read(standing) if standing is not None else None
+    has_done = progress is not None and progress.dropped != 0
+    job = past_job(name, found.entries[keys.job(name)], has_done)
+    nodes = frozenset(job.nodes()) if has_done else frozenset()
+    progress = progress or Progress(0, len(job.plan))
+    taken, step, dropped = [], 0, None
     for key in events:
         event = Event.read(found.entries[key].value)
+        if event.dropped is not None and dropped is None:
+            dropped = step
         taken.append(Taken(found.revision_of(key), job, step, event))
+        job = job.cut(step) if event.dropped is not None else job
         step += event.takes
+    if progress.dropped != dropped:
+        raise Refused(f"left-out {name}")
     need_whole(keys, progress, found, events, step, job)
-    return Past(job, progress, taken)
+    is_same = taken and taken[0].revision > job.put_at and found.version_of(keys.job(name)) == 1
+    if taken and dropped != 0 and not is_same:
+        raise Refused(f"job-rewritten {name}")
+    return Past(job, progress, taken, nodes)
+
+
+def past_job(name: str, entry: Entry, has_done: bool = False) -> Job:
+    """The job. If it has done nothing it may be none; then it is an empty one."""
+    try:
+        return read_job(name, entry.value, entry.put_at)
+    except Refused as why:
+        if has_done:
+            raise Refused(f"malformed {name}") from why
+        return Job(name, 0, [], [], put_at=entry.put_at)
 
 
 def need_whole(keys: Keys, progress: Progress, found: Found, events: list[str], step: int, job: Job) -> None:

@@ -9,9 +9,10 @@ import json
 from typing import Any, Hashable, Mapping, Optional
 
 from .documents import LEAST, MOST, is_whole
-from .jobs import slots_of, written
+from .jobs import slots_of
 from .planners import planner_of
 from .tree import Row, rows_of, way_down, ways_down
+from .values import written
 
 MOST_KEPT = 1024
 MOST_ACCESSES, MOST_SLOTS = 64, 1000

@@ -2,6 +2,7 @@
 from __future__ import annotations
 
 import shlex
+import shutil
 import subprocess
 from pathlib import Path
 
@@ -9,8 +10,10 @@ from .refusals import Failed, Refused
 
 TOP = Path(__file__).resolve().parents[2]
 IS_CHECKOUT = (TOP / "crates").is_dir()
-# The program of the checkout; or, if tools/package has put these files into lib/grove/cluster, that of the same prefix.
-GROVE = TOP / "crates/grove/out/grove" if IS_CHECKOUT else TOP.parents[1] / "bin/grove"
+# The program of the checkout; or, if tools/package has put these files into lib/grove/cluster, that of the same prefix;
+# or, if a wheel has, the one beside its Python, or else on the path.
+BESIDE = TOP / "crates/grove/out/grove" if IS_CHECKOUT else TOP.parents[1] / "bin/grove"
+GROVE = BESIDE if IS_CHECKOUT or BESIDE.exists() else Path(shutil.which("grove") or BESIDE)
 # The folder with the Python package that calls the library, likewise.
 PACKAGES = TOP / "bindings/python" if IS_CHECKOUT else TOP / "python"
 

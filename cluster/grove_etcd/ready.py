@@ -12,7 +12,8 @@ from typing import Callable
 
 from .groups import Group
 from .seeing import Seen
-from .wire import Guard, Operation, Request, choosing
+from .sharing import Part
+from .wire import Guard, Operation, choosing
 
 # Of operations in the nested transaction of a group that finds out whether a node is held.
 MOST_INNER = 3
@@ -28,6 +29,8 @@ class Beginning:
     otherwise: list[Operation]
     # The job as it is if the group is taken, as in `Ready`.
     leaves: Seen | None
+    # The nodes and the jobs that it is about.
+    about: frozenset[str]
 
     @property
     def size(self) -> int:
@@ -44,7 +47,7 @@ class Ready:
 
     found: Seen
     group: Group
-    request: Request
+    part: Part
     # The job as the group leaves it, without what the transaction reads; None if the job ends, or if it depends on what
     # the transaction finds.
     leaves: Seen | None
@@ -53,7 +56,7 @@ class Ready:
     looks: bool
 
 
-class Aside:
+class MakesReady:
     """Makes one transaction ready at a time. After each `begin` there has to be an `end`."""
 
     def __init__(self) -> None:

@@ -19,6 +19,8 @@ class Seen:
     # None if nobody has begun the job yet.
     under_way: UnderWay | None
     found: Found
+    # Whether it was read at which revision the job itself was put.
+    reads_job: bool = False
 
     def claim(self, keys: Keys, job: Job) -> Guard:
         """The guard that nobody else has begun the job, gone on with it, or taken it up."""
@@ -60,7 +62,8 @@ def is_last(job: Job, step: int) -> bool:
 def reads_for(keys: Keys, job: Job, step: int, limits: Limits) -> list[Operation]:
     """What has to be read of the job, and before the steps from this one on."""
     own = keys.fresh(job.age, job.name), keys.under_way(job.name), keys.progress(job.name)
-    return [*map(reading, own), *reads_of_steps(keys, job, step, limits, True)]
+    is_there = reading(keys.job(job.name), keys_only=True)
+    return [*map(reading, own), is_there, *reads_of_steps(keys, job, step, limits, True)]
 
 
 def reads_of_steps(keys: Keys, job: Job, step: int, limits: Limits, stands: bool) -> list[Operation]:
@@ -86,14 +89,16 @@ def reads_of_steps(keys: Keys, job: Job, step: int, limits: Limits, stands: bool
 
 
 def seen(keys: Keys, job: Job, found: Found) -> Seen | None:
-    """The job as it was read; None if it has ended, or is forgotten."""
-    if found.value(keys.fresh(job.age, job.name)) is not None:
-        return Seen(Progress(0, len(job.plan)), None, found)
+    """The job as it was read; None if it has ended, or is forgotten. The key by which nobody has begun it was put with
+    the job; one that was put again says nothing."""
+    fresh = found.entries.get(keys.fresh(job.age, job.name))
+    if fresh is not None and fresh.put_at == job.put_at:
+        return Seen(Progress(0, len(job.plan)), None, found, True)
     under_way, progress = found.value(keys.under_way(job.name)), found.value(keys.progress(job.name))
     if under_way is None:
         return None
     now = Progress.read(progress) if progress is not None else Progress(0, len(job.plan))
-    return Seen(now, UnderWay.read(under_way), found)
+    return Seen(now, UnderWay.read(under_way), found, True)
 
 
 def left_by(keys: Keys, job: Job, group: Group, under_way: UnderWay) -> Seen | None:

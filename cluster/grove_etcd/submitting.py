@@ -7,19 +7,21 @@ import uuid
 from typing import Any, Iterator, Optional
 
 from .head import need_store
-from .jobs import Access, Job, Progress, Reply
+from .jobs import Access, Job, Progress
+from .judging import MOST_BYTES, need_legal, read_job
 from .keys import JOB_NAME, Keys
 from .members import GIVE_UP_SECONDS, MOST_OPERATIONS, Lost, Members, pauses
 from .planning import Planner, ways_of
 from .refusals import Refused
 from .waiting import Watched, changes
+from .weighing import last_weighing
 from .weights import Weight
 from .wire import Operation, absent, after, putting, reading
 
-# Of a job's text, and of all those in one transaction, for which etcd takes 1.5 MiB.
-MOST_BYTES = 1_000_000
 # Of jobs in one transaction; each is two puts.
 MOST_JOBS = MOST_OPERATIONS // 2
+# For how long weights are kept, and of how many nodes.
+KNOWN_SECONDS, MOST_KNOWN = 1.0, 100_000
 # The length of a watch for replies.
 WATCH_SECONDS = 5.0
 
@@ -30,15 +32,19 @@ class Submitter:
     def __init__(self, members: Members, keys: Keys, grove: Optional[str] = None) -> None:
         self.members, self.keys = members, keys
         self.planner = Planner(grove)
+        # Weights that were read lately, and by which reweighing they count.
+        self.known: dict[str, int] = {}
+        self.known_at, self.reweighing = float("-inf"), 0
         need_store(members, keys)
 
     def submit(self, accesses: list[Any]) -> str:
         """Submits one list; gives the job's name."""
         return self.submit_all([accesses])[0]
 
-    def submit_all(self, lists: list[Any], name: Optional[str] = None) -> list[str]:
+    def submit_all(self, lists: list[Any], name: Optional[str] = None, by: Optional[int] = None) -> list[str]:
         """Gives the jobs' names: `name` with the number of the list. If a list is refused, nothing is submitted. A list
-        that was submitted by its name before isn't submitted again."""
+        that was submitted by its name before isn't submitted again. A job that nobody has begun by the time `by`, in
+        microseconds, is dropped."""
         name = uuid.uuid4().hex if name is None else name
         if not JOB_NAME.fullmatch(f"{name}.0"):
             raise Refused("bad-id")
@@ -47,16 +53,20 @@ class Submitter:
         weights = self.weights(lists)
         for number, accesses in enumerate(lists):
             plan = self.plan(number, accesses, weights)
-            jobs.append(Job(f"{name}.{number}", now + number, accesses, plan))
+            jobs.append(Job(f"{name}.{number}", now + number, accesses, plan, by))
             if len(jobs[-1].text()) > MOST_BYTES:
                 raise Refused(f"job-too-large lists {number}")
+            need_legal(jobs[-1], weights)
         self.put_all(jobs)
         return [job.name for job in jobs]
 
     def submit_planned(self, accesses: list[Access], plan: list[list[Any]]) -> str:
-        job = Job(f"{uuid.uuid4().hex}.0", time.time_ns() // 1000, accesses, plan)
+        """Submits a list by a plan that needn't be the settled one, but has to be legal."""
+        name, weights = f"{uuid.uuid4().hex}.0", self.weights([accesses])
+        job = read_job(name, Job(name, time.time_ns() // 1000, accesses, plan).text())
+        need_legal(job, weights)
         self.put_all([job])
-        return job.name
+        return name
 
     def plan(self, number: int, accesses: list[Any], weights: dict[str, int]) -> list[list[Any]]:
         try:
@@ -65,14 +75,15 @@ class Submitter:
             raise Refused(place_in_lists(str(why), number)) from why
 
     def weights(self, lists: list[Any]) -> dict[str, int]:
-        """The weights of the nodes on the ways down to all that are accessed."""
-        paths = sorted({path for accesses in lists for path in ways_of(accesses)})
-        weights: dict[str, int] = {}
-        for start in range(0, len(paths), MOST_OPERATIONS):
-            part = {self.keys.weight(path): path for path in paths[start : start + MOST_OPERATIONS]}
-            found = self.members.get(*part)
-            weights |= {part[key]: Weight.read(entry.value).weight for key, entry in found.entries.items()}
-        return weights
+        """The weights of the nodes on the ways down to all that are accessed, as they were at most a moment ago."""
+        if time.monotonic() - self.known_at > KNOWN_SECONDS or len(self.known) > MOST_KNOWN:
+            self.known, self.known_at = {}, time.monotonic()
+            self.reweighing = last_weighing(self.members, self.keys).number
+        paths = {path for accesses in lists for path in ways_of(accesses)}
+        new = {self.keys.weight(path): path for path in sorted(paths - self.known.keys())}
+        found = self.members.read_all(list(map(reading, new)))
+        self.known |= {new[key]: Weight.read(entry.value).at(self.reweighing) for key, entry in found.entries.items()}
+        return {path: self.known[path] for path in paths if path in self.known}
 
     def put_all(self, jobs: list[Job]) -> None:
         for batch in batches_of(jobs):
@@ -104,10 +115,10 @@ class Submitter:
 
     def changes(self, jobs: list[Job]) -> list[Operation]:
         texts = [putting(self.keys.job(job.name), job.text()) for job in jobs]
-        return texts + [putting(self.keys.fresh(job.age, job.name), "") for job in jobs]
+        return texts + [putting(self.keys.fresh(job.age, job.name), job.begins_at()) for job in jobs]
 
-    def replies(self, names: list[str]) -> Iterator[tuple[str, list[Reply]]]:
-        """The replies of these jobs, each once the job has ended."""
+    def ends(self, names: list[str]) -> Iterator[tuple[str, Progress]]:
+        """These jobs in the end, each once it has ended."""
         left = dict.fromkeys(names)
         while left:
             some = list(left)[:MOST_OPERATIONS]
@@ -116,7 +127,7 @@ class Submitter:
             ended = {name: text for name, text in texts.items() if text and Progress.read(text).has_ended()}
             for name, text in ended.items():
                 del left[name]
-                yield name, Progress.read(text).replies
+                yield name, Progress.read(text)
             if not ended and left:
                 first, last = min(left), max(left)
                 self.await_change(self.keys.progress(first), after(self.keys.progress(last)), found.revision)

@@ -6,7 +6,7 @@ changes are read at the same member once the watch is there.
 from __future__ import annotations
 
 from dataclasses import dataclass
-from typing import Callable, Generator
+from typing import Any, Callable, Generator, Optional
 
 import grpc
 
@@ -15,6 +15,8 @@ from .wire import Change, change, looking_back, missed, watching
 
 # With it etcd ends a watch at a member that has lost the others, and that would never report anything.
 NEEDS_LEADER = ("hasleader", "true")
+# How a watch ends for which nobody waits any longer.
+OURS = {grpc.StatusCode.DEADLINE_EXCEEDED, grpc.StatusCode.CANCELLED}
 
 
 @dataclass(frozen=True)
@@ -26,26 +28,32 @@ class Watched:
     there: tuple[str, ...] = ()
 
 
-def changes(members: Members, watched: Watched, revision: int, seconds: float) -> Generator[Change, None, None]:
+def changes(
+    members: Members, watched: Watched, revision: int, seconds: float, watches: Optional[set[Any]] = None
+) -> Generator[Change, None, None]:
     """The changes after this revision, as they come, for so many seconds. If the member is lost, the next one is asked
-    from then on. The changes end then, and the caller has to read again."""
+    from then on. The changes end then, and the caller has to read again. While it goes on the watch is among `watches`,
+    or else those of the members, so that it can be ended."""
+    watches = members.watches if watches is None else watches
     member = members.asked
     metadata = (*member.token, NEEDS_LEADER)
     answers = member.watch(watching(watched.key, watched.end), timeout=seconds, metadata=metadata)
+    watches.add(answers)
     try:
         for answer in answers:
             if answer.created and answer.header.revision > revision:
                 request = looking_back(watched.key, watched.end, 0 if watched.there else revision + 1)
-                present = member.ask(member.calls.Range, request, seconds)
+                present = member.ask(member.range, request, seconds)
                 yield from missed(present, revision, watched.there)
             # A member may be behind the one that gave the revision.
             yield from (each for each in map(change, answer.events) if each.revision > revision)
             if answer.canceled:
                 return
     except grpc.RpcError as error:
-        if error.code() is not grpc.StatusCode.DEADLINE_EXCEEDED:
+        if error.code() not in OURS:
             members.turn(member)
     finally:
+        watches.discard(answers)
         answers.cancel()
 
 
@@ -55,9 +63,10 @@ def wait(
     revision: int,
     seconds: float,
     is_it: Callable[[Change], bool] = lambda _: True,
+    watches: Optional[set[Any]] = None,
 ) -> Change | None:
     """The first change after the revision for which `is_it` holds, if there is one within so many seconds."""
-    came = changes(members, watched, revision, seconds)
+    came = changes(members, watched, revision, seconds, watches)
     try:
         return next((each for each in came if is_it(each)), None)
     finally:

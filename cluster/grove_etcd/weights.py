@@ -14,5 +14,9 @@ class Weight:
     def read(text: str) -> Weight:
         return Weight(*map(int, text.split()))
 
+    def at(self, reweighing: int) -> int:
+        """The weight since that reweighing. Those that it wasn't waited for in have halved it (docs/PROTOCOL.md)."""
+        return 1 + ((self.weight - 1) >> max(0, reweighing - self.made_by))
+
     def text(self) -> str:
         return f"{self.weight} {self.made_by} {self.loaded}"

@@ -1,19 +1,17 @@
-"""etcd's messages. Only this module and that of the members know the generated stubs."""
+"""etcd's messages. Only this module, those of members and of watches, and the table of messages know their form."""
 from __future__ import annotations
 
 from dataclasses import dataclass
 from functools import cached_property
 from typing import Any, Iterable, Iterator, NamedTuple, NewType, Sequence
 
-from etcd3 import etcdrpc
+from . import etcdrpc
 
 # A compare of a transaction; and an operation: a read or a change.
 Guard = NewType("Guard", object)
 Operation = NewType("Operation", object)
 # A serialized transaction.
 Request = NewType("Request", bytes)
-# The type of an event that deletes a key.
-DELETED = 1
 
 
 class Entry(NamedTuple):
@@ -63,7 +61,14 @@ class Found:
         entry = self.entries.get(key)
         return entry.version if entry else 0
 
+    @cached_property
+    def lines(self) -> set[str]:
+        """The beginnings of keys up to the last two slashes in a row, as of those that wait for a node (keys.py)."""
+        return {key[: key.rindex("//") + 2] for key in self.entries if "//" in key}
+
     def below(self, prefix: str) -> dict[str, Entry]:
+        if prefix.endswith("//") and prefix not in self.lines:
+            return {}
         return {key: entry for key, entry in self.entries.items() if key.startswith(prefix)}
 
 
@@ -118,12 +123,15 @@ def ranging(start: str, end: str, limit: int = 0, revision: int = 0, keys_only: 
     )
 
 
-def counting(prefix: str) -> Any:
-    return etcdrpc.RangeRequest(key=prefix.encode(), range_end=after(prefix).encode(), count_only=True)
+def counting(prefix: str, revision: int = 0) -> Any:
+    return etcdrpc.RangeRequest(
+        key=prefix.encode(), range_end=after(prefix).encode(), count_only=True, revision=revision
+    )
 
 
-def reading(key: str, revision: int = 0) -> Operation:
-    return Operation(etcdrpc.RequestOp(request_range=etcdrpc.RangeRequest(key=key.encode(), revision=revision)))
+def reading(key: str, revision: int = 0, keys_only: bool = False) -> Operation:
+    request = etcdrpc.RangeRequest(key=key.encode(), revision=revision, keys_only=keys_only)
+    return Operation(etcdrpc.RequestOp(request_range=request))
 
 
 def at_hand(read: Operation) -> Operation:
@@ -142,7 +150,7 @@ def reading_below(prefix: str, limit: int = 0, revision: int = 0, keys_only: boo
 def reading_last(start: str, end: str, revision: int = 0, keys_only: bool = False) -> Operation:
     """Reads the last key from `start` up to `end`."""
     request = ranging(start, end, 1, revision, keys_only)
-    request.sort_order, request.sort_target = etcdrpc.RangeRequest.DESCEND, etcdrpc.RangeRequest.KEY
+    request.sort_order, request.sort_target = etcdrpc.DESCENDING, etcdrpc.BY_KEY
     return Operation(etcdrpc.RequestOp(request_range=request))
 
 
@@ -170,25 +178,40 @@ def choosing(guards: list[Guard], then: list[Operation], otherwise: list[Operati
 
 def unchanged(key: str, revision: int) -> Guard:
     """The key was last put at this revision; at revision 0, it isn't there."""
-    return Guard(etcdrpc.Compare(result="EQUAL", target="MOD", key=key.encode(), mod_revision=revision))
+    return Guard(etcdrpc.Compare(result=etcdrpc.EQUAL, target=etcdrpc.MOD, key=key.encode(), mod_revision=revision))
 
 
 def absent(key: str) -> Guard:
     return unchanged(key, 0)
 
 
+def put_before(key: str, revision: int) -> Guard:
+    """The key was last put before this revision, or isn't there."""
+    return Guard(etcdrpc.Compare(result=etcdrpc.LESS, target=etcdrpc.MOD, key=key.encode(), mod_revision=revision))
+
+
 def present(key: str) -> Guard:
-    return Guard(etcdrpc.Compare(result="GREATER", target="VERSION", key=key.encode(), version=0))
+    return Guard(etcdrpc.Compare(result=etcdrpc.GREATER, target=etcdrpc.VERSION, key=key.encode(), version=0))
 
 
 def other_than(key: str, value: str) -> Guard:
     """The key is there, with another value."""
-    return Guard(etcdrpc.Compare(result="NOT_EQUAL", target="VALUE", key=key.encode(), value=value.encode()))
+    return Guard(
+        etcdrpc.Compare(result=etcdrpc.NOT_EQUAL, target=etcdrpc.VALUE, key=key.encode(), value=value.encode())
+    )
 
 
 def watching(key: str, end: str | None = None) -> Any:
     """Watches the key, or those from it up to `end`, from now on."""
     create = etcdrpc.WatchCreateRequest(key=key.encode(), range_end=(end or "").encode())
+    return etcdrpc.WatchRequest(create_request=create)
+
+
+def following(key: str, end: str, since: int) -> Any:
+    """Watches the keys from this one up to `end`, from that revision on, each with what it was before."""
+    create = etcdrpc.WatchCreateRequest(
+        key=key.encode(), range_end=end.encode(), start_revision=since, prev_kv=True, progress_notify=True
+    )
     return etcdrpc.WatchRequest(create_request=create)
 
 
@@ -210,7 +233,7 @@ class Change:
 
 
 def change(event: Any) -> Change:
-    value = None if event.type == DELETED else event.kv.value.decode()
+    value = None if event.type == etcdrpc.DELETED else event.kv.value.decode()
     return Change(event.kv.key.decode(), value, event.kv.mod_revision)
 
 

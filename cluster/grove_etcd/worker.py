@@ -1,37 +1,54 @@
 """A worker: does jobs that nobody has begun, and those with which nobody goes on any more.
 
 A job belongs to no worker for good. A worker may die at any time. Another one takes its job up once there has been no
-sign of life for a while.
+sign of life for a while. So many jobs go on at once as the worker has turns; any number of others wait (turns.py).
 """
 from __future__ import annotations
 
 import random
+import threading
 import time
 import uuid
 from collections import deque
 from concurrent.futures import Future
 from contextlib import contextmanager
-from typing import Iterator, Optional
+from functools import partial
+from typing import Any, Callable, Iterable, Iterator, Optional
 
 from .attempt import Attempt, Means, Work
+from .failures import why_of
 from .head import need_store
 from .jobs import Job, UnderWay
 from .journal import Journal
 from .keys import Keys, last_part
 from .leash import Leash
 from .members import Lost, Members, pauses
+from .reading import Reader
+from .refusals import Failed
 from .seeing import Seen
+from .shares import Shares
 from .signs import PATIENCE, Abandoned
-from .together import Together, reads_together
+from .together import do_together
+from .turns import Turns
 from .waiting import Watched, wait
-from .wire import Found, after, reading_below
+from .wire import Found, after, deleting, reading, reading_below, unchanged
 
-# How many jobs are looked at, and how many plans are read, at once.
-MOST_LOOKED_AT, MOST_BEGUN = 256, 24
-# If workers choose the same jobs, each takes a smaller share of them, at least one in so many.
-MOST_SHARES = 32
+# How many jobs are looked at at once, and how many are chosen of them: with work, and of those that share transactions.
+MOST_LOOKED_AT, MOST_BEGUN, MOST_TOGETHER = 768, 24, 192
 # How long a worker pauses if others come to the nodes of its jobs.
 STEP_BACK_SECONDS, LONGEST_STEP_BACK_SECONDS = 0.05, 1.5
+# How often it is looked whether the worker is to end, while all turns are taken.
+LOOK_SECONDS = 1.0
+# The same, while its other threads have chosen all jobs that nobody has begun.
+CHOSEN_SECONDS = 0.02
+# The same, while they are in the shares of other workers.
+SHARED_SECONDS = 0.15
+# The same, while each of some jobs would be one too many that waits.
+FULL_SECONDS = 0.2
+# For how long a worker's last sign is kept that nobody has missed.
+GONE_SECONDS = 60.0
+# How many jobs of one worker wait at most, if it isn't told.
+MOST_WAITING = 256
 
 
 class Worker:
@@ -46,33 +63,74 @@ class Worker:
         tries: int = 5,
         journal: Optional[Journal] = None,
         leashed: bool = True,
+        threads: int = 1,
+        most_waiting: int = MOST_WAITING,
     ) -> None:
         """A job without a sign of life for `patience` seconds is taken up. One whose work has failed `tries` times at
-        an access is set aside.
+        an access is set aside. So many `threads` do work at once; `most_waiting` others may wait beside them.
 
         If work goes on without a sign of life that etcd confirms, this process is killed (SIGKILL) shortly before
         another worker may take its job up. If not `leashed` it isn't, and its work may go on with the node unheld."""
         name = uuid.uuid4().hex[:12]
-        self.means = Means(members, keys, name, work, patience, tries, journal or Journal())
+        self.count, self.turns = threads, Turns(threads, most_waiting)
+        self.means = Means(members, keys, name, work, patience, tries, journal or Journal(), turns=self.turns)
         self.members, self.keys = members, keys
         self.leashed = leashed and work is not None
+        self.reader = Reader(members, keys, self.means.journal)
+        self.threads: set[threading.Thread] = set()
+        # The jobs that its threads have chosen; what is begun of these is what they go on with.
+        self.lock, self.chosen = threading.Lock(), set[str]()
+        # The first error of one of them.
+        self.error: Optional[BaseException] = None
+        # How many tasks have ended, and what is waited for while there is none.
+        self.ended, self.idles = 0, set[Any]()
         # How many times in a row others have come to the nodes in between.
         self.clashes = 0
-        # It takes one in so many of the jobs that it looks at.
-        self.shares = 1
+        self.shares = Shares(name, work is None)
         self.pauses = pauses()
+        # The jobs that nobody had begun when it looked last, as far as it looked, and since when the oldest has been.
+        self.fresh, self.oldest = 0, 0.0
+        self.means.journal.gauges |= self.gauges()
+
+    def gauges(self) -> dict[str, tuple[str, Callable[[], float]]]:
+        """What is measured of a worker."""
+        return {
+            "grove_fresh_jobs": (f"Jobs that nobody has begun, up to {MOST_LOOKED_AT}.", lambda: self.fresh),
+            "grove_oldest_fresh_job_seconds": (
+                "For how long the oldest of them has been submitted, by its submitter's clock.",
+                lambda: max(0.0, time.time() - self.oldest) if self.fresh else 0.0,
+            ),
+            "grove_worker_waiting_jobs": ("Jobs of this worker that wait.", lambda: self.turns.waiting),
+            "grove_worker_commit_seconds": ("How long the last transaction took.", lambda: self.means.commits.seconds),
+        }
 
     def stop(self) -> None:
-        """Ends after the group in progress; others may go on with the job at once."""
+        """Ends after the groups in progress; others may go on with the jobs at once."""
         self.means.stopping = True
+        self.members.end_watches()
+        self.note_end()
 
     def run(self, until_ended: bool = False) -> None:
         """Does jobs until it is stopped, or until all have ended or are set aside."""
         need_store(self.members, self.keys)
-        with self.on_leash():
+        with self.on_leash(), self.means.signs.during():
             self.means.journal.log("started", worker=self.means.name)
-            self.do_jobs(until_ended)
+            try:
+                self.means.signs.give_now()
+                self.do_jobs(until_ended)
+            finally:
+                self.end()
             self.means.journal.log("stopped", worker=self.means.name)
+        if self.error is not None:
+            raise self.error
+
+    def end(self) -> None:
+        """Once all its threads have."""
+        self.stop()
+        for thread in list(self.threads):
+            thread.join()
+        if self.error is None:
+            self.means.signs.stop()
 
     @contextmanager
     def on_leash(self) -> Iterator[None]:
@@ -87,109 +145,205 @@ class Worker:
                 self.means.signs.leash = None
 
     def do_jobs(self, until_ended: bool) -> None:
-        while not self.means.stopping:
-            found = self.look()
-            fresh = self.fresh_of(found)
-            begun = self.under_way_of(found)
-            if until_ended and not fresh and all(each.aside for each in begun.values()):
-                break
-            if self.take_up(begun, found):
+        """Whenever there is a turn, something is done in another thread. That gives the turn back."""
+        while not self.means.stopping and self.error is None:
+            if not self.turns.take(LOOK_SECONDS):
                 continue
-            if fresh:
-                self.run_batch(self.batch_of(fresh))
-            else:
-                self.idle(found)
+            is_given, ended = False, self.ended
+            try:
+                found = self.look()
+                fresh, begun = self.fresh_of(found), self.under_way_of(found)
+                if until_ended and not fresh and not begun:
+                    return
+                task = self.task(found, begun)
+                is_given = task is not None
+                if task is not None:
+                    self.start(task)
+            finally:
+                if not is_given:
+                    self.turns.give()
+            if not is_given and not fresh:
+                self.idle(found, ended)
+            elif not is_given:
+                time.sleep(SHARED_SECONDS if self.shares.by_nodes else CHOSEN_SECONDS)
+
+    def task(self, found: Found, begun: dict[str, UnderWay]) -> Optional[Callable[[], bool]]:
+        """What there is to do: a job with which nobody goes on, or jobs that nobody has begun. Each task gives whether
+        it still has its turn."""
+        left = self.abandoned(begun, found)
+        if left:
+            abandoned = random.choice(left)
+            return self.chosen_for([abandoned.name], lambda names: self.go_on_with(abandoned))
+        some = self.some_of(found)
+        if some:
+            return self.chosen_for(some, lambda names: self.run_batch(self.jobs(in_order(some, names)), names))
+        return None
+
+    def chosen_for(self, some: list[str], task: Callable[[set[str]], bool]) -> Callable[[], bool]:
+        """No other thread of this worker chooses these jobs until the task is done, or comes to wait for one. The task
+        gets the set of their names, to which it adds those that it chooses itself."""
+        names = self.choose(some)
+
+        def chosen() -> bool:
+            try:
+                return task(names)
+            finally:
+                self.let_go(names)
+
+        return chosen
+
+    def choose(self, names: Iterable[str]) -> set[str]:
+        """Those of these that no thread had chosen."""
+        with self.lock:
+            chosen = set(names) - self.chosen
+            self.chosen |= chosen
+        return chosen
+
+    def let_go(self, names: set[str], but: str | None = None) -> None:
+        """Other threads may choose these again, and they are taken out of the set."""
+        with self.lock:
+            gone = names - {but}
+            self.chosen -= gone
+            names -= gone
+
+    def start(self, task: Callable[[], bool]) -> None:
+        def run() -> None:
+            has_turn = True
+            try:
+                has_turn = task()
+            except BaseException as why:  # the main thread raises it
+                self.error = self.error or why
+                self.stop()
+            finally:
+                if has_turn:
+                    self.turns.give()
+                self.threads.discard(threading.current_thread())
+                self.note_end()
+
+        thread = threading.Thread(target=run)
+        self.threads.add(thread)
+        thread.start()
+
+    def note_end(self) -> None:
+        """What one task has done may be what another can go on with."""
+        self.ended += 1
+        for watch in list(self.idles):
+            watch.cancel()
 
     def look(self) -> Found:
-        """Reads the oldest jobs that nobody has begun, and those under way."""
-        fresh, begun = self.keys.whole("q"), self.keys.whole("u")
-        return self.members.read([reading_below(fresh, MOST_LOOKED_AT, keys_only=True), reading_below(begun)])
+        """Reads the oldest jobs that nobody has begun, those under way, and the workers' signs."""
+        fresh, begun, signs = (self.keys.whole(kind) for kind in "qus")
+        return self.members.read(
+            [reading_below(fresh, MOST_LOOKED_AT), reading_below(begun), reading_below(signs)]
+        )
 
     def fresh_of(self, found: Found) -> list[str]:
-        return [last_part(key) for key in sorted(found.below(self.keys.whole("q")))]
+        """The names of jobs that nobody has begun, the oldest first."""
+        fresh = found.below(self.keys.whole("q"))
+        self.reader.fresh = {last_part(key): (key, fresh[key].put_at) for key in sorted(fresh)}
+        age = min(fresh, default="//").split("/")[2]
+        self.fresh, self.oldest = len(fresh), int(age) / 1e6 if age.isdecimal() else 0.0
+        return list(self.reader.fresh)
 
     def under_way_of(self, found: Found) -> dict[str, UnderWay]:
+        """Those that aren't set aside."""
         begun = found.below(self.keys.whole("u"))
-        return {last_part(key): UnderWay.read(entry.value) for key, entry in begun.items()}
+        each = ((last_part(key), self.reader.under_way(key, entry)) for key, entry in begun.items())
+        return {name: under_way for name, under_way in each if under_way is not None}
 
-    def batch_of(self, fresh: list[str]) -> list[Job]:
-        """Some of these jobs, from a random one on, with their plans."""
-        first = random.randrange(len(fresh))
-        chosen = (fresh[first:] + fresh[:first])[: max(1, min(MOST_BEGUN, len(fresh) // self.shares))]
-        return self.jobs(chosen)
+    def some_of(self, found: Found) -> list[str]:
+        """Some of the jobs that nobody has begun; no more than leaves as many for each thread."""
+        keys = found.below(self.keys.whole("q"))
+        nodes = {last_part(key): keys[key].value for key in sorted(keys)}
+        fresh = {name: node for name, node in nodes.items() if name not in self.chosen}
+        most = MOST_TOGETHER if self.means.work is None else min(MOST_BEGUN, max(1, len(fresh) // self.count))
+        return self.shares.choose(fresh, self.others(found), most)
+
+    def others(self, found: Found) -> list[str]:
+        """The workers that give signs of life. The last sign of one that is long gone is deleted."""
+        there = []
+        for key, entry in found.below(self.keys.whole("s")).items():
+            if not self.means.stills.is_still(key, entry.put_at, self.means.patience):
+                there.append(last_part(key))
+            elif self.means.stills.is_still(key, entry.put_at, GONE_SECONDS + self.means.patience):
+                self.members.write([deleting(key)], [unchanged(key, entry.put_at)])
+        return there
 
     def jobs(self, names: list[str]) -> list[Job]:
-        found = self.members.get(*map(self.keys.job, names))
-        texts = ((name, found.value(self.keys.job(name))) for name in names)
-        return [Job.read(name, text) for name, text in texts if text is not None]
+        return self.reader.jobs(names)
 
-    def run_batch(self, jobs: list[Job]) -> None:
+    def run_batch(self, jobs: list[Job], names: set[str]) -> bool:
         """Does jobs that nobody has begun: without work as many as possible in one transaction, and the others one by
         one, until it meets one that another worker has begun."""
         if self.means.work is None:
             jobs = self.do_together(jobs)
-        self.do_one_by_one(jobs)
+        return self.do_one_by_one(jobs, names)
 
     def do_together(self, jobs: list[Job]) -> list[Job]:
         """Gives those jobs that have to be done one by one."""
-        some, reads = reads_together(self.keys, jobs)
-        if not some:
-            return jobs[:1]
-        together = Together(self.keys, self.members.read(reads))
-        for job in some:
-            together.add(job)
-        if not together.done:
-            return together.left
         try:
-            done = self.members.commit(together.guards(), together.changes(), [], reads)
+            outcome = do_together(self.keys, self.members, self.means.commits, jobs)
         except Lost as lost:
             self.means.journal.log("lost", why=lost)
             time.sleep(next(self.pauses))
             return []
         self.pauses = pauses()
-        self.means.journal.log("commit" if done.succeeded else "commit_failed")
-        for job, _ in together.done if done.succeeded else ():
-            self.means.journal.log("ended", job=job.name, groups=1)
-        are_taken = not done.succeeded and together.are_taken(done.found)
-        self.shares = min(MOST_SHARES, self.shares * 2) if are_taken else max(1, self.shares // 2)
-        self.step_back(not done.succeeded and not are_taken)
-        return together.left if done.succeeded else []
+        for name in outcome.ended:
+            self.means.journal.log("ended", job=name, groups=1)
+        if outcome.ended:
+            self.means.journal.log("commit")
+        for _ in range(outcome.failed):
+            self.means.journal.log("commit_failed")
+        self.shares.note(outcome.are_taken)
+        self.step_back(outcome.failed > 0 and not (outcome.are_taken or outcome.ended))
+        return outcome.left
 
-    def do_one_by_one(self, jobs: list[Job]) -> None:
-        """If it ends early, it still goes on with a job that was begun with the end of the one before."""
+    def do_one_by_one(self, jobs: list[Job], names: set[str]) -> bool:
+        """If it ends early, it still goes on with a job that was begun with the end of the one before. It ends after
+        one that has waited. Gives whether it still has its turn. The names are those of the jobs that were chosen."""
         until = time.monotonic() + self.means.patience
         ahead: Seen | None = None
-        for attempt in self.in_turn(jobs):
-            found = ahead or attempt.look(0)
+        is_idle = bool(jobs)
+        for attempt in self.in_turn(jobs, names):
+            found = ahead or self.first_look(attempt)
             if found is None or not found.is_for(self.means.name):
-                return
+                break
             if time.monotonic() > until:
                 attempt.following = None
+            attempt.when_it_waits = partial(self.let_go, names, attempt.job.name)
             attempt.run(found)
-            ahead = attempt.ahead
+            ahead, is_idle = attempt.ahead, is_idle and attempt.is_left_for_later
             self.step_back(attempt.stepped_back)
+            if not attempt.has_turn:
+                return False
             is_begun = ahead is not None and ahead.under_way is not None
-            if not is_begun and (self.means.stopping or self.take_up_abandoned(attempt) or time.monotonic() > until):
-                return
+            is_wanted = self.means.stopping or attempt.has_waited or self.turns.is_wanted()
+            is_over = is_wanted or time.monotonic() > until
+            if not is_begun and is_over:
+                break
+        if is_idle:
+            time.sleep(FULL_SECONDS)
+        return True
 
-    def in_turn(self, jobs: list[Job]) -> Iterator[Attempt]:
+    def in_turn(self, jobs: list[Job], names: set[str]) -> Iterator[Attempt]:
         """Attempts at these jobs, and at more, which are read while there is work for the last but one."""
         attempts = deque(self.attempts(jobs))
         more: Future[list[Job]] | None = None
         while attempts:
             attempt = attempts.popleft()
             if not attempts and more is not None:
-                attempts.extend(self.attempts(more.result()))
-                attempt.following = attempts[0] if attempts else None
+                chosen = self.choose(job.name for job in more.result())
+                names |= chosen
+                attempts.extend(self.attempts([job for job in more.result() if job.name in chosen]))
+                attempt.following, more = next(iter(attempts), None), None
             elif len(attempts) == 1 and self.means.work is not None:
                 more = self.means.aside.submit(self.more_jobs, {attempt.job.name, attempts[0].job.name})
             yield attempt
 
     def more_jobs(self, known: set[str]) -> list[Job]:
         """Some jobs that nobody has begun, without those that are known."""
-        found = self.members.read([reading_below(self.keys.whole("q"), MOST_LOOKED_AT, keys_only=True)])
-        fresh = [name for name in self.fresh_of(found) if name not in known]
-        return self.batch_of(fresh) if fresh else []
+        found = self.members.read([reading_below(self.keys.whole("q"), MOST_LOOKED_AT)])
+        return self.jobs([name for name in self.some_of(found) if name not in known])
 
     def attempts(self, jobs: list[Job]) -> list[Attempt]:
         """Attempts at these jobs, each of which knows the one that follows."""
@@ -207,54 +361,65 @@ class Worker:
             longest = min(LONGEST_STEP_BACK_SECONDS, STEP_BACK_SECONDS * 3 ** (self.clashes - 2))
             time.sleep(longest * random.uniform(0.5, 1))
 
-    def take_up(self, begun: dict[str, UnderWay], found: Found) -> bool:
-        """Goes on with one job with which nobody goes on; gives whether there was one."""
-        self.means.stills.forget_all_but(set(begun))
+    def abandoned(self, begun: dict[str, UnderWay], found: Found) -> list[Abandoned]:
+        """The jobs with which nobody goes on, and that can go on. This worker's signs speak for all jobs that name it.
+        So it takes up those of them with which none of its threads goes on: what it has put for a job may have been
+        made though it brought no answer, and what it would have put may not."""
+        signs = found.below(self.keys.whole("s"))
+        self.means.stills.forget_all_but({*map(self.keys.under_way, begun), *signs})
         left = []
         for name, under_way in begun.items():
             last = Abandoned(name, found.revision_of(self.keys.under_way(name)))
+            is_own, key = under_way.by == self.means.name, self.keys.sign(under_way.by)
+            if key in signs and not is_own:
+                last = last._replace(sign=key, signed=signs[key].put_at)
             is_still = self.means.is_still(last, under_way)
-            if not under_way.aside and (under_way.by == "" or is_still):
+            if (under_way.by == "" or is_own or is_still) and name not in self.chosen:
                 left.append(last)
-        left = self.those_that_can_go_on(begun, left)
-        return bool(left) and self.go_on_with(random.choice(left))
+        return self.those_that_can_go_on(begun, left)
 
     def those_that_can_go_on(self, begun: dict[str, UnderWay], left: list[Abandoned]) -> list[Abandoned]:
         """These jobs without those that wait for a node that another job holds."""
-        left = left[:MOST_BEGUN]
-        nodes = {name: begun[name].waits for name, _ in left}
+        nodes = {each.name: begun[each.name].waits for each in left}
         owners = {path: self.keys.owner(path) for path in nodes.values() if path is not None}
-        held = self.members.get(*owners.values()) if owners else Found(0)
+        held = self.members.read_all(list(map(reading, owners.values())))
         free = {name for name, path in nodes.items() if path is None or held.value(owners[path]) in (None, "", name)}
         return [each for each in left if each.name in free]
 
     def go_on_with(self, abandoned: Abandoned) -> bool:
-        """Takes the job up, unless there has been a sign of life since, as of another worker that has done so; gives
-        whether it did."""
-        name, last_sign = abandoned
-        jobs = self.jobs([name])
-        if not jobs:
-            return False
-        attempt = self.attempt(self.means, jobs[0])
-        found = attempt.look(0)
-        if found is None or found.under_way is None or found.under_way.aside:
-            return False
-        if found.found.revision_of(self.keys.under_way(name)) != last_sign:
-            return False
-        self.means.journal.log("taken_up", job=name, by=self.means.name)
-        attempt.run(
-            attempt.put_under_way(found, self.means.sign(found.under_way.waits, found.under_way.fails))
-        )
-        self.take_up_abandoned(attempt)
-        return True
+        """Takes the job up, unless there has been a sign of life since, as of another worker that has done so. Gives
+        whether it still has its turn."""
+        jobs = self.jobs([abandoned.name])
+        attempt = self.attempt(self.means, jobs[0]) if jobs else None
+        found = self.first_look(attempt) if attempt else None
+        if attempt is None or found is None or found.under_way is None:
+            return True
+        if found.found.revision_of(self.keys.under_way(abandoned.name)) != abandoned.revision:
+            return True
+        self.means.journal.log("taken_up", job=abandoned.name, by=self.means.name)
+        attempt.run(attempt.take_up(found, found.under_way, abandoned))
+        return attempt.has_turn
 
-    def take_up_abandoned(self, attempt: Attempt) -> bool:
-        """Takes up the job that the attempt has waited for, if nobody goes on with it; gives whether it did."""
-        return attempt.abandoned is not None and self.go_on_with(attempt.abandoned)
+    def first_look(self, attempt: Attempt) -> Optional[Seen]:
+        """The job as it is. If what stands of it hasn't its form, it is set aside."""
+        try:
+            return attempt.look(0)
+        except (Lost, Failed):
+            raise
+        except Exception as why:  # whatever stands there
+            self.reader.set_aside(attempt.job.name, why_of(why))
+            return None
 
-    def idle(self, found: Found) -> None:
-        """Waits until jobs are submitted, or until it is time to look for abandoned ones."""
+    def idle(self, found: Found, ended: int) -> None:
+        """Waits until jobs are submitted, a task ends beside those that had when it was read, or it is time to look for
+        abandoned jobs."""
         fresh = self.keys.whole("q")
-        seconds = min(1.0, self.means.patience / 4)
+        seconds = min(LOOK_SECONDS, self.means.patience / 4)
         watched = Watched(fresh, after(fresh))
-        wait(self.members, watched, found.revision, seconds, lambda change: change.value is not None)
+        if self.ended == ended:
+            wait(self.members, watched, found.revision, seconds, lambda change: change.value is not None, self.idles)
+
+
+def in_order(names: list[str], some: set[str]) -> list[str]:
+    """Those of the names that are among these."""
+    return [name for name in names if name in some]

@@ -29,11 +29,3 @@ def slots(seconds: float) -> Work:
         time.sleep(seconds * slots_of(access))
 
     return wait
-
-
-def address_of(text: str) -> tuple[str, int]:
-    """Of `[ADDRESS:]PORT`; without an address it is this machine alone."""
-    host, _, port = text.rpartition(":")
-    if not port.isdecimal() or not 0 < int(port) < 65536:
-        raise ValueError(f"it is [ADDRESS:]PORT, such as 9464: {text!r}")
-    return host or "127.0.0.1", int(port)

@@ -39,7 +39,7 @@ def a_job_is_begun_with_the_end_of_the_one_before(cluster, grove):
     """So three jobs of two groups each are four transactions."""
     store = Store(cluster, grove, "in-turn", [AT_A, AT_B, AT_A])
     worker = store.worker(work=lambda *_: None)
-    worker.do_one_by_one(worker.jobs(store.jobs))
+    worker.do_one_by_one(worker.jobs(store.jobs), set())
     store.audit()
     came = places(store, (0, 0), (1, 0), (0, 1), (2, 0), (1, 1), (2, 1)), worker.means.journal.counts["commit"]
     wanted = [[0], [0, 1], [0, 1], [0]], 4
@@ -139,16 +139,15 @@ def where_the_worker_is_told_to_end_no_other_is_begun(cluster, grove):
     return None if is_well else f"came {came}, {store.records('/a', '/b')}"
 
 
-def what_was_made_ready_isnt_made_after_a_sign(cluster, grove):
-    """Since the sign of life puts what the group is guarded by, the group is made anew."""
+def what_was_made_ready_is_made_after_a_sign(cluster, grove):
+    """Since a sign of life puts nothing that guards the group."""
     store = Store(cluster, grove, "anew", [AT_A])
-    signs = []
-    worker = store.worker(work=lambda *_: signs.append(worker.means.signs.give_one(worker.means.signs.last)))
+    worker = store.worker(work=lambda *_: worker.means.signs.give_one())
     attempt = worker.attempts(worker.jobs(store.jobs))[0]
     attempt.run(one_group(attempt))
     store.audit()
-    came = len(signs), dict(worker.means.journal.counts), store.records("/a")
-    wanted = 1, {"commit": 2, "work": 1, "ended": 1}, [11]
+    came = store.left("s"), dict(worker.means.journal.counts), store.records("/a")
+    wanted = [store.keys.sign(worker.means.name)], {"commit": 2, "work": 1, "ended": 1}, [11]
     return None if came == wanted else f"wanted {wanted}; came {came}"
 
 
@@ -156,7 +155,7 @@ def more_jobs_are_read_while_there_is_work(cluster, grove):
     """So a worker that was given two goes on with all of them."""
     store = Store(cluster, grove, "more", [AT_A, AT_B] * 14)
     worker = store.worker(work=lambda *_: None, patience=SECONDS)
-    worker.do_one_by_one(worker.jobs(store.jobs[:2]))
+    worker.do_one_by_one(worker.jobs(store.jobs[:2]), set())
     left = store.members.count(store.keys.whole("q")), store.members.count(store.keys.whole("u"))
     store.audit()
     is_well = left == (0, 0) and store.records("/a", "/b") == [24, 14]

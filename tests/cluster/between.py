@@ -10,7 +10,7 @@ from grove_etcd.chain import Left
 from grove_etcd.head import head_text
 from grove_etcd.jobs import Event, Job, Progress, Waiter
 from grove_etcd.past import Epoch
-from grove_etcd.wire import deleting, deleting_below, putting
+from grove_etcd.wire import deleting, deleting_below, present, putting
 
 
 
@@ -129,11 +129,23 @@ def a_record_that_is_only_in_the_event(store):
     store.do([["add", "/a", 1]], kind=PutsNoRecord)
 
 
+class DoesAgain(Attempt):
+    """Doesn't look when its job was put."""
+
+    def is_same_job(self):
+        return present(self.keys.job(self.job.name))
+
+    def need_same_job(self, found):
+        """It goes on in any case."""
+
+
 def begin_again(store, name):
-    """Puts the key again that makes workers begin the job."""
+    """Puts the key again that makes workers begin the job, for one that doesn't look when it was put."""
     job = Job.read(name, store.read(store.keys.job(name)))
     store.write(putting(store.keys.fresh(job.age, name), ""))
-    store.work()
+    again = store.read_entry(store.keys.fresh(job.age, name)).put_at
+    attempt = DoesAgain(store.worker().means, replace(job, put_at=again))
+    attempt.run(attempt.look(0))
 
 
 def a_job_of_the_closed_epoch_that_is_done_again(store):
@@ -145,14 +157,20 @@ def a_job_of_the_open_epoch_that_is_done_again(store):
     begin_again(store, store.jobs[-1])
 
 
+def do_unjudged(store, accesses, plan):
+    """By a worker that doesn't judge its jobs."""
+    store.submitter.put_all([Job("unjudged.0", 1, accesses, plan)])
+    worker = store.worker()
+    worker.reader.is_legal = lambda _: True
+    worker.run(until_ended=True)
+
+
 def a_plan_without_a_lock(store):
-    store.submitter.submit_planned([["add", "/a", 1]], [["access", 0]])
-    store.work()
+    do_unjudged(store, [["add", "/a", 1]], [["access", 0]])
 
 
 def a_plan_that_accesses_after_its_unlock(store):
-    store.submitter.submit_planned([["add", "/b", 1]], [["lock", "/b"], ["unlock", "/b"], ["access", 0]])
-    store.work()
+    do_unjudged(store, [["add", "/b", 1]], [["lock", "/b"], ["unlock", "/b"], ["access", 0]])
 
 
 def an_owner_that_is_put_again(store):
@@ -170,7 +188,7 @@ def an_owner_that_is_no_job(store):
 
 def one_in_line_that_is_no_job(store):
     """The node is handed to it by the job that unlocks the node, and nobody goes on from there."""
-    waits = Waiter(0, vars(Progress(1, 3, 1)))
+    waits = Waiter(0, Progress(1, 3, 1).members())
     store.write(putting(store.keys.waiter("/a", 1, "nobody.0"), waits.text()))
     store.submit([["add", "/a", 1]])
     attempt = store.attempt(-1, patience=0.2)
@@ -218,9 +236,8 @@ BETWEEN = {
     an_owner_that_is_gone: "left-out /a",
     an_owner_that_is_put_again: "left-out /a",
     an_owner_that_is_no_job: "left-owner /b",
-    one_in_line_that_is_no_job: "left-owner /a",
+    one_in_line_that_is_no_job: "left-out nobody.0",
     a_job_that_is_rewritten: "job-rewritten ",
-    a_closed_job_that_is_rewritten: "job-rewritten ",
     a_job_that_is_gone: "stray-record /a",
     a_job_of_the_closed_epoch_that_is_done_again: "stray-record /a",
     a_job_of_the_open_epoch_that_is_done_again: "left-out ",
@@ -287,4 +304,15 @@ def what_no_worker_writes_is_not_seen(cluster, grove):
         audited = refusal(store.audit)
         if isinstance(audited, str):
             return f"{plant.__name__}: {audited}"
-    return told_as(refusal(store.audit, 1), "standing replies")
+    return told_as(refusal(store.audit, 1), "standing replies") or a_closed_job_is_looked_at_again(cluster, grove)
+
+
+def a_closed_job_is_looked_at_again(cluster, grove):
+    """What is done to a job after its epoch is closed is seen once that is audited again."""
+    store = Store(cluster, grove, "rewritten-later")
+    store.do([["add", "/a", 1]])
+    store.audit()
+    a_closed_job_that_is_rewritten(store)
+    store.do([["get", "/a"]])
+    audited = refusal(store.audit)
+    return audited if isinstance(audited, str) else told_as(refusal(store.audit, 1), "job-rewritten ")

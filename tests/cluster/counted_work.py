@@ -6,6 +6,7 @@ The environment has COUNTED_ROOM, a folder; COUNTED_MEMBERS and COUNTED_STORE; a
 COUNTED_UNLEASHED the worker is never killed.
 """
 import os
+import sys
 import time
 from pathlib import Path
 
@@ -72,3 +73,35 @@ def fail_at_a(access, _record, token):
     note(f"{token} begun")
     if access[1] == "/a" and (ROOM / "broken").exists():
         raise RuntimeError("the machine is\nbroken")
+
+
+def raise_much(access, _record, _token):
+    if access[1] == "/a":
+        raise RuntimeError("upstream said: " + "x" * 2_000_000)
+
+
+def leave(access, _record, _token):
+    if access[1] == "/a":
+        sys.exit("no such shop")
+
+
+class Odd(Exception):
+    """Its text can't be had."""
+
+    def __str__(self):
+        return self.args[0]
+
+
+def raise_odd(access, _record, _token):
+    if access[1] == "/a":
+        raise Odd(7)
+
+
+def raise_interrupt(access, _record, _token):
+    if access[1] == "/a":
+        raise KeyboardInterrupt
+
+
+def end_the_process(access, _record, _token):
+    if access[1] == "/a":
+        os._exit(7)

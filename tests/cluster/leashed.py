@@ -15,7 +15,7 @@ from working import Counted
 AT_A = [["add", "/a", 1]]
 # How long others wait for a sign of life; and how long work takes, also without a leash, when they have to come to it.
 PATIENCE, WORK, LOOSE_WORK = 1.0, 2.0, 4.0
-WORDS = ["--patience", str(PATIENCE)]
+WORDS = ["--patience", str(PATIENCE), "--tries", "50"]
 KILLED = -signal.SIGKILL
 # Of the trial at random: workers, lists, how long work takes, and the longest time for which something is stopped.
 WORKERS, LISTS, WORK_AT_RANDOM = 6, [AT_A, [["add", "/", 1], ["add", "/b/c", 1]], [["add", "/b", 1]]] * 6, 1.2
@@ -86,6 +86,8 @@ def fault_of_killed(counted, worker, statuses):
     came = worker.poll(), statuses, is_unheld(counted)
     worker.kill()
     worker.wait()
+    if KILLED in statuses and not came[2]:
+        raise Untimely(f"others ended with {statuses}")
     if came != (KILLED, [0, 0], False):
         return f"it ended with {came[0]}, others with {statuses}, {counted.tries()}"
     return counted.fault(1, killed=1)
@@ -101,7 +103,11 @@ def a_worker_that_is_cut_off_is_killed_in_its_work(cluster, grove):
 
 def others_wait_for_as_long_as_the_sign_says(cluster, grove):
     """The worker is more patient than they are, and is killed later."""
-    counted = Counted(cluster, grove, f"patient-{time.time_ns()}", [AT_A], LOOSE_WORK)
+    return in_time(partial(others_wait, cluster, grove))
+
+
+def others_wait(cluster, grove, number):
+    counted = Counted(cluster, grove, f"patient-{number}", [AT_A], LOOSE_WORK)
     return fault_of_killed(counted, *cut_off(cluster, counted, "--patience", str(3 * PATIENCE)))
 
 
@@ -151,7 +157,8 @@ class Disturbed:
             time.sleep(self.random.uniform(0.3, 1.5))
         for end in self.ends:
             end.join()
-        if not await_true(lambda: not self.has_work()):
+        store = self.counted.store
+        if not store.await_true(lambda: not self.has_work()):
             return None
         send(self.workers, signal.SIGTERM)
         return [worker.wait(SECONDS) for worker in self.workers]
@@ -171,6 +178,10 @@ def send(processes, number):
 
 def whatever_is_stopped_no_work_goes_on_unheld(cluster, grove):
     """Each is done; and more than once only if the worker was killed, or stopped between its work and the commit."""
+    return in_time(partial(something_is_stopped, cluster, grove))
+
+
+def something_is_stopped(cluster, grove, _number):
     disturbed = Disturbed(cluster, grove, f"random-{time.time_ns()}")
     try:
         statuses = disturbed.run()

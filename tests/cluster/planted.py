@@ -5,8 +5,8 @@ from dataclasses import replace
 from store_at_hand import BOTH, Store, one_group, refusal
 
 from grove_etcd.attempt import Attempt
-from grove_etcd.jobs import Event, Job, Progress, UnderWay
-from grove_etcd.standing import failed
+from grove_etcd.jobs import Event, UnderWay
+from grove_etcd.setting_aside import failed
 from grove_etcd.wire import putting
 
 
@@ -121,9 +121,11 @@ class Rewrites(Attempt):
     """Does another list than was submitted."""
 
     def run(self, found):
-        self.job = Job(self.job.name, self.job.age, [["add", "/b", 1000]], self.job.plan)
-        self.members.write([putting(self.keys.job(self.job.name), self.job.text())])
-        super().run(found)
+        key, fresh = self.keys.job(self.job.name), self.keys.fresh(self.job.age, self.job.name)
+        other = replace(self.job, accesses=[["add", "/b", 1000]])
+        self.members.write([putting(key, other.text()), putting(fresh, "")])
+        self.job = replace(other, put_at=self.members.get(key).revision_of(key))
+        super().run(self.look(0))
 
 
 class StaysBehind(Attempt):
@@ -213,8 +215,9 @@ def a_record_that_is_none_sets_its_job_aside(cluster, grove):
     store = Store(cluster, grove, "none")
     store.write(putting(store.keys.record("/a"), "x"))
     store.do([["get", "/a"]], [["add", "/b", 1]])
-    came = list(failed(store.members, store.keys)), store.records("/b"), store.audit().jobs
-    wanted = [(store.jobs[0], "stray-record /a")], [1], store.jobs[1:]
+    aside = [(name, aside.why, aside.holds) for name, aside in failed(store.members, store.keys)]
+    came = aside, store.records("/b"), store.audit().jobs
+    wanted = [(store.jobs[0], "stray-record /a", [])], [1], store.jobs[1:]
     return None if came == wanted else f"wanted {wanted}; came {came}"
 
 
@@ -245,6 +248,19 @@ def what_is_written_over_is_right(cluster, grove):
     store.do([["set", "/a", 5], ["add", "/a", 1]])
     lines = store.audit().lines
     return None if store.records("/a", "/b") == [6, 4] else f"{store.records('/a', '/b')}, {lines}"
+
+
+def an_owner_that_is_put_beside_its_job_is_told(cluster, grove):
+    """Between two groups of the job that holds the node: by no group, or as if another job had the node."""
+    faults = []
+    for number, owner in enumerate(("", "x.0")):
+        store = Store(cluster, grove, f"beside-{number}", [BOTH])
+        holds = store.attempt(0)
+        found = one_group(holds)
+        store.write(putting(store.keys.owner("/a"), owner))
+        holds.run(found)
+        faults += [told_as(refusal(store.audit), "left-out /a")]
+    return "; ".join(fault for fault in faults if fault) or None
 
 
 def another_record_that_is_told_is_caught(cluster, grove):

@@ -53,14 +53,26 @@ def in_time(trial):
 class Store:
     """A store of the small tree, with a job for each of the lists."""
 
-    def __init__(self, cluster, grove, name, lists=()):
+    def __init__(self, cluster, grove, name, lists=(), rows=SMALL):
         self.members, self.keys, self.grove = cluster.members(), Keys(name), grove
-        load(self.members, self.keys, SMALL)
+        load(self.members, self.keys, rows)
         self.submitter = Submitter(self.members, self.keys, grove)
         self.jobs = [self.submitter.submit(accesses) for accesses in lists]
 
     def submit(self, *lists):
         self.jobs += [self.submitter.submit(accesses) for accesses in lists]
+
+    def submit_planned(self, accesses, plan):
+        self.jobs.append(self.submitter.submit_planned(accesses, plan))
+
+    def left(self, kinds="qu"):
+        """The keys of these kinds that are there, and of owners those that have one."""
+        found = (self.members.below(self.keys.whole(kind)).entries.items() for kind in kinds)
+        return [key for each in found for key, entry in each if entry.value or not key.startswith(self.keys.whole("o"))]
+
+    def await_true(self, wanted):
+        """The same, of what the store's jobs bring about."""
+        return await_true(wanted, moved=lambda: moved(self.members, self.keys))
 
     def worker(self, kind=Attempt, **how):
         """One in the trial's own process, which isn't to be killed."""
@@ -93,6 +105,9 @@ class Store:
 
     def read(self, key):
         return self.members.get(key).value(key)
+
+    def read_entry(self, key):
+        return self.members.get(key).entries[key]
 
     def write(self, *changes):
         self.members.write(list(changes))
@@ -161,11 +176,19 @@ class Programs:
         return str(path)
 
 
-def await_true(wanted, seconds=SECONDS):
-    """Whether it came true in time."""
-    until = time.monotonic() + seconds
+def moved(members, keys):
+    """How many groups were taken, and how many jobs there are of each kind: whatever a job does changes one of them."""
+    return [members.count(keys.whole(kind)) for kind in "equa"]
+
+
+def await_true(wanted, seconds=SECONDS, moved=lambda: None):
+    """Whether it comes true. It is given up once nothing has moved for so long."""
+    last, since = moved(), time.monotonic()
     while not wanted():
-        if time.monotonic() > until:
+        now = moved()
+        if now != last:
+            last, since = now, time.monotonic()
+        if time.monotonic() - since > seconds:
             return False
         time.sleep(0.05)
     return True

@@ -4,6 +4,7 @@ import os
 import subprocess
 import threading
 from concurrent.futures import ThreadPoolExecutor
+from dataclasses import replace
 from random import Random
 
 from members_at_hand import TOP
@@ -14,10 +15,11 @@ from grove_etcd.documents import array_of, parsed, paths_of
 from grove_etcd.head import head_text
 from grove_etcd.keys import Keys
 from grove_etcd.loading import Loader, batches, changes, load
+from grove_etcd.past import Epoch
 from grove_etcd.planners import by_library, by_program
 from grove_etcd.program import GROVE
 from grove_etcd.submitting import Submitter
-from grove_etcd.wire import putting
+from grove_etcd.wire import deleting, deleting_below, putting
 
 
 def flat(count, record, letters):
@@ -125,10 +127,10 @@ def a_full_epoch_is_followed_by_the_next(cluster, grove):
     found = goes_on.look(0)
     found = goes_on.go_on(found)
     store.submitter.submit_all([[["add", "/a", 1]]] * (MOST_JOBS + 10))
-    store.worker().run_batch([])
+    store.worker().run_batch([], set())
     left = store.worker()
     while fresh := left.fresh_of(left.look()):
-        left.run_batch(left.batch_of(fresh))
+        left.run_batch(left.jobs(fresh[:24]), set())
     audits = [store.audit() for _ in range(2)]
     none = refusal(store.audit)
     goes_on.run(found)
@@ -164,9 +166,28 @@ def closed_epochs_are_forgotten_without_new_jobs(cluster, grove):
     return None if came == wanted else f"wanted {wanted}; came {came}"
 
 
+def a_job_of_a_forgotten_name_is_kept(cluster, grove):
+    """The forgetting of an epoch breaks off, and the job's ID is submitted again before that goes on."""
+    store = Store(cluster, grove, "name-again")
+    lists = [[["add", "/a", 1]], [["add", "/b", 1]]]
+    names = store.submitter.submit_all(lists, "again")
+    store.work()
+    store.audit()
+    keys, epoch = store.keys, Epoch.read(store.read(store.keys.closed(1)))
+    store.write(putting(keys.closed(1), replace(epoch, going=True).text()))
+    store.write(deleting(keys.job(names[0])), deleting(keys.progress(names[0])), deleting_below(keys.events(names[0])))
+    store.submitter.submit_all(lists[:1], "again")
+    store.work()
+    store.forget(1)
+    audited = store.audit().jobs
+    came = audited, store.records("/a", "/b"), store.left("px")
+    wanted = names[:1], [12, 1], [keys.job(names[0]), keys.closed(2)]
+    return None if came == wanted else f"wanted {wanted}; came {came}"
+
+
 def what_is_wrong_is_refused_by_name(cluster, grove):
     store, empty, old = Store(cluster, grove, "refused"), Keys("empty"), Keys("old")
-    store.write(putting(old.old_head(), "{}"), putting(Keys("new").head(), '{"format":3,"epoch":1}'))
+    store.write(putting(old.old_head(), "{}"), putting(Keys("new").head(), '{"format":9,"epoch":1}'))
     came = [
         refusal(load, store.members, store.keys, SMALL),
         refusal(load, store.members, old, SMALL),
@@ -182,7 +203,7 @@ def what_is_wrong_is_refused_by_name(cluster, grove):
         refusal(store.audit),
     ]
     wanted = ["loaded", "loaded", "row 5 twice-named", "shape nodes 5", "shape nodes 0"]
-    wanted += ["not-loaded", "other-format 1", "other-format 3"]
+    wanted += ["not-loaded", "other-format 1", "other-format 9"]
     wanted += ["no-path lists 0 0", "shape lists 1 1", "shape lists 1", "bad-length lists 1 0", "bad-id", "no-jobs"]
     written = store.members.below(empty.whole("m")).entries, store.members.below(store.keys.whole("p")).entries
     if any(written):

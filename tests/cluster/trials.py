@@ -1,8 +1,6 @@
 """What is tried of cluster/: each trial gives what is wrong, `None` where nothing is. Each has a store of its own."""
 import json
 import shutil
-import signal
-import subprocess
 import threading
 import time
 from collections import Counter
@@ -15,12 +13,24 @@ from beginning import (
     more_jobs_are_read_while_there_is_work,
     one_that_another_worker_has_begun_is_let_be,
     the_node_of_both_goes_to_whom_stands_in_line,
-    what_was_made_ready_isnt_made_after_a_sign,
+    what_was_made_ready_is_made_after_a_sign,
     where_its_node_is_held_it_stands_in_line,
     where_its_node_is_taken_it_is_begun_later,
     where_the_worker_is_told_to_end_no_other_is_begun,
 )
 from between import what_is_planted_between_epochs_is_told, what_no_worker_writes_is_not_seen
+from fleet import Fleet
+from followed import (
+    it_is_followed_by_the_program,
+    what_happens_is_followed,
+    what_no_event_tells_of_is_refused,
+    what_was_compacted_is_said_to_be_missed,
+)
+from installed import (
+    programs_of_two_versions_work_on_one_store,
+    the_wheel_has_the_programs,
+    what_audits_have_passed_is_exported,
+)
 from leashed import (
     a_stopped_worker_is_killed_in_its_work,
     a_worker_that_is_cut_off_is_killed_in_its_work,
@@ -33,15 +43,52 @@ from planted import (
     a_stray_write_before_any_epoch_is_told,
     a_stray_write_is_told_after_forgetting,
     a_wait_for_a_job_of_an_earlier_epoch_is_counted,
+    an_owner_that_is_put_beside_its_job_is_told,
     another_record_that_is_told_is_caught,
     marks_that_are_left_out_are_told,
     what_is_written_over_is_right,
     workers_with_a_bug_are_caught,
 )
+from parked import (
+    a_job_that_waits_holds_up_no_others,
+    no_more_wait_than_are_to,
+    one_that_waits_gives_signs,
+    one_worker_has_hundreds_of_jobs_under_way,
+    short_jobs_share_transactions,
+    the_last_sign_of_one_that_is_gone_is_deleted,
+    work_goes_on_in_threads,
+)
 from rights import a_worker_needs_few_rights
 from serial import fault_of_order
-from store_at_hand import BOTH, SECONDS, SLOT, SMALL, Programs, Store, Untimely, in_time, one_group
+from store_at_hand import (
+    BOTH,
+    SECONDS,
+    SLOT,
+    SMALL,
+    Programs,
+    Store,
+    Untimely,
+    await_true,
+    in_time,
+    moved,
+    one_group,
+)
+from spoiled import (
+    a_job_that_is_left_out_is_named,
+    a_group_ends_before_it_is_too_large,
+    a_late_job_is_dropped,
+    a_plan_is_judged_as_the_program_judges_it,
+    all_that_were_abandoned_are_taken_up,
+    no_work_ends_all_workers,
+    what_hasnt_its_form_sets_its_job_aside,
+    what_is_dropped_ends_where_it_is,
+    what_is_no_job_is_set_aside_by_name,
+    what_is_said_to_be_fresh_again_is_not_done_again,
+    what_stood_in_line_is_dropped,
+    what_submitted_jobs_say_is_judged,
+)
 from submitted import (
+    a_job_of_a_forgotten_name_is_kept,
     a_document_is_read_as_the_program_reads_it,
     a_full_epoch_is_followed_by_the_next,
     closed_epochs_are_forgotten_without_new_jobs,
@@ -52,6 +99,11 @@ from submitted import (
     what_is_wrong_is_refused_by_name,
 )
 from tree import Tree
+from unanswered import (
+    what_is_begun_without_an_answer_is_gone_on_with,
+    what_is_left_without_an_answer_is_taken_up,
+    what_names_a_worker_is_gone_on_with_by_it,
+)
 from working import (
     a_worker_that_is_told_to_end_ends_after_its_group,
     an_abandoned_job_is_taken_up_once,
@@ -62,12 +114,14 @@ from working import (
 
 from etcd3 import etcdrpc
 from grove_etcd.keys import Keys
-from grove_etcd.leash import now
 from grove_etcd.members import Lost, Members
+from grove_etcd.submitting import Submitter
 from grove_etcd.weighing import reweigh
 from grove_etcd.worker import Worker
 from grove_etcd.works import slots
 
+# The nodes of the small tree.
+PATHS = ("/", "/a", "/b", "/b/c", "/a-d")
 JOBS, ACCESSES, WORKERS, KILLED = 64, 8, 8, 4
 # A slot of the first try at killing some, in milliseconds.
 SLOT_OF_KILLED = 10
@@ -112,48 +166,34 @@ def some_are_killed(cluster, grove, number):
     submitted = programs.lines("submit", "--grove", grove, "--id", "killed", file)
     if submitted != [f"submitted killed.{number}" for number in range(JOBS)]:
         return f"submitted {submitted}"
-    started = [start_worker(programs, slot) for _ in range(WORKERS)]
+    fleet = Fleet(cluster, programs, ["--slot", str(slot), "--patience", "1", "--until-ended"])
     try:
-        fault = kill_some(cluster, programs, started, slot) or await_end(programs, started)
+        fleet.start(WORKERS)
+        fault = kill_some(cluster, programs, fleet) or fleet.await_end()
     finally:
-        for worker in started:
-            worker.kill()
-            worker.wait()
+        fleet.end()
     return fault or fault_of_killed(cluster.members(), programs, document, grove)
 
 
-def start_worker(programs, slot):
-    words = ["--slot", str(slot), "--patience", "1", "--until-ended"]
-    return programs.start("work", *words, stderr=subprocess.DEVNULL)
-
-
-def kill_some(cluster, programs, started, slot):
+def kill_some(cluster, programs, fleet):
     """Once some jobs have ended, and less than half of them, while nodes are held."""
-    until, now = time.monotonic() + SECONDS, programs.standing()
-    while not (now.ended and now.held) and now.ended < JOBS:
-        if time.monotonic() > until:
-            return "no job ends"
-        now = programs.standing()
-    for worker in started[:KILLED]:
-        worker.send_signal(signal.SIGKILL)
-    then = programs.standing()
+    seen = [programs.standing()]
+
+    def have_some_ended():
+        fleet.start_again()
+        seen.append(programs.standing())
+        return (seen[-1].ended and seen[-1].held) or seen[-1].ended == JOBS
+
+    if not await_true(have_some_ended, moved=partial(moved, fleet.members, fleet.keys)):
+        return f"no job ends{fleet.told()}"
+    fleet.kill(KILLED)
+    now, then = seen[-1], programs.standing()
     if now.ended >= JOBS // 2 or then.ended == JOBS or not then.held:
         raise Untimely(f"{now.ended} jobs had ended, {then.ended} once workers were killed; {then.held} nodes held")
     cluster.kill(0)
-    started += [start_worker(programs, slot) for _ in range(KILLED)]
+    fleet.start(KILLED)
     time.sleep(3)
     cluster.start(0)
-    return None
-
-
-def await_end(programs, started):
-    until = time.monotonic() + 2 * SECONDS
-    for worker in started[KILLED:]:
-        try:
-            if worker.wait(max(0.1, until - time.monotonic())):
-                return f"a worker ended with status {worker.returncode}"
-        except subprocess.TimeoutExpired:
-            return f"the jobs haven't ended: {programs.lines('status', '--jobs')}"
     return None
 
 
@@ -220,11 +260,17 @@ def a_job_is_taken_up_by_one_that_waits_for_it(cluster, grove):
     audited = store.audit()
     changed = reweigh(store.members, store.keys)
     waits = dict(zip(["/", "/a", "/b", "/b/c"], json.loads(audited.lines["waits"])))
-    weights = [store.read(store.keys.weight(path)) for path in ("/", "/a", "/b", "/b/c", "/a-d")]
-    known = [text.rpartition(" ")[0] for text in weights]
-    wanted = waits == {"/": 0, "/a": 0, "/b": 1, "/b/c": 0} and changed == 5
-    is_well = wanted and known == ["25 1", "2 1", "2 1", "5 1", "2 1"]
-    return None if is_well else f"waits {waits}, {changed} changed, weights {weights}"
+    weights = weights_of(store)
+    again = reweigh(store.members, store.keys)
+    later = weights_of(store)
+    came = waits, changed, weights, again, later
+    wanted = {"/": 0, "/a": 0, "/b": 1, "/b/c": 0}, 1, dict(zip(PATHS, (25, 2, 2, 5, 2))), 0
+    return None if came == (*wanted, dict(zip(PATHS, (13, 1, 1, 3, 1)))) else f"came {came}"
+
+
+def weights_of(store):
+    """As a submitter finds them that has read none before."""
+    return Submitter(store.members, store.keys, store.grove).weights([[["get", path] for path in PATHS]])
 
 
 def one_is_woken_at_each_release(cluster, grove):
@@ -253,30 +299,12 @@ def a_job_is_woken_where_the_node_is_handed_past_an_older_one(cluster, grove):
     one_group(older)
     waits = younger.look(0)
     holds.run(found)
-    younger.wait_on = None
     woken = younger.go_on(waits)
     younger.run(woken)
     older.run(older.look(1))
     store.audit()
     came = waits.progress.step, woken.progress.step, store.records("/")
     return None if came == (0, 1, [3]) else f"came {came}"
-
-
-def signs_of_life_are_given_between_waits(cluster, grove):
-    """A job that has waited for one thing after the other gives a sign when that is due, and not only once one of them
-    takes so long. The watch is told to last no time here."""
-    store = Store(cluster, grove, "signs", [[["add", "/", 1]]] * 3)
-    holds, before, waits = (store.attempt(number, patience=2.5 * SECONDS) for number in range(3))
-    one_group(holds)
-    one_group(before)
-    found, lasted, member = one_group(waits), [], waits.members.asked
-    watch = member.watch
-    member.watch = lambda request, timeout, metadata: lasted.append(timeout) or watch(request, 0, metadata)
-    waits.signed_at -= 2 * SECONDS
-    found = waits.go_on(found)
-    key = store.keys.under_way(store.jobs[2])
-    came = lasted, store.members.get(key).version_of(key), waits.sign_due() > now()
-    return None if came == ([0], 2, True) else f"came {came}"
 
 
 def run_all(workers):
@@ -345,6 +373,7 @@ TRIALS = [
     a_wait_for_a_job_of_an_earlier_epoch_is_counted,
     a_record_that_is_none_sets_its_job_aside,
     what_is_written_over_is_right,
+    an_owner_that_is_put_beside_its_job_is_told,
     another_record_that_is_told_is_caught,
     loads_that_mix_leave_one_document,
     slow_work_is_done_once,
@@ -357,24 +386,53 @@ TRIALS = [
     work_that_fails_sets_its_job_aside,
     a_worker_that_is_told_to_end_ends_after_its_group,
     a_commit_without_an_answer_is_done_once,
+    what_is_left_without_an_answer_is_taken_up,
+    what_is_begun_without_an_answer_is_gone_on_with,
+    what_names_a_worker_is_gone_on_with_by_it,
     two_workers_at_one_job_do_it_once,
     a_job_is_taken_up_by_one_that_waits_for_it,
     one_is_woken_at_each_release,
     a_job_is_woken_where_the_node_is_handed_past_an_older_one,
-    signs_of_life_are_given_between_waits,
+    one_that_waits_gives_signs,
+    the_last_sign_of_one_that_is_gone_is_deleted,
+    a_job_that_waits_holds_up_no_others,
+    one_worker_has_hundreds_of_jobs_under_way,
+    no_more_wait_than_are_to,
+    work_goes_on_in_threads,
+    short_jobs_share_transactions,
     a_job_is_begun_with_the_end_of_the_one_before,
     one_that_another_worker_has_begun_is_let_be,
     where_its_node_is_taken_it_is_begun_later,
     where_its_node_is_held_it_stands_in_line,
     the_node_of_both_goes_to_whom_stands_in_line,
     where_the_worker_is_told_to_end_no_other_is_begun,
-    what_was_made_ready_isnt_made_after_a_sign,
+    what_was_made_ready_is_made_after_a_sign,
     more_jobs_are_read_while_there_is_work,
     a_forgotten_job_is_not_done_again,
+    what_happens_is_followed,
+    what_no_event_tells_of_is_refused,
+    what_was_compacted_is_said_to_be_missed,
+    it_is_followed_by_the_program,
+    what_audits_have_passed_is_exported,
+    programs_of_two_versions_work_on_one_store,
+    the_wheel_has_the_programs,
+    all_that_were_abandoned_are_taken_up,
+    a_group_ends_before_it_is_too_large,
+    no_work_ends_all_workers,
+    what_is_no_job_is_set_aside_by_name,
+    what_is_said_to_be_fresh_again_is_not_done_again,
+    a_job_that_is_left_out_is_named,
+    what_submitted_jobs_say_is_judged,
+    a_plan_is_judged_as_the_program_judges_it,
+    what_is_dropped_ends_where_it_is,
+    what_stood_in_line_is_dropped,
+    a_late_job_is_dropped,
+    what_hasnt_its_form_sets_its_job_aside,
     the_library_plans_what_the_program_does,
     what_is_submitted_by_an_id_is_made_once,
     a_full_epoch_is_followed_by_the_next,
     closed_epochs_are_forgotten_without_new_jobs,
+    a_job_of_a_forgotten_name_is_kept,
     what_is_wrong_is_refused_by_name,
     errors_are_a_line_and_a_status,
     a_document_is_read_as_the_program_reads_it,

@@ -115,15 +115,19 @@ class TakesUpLate(Worker):
 
 def an_abandoned_job_is_taken_up_once(cluster, grove):
     """Two workers find the job abandoned at the same time, and the second one leaves it to the first."""
-    store = Store(cluster, grove, "late", [[["add", "/a", 1]]])
-    one_group(store.attempt(0, patience=PATIENCE))
+    return in_time(partial(taken_up_once, cluster, grove))
+
+
+def taken_up_once(cluster, grove, number):
+    store, patience = Store(cluster, grove, f"late-{number}", [[["add", "/a", 1]]]), PATIENCE * 2**number
+    one_group(store.attempt(0, patience=patience))
     works = []
 
     def work(_access, _record, token):
         works.append(token)
-        time.sleep(10 * PATIENCE)
+        time.sleep(5 * patience)
 
-    first, late = (kind(store.members, store.keys, work, PATIENCE, leashed=False) for kind in (Worker, TakesUpLate))
+    first, late = (kind(store.members, store.keys, work, patience, leashed=False) for kind in (Worker, TakesUpLate))
     thread = threading.Thread(target=first.run, args=(True,))
 
     def take_up():
@@ -135,6 +139,8 @@ def an_abandoned_job_is_taken_up_once(cluster, grove):
     late.run(until_ended=True)
     thread.join()
     store.audit()
+    if len(works) > 1:
+        raise Untimely(f"{works}")
     return None if (works, store.records("/a")) == ([f"{store.jobs[0]}/0"], [11]) else f"{works}, {store.records('/a')}"
 
 
@@ -153,7 +159,7 @@ def work_that_fails_sets_its_job_aside(cluster, grove):
     counted.start("fail_at_a", "--until-ended").wait(SECONDS)
     counted.store.audit()
     came = worker.returncode, told[-1], tries[f"{aside}/0"], early, again, counted.store.records("/a", "/b")
-    failed = f"failed {aside}: RuntimeError: the machine is broken"
+    failed = f"failed {aside}: RuntimeError: the machine is broken; it holds /a"
     wanted = 0, failed, 3, (1, f"refused not-set-aside {other}\n"), [f"to be tried {aside}"], [11, 1]
     if "set_aside" not in errors or "Traceback" in errors:
         return f"it said {errors}"
@@ -163,7 +169,11 @@ def work_that_fails_sets_its_job_aside(cluster, grove):
 def a_worker_that_is_told_to_end_ends_after_its_group(cluster, grove):
     """And another one goes on at once, however patient it is; meanwhile its counts can be read. Its first work takes
     long enough for all that is asked of it."""
-    counted = Counted(cluster, grove, "ending", [ROOT], 5)
+    return in_time(partial(ends_after_its_group, cluster, grove))
+
+
+def ends_after_its_group(cluster, grove, number):
+    counted = Counted(cluster, grove, f"ending-{number}", [ROOT], 5 * 2**number)
     port = free_port()
     worker = counted.start("begin", "--verbose", "--metrics", str(port), stderr=subprocess.PIPE)
     if not await_true(lambda: counted.tries()):
@@ -174,7 +184,9 @@ def a_worker_that_is_told_to_end_ends_after_its_group(cluster, grove):
     another = counted.start("begin", "--patience", str(10 * SECONDS), "--until-ended")
     statuses = worker.returncode, another.wait(SECONDS)
     if 'grove_worker_events_total{event="work"} 1' not in metrics[0] or metrics[1] != "not found\n":
-        return f"its counts were {metrics}"
+        raise Untimely(f"its counts were {metrics}")
+    if -signal.SIGKILL in statuses:
+        raise Untimely(f"statuses {statuses}")
     if statuses != (0, 0) or f"left job={counted.store.jobs[0]}" not in errors or "stopped" not in errors:
         return f"statuses {statuses}, {errors}"
     return counted.fault(2)

@@ -38,10 +38,10 @@ fn main() -> Result<(), pickbracken::Error> {
 LOOK = "import pickbracken.library as it; print(it.__file__); it.loaded()"
 
 
-def block(language: str) -> str:
-    """What docs/LIBRARY.md shows first in a language."""
+def blocks(language: str) -> list[str]:
+    """What docs/LIBRARY.md shows in a language."""
     page = (TOP / "docs/LIBRARY.md").read_text(encoding="utf-8")
-    return re.findall(rf"^```{language}\n(.*?)^```", page, re.M | re.S)[0]
+    return re.findall(rf"^```{language}\n(.*?)^```", page, re.M | re.S)
 
 
 def linked_in_c(packages: Packages, room: Path, tally: Tally) -> None:
@@ -52,8 +52,8 @@ def linked_in_c(packages: Packages, room: Path, tally: Tally) -> None:
     wanted = called(prefix / "bin/grove", "plan", document).stdout + "cost 16\n"
     shared = [f"-L{prefix}/lib/grove", f"-Wl,-rpath,{prefix}/lib/grove"]
     for place in ([f"-L{prefix}/lib"], shared):
-        words = [*STRICT, f"-I{prefix}/include", pages / "bindings/c/plan.c", *place, "-lgrove", "-o", room / "plan"]
-        note_silent(tally, place[0], called("cc", *words))
+        parts = [f"-I{prefix}/include", f"{pages}/bindings/c/plan.c", *place, "-lgrove"]
+        note_silent(tally, place[0], called("cc", *STRICT, *parts, "-o", room / "plan"))
         note_equal(tally, "settings.json", called(room / "plan", document, env=SURROUNDINGS).stdout, wanted)
 
 
@@ -66,17 +66,12 @@ def crate(packages: Packages, room: Path, tally: Tally) -> None:
         project = room / "follows"
         (project / "src").mkdir(parents=True, exist_ok=True)
         (project / "Cargo.toml").write_text(MANIFEST.format(crate=place))
-        (project / "src/main.rs").write_text(MAIN % block("rust"))
+        (project / "src/main.rs").write_text(MAIN % blocks("rust")[0])
         surroundings = {**SURROUNDINGS, "CARGO_TARGET_DIR": str(room / "target")}
         ran = called("cargo", "run", "--quiet", "--offline", cwd=project, env=surroundings)
         note_equal(tally, place.name, (ran.stdout, ran.stderr, ran.returncode), ("cost 3\n", "", 0))
         ran = called("cargo", "run", "--quiet", "--offline", "--example", "locks", cwd=place, env=surroundings)
         note_equal(tally, "locks", (ran.stdout, ran.returncode), ("4000 transactions, and the shelves hold 0\n", 0))
-
-
-def no_pip() -> str:
-    """What is needed for a folder with a Python of its own, and isn't there."""
-    return "" if called(sys.executable, "-c", "import ensurepip, venv").returncode == 0 else "Python's venv"
 
 
 def python_in(room: Path) -> Path:
@@ -113,8 +108,8 @@ def pip_install(packages: Packages, room: Path, tally: Tally) -> None:
 
 
 def pip(python: Path, what: Path, **more: str) -> subprocess.CompletedProcess:
-    words = ["-m", "pip", "install", "--no-index", "--no-deps", what]
-    return called(python, *words, env={**SURROUNDINGS, "PIP_DISABLE_PIP_VERSION_CHECK": "1", **more})
+    words = ["-m", "pip", "install", "--no-index", "--no-deps"]
+    return called(python, *words, what, env={**SURROUNDINGS, "PIP_DISABLE_PIP_VERSION_CHECK": "1", **more})
 
 
 def note_pip(tally: Tally, where: str, python: Path, what: Path, **more: str) -> None:
@@ -128,6 +123,7 @@ def note_package(tally: Tally, room: Path, python: Path) -> None:
     file = Path(told.stdout.strip())
     is_there = file.is_relative_to(room / "venv") and file.with_name("libgrove.so").is_file()
     tally.note("its place", None if is_there else told.stdout + told.stderr)
-    ran = called(python, "-c", block("python"), cwd=room, env=SURROUNDINGS)
-    is_well = ran.stdout.startswith("3 (Step(") and ran.stdout.endswith("no-path list 0\n") and not ran.stderr
+    ran = called(python, "-c", "\n".join(blocks("python")[:2]), cwd=room, env=SURROUNDINGS)
+    moved = "{'/north/a': 6, '/north/b': 4}\n"
+    is_well = ran.stdout.startswith(f"{moved}3 (Step(") and ran.stdout.endswith("no-path list 0\n") and not ran.stderr
     tally.note("docs/LIBRARY.md", None if is_well else ran.stdout + ran.stderr)

@@ -28,8 +28,8 @@ class Etcd:
         words = ["--data-dir", self.room.name, "--initial-cluster", f"default={peer}"]
         words += ["--listen-client-urls", client, "--advertise-client-urls", client]
         words += ["--listen-peer-urls", peer, "--initial-advertise-peer-urls", peer]
-        streams = dict.fromkeys(["stdin", "stdout", "stderr"], subprocess.DEVNULL)
-        self.started = subprocess.Popen(["etcd", *words], **streams)
+        none = subprocess.DEVNULL
+        self.started = subprocess.Popen(["etcd", *words], stdin=none, stdout=none, stderr=none)
         until = time.monotonic() + SECONDS
         while not self.is_healthy() and time.monotonic() < until:
             time.sleep(0.1)
@@ -51,10 +51,8 @@ class Etcd:
         self.room.cleanup()
 
 
-def is_absent() -> str:
-    """What is needed for it and isn't there."""
-    if called("/usr/bin/python3", "-c", "import etcd3, grpc").returncode:
-        return "etcd3 and grpc of /usr/bin/python3"
+def no_mount() -> str:
+    """Why a root of its own can't be made, if it can't."""
     with tempfile.TemporaryDirectory(prefix="grove-root-") as root, tempfile.TemporaryDirectory() as local:
         return "leave to mount" if called(PLACE, root, local, "/usr/bin/true").returncode else ""
 
@@ -81,4 +79,4 @@ def cluster(packages: Packages, room: Path, tally: Tally) -> None:
         note("", "grove-work", *members, "--until-ended")
         note("epoch 1: 3 jobs, 3 ended; 0 nodes held", "grove-status", *members)
         note("order [", "grove-audit", *members)
-        note("changed", "grove-reweigh", *members)
+        note("reweighed 0 nodes", "grove-reweigh", *members)

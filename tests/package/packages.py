@@ -60,12 +60,14 @@ class Packages:
     archive: Path
     debian: Path | None
     wheel: Path
+    cluster_wheel: Path
     crate: Path
     prefix: Path
 
     @property
     def all(self) -> list[Path]:
-        return [path for path in (self.archive, self.debian, self.wheel, self.crate) if path]
+        made = self.archive, self.debian, self.wheel, self.cluster_wheel, self.crate
+        return [path for path in made if path]
 
     @property
     def version(self) -> str:
@@ -84,13 +86,20 @@ class Packages:
 
 def make(copy: Path, prefix: Path) -> Packages:
     made = package(copy)
-    paths = {Path(line).suffix: copy / line for line in made.stdout.splitlines()}
+    paths = {kind_of(Path(line).name): copy / line for line in made.stdout.splitlines()}
     if made.returncode or not paths:
         raise Unmade(f"tools/package: status {made.returncode}, {made.stdout}{made.stderr}")
     installed = package(copy, "--install", str(prefix))
     if installed.returncode:
         raise Unmade(f"tools/package --install: {installed.stderr}")
-    return Packages(copy, paths[".gz"], paths.get(".deb"), paths[".whl"], paths[".crate"], prefix)
+    wheels = paths["pickbracken.whl"], paths["grove_etcd.whl"]
+    return Packages(copy, paths[".gz"], paths.get(".deb"), *wheels, paths[".crate"], prefix)
+
+
+def kind_of(name: str) -> str:
+    """The suffix of a package, and of a wheel also what it is of."""
+    suffix = Path(name).suffix
+    return name.partition("-")[0] + suffix if suffix == ".whl" else suffix
 
 
 def library_of_checkout() -> None:

@@ -4,22 +4,20 @@ from __future__ import annotations
 
 import os
 import re
-import shutil
 import subprocess
 import tarfile
 import time
-from dataclasses import dataclass
 from pathlib import Path
-from typing import Callable
 
 from at_hand import completed_by_bash, completed_by_zsh, manual, names_of_manual
-from bindings_trial import crate, linked_in_c, no_pip, pip_install, wheel
-from cluster_trial import cluster, is_absent
+from bindings_trial import crate, linked_in_c, pip_install, wheel
+from cluster_trial import cluster, no_mount
 from in_root import commands_of_pages, commands_on_examples, paged, served
 from looking import below, note_equal, note_silent, with_manual
 from nginx_trial import behind_nginx
 from packages import LIBRARIES, PROGRAM, Packages, called, copy_of_checkout, package
 from sweeps.program import Tally
+from tool_trials import Trial
 
 # What a unit file of a service has to have, and what each.
 GRANTED = ["DynamicUser=yes", "NoNewPrivileges=yes", "MemoryMax=", "TasksMax="]
@@ -30,20 +28,6 @@ UNITS = {
     "grove-serve.service": [*GRANTED, "--verbose", "--explain", "--idle", "KillSignal=SIGTERM"],
     "grove-work.service": [*GRANTED, "--verbose"],
 }
-
-
-@dataclass(frozen=True)
-class Trial:
-    """Something to try, the commands that it needs, and what names anything else that is needed and isn't there."""
-
-    name: str
-    call: Callable[[Packages, Path, Tally], None]
-    needs: tuple[str, ...] = ()
-    is_absent: Callable[[], str] = str
-
-    def absent(self) -> str:
-        """What is needed and isn't there; nothing if it can be run."""
-        return ", ".join(name for name in self.needs if not shutil.which(name)) or self.is_absent()
 
 
 def twice_the_same(packages: Packages, room: Path, tally: Tally) -> None:
@@ -157,11 +141,11 @@ TRIALS = [
     Trial("behind_nginx", behind_nginx, ("nginx", "openssl")),
     Trial("linked_in_c", linked_in_c, ("cc",)),
     Trial("crate", crate, ("cargo",)),
-    Trial("wheel", wheel, is_absent=no_pip),
-    Trial("pip_install", pip_install, is_absent=no_pip),
+    Trial("wheel", wheel, ("ensurepip",)),
+    Trial("pip_install", pip_install, ("ensurepip",)),
     Trial("moved", moved),
     Trial("owned", owned),
-    Trial("cluster", cluster, ("etcd", "chroot", "unshare"), is_absent),
+    Trial("cluster", cluster, ("etcd", "etcd3", "grpc", "chroot", "unshare"), no_mount),
     Trial("manual", manual, ("man",)),
     Trial("names_of_manual", names_of_manual, ("lexgrog",)),
     Trial("completed_by_bash", completed_by_bash, ("bash",)),

@@ -7,6 +7,7 @@ from dataclasses import dataclass
 from pathlib import Path
 
 from .archive import archive
+from .made import Made
 from .placed import Placed, copied
 from .source import Source, Unfit, need_new
 
@@ -21,14 +22,6 @@ LINKED, LOADED = "lib/libgrove.a", "lib/grove/libgrove.so"
 PYTHON = "lib/grove/python"
 SHARE = "share/grove"
 CRATE = "pickbracken"
-
-
-@dataclass(frozen=True)
-class Made:
-    """A file that is made beside the packages, under its name."""
-
-    name: str
-    content: bytes
 
 
 @dataclass(frozen=True)

@@ -37,7 +37,7 @@ Architecture: {architecture}
 Maintainer: {author}
 Installed-Size: {kibibytes}
 Depends: libc6 (>= {libc}), python3:any (>= 3.11)
-Recommends: python3-etcd3, python3-grpcio
+Recommends: python3-grpcio, python3-protobuf
 Suggests: etcd-server
 Description: in-memory record store over a tree, with a lock planner
  grove keeps records at the nodes of a rooted tree, and decides where each lock

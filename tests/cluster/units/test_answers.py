@@ -2,12 +2,11 @@
 import unittest
 
 import here  # noqa: F401
-from etcd3 import etcdrpc
-from etcd3.etcdrpc import kv_pb2
+from grove_etcd import etcdrpc
 from grove_etcd.groups import Limits, group_of
 from grove_etcd.jobs import Job, Progress, UnderWay
 from grove_etcd.keys import Keys
-from grove_etcd.ready import Aside
+from grove_etcd.ready import MakesReady
 from grove_etcd.seeing import Seen, left_by, window
 from grove_etcd.wire import Entry, Found, done
 
@@ -18,7 +17,7 @@ JOB = Job("one.0", 5, [["add", "/a", 2]], PLAN)
 
 def told(*pairs):
     """A member's answer to a read: keys with their values, and the revision at which each was put."""
-    kvs = [kv_pb2.KeyValue(key=key.encode(), value=text.encode(), mod_revision=at) for key, text, at in pairs]
+    kvs = [etcdrpc.KeyValue(key=key.encode(), value=text.encode(), mod_revision=at) for key, text, at in pairs]
     return etcdrpc.ResponseOp(response_range=etcdrpc.RangeResponse(kvs=kvs))
 
 
@@ -40,6 +39,14 @@ class Answers(unittest.TestCase):
         self.assertEqual(found.value_from_last("a"), "4")
         self.assertEqual(found.entries, {"a": Entry("4", 5, 0, 0), "b": Entry("2", 3, 0, 0)})
         self.assertEqual([found.value_from_last(key) for key in "abc"], ["4", "2", None])
+
+    def test_who_waits_for_a_node(self):
+        """Of the root, whose path ends with a slash, as of any other."""
+        for path in ("/", "/a", "/a/b"):
+            key = KEYS.waiter(path, 5, "one.0")
+            found = done(answer(told((key, "x", 2), ("store/va//b", "y", 2)))).found
+            self.assertEqual(list(found.below(KEYS.waiters(path))), [key])
+            self.assertEqual(found.below(KEYS.waiters("/a/c")), {})
 
     def test_what_is_known_goes_before_what_was_told(self):
         found = done(answer(told(("a", "1", 2), ("b", "2", 3)))).found.with_known({"a": Entry("7", 9, 0, 0)})
@@ -77,7 +84,7 @@ class Left(unittest.TestCase):
 
 class MadeReady(unittest.TestCase):
     def test_what_fails_is_left_to_whoever_needs_it(self):
-        aside = Aside()
+        aside = MakesReady()
         aside.begin(lambda: 1 / 0)
         self.assertIsNone(aside.end())
         aside.begin(lambda: Seen)

@@ -15,7 +15,7 @@ from grove_etcd.planners import By, planner_of
 from grove_etcd.planning import Planner
 from grove_etcd.refusals import Refused
 from grove_etcd.submitting import place_in_lists
-from grove_etcd.works import address_of
+from grove_etcd.command_line import address as address_of
 
 
 class Arguments(unittest.TestCase):

@@ -4,10 +4,10 @@ from dataclasses import replace
 
 import here  # noqa: F401
 from grove_etcd.chain import Chain, Left, Node, Passing
-from grove_etcd.choosing import choose
 from grove_etcd.groups import Limits, Turn, answer, group_of
 from grove_etcd.jobs import Event, Job, Kind, Progress
 from grove_etcd.keys import Keys
+from grove_etcd.ledger import Ledger
 from grove_etcd.past import Past, Taken, in_order
 from grove_etcd.refusals import Refused
 from grove_etcd.seeing import is_last, reads_for, window
@@ -66,8 +66,8 @@ class Groups(unittest.TestCase):
         self.assertEqual(group(first.after(), limits).taken, 5)
 
     def test_what_is_read(self):
-        self.assertEqual(len(reads_for(KEYS, JOB, 0, Limits())), 3 + 2 * 3 + 2 + 1)
-        self.assertEqual(len(reads_for(KEYS, JOB, 0, Limits(works=True))), 3 + 2 * 3 + 1 + 1)
+        self.assertEqual(len(reads_for(KEYS, JOB, 0, Limits())), 4 + 2 * 3 + 2 + 1)
+        self.assertEqual(len(reads_for(KEYS, JOB, 0, Limits(works=True))), 4 + 2 * 3 + 1 + 1)
 
     def test_which_group_is_the_last(self):
         self.assertEqual([is_last(JOB, step) for step in range(6)], [False, False, False, True, True, True])
@@ -99,7 +99,7 @@ def past(name, plan, *groups, ended=True):
     for revision, takes, mark in groups:
         taken.append(Taken(revision, job, first, Event(takes, mark, {})))
         first += takes
-    return Past(job, Progress(first, len(plan), len(groups)), taken)
+    return Past(job, Progress(first, len(plan), len(groups)), taken, frozenset(job.nodes()))
 
 
 HOLD = [["lock", "/a"], ["unlock", "/a"]]
@@ -108,14 +108,36 @@ HOLD = [["lock", "/a"], ["unlock", "/a"]]
 class Audits(unittest.TestCase):
     def test_who_came_first_is_in_the_epoch_first(self):
         early, late = past("early", HOLD, (1, 2, False)), past("late", HOLD, (2, 2, False))
-        self.assertEqual(choose({"late": late, "early": early}), ["early", "late"])
+        self.assertEqual(Ledger([late, early]).chooser.choose(), ["early", "late"])
 
     def test_behind_one_that_goes_on_nothing_is_closed(self):
         goes_on = past("on", [*HOLD, ["lock", "/b"], ["unlock", "/b"]], (1, 3, False))
         behind, other = past("behind", HOLD, (2, 2, False)), past(
             "other", [["lock", "/c"], ["unlock", "/c"]], (3, 2, False)
         )
-        self.assertEqual(choose({each.job.name: each for each in (goes_on, behind, other)}), ["other"])
+        ledger = Ledger([goes_on, behind, other])
+        self.assertEqual((ledger.chooser.choose(), ledger.chooser.choose()), (["other"], []))
+
+    def test_what_comes_later_is_chosen_after_what_was_before_it(self):
+        jobs = [past(f"job{number}", HOLD, (number, 2, False)) for number in range(300)]
+        chooser = Ledger(jobs).chooser
+        names = [past.job.name for past in jobs]
+        self.assertEqual([chooser.choose() for _ in range(3)], [names[:256], names[256:], []])
+
+    def test_a_choice_that_was_made_is_taken(self):
+        jobs = [past(f"job{number}", HOLD, (number, 2, False)) for number in range(4)]
+        chooser = Ledger(jobs).chooser
+        chooser.take(["job0", "job1"])
+        self.assertEqual(chooser.choose(), ["job2", "job3"])
+
+    def test_what_is_closed_counts_no_more(self):
+        one, two = past("one", HOLD, (1, 1, False), (2, 1, False)), past("two", HOLD, (3, 1, False), ended=False)
+        ledger, own = Ledger([one, two]), Passing()
+        own.go_through(one.taken)
+        ledger.chooser.choose()
+        ledger.close(["one"], own)
+        came = ledger.passing.hands, ledger.passing.holders, set(ledger.pasts)
+        self.assertEqual(came, ({"/a": 1}, {"/a": "two"}, {"two"}))
 
     def test_how_often_owners_were_put(self):
         passing = Passing()

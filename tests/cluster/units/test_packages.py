@@ -7,12 +7,12 @@ from pathlib import Path
 PROGRAMS = sorted(path for path in (Path(__file__).resolve().parents[3] / "cluster").iterdir() if path.is_file())
 # A Python that finds no packages but its own.
 ALONE = [sys.executable, "-B", "-E", "-S"]
-SAYS = "{}: needs the Python packages etcd3 and grpcio (No module named 'grpc')\n"
+SAYS = "{}: needs the Python packages grpcio and protobuf (No module named 'grpc')\n"
 
 
 class Packages(unittest.TestCase):
     def test_without_them_each_says_so_by_a_line_and_status_3(self):
-        self.assertEqual(len(PROGRAMS), 7)
+        self.assertEqual(len(PROGRAMS), 9)
         for program in PROGRAMS:
             ran = subprocess.run([*ALONE, program, "--help"], capture_output=True, text=True, check=False)
             self.assertEqual((ran.returncode, ran.stdout, ran.stderr), (3, "", SAYS.format(program.name)))

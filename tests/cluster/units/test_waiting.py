@@ -1,21 +1,22 @@
 """Watches, by a member whose answers are given."""
 import unittest
-from types import SimpleNamespace
 
 import here  # noqa: F401
-from etcd3 import etcdrpc
-from etcd3.etcdrpc import kv_pb2
+from grove_etcd import etcdrpc
 from grove_etcd.members import Members
 from grove_etcd.waiting import Watched, changes, wait
-from grove_etcd.wire import DELETED, Change, Found, reading
+from grove_etcd.etcdrpc import DELETED
+from grove_etcd.wire import Change, Found, reading
 
 
 def event(key, value, revision):
-    pair = kv_pb2.KeyValue(key=key.encode(), value=(value or "").encode(), mod_revision=revision)
-    return kv_pb2.Event(type=DELETED if value is None else 0, kv=pair)
+    pair = etcdrpc.KeyValue(key=key.encode(), value=(value or "").encode(), mod_revision=revision)
+    return etcdrpc.Event(type=DELETED if value is None else 0, kv=pair)
 
 
 class Answers(list):
+    __hash__ = object.__hash__
+
     def cancel(self):
         self.clear()
 
@@ -23,14 +24,14 @@ class Answers(list):
 class Member:
     """Its watch is there at this revision, at which these keys stand; it then reports these events."""
 
-    token, calls = (), SimpleNamespace(Range=None)
+    token, range = (), None
 
     def __init__(self, revision, stand=(), *events):
         header = etcdrpc.ResponseHeader(revision=revision)
         self.present = etcdrpc.RangeResponse(header=header, kvs=[event(*each).kv for each in stand])
         told = etcdrpc.WatchResponse(header=header, events=[event(*each) for each in events])
         self.answers = Answers([etcdrpc.WatchResponse(header=header, created=True), told])
-        self.asked_for = []
+        self.asked_for, self.watches = [], set()
 
     @property
     def asked(self):
