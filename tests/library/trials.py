@@ -6,16 +6,22 @@ import ctypes
 import json
 import os
 import shutil
+import socket
 import subprocess
+import time
+from collections import Counter
+from collections.abc import Iterator
+from concurrent.futures import ThreadPoolExecutor
+from contextlib import contextmanager
 from dataclasses import dataclass
 from functools import lru_cache
 from pathlib import Path
-from typing import Callable
 
 from comparing import Answer, all_documents, by_program, note_answers, read_answers, streams_of
 from storing import note_talk, talks, written
 from sweeps.documents import EXAMPLES
 from sweeps.program import Tally
+from tool_trials import Trial
 
 TOP = Path(__file__).resolve().parents[2]
 LIBRARY = TOP / "out/library"
@@ -55,19 +61,6 @@ class Given:
     program: str
     documents: int
     lines: int
-
-
-@dataclass(frozen=True)
-class Trial:
-    """Something to try, and the commands that it needs."""
-
-    name: str
-    call: Callable[[Given, Path, Tally], None]
-    needs: tuple[str, ...] = ()
-
-    def absent(self) -> str:
-        """What is needed and isn't there; nothing if it can be run."""
-        return ", ".join(name for name in self.needs if not shutil.which(name))
 
 
 def called(*words: str | Path, **how) -> subprocess.CompletedProcess:
@@ -140,8 +133,9 @@ def example_on(room: Path, document: Path, *under: str) -> subprocess.CompletedP
 
 def header_in_cpp(_given: Given, room: Path, tally: Tally) -> None:
     (room / "header.cpp").write_text('#include "grove.h"\n')
-    words = [*STRICT, f"-I{TOP / 'include'}", "-c", room / "header.cpp", "-o", room / "header.o"]
-    note_well(tally, "header", called("c++", *words))
+    folder = f"-I{TOP / 'include'}"
+    made = called("c++", *STRICT, folder, "-c", room / "header.cpp", "-o", room / "header.o")
+    note_well(tally, "header", made)
 
 
 def valgrind(_given: Given, room: Path, tally: Tally) -> None:
@@ -251,6 +245,62 @@ def types(_given: Given, _room: Path, tally: Tally) -> None:
     note_well(tally, "package", called("mypy", *words, "pickbracken", "building/wheels.py", cwd=folder))
     tests = sorted((folder / "tests").glob("*.py"))
     note_well(tally, "tests", called("mypy", *words, *tests, cwd=folder, env={**os.environ, "MYPYPATH": str(folder)}))
+
+
+def locks_of_redis(_given: Given, room: Path, tally: Tally) -> None:
+    """Two processes whose locks a Redis keeps."""
+    with socket.create_server(("127.0.0.1", 0)) as free:
+        port = str(free.getsockname()[1])
+    words = ["redis-server", "--port", port, "--bind", "127.0.0.1", "--save", "", "--appendonly", "no", "--dir", room]
+    with started(*words) as server:
+        wait_for_port(int(port))
+        ran = called("python3", "-B", EXAMPLES / "redis_locks.py", port, env=with_package())
+        wanted = "200 transfers: the sum is 1600, 0 locks are held\n"
+        note_equal(tally, "transfers", (ran.returncode, ran.stdout, ran.stderr), (0, wanted, ""))
+        tally.note("the server", None if server.poll() is None else "it has ended")
+
+
+def quotas_over_http(_given: Given, _room: Path, tally: Tally) -> None:
+    """Sixty requests at once for a user who has fifty left: fifty are answered, and the rest is given back."""
+    words = ["python3", "-B", EXAMPLES / "quotas_web.py", "0"]
+    with started(*words, env=with_package(), stdout=subprocess.PIPE) as server:
+        port = int((server.stdout.readline() if server.stdout else b"0").split(b":")[-1])
+        with ThreadPoolExecutor(60) as threads:
+            replies = list(threads.map(lambda _: fetched(port, "/eu/search/ann"), range(60)))
+        statuses = Counter(reply.split(" ")[1] for reply in replies)
+        note_equal(tally, "sixty requests", statuses, {"200": 50, "429": 10})
+        reply = fetched(port, "/us/shop/bob").split("\r\n\r\n")[-1]
+        left = {"/": 249, "/us": 99, "/us/shop": 49, "/us/shop/bob": 49}
+        note_equal(tally, "another user", json.loads(reply), {"left": left})
+        note_equal(tally, "nobody", fetched(port, "/us/shop").split(" ")[1], "404")
+
+
+def fetched(port: int, path: str) -> str:
+    """What comes of a request, all of it."""
+    with socket.create_connection(("127.0.0.1", port), timeout=SECONDS) as connection:
+        connection.sendall(f"GET {path} HTTP/1.1\r\nhost: here\r\n\r\n".encode())
+        return b"".join(iter(lambda: connection.recv(65_536), b"")).decode()
+
+
+@contextmanager
+def started(*words: str | Path, **how) -> Iterator[subprocess.Popen[bytes]]:
+    """A program that goes on meanwhile."""
+    silent = {"stdin": subprocess.DEVNULL, "stdout": subprocess.DEVNULL, "stderr": subprocess.DEVNULL}
+    with subprocess.Popen(list(map(str, words)), **{**silent, **how}) as running:
+        try:
+            yield running
+        finally:
+            running.kill()
+
+
+def wait_for_port(port: int) -> None:
+    until = time.monotonic() + 30
+    while time.monotonic() < until:
+        try:
+            socket.create_connection(("127.0.0.1", port)).close()
+            return
+        except OSError:
+            time.sleep(0.05)
 
 
 def with_package() -> dict[str, str]:
@@ -369,9 +419,11 @@ TRIALS = [
     Trial("handles", handles, ("cc",)),
     Trial("stores", stores, ("cc",)),
     Trial("valgrind", valgrind, ("cc", "valgrind")),
-    Trial("rust", rust, ("cargo",)),
+    Trial("rust", rust, ("cargo", "cargo-fmt", "cargo-clippy")),
     Trial("python", python, ("python3",)),
     Trial("types", types, ("mypy",)),
+    Trial("locks_of_redis", locks_of_redis, ("python3", "redis-server")),
+    Trial("quotas_over_http", quotas_over_http, ("python3",)),
     Trial("c_says_the_same", c_says_the_same, ("cc",)),
     Trial("rust_says_the_same", rust_says_the_same, ("cargo",)),
     Trial("python_says_the_same", python_says_the_same, ("python3",)),

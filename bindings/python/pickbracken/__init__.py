@@ -1,15 +1,17 @@
 """Where each lock of a transaction is taken and released, so that others wait as little as can be.
 
-    from pickbracken import Access, Tree, plan
+    from pickbracken import Locks
 
-    tree = Tree.from_paths({"/": 5, "/a": 1, "/b": 1})
-    planned = plan(tree, [Access.get("/a"), Access.add("/b", 1)])
-    print(planned.cost, planned.steps)
+    locks = Locks({"/": 20, "/north": 5, "/north/a": 1, "/north/b": 1})
+    with locks.transaction(["/north/a", "/north/b"]) as accesses:
+        for number, path in accesses:
+            ...     # this thread holds the node of this path
 
-A tree has a weight for each node, which is what it costs others to find the node locked. `plan` gives the settled
-plan of a list of accesses: it obeys the tree protocol, and no legal plan costs less. Its flow proves that, and `check`
-sees it, whoever made plan and flow. Planner and checker are grove's, which are proved; this package hands documents to
-its shared library, and reads the answers. `pickbracken.client` has the requests to `grove serve`.
+A tree has a weight for each node, which is what it costs others to find the node locked. `Locks` has a lock for each
+node, and takes and releases them as the settled plan of the accesses says; `AsyncLocks` does so for asyncio. `plan`
+gives the settled plan of a list of accesses: it obeys the tree protocol, and no legal plan costs less. Its flow proves
+that, and `check` sees it, whoever made plan and flow. Planner and checker are grove's, which are proved; this package
+hands documents to its shared library, and reads the answers. `pickbracken.client` has the requests to `grove serve`.
 `pickbracken.document` has the calls over the bytes of a document. A `Store` runs lists by such plans in this process.
 
 A thread that makes a call has to have 1 MiB of stack left: `threading.stack_size` may not make it smaller. None may be
@@ -17,14 +19,20 @@ made in the forked child of a process with threads.
 """
 
 from .accesses import Access, Kind, Reply
-from .faults import BadPath, Closed, Error, NoMemory, Refused
-from .planning import Drawing, FlowRow, Judgement, Plan, Step, check, draw, judge, plan
+from .async_locks import AsyncLocks, AsyncTransaction
+from .faults import BadPath, Closed, Error, Nested, NoMemory, Refused, TimedOut, Unfinished
+from .locks import Locks, Transaction
+from .planning import Drawing, FlowRow, Judgement, Plan, Step, StepKind, check, draw, judge, plan
 from .requests import Round
 from .store import Store
 from .tree import Tree
 
+__version__ = "0.2.0"
+
 __all__ = [
     "Access",
+    "AsyncLocks",
+    "AsyncTransaction",
     "BadPath",
     "Closed",
     "Drawing",
@@ -32,14 +40,21 @@ __all__ = [
     "FlowRow",
     "Judgement",
     "Kind",
+    "Locks",
+    "Nested",
     "NoMemory",
     "Plan",
     "Refused",
     "Reply",
     "Round",
     "Step",
+    "StepKind",
     "Store",
+    "TimedOut",
+    "Transaction",
     "Tree",
+    "Unfinished",
+    "__version__",
     "check",
     "draw",
     "judge",

@@ -6,6 +6,11 @@ from dataclasses import dataclass, replace
 from enum import Enum
 from typing import List, Optional, Union
 
+from .faults import Refused
+
+# The most slots that an access takes.
+MOST_LENGTH = 1_000
+
 
 class Kind(Enum):
     """What an access does to the record of its node."""
@@ -45,6 +50,8 @@ class Access:
         if (self.number is None) != (self.kind is Kind.GET):
             wanted = "takes no number" if self.kind is Kind.GET else "needs a number"
             raise TypeError(f"an access that is to {self.kind.value} {wanted}")
+        if not is_length(self.length):
+            raise Refused("bad-length")
 
     @staticmethod
     def get(path: str) -> Access:
@@ -67,10 +74,15 @@ class Access:
         return Access(Kind.TAKE, path, number)
 
     def lasting(self, length: int) -> Access:
-        """The same access, which takes so many slots."""
+        """The same access, which takes so many slots; `bad-length` is refused."""
         return replace(self, length=length)
 
     def form(self) -> List[Union[int, str]]:
         """The access as a document of version 2 has it."""
         numbers = [] if self.number is None else [self.number]
         return [self.kind.value, self.path, *numbers, self.length]
+
+
+def is_length(length: object) -> bool:
+    """Whether an access may take so many slots."""
+    return isinstance(length, int) and 1 <= length <= MOST_LENGTH

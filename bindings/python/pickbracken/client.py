@@ -18,6 +18,7 @@ from __future__ import annotations
 
 import socket
 import sys
+import threading
 from collections import deque
 from types import TracebackType
 from typing import Deque, Iterable, Iterator, Optional, Sequence, Type
@@ -26,7 +27,7 @@ from .faults import Error
 from .library import checked
 from .requests import Requests, Round
 
-__all__ = ["AHEAD", "Client", "Lost", "Round"]
+__all__ = ["AHEAD", "Client", "InUse", "Lost", "Round"]
 
 # So many bytes of lines may be sent before their replies are read: both sides' buffers have room for as many, so that
 # nobody waits for the other to read.
@@ -42,8 +43,15 @@ class Lost(Error):
         self.unanswered = unanswered
 
 
+class InUse(Error):
+    """Another thread takes the replies to its lines one by one (`send_all`). Nothing was sent."""
+
+
 class Client(Requests):
-    """A connection to a server. With `seconds`, one that gives no answer for so long is lost."""
+    """A connection to a server. With `seconds`, one that gives no answer for so long is lost.
+
+    Threads may share a client. Each waits until the line of another one is answered, and gets the replies to its own
+    lines. While one takes the replies of `send_all`, the calls of others raise `InUse`."""
 
     def __init__(self, port: int, host: str = "127.0.0.1", seconds: Optional[float] = None) -> None:
         if not is_port(port):
@@ -56,6 +64,9 @@ class Client(Requests):
         self.source = self.connection.makefile("rb")
         # The lengths of the lines that have no reply yet.
         self.sent: Deque[int] = deque()
+        # Held while a line is sent, or a reply is read; and the thread that takes the replies of `send_all`.
+        self.lock = threading.Lock()
+        self.taken_by: Optional[int] = None
 
     def __enter__(self) -> Client:
         return self
@@ -71,19 +82,43 @@ class Client(Requests):
 
     def send(self, line: bytes) -> bytes:
         """The reply to a line, both without a line feed. Replies to earlier lines that nobody took are passed over."""
-        *_, reply = self.send_all([line])
-        return reply
+        with self.lock:
+            self.need_own()
+            self.put(line)
+            while True:
+                reply = self.reply()
+                if not self.sent:
+                    return reply
 
     def send_all(self, lines: Iterable[bytes]) -> Iterator[bytes]:
         """The reply to each of the lines, in order; lines are sent ahead of the replies. What comes of one line can be
         used for the next only if each is sent by itself."""
-        for line in lines:
-            while self.sent and sum(self.sent) + len(line) > AHEAD:
-                yield self.reply()
-            if not self.put(line):
-                break
-        while self.sent:
-            yield self.reply()
+        with self.lock:
+            self.need_own()
+            self.taken_by = threading.get_ident()
+        try:
+            for line in lines:
+                while self.sent and sum(self.sent) + len(line) > AHEAD:
+                    yield self.next_reply()
+                if not self.put_next(line):
+                    break
+            while self.sent:
+                yield self.next_reply()
+        finally:
+            self.taken_by = None
+
+    def need_own(self) -> None:
+        """Refuses the call while another thread takes replies one by one."""
+        if self.taken_by not in (None, threading.get_ident()):
+            raise InUse("another thread takes the replies to its lines")
+
+    def next_reply(self) -> bytes:
+        with self.lock:
+            return self.reply()
+
+    def put_next(self, line: bytes) -> bool:
+        with self.lock:
+            return self.put(line)
 
     def put(self, line: bytes) -> bool:
         """Whether the server takes the line. One that takes no more may have replied to the lines before."""

@@ -42,6 +42,27 @@ class BadPath(Error, ValueError):
     """This is no path from the root down, as `/` or `/a/b`, or no node has it."""
 
 
+class TimedOut(Error, TimeoutError):
+    """The node of this path wasn't had in time, after so many accesses were done. They stay done: a transaction of
+    which none was, or that is undone first, may be begun again."""
+
+    def __init__(self, path: str, done: int) -> None:
+        super().__init__(f"{path} wasn't had in time, after {done} accesses")
+        self.path, self.done = path, done
+
+
+class Unfinished(Error, RuntimeError):
+    """The block of a transaction was left without an error, and only so many of its accesses were begun."""
+
+    def __init__(self, done: int, wanted: int) -> None:
+        super().__init__(f"{done} of {wanted} accesses were begun")
+        self.done, self.wanted = done, wanted
+
+
+class Nested(Error, RuntimeError):
+    """This thread or this task is in a transaction of these locks. Of two in one each could wait for the other."""
+
+
 def name_at(words: List[str]) -> int:
     """Which of the words of a fault's text is its name."""
     if words[0] == "job":

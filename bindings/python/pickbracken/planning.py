@@ -4,6 +4,7 @@ from __future__ import annotations
 
 import json
 from dataclasses import dataclass
+from enum import Enum
 from typing import Any, Dict, Iterable, List, Optional, Sequence, Tuple, Union
 
 from . import document
@@ -12,24 +13,46 @@ from .library import Kept
 from .tree import Tree
 
 
+class StepKind(str, Enum):
+    """What a step does. Each kind is the text that a document has for it, too."""
+
+    LOCK = "lock"
+    UNLOCK = "unlock"
+    ACCESS = "access"
+
+    def __str__(self) -> str:
+        return self.value
+
+    def __format__(self, form: str) -> str:
+        return format(self.value, form)
+
+
+KINDS = {kind.value: kind for kind in StepKind}
+
+
 @dataclass(frozen=True)
 class Step:
     """A step of a plan: locks or unlocks the node of a path, or does the access of a number."""
 
-    kind: str
+    kind: StepKind
     of: Union[str, int]
+
+    def __post_init__(self) -> None:
+        if type(self.kind) is not StepKind:
+            # It was given as a text.
+            object.__setattr__(self, "kind", StepKind(self.kind))
 
     @staticmethod
     def lock(path: str) -> Step:
-        return Step("lock", path)
+        return Step(StepKind.LOCK, path)
 
     @staticmethod
     def unlock(path: str) -> Step:
-        return Step("unlock", path)
+        return Step(StepKind.UNLOCK, path)
 
     @staticmethod
     def access(number: int) -> Step:
-        return Step("access", number)
+        return Step(StepKind.ACCESS, number)
 
 
 @dataclass(frozen=True)
@@ -125,7 +148,7 @@ def plan_parts(steps: Optional[Sequence[Step]], flow: Optional[Sequence[FlowRow]
 
 def plan_of(told: Dict[str, Any]) -> Plan:
     """The plan that an answer has."""
-    steps = tuple(Step(kind, of) for kind, of in told["plan"])
+    steps = tuple([Step(KINDS[kind], of) for kind, of in told["plan"]])
     return Plan(told["cost"], steps, tuple(FlowRow(**row) for row in told["flow"]))
 
 

@@ -4,12 +4,13 @@ import socket
 import subprocess
 import sys
 import threading
+import time
 import unittest
 from contextlib import contextmanager
 from typing import Any, Callable, Iterator, List, Optional
 
 from pickbracken import Access, FlowRow, Plan, Refused, Reply, Step
-from pickbracken.client import AHEAD, Client, Lost
+from pickbracken.client import AHEAD, Client, InUse, Lost
 
 FLOW = b'[{"above":0,"first":1,"held":0,"last":1,"node":"/a","own":0}]'
 HTTP = b"HTTP/1.1 400 Bad Request\r"
@@ -49,6 +50,64 @@ def replying(*replies: bytes, seen: List[bytes]) -> Callable[[socket.socket], No
             connection.sendall(reply + b"\n")
 
     return answer
+
+
+def echo(connection: socket.socket) -> None:
+    """Answers each line with what it was, a moment later."""
+    for line in connection.makefile("rb"):
+        time.sleep(0.0005)
+        connection.sendall(b'{"echo":' + line.rstrip() + b"}\n")
+
+
+def lines_of(thread: int, count: int) -> List[bytes]:
+    return [b"[%d,%d]" % (thread, number) for number in range(count)]
+
+
+class Threads(unittest.TestCase):
+    def test_each_gets_the_replies_to_its_own_lines(self) -> None:
+        wrong: List[Any] = []
+
+        def use(client: Client, thread: int) -> None:
+            for line in lines_of(thread, 200):
+                reply = client.send(line)
+                if reply != b'{"echo":' + line + b"}":
+                    wrong.append((line, reply))
+
+        with served(echo) as client:
+            threads = [threading.Thread(target=use, args=(client, number)) for number in range(4)]
+            for thread in threads:
+                thread.start()
+            for thread in threads:
+                thread.join()
+        self.assertEqual(wrong, [])
+
+    def test_who_takes_replies_one_by_one_is_left_alone(self) -> None:
+        came: List[Any] = []
+
+        def use(client: Client) -> None:
+            calls: List[Callable[[], bytes]] = [
+                lambda: client.send(b"[]"),
+                lambda: next(client.send_all([b"[]"])),
+            ]
+            for call in calls:
+                try:
+                    came.append(call())
+                except InUse:
+                    came.append("in use")
+
+        def in_another_thread(client: Client) -> None:
+            thread = threading.Thread(target=use, args=(client,))
+            thread.start()
+            thread.join()
+
+        with served(echo) as client:
+            replies = client.send_all(lines_of(1, 3))
+            first = next(replies)
+            in_another_thread(client)
+            rest = [first, *replies]
+            in_another_thread(client)
+        self.assertEqual(rest, [b'{"echo":' + line + b"}" for line in lines_of(1, 3)])
+        self.assertEqual(came, ["in use", "in use", b'{"echo":[]}', b'{"echo":[]}'])
 
 
 class Clients(unittest.TestCase):

@@ -2,9 +2,11 @@
 
 import unittest
 from dataclasses import replace
+from pathlib import Path
 from typing import Any, Callable
 
-from pickbracken import Access, BadPath, Kind, Refused, Reply, Step, Tree, check, draw, judge, plan
+import pickbracken
+from pickbracken import Access, BadPath, Kind, Refused, Reply, Step, StepKind, Tree, check, draw, judge, plan
 
 STOCK = Tree.from_paths({"/": 5, "/a": 1, "/b": 1}, {"/a": 10, "/b": 20})
 
@@ -57,6 +59,27 @@ class Planning(unittest.TestCase):
             Access(Kind.GET, "/a", 9)
         self.assertEqual(str(caught.exception), "an access that is to get takes no number")
 
+    def test_an_access_takes_1_to_1000_slots(self) -> None:
+        access = Access.get("/a")
+        for length in (1, 1000):
+            self.assertEqual(access.lasting(length).form(), ["get", "/a", length])
+        strange: Any = ("1", 1.0, None)
+        for length in (0, 1001, -1, *strange):
+            with self.assertRaises(Refused) as caught:
+                access.lasting(length)
+            self.assertEqual((caught.exception.name, caught.exception.place), ("bad-length", ""))
+
+    def test_kinds_of_steps_are_texts_too(self) -> None:
+        step = Step.lock("/a")
+        self.assertIs(step.kind, StepKind.LOCK)
+        text: Any = "lock"
+        texts = (step.kind, f"{step.kind}", str(step.kind), f"{step.kind:>6}")
+        self.assertEqual(texts, ("lock", "lock", "lock", "  lock"))
+        self.assertEqual((Step(text, "/a"), Step(text, "/a").kind), (step, StepKind.LOCK))
+        text = "hold"
+        with self.assertRaises(ValueError):
+            Step(text, "/a")
+
     def test_paths_are_from_the_root_down(self) -> None:
         for path in ["", "a", "/a/", "//a"]:
             with self.assertRaises(BadPath):
@@ -86,6 +109,12 @@ class Planning(unittest.TestCase):
         with self.assertRaises(Refused) as caught:
             call()
         return caught.exception.name
+
+
+class Version(unittest.TestCase):
+    def test_it_is_the_project_s(self) -> None:
+        project = (Path(__file__).resolve().parents[1] / "pyproject.toml").read_text()
+        self.assertIn(f'version = "{pickbracken.__version__}"\n', project)
 
 
 class Faults(unittest.TestCase):

@@ -85,10 +85,9 @@ fn refusals_have_a_name_and_a_place() {
 
 #[test]
 fn a_text_may_be_long() {
-    let rows: String = (1..4096)
-        .map(|number| format!(r#",{{"parent":0,"name":"n{number}","weight":1}}"#))
-        .collect();
-    let nodes = format!(r#"[{{"parent":null,"name":"","weight":1}}{rows}]"#);
+    let mut rows = vec![r#"{"parent":null,"name":"","weight":1}"#.to_owned()];
+    rows.extend((1..4096).map(|number| format!(r#"{{"parent":0,"name":"n{number}","weight":1}}"#)));
+    let nodes = format!("[{}]", rows.join(","));
     let document = format!(r#"{{"nodes":{nodes},"list":[["get","/n4095"]]}}"#);
     let planned = document::plan_document(document.as_bytes()).unwrap();
     assert!(planned.len() > 100_000 && planned.ends_with("}\n"));
