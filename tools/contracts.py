@@ -69,6 +69,21 @@ def sources(crate):
     return [text.replace(EXPORT, "pub fn ") for text in texts]
 
 
+def calls(crate):
+    """The public functions of a crate, and the methods of its public types, each with its text."""
+    names = exported(crate)
+    for text in sources(crate):
+        for item in blocks(text):
+            if names is not None and head(item) not in names:
+                continue
+            is_trait = bool(re.match(r"pub trait|impl[^{]*\bfor\b", item))
+            owner = "" if item.startswith("pub fn") else head(item) or ""
+            for function in functions(item)[1:]:
+                name = re.match(r"(?:pub )?fn (\w+)", function)
+                if name and (is_trait or function.startswith("pub ")):
+                    yield f"{owner}::{name[1]}" if owner else name[1], function
+
+
 def named(text, imports):
     """The definitions that a text names."""
     return {imports[word] for word in WORD.findall(text) if word in imports}

@@ -105,7 +105,7 @@ LIMITS = [
         [("docs/COMMANDS.md", "steps or more, 1 to 16, by default {};")],
     ),
     (
-        "crates/grove_words/src/options.rt",
+        "crates/grove_words/src/definitions.rt",
         "MOST_HTTP_SEATS",
         [
             ("README.md", ", 1 to {} more over HTTP;"),
@@ -123,7 +123,11 @@ LIMITS = [
             ("docs/PAGE.md", "1 to 1,024, and by default {}."),
         ],
     ),
-    ("crates/grove_words/src/options.rt", "LONGEST_IDLE", [("docs/SESSIONS.md", "`--idle SECONDS`, from 1 to {},")]),
+    (
+        "crates/grove_words/src/definitions.rt",
+        "LONGEST_IDLE",
+        [("docs/SESSIONS.md", "`--idle SECONDS`, from 1 to {},")],
+    ),
     (
         "crates/grove/src/serving.rt",
         "SLOTS",
