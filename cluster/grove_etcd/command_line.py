@@ -14,6 +14,10 @@ try:
     import_module("grpc")
     import_module("google.protobuf.message_factory")
 except Exception as why:  # packages that don't go together raise errors of their own
+    usage = sys.modules["__main__"].__doc__
+    if usage and {"-h", "--help"} & set(sys.argv[1:]):
+        print(usage.strip())
+        sys.exit(0)
     told = " ".join(str(why).split())
     print(f"{Path(sys.argv[0]).name}: needs the Python packages grpcio and protobuf ({told})", file=sys.stderr)
     sys.exit(3)
