@@ -12,7 +12,7 @@ from tree import Tree
 
 MOST_LISTS, MOST_ACCESSES = 256, 64
 # Plans of fewer steps in all are done by their caller alone: those of `run`, and those of a store's round
-# (docs/DECISIONS.md, Work in threads).
+# (docs/DECISIONS.md, 9).
 WORTH_A_THREAD, ROUND_WORTH_THREADS = 2048, 65_536
 # A store counts no more waits of a node.
 MOST_WAITS = 1000
