@@ -84,6 +84,18 @@ def calls(crate):
                     yield f"{owner}::{name[1]}" if owner else name[1], function
 
 
+def comment_above(crate, function):
+    """What the comment above a function says, which may have attributes below it."""
+    before = next(text.partition(function)[0] for text in sources(crate) if function in text)
+    lines = before.rstrip().split("\n")
+    while lines and lines[-1].lstrip().startswith("#["):
+        lines.pop()
+    said = []
+    while lines and lines[-1].lstrip().startswith("///"):
+        said.append(lines.pop().strip().removeprefix("///").strip())
+    return " ".join(reversed(said))
+
+
 def named(text, imports):
     """The definitions that a text names."""
     return {imports[word] for word in WORD.findall(text) if word in imports}

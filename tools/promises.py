@@ -1,11 +1,13 @@
-"""The promises that docs/PROOFS.md names: each section with a table of calls and clauses."""
+"""The promises of docs/PROOFS.md, with the clauses that carry each, as tools/promised.txt has them."""
 import re
 
 from contracts import clauses_of, values
 from definitions import TOP, closure, crates
 
 PAGE = TOP / "docs/PROOFS.md"
-TABLE = "| Call | Clauses |"
+PROMISED = TOP / "tools/promised.txt"
+# A line of a promise: a crate, a call, and the names of its clauses, none for the only one.
+CALL = re.compile(r"  (grove\w*) ([\w:]+?)(?:: ([\w ]+))?")
 
 
 class Promise:
@@ -16,24 +18,24 @@ class Promise:
 
 
 def promises():
-    """The promises of the page, in its order."""
-    found, title, is_table = [], None, False
-    for line in PAGE.read_text().split("\n"):
-        if re.match(r"##+ ", line):
-            title = line.lstrip("# ")
-        if line == TABLE:
-            found.append(Promise(title))
-        elif is_table and line.startswith("| grove"):
-            found[-1].calls += calls_in(line)
-        is_table = line.startswith("|") and (is_table or line == TABLE)
+    """The promises, in the page's order. What is neither one, nor a call, nor a comment is an error."""
+    found = []
+    for line in PROMISED.read_text().replace("\n    ", " ").splitlines():
+        call = CALL.fullmatch(line)
+        if call:
+            found[-1].calls.append((call[1], call[2], (call[3] or "").split()))
+        elif line.startswith(" "):
+            raise ValueError(f"{PROMISED.name}: no call and its clauses: {line}")
+        elif line and not line.startswith("#"):
+            found.append(Promise(line))
     return found
 
 
-def calls_in(row):
-    """The calls of a row of such a table: crate, call, and the names of its clauses, none for the only one."""
-    calls, names = row.strip("| ").split(" | ")
-    crate = calls.split()[0]
-    return [(crate, call, re.findall(r"`(\w+)`", names)) for call in re.findall(r"`([\w:]+)`", calls)]
+def sections():
+    """The sections of the page that are promises: of each the calls that the page names as those that carry it."""
+    parts = re.split(r"(?m)^##+ ", PAGE.read_text())[1:]
+    carried = {part.split("\n", 1)[0]: re.search(r"(?m)^\*\*Carried by\*\* (.*)$", part) for part in parts}
+    return {title: re.findall(r"`([\w:]+)`", found[1]) for title, found in carried.items() if found}
 
 
 def reach(files):
