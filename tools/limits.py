@@ -86,10 +86,7 @@ LIMITS = [
     (
         "crates/grove_wire/src/document.rt",
         "MOST_HISTORY_BYTES",
-        [
-            ("docs/FORMATS.md", "as `audit` reads it, may have {} bytes"),
-            ("docs/LIBRARY.md", "of a document of up to {} bytes"),
-        ],
+        [("docs/FORMATS.md", "as `audit` reads it, may have {} bytes")],
     ),
     (
         "crates/grove_words/src/options.rt",
@@ -110,7 +107,6 @@ LIMITS = [
         [
             ("README.md", ", 1 to {} more over HTTP;"),
             ("docs/COMMANDS.md", "over HTTP at once, 1 to {}, by default"),
-            ("docs/SESSIONS.md", "`--http-seats N` of them, 1 to {},"),
             ("docs/PAGE.md", "as `--http-seats N` says, 1 to {},"),
         ],
     ),
@@ -119,7 +115,6 @@ LIMITS = [
         "HTTP_SEATS",
         [
             ("docs/COMMANDS.md", "1 to 1,024, by default {};"),
-            ("docs/SESSIONS.md", "1 to 1,024, and by default {}."),
             ("docs/PAGE.md", "1 to 1,024, and by default {}."),
         ],
     ),
@@ -164,7 +159,7 @@ LIMITS = [
         "MOST_TOGETHER",
         [
             ("docs/SESSIONS.md", "are put together, up to {} with"),
-            ("docs/DECISIONS.md", "are put together,** up to {} with"),
+            ("docs/DECISIONS.md", "are put together, up to {} with"),
         ],
     ),
     (
@@ -177,7 +172,7 @@ LIMITS = [
         "SHORT_LINE",
         [
             ("docs/ARCHITECTURE.md", "reads a line of more than {} bytes before it puts it"),
-            ("docs/DECISIONS.md", "if they have more than {} bytes."),
+            ("docs/DECISIONS.md", "if the line has more than {} bytes."),
         ],
     ),
     ("crates/grove_desk/src/desk.rt", "ALONE", [("docs/DECISIONS.md", "has put lines {} times in a row")]),
@@ -193,7 +188,7 @@ LIMITS = [
         "crates/grove_build/src/kept_plans.rt",
         "MOST_KEPT",
         [
-            ("docs/SESSIONS.md", "The store keeps at most {} plans"),
+            ("docs/OPERATING.md", "the steps of {} kept plans"),
             ("docs/ARCHITECTURE.md", "At most {} plans are kept"),
         ],
     ),
@@ -201,7 +196,7 @@ LIMITS = [
         "crates/grove_store/src/kept_texts.rt",
         "MOST_TEXTS",
         [
-            ("docs/SESSIONS.md", "`plan` lines, at most {} of them"),
+            ("docs/OPERATING.md", "kept replies to `plan` lines, {} with"),
             ("docs/ARCHITECTURE.md", "At most {} texts are kept"),
         ],
     ),
@@ -209,12 +204,12 @@ LIMITS = [
         "crates/grove_store/src/kept_texts.rt",
         "MOST_BYTES",
         [
-            ("docs/SESSIONS.md", "with at most {} MiB together"),
+            ("docs/OPERATING.md", "with {} MiB together"),
             ("docs/ARCHITECTURE.md", "with at most {} MiB together"),
         ],
     ),
     ("crates/grove_store/src/waiting.rt", "MOST_WAITS", [("docs/PROTOCOL.md", "what would exceed {} stays at")]),
-    ("crates/grove_base/src/line.rt", "MOST", [("docs/PROOFS.md", "`hint: ` and 1 to {} printable characters")]),
+    ("crates/grove_base/src/line.rt", "MOST", [("docs/SESSIONS.md", "A hint is 1 to {} printable characters")]),
     (
         "crates/grove_run/src/worth.rt",
         "WORTH_A_THREAD",

@@ -53,7 +53,7 @@ def commands_of_cluster(source: Source) -> dict[str, str]:
 def cluster(source: Source, commands: dict[str, str]) -> list[Placed]:
     """The programs stand beside their modules, as in the checkout, where a link leads to each; so they find these below
     any prefix. Another link has the modules where Python looks for them."""
-    files = source.files("cluster")
+    files = [file for file in source.files("cluster") if not file.endswith(".md")]
     placed = [copied(source, f"{CLUSTER}/{file.removeprefix('cluster/')}", file) for file in files]
     for name, file in commands.items():
         placed.append(Placed(f"bin/{name}", target=f"../{CLUSTER}/{PurePosixPath(file).name}"))
