@@ -40,18 +40,6 @@ AllZip-weaker R Q weaker [] (y ∷ ys) all = absurd all
 AllZip-weaker R Q weaker (x ∷ xs) [] all = absurd all
 AllZip-weaker R Q weaker (x ∷ xs) (y ∷ ys) all = (weaker x y all.0, AllZip-weaker R Q weaker xs ys all.1)
 
--- what goes with each item, by way of a list between
-pub AllZip-through : {A B C : Type 0} (R : A → B → Type 0) (Q : B → C → Type 0) (P : A → C → Type 0)
-    → ((x : A) (y : B) (z : C) → R x y → Q y z → P x z)
-    → (xs : List A) (ys : List B) (zs : List C) → AllZip R xs ys → AllZip Q ys zs → AllZip P xs zs
-AllZip-through R Q P through [] [] [] one two = tt
-AllZip-through R Q P through [] [] (z ∷ zs) one two = absurd two
-AllZip-through R Q P through [] (y ∷ ys) zs one two = absurd one
-AllZip-through R Q P through (x ∷ xs) [] zs one two = absurd one
-AllZip-through R Q P through (x ∷ xs) (y ∷ ys) [] one two = absurd two
-AllZip-through R Q P through (x ∷ xs) (y ∷ ys) (z ∷ zs) one two =
-    (through x y z one.0 two.0, AllZip-through R Q P through xs ys zs one.1 two.1)
-
 -- what goes with the item at a place of the second list, and of the first
 pub some_right : {A B : Type 0} (R : A → B → Type 0) (xs : List A) (ys : List B) (i : ℕ) (y : B) → AllZip R xs ys → slice_get ys i ≡ Some y → (x : A) × (slice_get xs i ≡ Some x) × R x y
 some_right R [] [] i y all at = absurd (none-some y at)
@@ -66,10 +54,3 @@ some_left R [] (y ∷ ys) i x all at = absurd all
 some_left R (z ∷ xs) [] i x all at = absurd all
 some_left R (z ∷ xs) (y ∷ ys) zero x all at = (y, refl, subst (λ w. R w y) (same_Some _ _ at) all.0)
 some_left R (z ∷ xs) (y ∷ ys) (suc i) x all at = some_left R xs ys i x all.1 at
-
--- what goes with the items of a mapped list
-pub AllZip-mapped : {A B C : Type 0} (f : A → B) (R : B → C → Type 0) (xs : List A) (ys : List C) → AllZip (λ x y. R (f x) y) xs ys → AllZip R (map f xs) ys
-AllZip-mapped f R [] [] all = tt
-AllZip-mapped f R [] (y ∷ ys) all = absurd all
-AllZip-mapped f R (x ∷ xs) [] all = absurd all
-AllZip-mapped f R (x ∷ xs) (y ∷ ys) all = (all.0, AllZip-mapped f R xs ys all.1)

@@ -21,13 +21,11 @@ pub mod Answered
 pub mod Inserted
 pub mod TargetLists
 pub mod Batched
-pub mod Unlike
-pub mod InOrder
-pub mod Sorted
 pub mod Reaching
 pub mod Pushes
 pub mod Keeping
 pub mod Missing
+pub mod Filled
 pub mod Popped
 pub mod SettledJobs
 pub mod NothingKept

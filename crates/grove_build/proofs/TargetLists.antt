@@ -1,5 +1,5 @@
 -- The targets of lists: their nodes and their lengths, and when two lists of targets are the same.
-use Rattle.std.proofs.Common.{◌≡◌, ℕ, Bool, true, ◌&&◌, nat_eq, List, [], ◌∷◌, map, refl, ap, ap₂, Bor}
+use Rattle.std.proofs.Common.{◌≡◌, ℕ, Bool, true, ◌&&◌, nat_eq, List, [], ◌∷◌, map, refl, ap, ap₂}
 use Rattle.std.specs.Bool.{Decides}
 use Rattle.std.specs.Cmp.Lexicographic.{pointwise}
 use Rattle.std.proofs.lemmas.Bool.{and_parts, and_from}
@@ -13,11 +13,11 @@ use Rattle.grove_build.specs.declared.targets.Target.{Target}
 abbrev pub Targets : Type 0
 Targets = List ℕ × List ℕ
 
+abbrev pub as_targets : List ℕ → List ℕ → Targets
+as_targets nodes lengths = (nodes, lengths)
+
 abbrev pub targets_in : List Access → Targets
 targets_in list = (nodes_of list, lengths_of list)
-
-abbrev pub targets_at : Bor (List Access) → Targets
-targets_at part = targets_in part.now
 
 abbrev pub targets_from : List Target → Targets
 targets_from targets = (map (λ (target : Target). target.node) targets, map (λ (target : Target). target.length) targets)

@@ -7,4 +7,3 @@ pub mod Reaches
 pub mod KeptPlans
 pub mod Keeping
 pub mod SettledJobs
-pub mod DistinctLists

@@ -1,10 +1,10 @@
-ghost use Rattle.std.specs.Prelude.{◌≡◌, ◌≤◌, ◌<◌, [], List, length, slice_get, IfOk, OnOk, IfSome, IfNone};
+ghost use Rattle.std.specs.Prelude.{◌≡◌, ◌+◌, ◌≤◌, ◌<◌, [], List, length, IfOk, OnOk, IfSome, IfNone};
+ghost use Rattle.grove_tree.specs.Trees.{Rows};
 ghost use Rattle.grove_access.specs.declared.access.Access.{Access};
 ghost use Rattle.grove_access.specs.Lists.{nodes_of, AreNodes};
 ghost use Rattle.grove_build.specs.Batches.{IsPlanned};
-ghost use Rattle.grove_build.specs.KeptPlans.{Kept, IsKeptAt, IsKeptIn, AreSettledFor};
-ghost use Rattle.grove_build.specs.Keeping.{kept_of};
-ghost use Rattle.grove_build.specs.Keeping.{AreTargetsOf, AddsAtMost};
+ghost use Rattle.grove_build.specs.KeptPlans.{IsKeptAt, IsKeptIn, AreSettledFor};
+ghost use Rattle.grove_build.specs.Keeping.{kept_of, AreTargetsOf, AddsAtMost, StayKept, IsFirstFor, HoldsAt};
 
 use crate::planning::{Planned, plan};
 use crate::targets::{Target, targets_of};
@@ -106,13 +106,14 @@ impl KeptPlans {
             return Ok(place);
         }
         let planned = plan(alloc, tree, list)?;
+        self.make_room();
         self.keep(targets, planned)
     }
 
     /// Where the plan of these targets stands.
     fn place_of(&self, targets: &Vec<Target>) -> Option<usize>
-        ensures stands { IfSome result
-            (λ place. (list : List Access) → AreTargetsOf list targets.now.items → IsKeptAt self.now list place) }
+        ensures first { IfSome result
+            (λ place. (list : List Access) → AreTargetsOf list targets.now.items → IsFirstFor self.now list place) }
         ensures none { IfNone result ((list : List Access) → AreTargetsOf list targets.now.items
             → ¬ IsKeptIn self.now list) }
     {
@@ -122,19 +123,30 @@ impl KeptPlans {
     /// The plan at a place.
     fn at(&self, place: usize) -> &Planned
         requires { place < length self.now }
-        ensures { (kept : Kept) × (slice_get self.now place ≡ Some kept) × (kept.planned ≡ result.now) }
+        ensures { HoldsAt self.now place result.now }
     {
         &self.plans[place]
     }
 
-    /// Keeps a plan, and tells where it stands. Where there is no room for it, all others are forgotten.
-    fn keep(&mut self, targets: Vec<Target>, planned: Planned) -> Result<usize, NoMemory>
-        ensures place { IfOk result (λ place. slice_get self.new place ≡ Some (kept_of targets.items planned)) }
-        ensures others { AddsAtMost self.old (kept_of targets.items planned) self.new }
+    /// Forgets all plans where there is no room for one more.
+    fn make_room(&mut self)
+        ensures room { length self.new < 1024 }
+        ensures settled { (rows : Rows) → AreSettledFor rows self.old → AreSettledFor rows self.new }
     {
         if self.len() >= MOST_KEPT {
             self.forget();
         }
+    }
+
+    /// Keeps one plan more, for which there is room, and tells where it stands.
+    fn keep(&mut self, targets: Vec<Target>, planned: Planned) -> Result<usize, NoMemory>
+        requires room { length self.old < 1024 }
+        ensures stands { IfOk result
+            (λ place. (list : List Access) → AreTargetsOf list targets.items → IsKeptAt self.new list place) }
+        ensures others { AddsAtMost self.old (kept_of targets.items planned) self.new }
+        ensures stay { OnOk result (StayKept self.old self.new) }
+        ensures grows { length self.new ≤ length self.old + 1 }
+    {
         let (place, _) = self.plans.insert_full(targets, planned)?;
         self.counts.note_planned();
         Ok(place)

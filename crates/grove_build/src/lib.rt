@@ -15,6 +15,7 @@ mod jobs;
 mod kept_plans;
 mod laws;
 mod network;
+mod parts;
 mod places;
 mod planning;
 mod proposing;

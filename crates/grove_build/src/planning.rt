@@ -30,6 +30,27 @@ pub struct Planned {
     pub flow: Flow,
 }
 
+impl Planned {
+    pub(crate) fn copy(&self, alloc: Global) -> Result<Planned, NoMemory>
+        ensures { IfOk result (λ copy. copy ≡ self.now) }
+    {
+        let plan = copy_of(alloc, &self.plan)?;
+        let rows = Vec::from_slice(alloc, self.flow.rows())?;
+        Ok(Planned {
+            plan,
+            cost: self.cost,
+            flow: Flow::new(rows),
+        })
+    }
+}
+
+pub fn copy_of(alloc: Global, plan: &Plan) -> Result<Plan, NoMemory>
+    ensures { IfOk result (λ copy. copy ≡ plan.now) }
+{
+    let steps = Vec::from_slice(alloc, plan.steps())?;
+    Ok(Plan::new(steps))
+}
+
 /// The settled plan of the list. The only error is running out of memory.
 pub fn plan(alloc: Global, tree: &Tree, list: &AccessList) -> Result<Planned, NoMemory>
     requires fits { AreNodes tree.now (nodes_of list.now) }

@@ -10,7 +10,7 @@ use Rattle.grove_build.specs.declared.planning.Planned.{Planned}
 use Rattle.grove_build.specs.Batches.{IsPlanned}
 use Rattle.grove_build.specs.Keeping.{AreTargetsOf}
 use Rattle.grove_wire.specs.Replies.{planned_data}
-use Rattle.grove_build.proofs.Sorted.{planned_same}
+use Rattle.grove_build.proofs.Keeping.{planned_same}
 use Rattle.grove_store.specs.Alone.{TellsPlan}
 use Rattle.grove_store.specs.Parts.{IsTextOfReply}
 use Rattle.grove_store.specs.Refusals.{is_refusal}

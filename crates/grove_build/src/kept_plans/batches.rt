@@ -1,17 +1,17 @@
-ghost use Rattle.std.specs.Prelude.{◌≡◌, ◌≤◌, [], length, All, IfOk, OnOk};
+ghost use Rattle.std.specs.Prelude.{◌≡◌, ◌+◌, ◌≤◌, [], length, All, IfOk, OnOk};
 ghost use Rattle.std.specs.List.{AllZip};
 ghost use Rattle.indexmap.specs.IndexMap.{values};
 ghost use Rattle.grove_tree.specs.Trees.{Rows};
 ghost use Rattle.grove_access.specs.Lists.{nodes_of, lengths_of, AreNodes};
 ghost use Rattle.grove_build.specs.Batches.{IsPlanned};
 ghost use Rattle.grove_build.specs.Settled.{IsSettled};
-ghost use Rattle.grove_build.specs.KeptPlans.{AreSettledFor};
-ghost use Rattle.grove_build.specs.Keeping.{AreMissing};
+ghost use Rattle.grove_build.specs.KeptPlans.{IsKeptIn, AreSettledFor};
+ghost use Rattle.grove_build.specs.Keeping.{AreMissing, AreKeptFrom, StayKept, IsCopyFor};
 
-use crate::batch::{copy_of, plan_parts};
 use crate::kept_plans::{KeptPlans, MOST_KEPT};
-use crate::planning::Planned;
-use crate::targets::{Target, targets_of, values_of};
+use crate::parts::plan_parts;
+use crate::planning::{Planned, copy_of};
+use crate::targets::{Target, targets_of};
 use grove_access::AccessList;
 use grove_plan::Plan;
 use grove_tree::{Gate, NoMemory, Tree};
@@ -41,10 +41,50 @@ impl KeptPlans {
             plans.items) }
         ensures settled { AreSettledFor tree.now self.new }
     {
+        self.fill(rt, alloc, tree, lists, workers, gate)?;
+        self.plan_each(alloc, tree, lists)
+    }
+
+    /// Plans those lists for which nothing is kept, as `plan_all` does, and keeps their plans.
+    pub(crate) fn fill<R: Threads + Sync, G: Gate + Sync>(
+        &mut self,
+        rt: &R,
+        alloc: Global,
+        tree: &Tree,
+        lists: &[AccessList],
+        workers: u32,
+        gate: &G,
+    ) -> Result<(), NoMemory>
+        requires few { length lists.now ≤ 256 }
+        requires fit { All (λ list. AreNodes tree.now (nodes_of list)) lists.now }
+        requires settled { AreSettledFor tree.now self.old }
+        ensures complete { OnOk result (All (IsKeptIn self.new) lists.now) }
+        ensures settled { AreSettledFor tree.now self.new }
+    {
         let missing = self.missing_with_room(alloc, lists)?;
         let planned = plan_parts(rt, alloc, tree, gate, workers, 0, &missing)?;
-        self.keep_each(alloc, &missing, planned)?;
-        self.plan_each(alloc, tree, lists)
+        self.keep_each(alloc, &missing, planned)
+    }
+
+    /// A copy of what is kept for each list.
+    pub(crate) fn copies_of(
+        &self,
+        alloc: Global,
+        lists: &[AccessList],
+    ) -> Result<Vec<Planned>, NoMemory>
+        requires { All (IsKeptIn self.now) lists.now }
+        ensures { IfOk result (λ copies. AllZip (IsCopyFor self.now) lists.now copies.items) }
+    {
+        let mut copies = Vec::with_capacity(alloc, lists.len())?;
+        for list in lists {
+            let targets = targets_of(alloc, list)?;
+            let Some(place) = self.place_of(&targets) else {
+                unreachable!()
+            };
+            let copy = self.at(place).copy(alloc)?;
+            copies.push(copy)?;
+        }
+        Ok(copies)
     }
 
     /// The lists that have to be planned. Where there is no room for their plans, all others are forgotten first.
@@ -53,7 +93,9 @@ impl KeptPlans {
         alloc: Global,
         lists: &'a [AccessList],
     ) -> Result<Vec<&'a AccessList>, NoMemory>
+        requires few { length lists.now ≤ 256 }
         ensures missing { IfOk result (λ missing. AreMissing self.new lists.now missing.items) }
+        ensures room { IfOk result (λ missing. length self.new + length missing.items ≤ 1024) }
         ensures settled { (rows : Rows) → AreSettledFor rows self.old → AreSettledFor rows self.new }
     {
         let missing = self.missing(alloc, lists)?;
@@ -74,7 +116,7 @@ impl KeptPlans {
     {
         let mut parts = IndexMap::new(alloc);
         self.add_missing(alloc, lists, &mut parts)?;
-        Ok(values_of(alloc, &parts)?)
+        Ok(parts.values().copied().collect(alloc)?)
     }
 
     /// Adds those lists to `parts`, which is empty at first.
@@ -103,8 +145,12 @@ impl KeptPlans {
         parts: &[&AccessList],
         mut planned: Vec<Planned>,
     ) -> Result<(), NoMemory>
-        requires { length planned.items ≤ length parts.now }
-        ensures { (rows : Rows) → AllZip (λ part planned. IsPlanned rows part.now planned) parts.now planned.items
+        requires each { length planned.items ≡ length parts.now }
+        requires room { length self.old + length parts.now ≤ 1024 }
+        ensures kept { OnOk result (AreKeptFrom self.new parts.now 0) }
+        ensures stay { OnOk result (StayKept self.old self.new) }
+        ensures settled { (rows : Rows)
+            → AllZip (λ part planned. IsPlanned rows part.now planned) parts.now planned.items
             → AreSettledFor rows self.old → AreSettledFor rows self.new }
     {
         while let Some(last) = planned.pop() {

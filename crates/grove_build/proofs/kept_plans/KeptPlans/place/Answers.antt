@@ -1,5 +1,4 @@
 use Rattle.std.proofs.lemmas.Result.{IfOk-weaker}
-use Rattle.grove_build.specs.Keeping.{kept_of}
 use Rattle.grove_build.specs.Keeping.{AreTargetsOf}
 use Rattle.grove_build.proofs.Keeping.{kept_planned, settled_added}
 use Rattle.grove_build.proofs.kept_plans.KeptPlans.place.Goals as goal
@@ -7,13 +6,15 @@ use Rattle.grove_build.proofs.kept_plans.KeptPlans.place.Goals as goal
 pub returns-clause-stands : goal.returns-clause-stands
 returns-clause-stands c =
     IfOk-weaker c.keep.result _ _
-    (λ place at. (kept_of c.in_ok-targets.targets.items c.in_ok-planned.planned, at, record { nodes = c.in_ok-targets.ensures.nodes; lengths = c.in_ok-targets.ensures.lengths }))
-    c.keep.ensures.place
+    (λ place stands. stands c.args.list.now
+    record { nodes = c.in_ok-targets.ensures.nodes; lengths = c.in_ok-targets.ensures.lengths })
+    c.keep.ensures.stands
 
 pub returns-clause-settled : goal.returns-clause-settled
 returns-clause-settled c =
     let own : AreTargetsOf c.args.list.now c.in_ok-targets.targets.items = record { nodes = c.in_ok-targets.ensures.nodes; lengths = c.in_ok-targets.ensures.lengths } in
     let is = c.in_ok-planned.ensures in
-    settled_added c.args.tree.now c.args.self.now c.keep.new.self _ c.requires.settled c.keep.ensures.others
+    settled_added c.args.tree.now c.make_room.new.self c.keep.new.self _
+    (c.make_room.ensures.settled c.args.tree.now c.requires.settled) c.keep.ensures.others
     (kept_planned c.args.tree.now c.args.list.now c.in_ok-targets.targets.items c.in_ok-planned.planned own
     record { settled = is.settled; least = is.least; priced = is.cost; certificate = is.certificate })

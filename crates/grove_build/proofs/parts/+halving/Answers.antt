@@ -2,7 +2,7 @@ use Rattle.std.proofs.Common.{rules, arith, IfOk}
 use Rattle.std.specs.List.{AllZip}
 use Rattle.grove_build.specs.Batches.{IsPlanned}
 use Rattle.grove_build.proofs.Batched.{AllZip-halves}
-use Rattle.grove_build.proofs.batch.+halving.Goals as goal
+use Rattle.grove_build.proofs.parts.+halving.Goals as goal
 
 pub join+arg2-plan_parts-requires : goal.join+arg2-plan_parts-requires
 join+arg2-plan_parts-requires g t c κs within =

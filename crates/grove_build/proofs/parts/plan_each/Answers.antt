@@ -5,7 +5,7 @@ use Rattle.grove_access.specs.declared.access.Access.{Access}
 use Rattle.grove_access.specs.Lists.{nodes_of, AreNodes}
 use Rattle.grove_build.specs.Batches.{IsPlanned}
 use Rattle.grove_build.proofs.Batched.{AllZip-next}
-use Rattle.grove_build.proofs.batch.plan_each.Goals as goal
+use Rattle.grove_build.proofs.parts.plan_each.Goals as goal
 
 pub loop-place-preserved : goal.loop-place-preserved
 loop-place-preserved g c =

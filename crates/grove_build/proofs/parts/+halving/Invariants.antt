@@ -1,5 +1,5 @@
 use Rattle.std.proofs.Common.{length}
-use Rattle.grove_build.proofs.batch.+halving.Given as goal
+use Rattle.grove_build.proofs.parts.+halving.Given as goal
 
 abbrev pub decreases-join+arg2 : goal.decreases-join+arg2
 decreases-join+arg2 g l = length l.second.now
