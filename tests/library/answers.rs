@@ -1,6 +1,6 @@
 //! Makes each call of a document on each document of a stream (documents.py), and writes the stream of answers.
 
-use pickbracken::{Error, document};
+use pickbracken::{Error, FaultKind, document};
 use std::io::{self, BufReader, BufWriter, Read, Write};
 
 type Call = fn(&[u8]) -> Result<String, Error>;
@@ -22,7 +22,10 @@ fn main() -> io::Result<()> {
         for call in CALLS {
             let (status, text) = match call(&document) {
                 Ok(lines) => (0, lines),
-                Err(Error::Refused(fault)) => (1, fault.text().to_owned()),
+                Err(Error::Refused(fault)) => {
+                    assert_ne!(fault.kind(), FaultKind::Unknown, "{fault}");
+                    (1, fault.text().to_owned())
+                }
                 Err(error) => (3, error.to_string()),
             };
             sink.write_all(&[status])?;

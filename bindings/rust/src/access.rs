@@ -1,5 +1,6 @@
 /// What an access does to the record of its node.
 #[derive(Clone, Copy, Debug, PartialEq, Eq)]
+#[non_exhaustive]
 pub enum Op {
     /// Replies the record.
     Get,
@@ -13,6 +14,7 @@ pub enum Op {
 
 /// An access of a list.
 #[derive(Clone, Debug, PartialEq, Eq)]
+#[non_exhaustive]
 pub struct Access {
     /// The path of its node.
     pub path: String,
@@ -60,6 +62,7 @@ impl Access {
 
 /// What an access replies.
 #[derive(Clone, Copy, Debug, PartialEq, Eq)]
+#[non_exhaustive]
 pub enum Reply {
     /// The record, or the sum or what is left that is stored.
     Number(i64),

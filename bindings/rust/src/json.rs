@@ -1,4 +1,4 @@
-//! As much of JSON as the library's answers have.
+//! As much of JSON as answers and replies have.
 
 use std::iter::Peekable;
 use std::str::Chars;
@@ -17,7 +17,10 @@ pub(crate) fn quoted(text: &str) -> String {
     quoted
 }
 
-/// A value of an answer: numbers are whole, and no text has an escape.
+/// Answers and replies nest less deep. (A value that nests without end would use up the stack.)
+const MOST_DEPTH: usize = 16;
+
+/// A value of an answer, in which numbers are whole.
 #[derive(Clone, Debug, PartialEq, Eq)]
 pub(crate) enum Value {
     Number(i128),
@@ -30,7 +33,7 @@ impl Value {
     /// The value that a text is, if it is one.
     pub(crate) fn read(text: &str) -> Option<Value> {
         let mut letters = text.chars().peekable();
-        let value = value(&mut letters)?;
+        let value = value(&mut letters, MOST_DEPTH)?;
         letters.next().is_none().then_some(value)
     }
 
@@ -73,19 +76,22 @@ impl Value {
 
 type Letters<'t> = Peekable<Chars<'t>>;
 
-fn value(letters: &mut Letters<'_>) -> Option<Value> {
+fn value(letters: &mut Letters<'_>, depth: usize) -> Option<Value> {
+    let below = depth.checked_sub(1)?;
     match letters.peek()? {
-        '[' => Some(Value::Array(between(letters, ']', value)?)),
-        '{' => Some(Value::Object(between(letters, '}', member)?)),
+        '[' => Some(Value::Array(between(letters, ']', |it| value(it, below))?)),
+        '{' => Some(Value::Object(between(letters, '}', |it| {
+            member(it, below)
+        })?)),
         '"' => Some(Value::Text(text(letters)?)),
         _ => Some(Value::Number(number(letters)?)),
     }
 }
 
-fn member(letters: &mut Letters<'_>) -> Option<(String, Value)> {
+fn member(letters: &mut Letters<'_>, depth: usize) -> Option<(String, Value)> {
     let name = text(letters)?;
     letters.next_if_eq(&':')?;
-    Some((name, value(letters)?))
+    Some((name, value(letters, depth)?))
 }
 
 /// The items up to what closes them, with commas between them.
@@ -115,9 +121,26 @@ fn text(letters: &mut Letters<'_>) -> Option<String> {
     loop {
         match letters.next()? {
             '"' => return Some(text),
-            '\\' => return None,
+            '\\' => text.push(escaped(letters)?),
             letter => text.push(letter),
         }
+    }
+}
+
+/// The letter that stands behind a backslash. (No reply has one as a pair of surrogates.)
+fn escaped(letters: &mut Letters<'_>) -> Option<char> {
+    match letters.next()? {
+        letter @ ('"' | '\\' | '/') => Some(letter),
+        'b' => Some('\x08'),
+        'f' => Some('\x0c'),
+        'n' => Some('\n'),
+        'r' => Some('\r'),
+        't' => Some('\t'),
+        'u' => {
+            let digits: String = letters.take(4).collect();
+            char::from_u32(u32::from_str_radix(&digits, 16).ok()?)
+        }
+        _ => None,
     }
 }
 
@@ -144,6 +167,23 @@ mod tests {
         assert_eq!(items[3].number(), Some(-5_i64));
         for wrong in ["", "[", "[1,]", "[1 2]", "{\"a\"}", "\"a", "1]", "x"] {
             assert_eq!(Value::read(wrong), None, "{wrong}");
+        }
+    }
+
+    #[test]
+    fn reads_escapes() {
+        let hint = Value::read(r#""no \"/c\" \\ \/\b\f\n\r\t\u00e9""#).unwrap();
+        assert_eq!(hint.text(), Some("no \"/c\" \\ /\u{8}\u{c}\n\r\té"));
+        for wrong in [r#""\x""#, r#""\u12""#, r#""\ud800""#, r#""\"#] {
+            assert_eq!(Value::read(wrong), None, "{wrong}");
+        }
+    }
+
+    #[test]
+    fn what_nests_without_end_is_no_value() {
+        for (depth, is_read) in [(15, true), (16, false), (1_000_000, false)] {
+            let text = format!("{}1{}", "[".repeat(depth), "]".repeat(depth));
+            assert_eq!(Value::read(&text).is_some(), is_read, "{depth}");
         }
     }
 

@@ -1,7 +1,8 @@
 use crate::error::Error;
 use crate::library::KeptTree;
+use crate::unpoisoned;
 use std::fmt;
-use std::sync::{Mutex, PoisonError};
+use std::sync::Mutex;
 
 /// A tree as the library keeps it, from its first use on. A clone is another tree, which is read anew.
 #[derive(Default)]
@@ -14,7 +15,7 @@ impl Kept {
         document: impl FnOnce() -> String,
         call: impl FnOnce(&mut KeptTree) -> Result<String, Error>,
     ) -> Result<String, Error> {
-        let mut kept = self.0.lock().unwrap_or_else(PoisonError::into_inner);
+        let mut kept = unpoisoned(self.0.lock());
         let tree = match kept.take() {
             Some(tree) => tree,
             None => KeptTree::open(document().as_bytes())?,

@@ -18,25 +18,39 @@
 //! # }
 //! ```
 //!
-//! [`document`] has the same calls over the bytes of a document. A [`Store`] runs lists by such plans in this process.
+//! [`document`] has the calls over the bytes of a document. A [`Store`] runs lists by such plans in this process; a
+//! [`Client`] asks a server the same [`Requests`].
 //!
 //! A thread that makes a call has to have 1 MiB of stack left. That of [`std::thread::spawn`] has, unless it was given
 //! less by `stack_size` or `RUST_MIN_STACK`.
 
 pub use access::{Access, Op, Reply};
-pub use error::{Error, Fault};
+pub use client::Client;
+pub use error::Error;
+pub use fault::{Fault, FaultKind};
 pub use plan::{Certificate, FlowRow, Judgement, Plan, Step};
 pub use planning::Form;
+pub use requests::{Requests, Round, Weights};
 pub use store::Store;
 pub use tree::Tree;
 
+use std::sync::PoisonError;
+
 mod access;
+mod client;
 pub mod document;
 mod error;
+mod fault;
 mod json;
 mod kept;
 mod library;
 mod plan;
 mod planning;
+mod requests;
 mod store;
 mod tree;
+
+/// What a lock of ours has, also after a panic: none leaves it half changed.
+fn unpoisoned<G>(locked: Result<G, PoisonError<G>>) -> G {
+    locked.unwrap_or_else(PoisonError::into_inner)
+}

@@ -1,6 +1,7 @@
 //! The calls of the static library. This is all that is unsafe here.
 
-use crate::error::{Error, Fault};
+use crate::error::Error;
+use crate::fault::Fault;
 use std::ffi::c_void;
 use std::ptr;
 

@@ -48,6 +48,7 @@ pub struct Plan {
 
 /// What is said of a list that is done alone, by a legal plan.
 #[derive(Clone, Debug, PartialEq, Eq)]
+#[non_exhaustive]
 pub struct Judgement {
     /// What the plan costs.
     pub cost: u64,

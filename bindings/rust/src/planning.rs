@@ -7,6 +7,7 @@ use crate::tree::{Tree, question};
 
 /// How a drawing is written.
 #[derive(Clone, Copy, Debug, PartialEq, Eq)]
+#[non_exhaustive]
 pub enum Form {
     /// An SVG document.
     Svg,
@@ -83,12 +84,17 @@ fn cost_of(answer: &str) -> Option<u64> {
 }
 
 fn read_plan(answer: &str) -> Option<Plan> {
+    let (steps, flow) = (value_of(answer, "plan")?, value_of(answer, "flow")?);
+    plan_of(cost_of(answer)?, &steps, &flow)
+}
+
+/// The plan that these parts of an answer are.
+pub(crate) fn plan_of(cost: u64, steps: &Value, flow: &Value) -> Option<Plan> {
+    let (steps, rows) = (steps.each(read_step)?, flow.each(read_row)?);
     Some(Plan {
-        cost: cost_of(answer)?,
-        steps: value_of(answer, "plan")?.each(read_step)?,
-        certificate: Certificate {
-            rows: value_of(answer, "flow")?.each(read_row)?,
-        },
+        cost,
+        steps,
+        certificate: Certificate { rows },
     })
 }
 
@@ -124,7 +130,7 @@ fn read_judgement(answer: &str) -> Option<Judgement> {
     })
 }
 
-fn read_reply(value: &Value) -> Option<Reply> {
+pub(crate) fn read_reply(value: &Value) -> Option<Reply> {
     match value.text() {
         Some("ok") => Some(Reply::Stored),
         Some("range") => Some(Reply::Range),

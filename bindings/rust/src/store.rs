@@ -1,47 +1,54 @@
-use crate::error::{Error, Fault};
+use crate::error::Error;
 use crate::library::KeptStore;
+use crate::requests::{Requests, unrefused};
 use crate::tree::Tree;
+use crate::unpoisoned;
 use std::fmt;
+use std::sync::Mutex;
 
 /// A store inside this process. It answers lines as `grove serve --workers 1` does (docs/SESSIONS.md); its records are
-/// in memory, and go with it.
+/// in memory, and go with it. Of several threads that call it each waits for the one before.
 ///
 /// ```
-/// use pickbracken::{Store, Tree};
+/// use pickbracken::{Access, Reply, Requests, Store, Tree};
 ///
 /// # fn main() -> Result<(), pickbracken::Error> {
-/// let mut store = Store::open(&Tree::from_weights([("/", 5), ("/a", 1)])?)?;
-/// let reply = store.answer(br#"{"batch":[[["add","/a",7]]]}"#)?;
-/// assert_eq!(reply, r#"{"places":[0],"replies":[[7]],"round":1}"#);
+/// let store = Store::open(&Tree::from_weights([("/", 5), ("/a", 1)])?)?;
+/// let round = store.batch([[Access::add("/a", 7)]])?;
+/// assert_eq!(round.replies, [[Reply::Number(7)]]);
 /// # Ok(())
 /// # }
 /// ```
-pub struct Store(KeptStore);
+pub struct Store(Mutex<KeptStore>);
 
 impl Store {
     /// A store of a tree with its records.
+    ///
+    /// # Errors
+    ///
+    /// [`Error::Refused`] of what is no tree, and [`Error::Memory`].
     pub fn open(tree: &Tree) -> Result<Store, Error> {
         Store::open_document(tree.alone().as_bytes())
     }
 
     /// A store of the tree and the records of a document's bytes.
+    ///
+    /// # Errors
+    ///
+    /// As above.
     pub fn open_document(document: &[u8]) -> Result<Store, Error> {
-        Ok(Store(KeptStore::open(document)?))
-    }
-
-    /// The reply to a line, without a line feed. A line that is refused, by which nothing changes, is an
-    /// [`Error::Refused`] with the fault's name. After [`Error::Memory`] the store is as it was.
-    pub fn answer(&mut self, line: &[u8]) -> Result<String, Error> {
-        let reply = self.0.answer(line)?;
-        match refusal(&reply) {
-            Some(name) => Err(Error::Refused(Fault::of(name.to_owned()))),
-            None => Ok(reply),
-        }
+        Ok(Store(Mutex::new(KeptStore::open(document)?)))
     }
 
     /// The text of the reply to the last line that had one, be it a refusal; empty before the first line.
-    pub fn last_reply(&mut self) -> String {
-        self.0.reply()
+    pub fn last_reply(&self) -> String {
+        unpoisoned(self.0.lock()).reply()
+    }
+}
+
+impl Requests for Store {
+    fn send(&self, line: &[u8]) -> Result<String, Error> {
+        unrefused(unpoisoned(self.0.lock()).answer(line)?)
     }
 }
 
@@ -49,9 +56,4 @@ impl fmt::Debug for Store {
     fn fmt(&self, out: &mut fmt::Formatter<'_>) -> fmt::Result {
         out.write_str("Store")
     }
-}
-
-/// The name that a refusal tells.
-fn refusal(reply: &str) -> Option<&str> {
-    reply.strip_prefix("{\"error\":\"")?.strip_suffix("\"}")
 }

@@ -95,15 +95,22 @@ impl Tree {
     }
 }
 
+/// The accesses as a document has them.
+pub(crate) fn written(list: &[Access]) -> String {
+    let mut text = String::from("[");
+    join(&mut text, list, write_access);
+    text.push(']');
+    text
+}
+
 /// The document without a tree of a list, and of a plan and a certificate if there are any.
 pub(crate) fn question(
     list: &[Access],
     steps: Option<&[Step]>,
     certificate: Option<&Certificate>,
 ) -> String {
-    let mut text = format!("{{\"version\":{VERSION},\"list\":[");
-    join(&mut text, list, write_access);
-    text.push(']');
+    let list = written(list);
+    let mut text = format!("{{\"version\":{VERSION},\"list\":{list}");
     if let Some(steps) = steps {
         text.push_str(",\"plan\":[");
         join(&mut text, steps, write_step);

@@ -1,6 +1,6 @@
 //! Ten thousand calls of each kind leave the memory of the process as it was.
 
-use pickbracken::{Access, Store, Tree, document};
+use pickbracken::{Access, Requests, Store, Tree, document};
 use std::fs;
 
 /// More than this is no noise, and less than what ten thousand trees take.
@@ -21,8 +21,8 @@ fn ten_thousand_calls_keep_nothing() {
         let plan = tree.plan(&list).unwrap();
         tree.check(&list, &plan).unwrap();
         document::judge(b"{").unwrap_err();
-        let mut store = Store::open(&tree).unwrap();
-        store.answer(br#"{"batch":[[["add","/a",1]]]}"#).unwrap();
+        let store = Store::open(&tree).unwrap();
+        store.send(br#"{"batch":[[["add","/a",1]]]}"#).unwrap();
     };
     (0..500).for_each(|_| each());
     let before = resident();
