@@ -206,7 +206,7 @@ def rust(_given: Given, room: Path, tally: Tally) -> None:
         (["fmt", "--check"], surroundings),
         (["clippy", "--offline", "--all-targets", "--", "-D", "warnings"], surroundings),
         (["test", "--offline"], surroundings),
-        (["run", "--offline", "--example", "locks"], from_crate),
+        (["run", "--offline", "--example", "stock"], from_crate),
         (["doc", "--offline", "--no-deps"], pages),
     ):
         note_well(tally, words[0], called("cargo", *words, cwd=crate_at(room), env=where))

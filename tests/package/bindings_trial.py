@@ -30,8 +30,7 @@ pickbracken = {{ path = "{crate}" }}
 """
 MAIN = """\
 fn main() -> Result<(), pickbracken::Error> {
-%s    println!("cost {}", plan.cost);
-    Ok(())
+%s    Ok(())
 }
 """
 # What the package is, and that its library is the one beside it.
@@ -66,12 +65,12 @@ def crate(packages: Packages, room: Path, tally: Tally) -> None:
         project = room / "follows"
         (project / "src").mkdir(parents=True, exist_ok=True)
         (project / "Cargo.toml").write_text(MANIFEST.format(crate=place))
-        (project / "src/main.rs").write_text(MAIN % blocks("rust")[0])
+        (project / "src/main.rs").write_text(MAIN % "".join(f"{{\n{block}}}\n" for block in blocks("rust")))
         surroundings = {**SURROUNDINGS, "CARGO_TARGET_DIR": str(room / "target")}
         ran = called("cargo", "run", "--quiet", "--offline", cwd=project, env=surroundings)
-        note_equal(tally, place.name, (ran.stdout, ran.stderr, ran.returncode), ("cost 3\n", "", 0))
-        ran = called("cargo", "run", "--quiet", "--offline", "--example", "locks", cwd=place, env=surroundings)
-        note_equal(tally, "locks", (ran.stdout, ran.returncode), ("4000 transactions, and the shelves hold 0\n", 0))
+        note_equal(tally, place.name, (ran.stdout, ran.stderr, ran.returncode), ("[9, 11]\n", "", 0))
+        ran = called("cargo", "run", "--quiet", "--offline", "--example", "stock", cwd=place, env=surroundings)
+        note_equal(tally, "stock", (ran.stdout, ran.returncode), ("4000 moves, and the shelves hold 400\n", 0))
 
 
 def python_in(room: Path) -> Path:

@@ -1,22 +1,21 @@
 //! Where each lock of a transaction is taken and released, so that others wait as little as can be.
 //!
-//! A [`Tree`] has a weight for each node, which is what it costs others to find the node locked. For a list of
-//! accesses [`Tree::plan`] gives the settled plan: it obeys the tree protocol, and no legal plan costs less. Its
-//! [`Certificate`] proves that, and [`Tree::check`] sees it, whoever made plan and certificate. The planner and the
-//! checker are those of grove, which are proved; this crate hands documents to its library, and reads the answers.
-//!
 //! ```
-//! use pickbracken::{Access, Step, Tree};
+//! use pickbracken::Locks;
 //!
 //! # fn main() -> Result<(), pickbracken::Error> {
-//! let tree = Tree::from_weights([("/", 5), ("/a", 1), ("/b", 1)])?;
-//! let list = [Access::get("/a"), Access::add("/b", 1)];
-//! let plan = tree.plan(&list)?;
-//! assert_eq!(plan.steps[0], Step::Lock("/".into()));
-//! assert_eq!(tree.check(&list, &plan)?, plan.cost);
+//! let locks = Locks::new([("/", 20), ("/north", 5), ("/north/a", 1), ("/north/b", 1)], |_path| 10)?;
+//! let list = locks.list([("/north/a", 1), ("/north/b", 3)])?;
+//! locks.run(&list, |number, record| *record += if number == 0 { -1 } else { 1 })?;
 //! # Ok(())
 //! # }
 //! ```
+//!
+//! A tree has a weight for each node, which is what it costs others to find the node locked. [`Locks`] has a lock and a
+//! record for each node, and takes and releases the locks as the settled plan of the accesses says: it obeys the tree
+//! protocol, and no legal plan costs less. [`Tree::plan`] gives such a plan, with the [`Certificate`] that proves its
+//! cost. [`Tree::check`] sees whether it does, whoever made plan and certificate. Planner and checker are those of
+//! grove, which are proved; this crate hands documents to its library, and reads the answers.
 //!
 //! [`document`] has the calls over the bytes of a document. A [`Store`] runs lists by such plans in this process; a
 //! [`Client`] asks a server the same [`Requests`].
@@ -26,12 +25,15 @@
 
 pub use access::{Access, Op, Reply};
 pub use client::Client;
-pub use error::Error;
+pub use error::{Error, Stopped};
 pub use fault::{Fault, FaultKind};
+pub use list::{List, Wanted};
+pub use locks::Locks;
 pub use plan::{Certificate, FlowRow, Judgement, Plan, Step};
 pub use planning::Form;
 pub use requests::{Requests, Round, Weights};
 pub use store::Store;
+pub use transaction::{Held, Transaction};
 pub use tree::Tree;
 
 use std::sync::PoisonError;
@@ -43,12 +45,20 @@ mod error;
 mod fault;
 mod json;
 mod kept;
+mod latch;
 mod library;
+mod list;
+mod locks;
+mod nodes;
 mod plan;
 mod planning;
+mod program;
 mod requests;
+mod shape;
 mod store;
+mod transaction;
 mod tree;
+mod weighing;
 
 /// What a lock of ours has, also after a panic: none leaves it half changed.
 fn unpoisoned<G>(locked: Result<G, PoisonError<G>>) -> G {

@@ -16,7 +16,7 @@ pub enum Form {
 }
 
 /// What can't be: an answer that isn't of the form that docs/FORMATS.md has.
-const STRANGE: &str = "the library answers in grove's formats";
+pub(crate) const STRANGE: &str = "the library answers in grove's formats";
 
 impl Tree {
     /// The settled plan of a list: no legal plan costs less, and of all that cost as little it is the latest.
@@ -96,6 +96,11 @@ pub(crate) fn plan_of(cost: u64, steps: &Value, flow: &Value) -> Option<Plan> {
         steps,
         certificate: Certificate { rows },
     })
+}
+
+/// The steps of an answer, without its certificate.
+pub(crate) fn read_steps(answer: &str) -> Option<Vec<Step>> {
+    value_of(answer, "plan")?.each(read_step)
 }
 
 fn read_step(value: &Value) -> Option<Step> {

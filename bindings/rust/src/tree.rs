@@ -43,6 +43,24 @@ impl Tree {
         })
     }
 
+    /// A tree of nodes in preorder, by their depths and weights. Their numbers are their names.
+    pub(crate) fn from_depths(rows: impl Iterator<Item = (u32, u32)>) -> Tree {
+        let (mut nodes, mut way) = (Vec::new(), Vec::new());
+        for (number, (depth, weight)) in rows.enumerate() {
+            way.truncate(depth as usize);
+            let parent = way.last().copied();
+            nodes.push(Node {
+                parent,
+                name: parent.map_or(String::new(), |_| number.to_string()),
+                weight,
+                record: 0,
+            });
+            way.push(number);
+        }
+        let kept = Kept::default();
+        Tree { nodes, kept }
+    }
+
     /// The same tree with another record at the node of a path, if there is such a node.
     pub fn with_record(mut self, path: &str, record: i64) -> Result<Tree, Error> {
         let at = self.at(path)?;
@@ -173,7 +191,7 @@ fn laid_out(branches: &[Branch<'_>]) -> Vec<Node> {
 }
 
 /// The names on the way down a path.
-fn names_of(path: &str) -> Result<impl Iterator<Item = &str>, Error> {
+pub(crate) fn names_of(path: &str) -> Result<impl Iterator<Item = &str>, Error> {
     match path.strip_prefix('/') {
         Some("") => Ok("".split_terminator('/')),
         Some(names) if names.split('/').all(|name| !name.is_empty()) => {

@@ -1,6 +1,6 @@
 //! Ten thousand calls of each kind leave the memory of the process as it was.
 
-use pickbracken::{Access, Requests, Store, Tree, document};
+use pickbracken::{Access, Locks, Requests, Store, Tree, document};
 use std::fs;
 
 /// More than this is no noise, and less than what ten thousand trees take.
@@ -21,6 +21,9 @@ fn ten_thousand_calls_keep_nothing() {
         let plan = tree.plan(&list).unwrap();
         tree.check(&list, &plan).unwrap();
         document::judge(b"{").unwrap_err();
+        let locks = Locks::new([("/", 5), ("/a", 1), ("/b", 1)], |_| 0).unwrap();
+        let pair = locks.list(["/a", "/b"]).unwrap();
+        locks.run(&pair, |_, record| *record += 1).unwrap();
         let store = Store::open(&tree).unwrap();
         store.send(br#"{"batch":[[["add","/a",1]]]}"#).unwrap();
     };

@@ -1,0 +1,233 @@
+use crate::error::Error;
+use crate::fault::Fault;
+use crate::nodes::{Nodes, Target};
+use crate::program::Program;
+use crate::shape::MOST_STEPS;
+use crate::unpoisoned;
+use std::collections::HashMap;
+use std::fmt;
+use std::sync::{Arc, Mutex};
+use std::time::Duration;
+
+/// As many accesses a list may have, and as many slots an access may take (docs/PROTOCOL.md).
+const MOST_ACCESSES: usize = 64;
+const MOST_LENGTH: u64 = 1_000;
+/// So many lists are kept, with so many steps of theirs as of shapes; then all are forgotten.
+const MOST_LISTS: usize = 4_096;
+
+/// An access that a list is to have: the path of its node, or the path with the slots that it takes, 1 to 1,000.
+///
+/// ```
+/// use pickbracken::Wanted;
+///
+/// let wanted: [Wanted; 2] = ["/north/a".into(), ("/north/b", 3).into()];
+/// ```
+#[derive(Clone, Copy, Debug, PartialEq, Eq)]
+pub struct Wanted<'p> {
+    path: &'p str,
+    length: u64,
+}
+
+impl<'p, P: AsRef<str> + ?Sized> From<&'p P> for Wanted<'p> {
+    fn from(path: &'p P) -> Wanted<'p> {
+        Wanted::from((path, 1))
+    }
+}
+
+impl<'p, P: AsRef<str> + ?Sized> From<(&'p P, u64)> for Wanted<'p> {
+    fn from((path, length): (&'p P, u64)) -> Wanted<'p> {
+        let path = path.as_ref();
+        Wanted { path, length }
+    }
+}
+
+/// The accesses of a kind of transactions over some [`Locks`](crate::Locks), which makes it, and how they are to be
+/// run. Its plan is made when it is first run, and again after a reweighing. A clone shares it.
+#[derive(Clone)]
+pub struct List {
+    pub(crate) kept: Arc<KeptList>,
+    pub(crate) timeout: Option<Duration>,
+    pub(crate) is_whole: bool,
+}
+
+impl List {
+    /// The same list, whose runs wait for so long at most, each from its beginning on and for all its nodes together.
+    #[must_use]
+    pub fn timeout(self, limit: Duration) -> List {
+        let timeout = Some(limit);
+        List { timeout, ..self }
+    }
+
+    /// The same list, whose runs hold each node that they have accessed to their end. So they can undo what they did
+    /// before anybody has seen it.
+    #[must_use]
+    pub fn whole(self) -> List {
+        List {
+            is_whole: true,
+            ..self
+        }
+    }
+}
+
+impl fmt::Debug for List {
+    fn fmt(&self, out: &mut fmt::Formatter<'_>) -> fmt::Result {
+        out.debug_struct("List")
+            .field("accesses", &self.kept.targets.len())
+            .field("timeout", &self.timeout)
+            .field("whole", &self.is_whole)
+            .finish()
+    }
+}
+
+/// The nodes and the lengths of a list over the locks of this number, with its program as it was last needed.
+pub(crate) struct KeptList {
+    pub(crate) locks: u64,
+    pub(crate) targets: Box<[Target]>,
+    latest: Mutex<Option<Arc<Program>>>,
+}
+
+impl KeptList {
+    fn new(locks: u64, targets: &[Target]) -> KeptList {
+        KeptList {
+            locks,
+            targets: targets.into(),
+            latest: Mutex::default(),
+        }
+    }
+
+    /// The program of an epoch, which is made if the last one is of another. Of threads that need it each waits for
+    /// the one before.
+    pub(crate) fn program(
+        &self,
+        epoch: u64,
+        make: impl FnOnce(&[Target]) -> Result<Program, Error>,
+    ) -> Result<Arc<Program>, Error> {
+        let mut latest = unpoisoned(self.latest.lock());
+        match &*latest {
+            Some(program) if program.epoch == epoch => Ok(Arc::clone(program)),
+            _ => {
+                let made = Arc::new(make(&self.targets)?);
+                *latest = Some(Arc::clone(&made));
+                Ok(made)
+            }
+        }
+    }
+}
+
+/// The lists that were asked for, by their nodes and lengths.
+#[derive(Default)]
+pub(crate) struct Lists(Mutex<KeptLists>);
+
+#[derive(Default)]
+struct KeptLists {
+    of: HashMap<Box<[Target]>, Arc<KeptList>>,
+    steps: usize,
+}
+
+impl Lists {
+    /// The list of these accesses over the locks of a number.
+    pub(crate) fn list(&self, locks: u64, targets: &[Target]) -> List {
+        let mut lists = unpoisoned(self.0.lock());
+        let kept = match lists.of.get(targets) {
+            Some(kept) => Arc::clone(kept),
+            None => lists.keep(KeptList::new(locks, targets)),
+        };
+        List {
+            kept,
+            timeout: None,
+            is_whole: false,
+        }
+    }
+
+    /// Counts the steps of a program that was made.
+    pub(crate) fn count(&self, steps: usize) {
+        let mut lists = unpoisoned(self.0.lock());
+        lists.steps += steps;
+        if lists.steps > MOST_STEPS {
+            lists.forget();
+        }
+    }
+
+    pub(crate) fn forget(&self) {
+        unpoisoned(self.0.lock()).forget();
+    }
+
+    #[cfg(test)]
+    pub(crate) fn len(&self) -> usize {
+        unpoisoned(self.0.lock()).of.len()
+    }
+}
+
+impl KeptLists {
+    fn keep(&mut self, list: KeptList) -> Arc<KeptList> {
+        if self.of.len() >= MOST_LISTS {
+            self.forget();
+        }
+        let (key, kept) = (list.targets.clone(), Arc::new(list));
+        self.of.insert(key, Arc::clone(&kept));
+        kept
+    }
+
+    fn forget(&mut self) {
+        *self = KeptLists::default();
+    }
+}
+
+/// The nodes and the lengths of what is wanted; or the first reason why that is no list.
+pub(crate) fn targets_of<'p>(
+    nodes: &Nodes,
+    wanted: impl IntoIterator<Item = Wanted<'p>>,
+) -> Result<Vec<Target>, Error> {
+    let mut targets = Vec::new();
+    for it in wanted {
+        let node = nodes.number(it.path)?;
+        let number = targets.len();
+        if number == MOST_ACCESSES {
+            return Err(refused("limit list".to_owned()));
+        }
+        if !(1..=MOST_LENGTH).contains(&it.length) {
+            return Err(refused(format!("bad-length list {number}")));
+        }
+        let length = it.length as u32;
+        targets.push(Target { node, length });
+    }
+    Ok(targets)
+}
+
+fn refused(text: String) -> Error {
+    Error::Refused(Fault::of(text))
+}
+
+#[cfg(test)]
+mod tests {
+    use super::{Lists, MOST_LISTS};
+    use crate::nodes::Target;
+    use crate::shape::MOST_STEPS;
+    use std::sync::Arc;
+
+    fn single(node: u32) -> [Target; 1] {
+        [Target { node, length: 1 }]
+    }
+
+    #[test]
+    fn so_many_lists_are_kept() {
+        let lists = Lists::default();
+        for node in 0..MOST_LISTS as u32 {
+            let list = lists.list(0, &single(node));
+            assert!(Arc::ptr_eq(&list.kept, &lists.list(0, &single(node)).kept));
+            assert_eq!(lists.len(), node as usize + 1);
+        }
+        lists.list(0, &single(1_000_000));
+        assert_eq!(lists.len(), 1);
+    }
+
+    #[test]
+    fn so_many_steps_are_kept() {
+        let lists = Lists::default();
+        lists.list(0, &single(1));
+        lists.count(MOST_STEPS);
+        assert_eq!(lists.len(), 1);
+        lists.count(1);
+        assert_eq!(lists.len(), 0);
+    }
+}
