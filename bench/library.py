@@ -1,6 +1,6 @@
 #!/usr/bin/env python3
 """Times plans by the library inside Python and Rust, beside `grove plan` as a process, and transactions by `Locks` of
-bindings/python beside plain locks, and prints microseconds.
+the bindings beside plain locks, and prints microseconds.
 
     usage: bench/library.py [--grove PROGRAM] [--runs N]        (default: the proved program, 200 runs)
 
@@ -12,9 +12,10 @@ Each plan is made in these ways, in turn, N times each; of the process there are
 
 The lists: that of examples/settings.json, and the largest, 64 accesses that force 2,049 of 4,096 nodes. Then come 400
 transactions of two of 64 leaves that do next to nothing, by one thread and by one task, in turn and N times: with
-sorted locks of the two leaves, and by plans that are kept. The last is how long a list takes until it has its plan, of
-a shape that has been planned or hasn't. The median is printed, and in brackets the least. bench/library.rs, compiled
-here by `cargo`, is the part in Rust; tools/library has to have made the library. Each way has to give the same plan.
+sorted locks of the two leaves, and by plans that are kept. In Rust one thread and each of sixteen make 2,000. The last
+is how long a list takes until it has its plan, of a shape that has been planned or hasn't. The median is printed, and
+in brackets the least. bench/library.rs and bench/transactions.rs, compiled here by `cargo`, are the parts in Rust;
+tools/library has to have made the library. Each way has to give the same plan.
 """
 from __future__ import annotations
 
@@ -51,7 +52,11 @@ edition = "2024"
 
 [[bin]]
 name = "library"
-path = "{source}"
+path = "{folder}/library.rs"
+
+[[bin]]
+name = "transactions"
+path = "{folder}/transactions.rs"
 
 [dependencies]
 pickbracken = {{ path = "{crate}" }}
@@ -112,8 +117,10 @@ def main() -> None:
         rust = built(Path(room))
         for case in (settings(), largest()):
             tell(case.name, timed(case, given.grove, given.runs, rust))
-    tell("a transaction of 2 accesses", transactions(given.runs))
-    tell("a list that comes first, of 2 accesses", first_times(given.runs))
+        in_rust = times_in_rust(rust, given.runs)
+    first = {name: in_rust.pop(name) for name in list(in_rust) if name.endswith(" shape")}
+    tell("a transaction of 2 accesses", transactions(given.runs) | in_rust)
+    tell("a list that comes first, of 2 accesses", first_times(given.runs) | first)
     print(f"load of the machine: {' '.join(f'{load:.1f}' for load in os.getloadavg())}")
 
 
@@ -156,7 +163,7 @@ def once(way: Callable[[], object]) -> float:
 
 def in_rust(case: Case, rust: Path, runs: int, wanted: str) -> dict[str, list[float]]:
     """What the part in Rust prints: the cost, and for each way a line of nanoseconds."""
-    ran = subprocess.run([rust, str(runs)], input=case.numbers(), stdout=subprocess.PIPE, check=True, text=True)
+    ran = subprocess.run([rust / "library", str(runs)], input=case.numbers(), stdout=subprocess.PIPE, check=True, text=True)
     cost, by_document, by_tree = ran.stdout.splitlines()
     need(wanted.startswith(f"{cost}\n"), "Rust has another plan")
     named = {"Rust, by document": by_document, "Rust, by kept tree": by_tree}
@@ -164,10 +171,11 @@ def in_rust(case: Case, rust: Path, runs: int, wanted: str) -> dict[str, list[fl
 
 
 def built(room: Path) -> Path:
-    (room / "Cargo.toml").write_text(MANIFEST.format(source=TOP / "bench/library.rs", crate=TOP / "bindings/rust"))
+    """The folder of the programs in Rust."""
+    (room / "Cargo.toml").write_text(MANIFEST.format(folder=TOP / "bench", crate=TOP / "bindings/rust"))
     surroundings = {**os.environ, "CARGO_TARGET_DIR": str(room / "target")}
     subprocess.run(["cargo", "build", "--quiet", "--release", "--offline"], cwd=room, env=surroundings, check=True)
-    return room / "target/release/library"
+    return room / "target/release"
 
 
 def pairs(seed: int) -> list[tuple[str, ...]]:
@@ -194,10 +202,10 @@ def transactions(runs: int) -> dict[str, list[float]]:
                     records[path] += 1
 
     planned()
-    times: dict[str, list[float]] = {"threads, sorted locks": [], "threads, planned": []}
+    times: dict[str, list[float]] = {"Python threads, sorted locks": [], "Python threads, planned": []}
     for _ in range(runs):
-        times["threads, sorted locks"].append(once(by_sorted_locks) / TRANSACTIONS)
-        times["threads, planned"].append(once(planned) / TRANSACTIONS)
+        times["Python threads, sorted locks"].append(once(by_sorted_locks) / TRANSACTIONS)
+        times["Python threads, planned"].append(once(planned) / TRANSACTIONS)
     need(sum(records.values()) == 2 * TRANSACTIONS * (2 * runs + 1), "an access was lost")
     return times | asyncio.run(transactions_of_a_task(runs))
 
@@ -235,22 +243,29 @@ async def transactions_of_a_task(runs: int) -> dict[str, list[float]]:
 
 def first_times(runs: int) -> dict[str, list[float]]:
     """The seconds until a list has its plan that had none: of a shape that hasn't been planned either, and that has."""
-    times: dict[str, list[float]] = {"a new shape": [], "a known shape": []}
+    times: dict[str, list[float]] = {"Python, a new shape": [], "Python, a known shape": []}
     for _ in range(runs):
         locks = Locks(WEIGHTS)
         for path in LEAVES:
             locks.run([path], lambda number, path: None)
-        times["a new shape"].append(once(lambda: locks.transaction([LEAVES[0], LEAVES[1]])))
-        times["a known shape"].append(once(lambda: locks.transaction([LEAVES[2], LEAVES[3]])))
+        times["Python, a new shape"].append(once(lambda: locks.transaction([LEAVES[0], LEAVES[1]])))
+        times["Python, a known shape"].append(once(lambda: locks.transaction([LEAVES[2], LEAVES[3]])))
     return times
+
+
+def times_in_rust(rust: Path, runs: int) -> dict[str, list[float]]:
+    """The same in Rust, which prints nanoseconds."""
+    ran = subprocess.run([rust / "transactions", str(runs)], stdout=subprocess.PIPE, check=True, text=True)
+    lines = (line.split("\t") for line in ran.stdout.splitlines())
+    return {name: [float(word) / 1e9 for word in numbers.split()] for name, numbers in lines}
 
 
 def tell(name: str, times: dict[str, list[float]]) -> None:
     print(name)
     for way, seconds in times.items():
         median, least = 1e6 * statistics.median(seconds), 1e6 * min(seconds)
-        digits = 0 if median >= 100 else 1
-        print(f"  {way:22}{median:10,.{digits}f} µs ({least:,.{digits}f})")
+        digits = 0 if median >= 100 else 1 if median >= 1 else 3
+        print(f"  {way:32}{median:10,.{digits}f} µs ({least:,.{digits}f})")
 
 
 def need(is_so: bool, otherwise: str) -> None:
