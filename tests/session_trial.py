@@ -14,6 +14,8 @@ def faults_of_case(program, case):
     """What differs, a line each; no line if the case passes."""
     port = free_port()
     case = replace(case, words=[b"%d" % port if word == b"PORT" else word for word in case.words])
+    if case.errors:
+        case.errors.text = case.errors.text.replace(b"PORT", b"%d" % port)
     if case.connections:
         return faults_of_session(program, case)
     with socket.socket() as listener:

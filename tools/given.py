@@ -17,7 +17,10 @@ READING = ("judge", "check", "plan", "draw", "run", "audit", "tree")
 SERVING = ("serve", "page")
 SAVING = "save"
 VALUED = ("--tree", "--port", "--bind", "--address", "--workers", "--idle", "--http", "--http-seats", "--host", "--log")
-FLAGS = ("--explain", "--document", "--text", "--any-port", "--busy", "--verbose", "--csv", "--parents")
+FLAGS = (
+    *("--quiet", "--explain", "--document", "--text", "--any-port", "--busy", "--verbose", "--hints"),
+    *("--csv", "--parents"),
+)
 # What the program takes of a document: no more than a byte above the longest history.
 MOST_BYTES = 67_108_864
 # The name that a document has for the program.
@@ -65,6 +68,10 @@ class Given:
         if self.serves():
             return self.values.get("--tree")
         return self.plain[0] if self.command in (*READING, SAVING) and self.plain else None
+
+    def is_quiet(self) -> bool:
+        """Whether it is to be left out why something fails."""
+        return "--quiet" in self.words
 
     def takes_any_port(self) -> bool:
         """Whether a server is to listen at a port that nobody names."""

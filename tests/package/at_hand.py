@@ -27,7 +27,7 @@ IN_BASH = {
     "--v": "--version",
     "plan --d": "--document",
     "plan t": "tree.json",
-    "plan --explain t": "tree.json",
+    "plan --quiet t": "tree.json",
     "judge ": "tree.json other",
     "serve --tree ": "tree.json other",
     "serve --tree = t": "tree.json",
@@ -45,7 +45,7 @@ IN_BASH = {
 IN_ZSH = {
     "pla": "plan ",
     "plan --doc": "plan --document ",
-    "plan --explain t": "plan --explain tree.json ",
+    "plan --quiet t": "plan --quiet tree.json ",
     "draw --te": "draw --text ",
     "serve --tr": "serve --tree=",
     "save --port 8080 t": "save --port 8080 tree.json ",

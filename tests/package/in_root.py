@@ -20,7 +20,7 @@ SHOWN = re.compile(r"^\$ \./grove (?!serve|page|ask|save)(.*)\n((?:(?!\$ |```).*
 READERS = ["judge", "plan", "plan --document", "draw", "draw --text", "check", "run --workers 1", "audit"]
 # The files of the C library that it may be linked with.
 C_LIBRARY = {"libc.so.6", "libm.so.6", "ld-linux-x86-64.so.2"}
-SERVING = ["--explain", "--verbose", "--idle", "600"]
+SERVING = ["--verbose", "--idle", "600"]
 
 
 def commands_of_pages(packages: Packages, room: Path, tally: Tally) -> None:

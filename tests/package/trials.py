@@ -22,10 +22,10 @@ from tool_trials import Trial
 # What a unit file of a service has to have, and what each.
 GRANTED = ["DynamicUser=yes", "NoNewPrivileges=yes", "MemoryMax=", "TasksMax="]
 UNITS = {
-    "grove-page.service": [*GRANTED, "--verbose", "--explain", "--idle", "KillSignal=SIGTERM"],
-    "grove-save.service": [*GRANTED, "--explain", "Type=oneshot", "StateDirectory=grove", "TimeoutStartSec="],
+    "grove-page.service": [*GRANTED, "--verbose", "--idle", "KillSignal=SIGTERM"],
+    "grove-save.service": [*GRANTED, "--port 8080", "Type=oneshot", "StateDirectory=grove", "TimeoutStartSec="],
     "grove-save.timer": ["OnCalendar=", "WantedBy=timers.target"],
-    "grove-serve.service": [*GRANTED, "--verbose", "--explain", "--idle", "KillSignal=SIGTERM"],
+    "grove-serve.service": [*GRANTED, "--verbose", "--idle", "KillSignal=SIGTERM"],
     "grove-work.service": [*GRANTED, "--verbose"],
 }
 

@@ -44,6 +44,8 @@ FAILURES, MANY = 3, 500
 # failures may take.
 PAUSED_AFTER, PAUSE = 64, 0.1
 MOST_TIMES_PAUSES = 4
+# What is said once no port accepts any more.
+ENDED = ["cannot accept connections any more; the log of --verbose has the system's error", "device"]
 # So many times it fails that never ends.
 FOR_EVER = 10**15
 # How long a server that has to go on is watched, and how long one may take to end.
@@ -198,7 +200,7 @@ def errors_last(program: str, library: str, door: Door, tally: Tally) -> None:
             note_ended(server, where, tally)
             stopped = f"level=error event=stopped protocol={door.protocol} os_error={error}"
             lines = server.told()
-            is_well = lines.count(stopped) == 1 and lines[-1] == "device"
+            is_well = lines.count(stopped) == 1 and lines[-2:] == ENDED
             tally.note(f"{where}, the log", None if is_well else f"came {lines}")
 
 
@@ -233,4 +235,4 @@ def both(program: str, library: str, tally: Tally) -> None:
             note_ended(server, where, tally)
             wanted = [f"level=error event=stopped protocol={name} os_error={error}" for name in ("http", "tcp")]
             told = server.told()
-            tally.note(f"{where}, the log", None if sorted(told) == sorted([*wanted, "device"]) else f"came {told}")
+            tally.note(f"{where}, the log", None if sorted(told) == sorted([*wanted, *ENDED]) else f"came {told}")

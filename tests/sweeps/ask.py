@@ -32,6 +32,8 @@ WAITED, LONGEST = 2.0, 30.0
 MOST_HINTS = 100
 # A line has at most so many bytes.
 MOST_BYTES = 1_048_576
+# Why there is no whole reply, if the server closes.
+LOST = "lost the server at {}: it closed the connection before the end of a reply"
 
 
 def tries(program: str, room: str) -> list[Try]:
@@ -44,7 +46,7 @@ def tries(program: str, room: str) -> list[Try]:
         Try("many lines", partial(many, program)),
         Try("no server", partial(nobody, program)),
         Try("servers that are lost", partial(lost, program)),
-        Try("how a server is lost", partial(explained, program)),
+        Try("how a server is lost", partial(how_lost, program)),
         Try("standard input and output that fail", partial(streams, program)),
         Try("standard streams that are closed", partial(closed, program)),
         Try("bytes as they come", partial(exact, program)),
@@ -144,11 +146,11 @@ def many(program: str, tally: Tally) -> None:
 
 
 def nobody(program: str, tally: Tally) -> None:
-    for lines in ((), (ADD.decode(),)):
-        tally.compare(f"{len(lines)} lines", ask(program, free_port(), *lines, text=ADD), DEVICE)
     port = free_port()
     wanted = because(f"cannot reach {HOST}:{port}", errno.ECONNREFUSED)
-    tally.compare("explained", ask(program, port, "--explain", text=ADD), wanted)
+    for lines in ((), (ADD.decode(),)):
+        tally.compare(f"{len(lines)} lines", ask(program, port, *lines, text=ADD), wanted)
+    tally.compare("quietly", ask(program, port, "--quiet", text=ADD), DEVICE)
 
 
 class Replying(Canned):
@@ -171,25 +173,31 @@ def lost(program: str, tally: Tally) -> None:
     for texts in ((), (b"",), (b'{"a',), (b'{"a":1}\n', b'{"b'), (b'{"a":1}\n', b'{"b":2}\n')):
         whole = b"".join(reply for reply in texts if reply.endswith(b"\n"))
         with Replying(*texts) as server:
-            tally.compare(f"{texts!r}", ask(program, server.port, text=text), Ran(3, whole, b"device\n"))
+            # A server that closes with lines unread resets the connection.
+            reset = because(f"lost the server at {HOST}:{server.port}", errno.ECONNRESET, whole)
+            wanted = (because(LOST.format(f"{HOST}:{server.port}"), out=whole), reset)
+            ran = ask(program, server.port, text=text)
+            tally.note(f"{texts!r}", None if ran in wanted else f"wanted {wanted[0]}; came {ran}")
+        with Replying(*texts) as server:
+            ran = ask(program, server.port, "--quiet", text=text)
+            tally.compare(f"{texts!r}, quietly", ran, Ran(3, whole, b"device\n"))
 
 
-def explained(program: str, tally: Tally) -> None:
+def how_lost(program: str, tally: Tally) -> None:
     """A server that closes before a reply or within one, that says more than a line, that speaks HTTP, or that breaks
     off."""
-    lose = "lost the server at {}: it closed the connection before the end of a reply"
     long = "no reply of the server at {}: more than a line came for one"
     http = "no reply of the server at {}: it speaks HTTP"
-    for text, reason in ((b"", lose), (b'{"a', lose), (b"{}\n{}\n", long), (b"HTTP/1.1 400 Bad Request\r\n\r\n", http)):
+    for text, reason in ((b"", LOST), (b'{"a', LOST), (b"{}\n{}\n", long), (b"HTTP/1.1 400 Bad Request\r\n\r\n", http)):
         with Replying(text) as server:
             wanted = because(reason.format(f"{HOST}:{server.port}"))
-            tally.compare(f"{text!r}", ask(program, server.port, "--explain", text=ADD), wanted)
+            tally.compare(f"{text!r}", ask(program, server.port, text=ADD), wanted)
     with Serving(program, TREE, command="page") as server:
         wanted = because(http.format(f"{HOST}:{server.port}"))
-        tally.compare("a page", ask(program, server.port, "--explain", text=WEIGHTS), wanted)
+        tally.compare("a page", ask(program, server.port, text=WEIGHTS), wanted)
     with Broken() as server:
         wanted = because(f"lost the server at {HOST}:{server.port}", errno.ECONNRESET)
-        tally.compare("a connection that is reset", ask(program, server.port, "--explain", text=ADD), wanted)
+        tally.compare("a connection that is reset", ask(program, server.port, text=ADD), wanted)
 
 
 class Silent(Canned):
@@ -239,7 +247,7 @@ class Broken(Canned):
 def streams(program: str, tally: Tally) -> None:
     """The client's own input is a folder, or its output is full."""
     with Serving(program, TREE) as server:
-        words = ("ask", "--port", str(server.port), "--explain")
+        words = ("ask", "--port", str(server.port))
         folder = os.open("/", os.O_RDONLY)
         try:
             ran = run(program, *words, text=None, stdin=folder)
@@ -256,7 +264,10 @@ def closed(program: str, tally: Tally) -> None:
     reply of it is read as a line."""
     with Serving(program, TREE, further=("--hints",)) as server:
         right = ask(program, server.port, "x")
-        for stream, line, wanted in ((0, (), DEVICE), (1, ("x",), DEVICE), (2, ("x",), Ran(REFUSED, right.out, b""))):
+        unread = because("cannot read standard input", errno.EISDIR)
+        unwritten = because("cannot write standard output", errno.EBADF)
+        refused = Ran(REFUSED, right.out, b"")
+        for stream, line, wanted in ((0, (), unread), (1, ("x",), unwritten), (2, ("x",), refused)):
             how = {"stdin": subprocess.DEVNULL, "preexec_fn": partial(os.close, stream)}
             ran = run(program, "ask", "--port", str(server.port), *line, text=None, **how)
             tally.compare(f"stream {stream}", ran, wanted)

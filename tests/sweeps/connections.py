@@ -18,7 +18,7 @@ from store import Store
 from sweeps.documents import EXAMPLES
 from sweeps.doors import DOORS, Asking, Door
 from sweeps.preloaded import library_of
-from sweeps.program import DEVICE, Tally, Try, run, until_well
+from sweeps.program import Tally, Try, because, run, until_well
 from sweeps.talks import lines_of, look, note_replies
 from sweeps.ten_lines import ADD, GET, REPLIES, TEXT, TREE, WEIGHTS
 
@@ -187,7 +187,8 @@ def failing_devices(program: str, tally: Tally) -> None:
     for command, further in (("serve", ()), ("page", ()), ("serve", http)):
         words = [command, "--tree", tree, "--port", str(free_port()), *further]
         with open("/dev/full", "wb") as full:
-            tally.compare(f"standard output, full: {words}", run(program, *words, stdout=full), DEVICE)
+            wanted = because("cannot write standard output", errno.ENOSPC)
+            tally.compare(f"standard output, full: {words}", run(program, *words, stdout=full), wanted)
 
 
 def no_threads(program: str, library: str, door: Door, tally: Tally) -> None:

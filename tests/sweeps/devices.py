@@ -37,7 +37,7 @@ AWAITED = {
     "audit": ("nodes", "jobs", "events"),
     "tree": (),
 }
-# What `--explain` says before the system's reason.
+# What is said before the system's reason.
 NO_READ, NO_WRITE = "cannot read standard input", "cannot write standard output"
 # If standard error fails too, nothing can be printed.
 SILENT = Ran(3, b"", b"")
@@ -48,9 +48,9 @@ def tries(program: str, room: str) -> list[Try]:
     fixed = [
         Try("standard output", partial(failing_output, program)),
         Try("standard output that takes some bytes", partial(cut_output, program)),
-        Try("why standard output failed", partial(explained_output, program)),
-        Try("why standard input failed", partial(explained_input, program)),
-        Try("why a call failed", partial(explained_call, program, library)),
+        Try("standard output, quietly", partial(quiet_output, program)),
+        Try("standard input, quietly", partial(quiet_input, program)),
+        Try("a call, quietly", partial(quiet_call, program, library)),
         Try("standard output that takes nothing", partial(idle_output, program, library)),
         Try("each write of standard output", partial(fail_each, program, library, "output")),
         Try("each read of standard input", partial(fail_each, program, library, "input")),
@@ -76,21 +76,6 @@ def answered() -> list[Asked]:
 def failing_output(program: str, tally: Tally) -> None:
     for asked in answered():
         with open("/dev/full", "wb") as full:
-            tally.compare(f"{asked.name}, full", run(program, *asked.words, text=asked.text, stdout=full), DEVICE)
-        tally.compare(f"{asked.name}, closed", closing(program, ">&-", asked), DEVICE)
-        with unread() as pipe:
-            ran = run(program, *asked.words, text=asked.text, stdout=pipe)
-            tally.compare(f"{asked.name}, a pipe that nobody reads", ran, DEVICE)
-
-
-def explained(asked: Asked) -> Asked:
-    """The same arguments with `--explain`."""
-    return replace(asked, words=(*asked.words, "--explain"))
-
-
-def explained_output(program: str, tally: Tally) -> None:
-    for asked in map(explained, examples() + named_examples()):
-        with open("/dev/full", "wb") as full:
             ran = run(program, *asked.words, text=asked.text, stdout=full)
             tally.compare(f"{asked.name}, full", ran, because(NO_WRITE, errno.ENOSPC))
         tally.compare(f"{asked.name}, closed", closing(program, ">&-", asked), because(NO_WRITE, errno.EBADF))
@@ -99,22 +84,36 @@ def explained_output(program: str, tally: Tally) -> None:
             tally.compare(f"{asked.name}, a pipe that nobody reads", ran, because(NO_WRITE, errno.EPIPE))
 
 
-def explained_input(program: str, tally: Tally) -> None:
-    for command in ("judge", "check", "plan", "run", "draw", "audit"):
-        asked = Asked(command, (command, "--explain"), b"", 3)
-        tally.compare(f"{command}, closed", closing(program, "<&-", asked), because(NO_READ, errno.EBADF))
+def quiet(asked: Asked) -> Asked:
+    """The same arguments with `--quiet`."""
+    return replace(asked, words=(*asked.words, "--quiet"))
+
+
+def quiet_output(program: str, tally: Tally) -> None:
+    for asked in map(quiet, examples() + named_examples()):
+        with open("/dev/full", "wb") as full:
+            tally.compare(f"{asked.name}, full", run(program, *asked.words, text=asked.text, stdout=full), DEVICE)
+        tally.compare(f"{asked.name}, closed", closing(program, ">&-", asked), DEVICE)
+        with unread() as pipe:
+            ran = run(program, *asked.words, text=asked.text, stdout=pipe)
+            tally.compare(f"{asked.name}, a pipe that nobody reads", ran, DEVICE)
+
+
+def quiet_input(program: str, tally: Tally) -> None:
+    for command in ("judge", "check", "plan", "run", "draw", "audit", "tree"):
+        asked = Asked(command, (command, "--quiet"), b"", 3)
+        tally.compare(f"{command}, closed", closing(program, "<&-", asked), DEVICE)
         with opened(str(EXAMPLES), os.O_RDONLY) as folder:
-            ran = run(program, *asked.words, text=None, stdin=folder)
-            tally.compare(f"{command}, a folder", ran, because(NO_READ, errno.EISDIR))
+            tally.compare(f"{command}, a folder", run(program, *asked.words, text=None, stdin=folder), DEVICE)
 
 
-def explained_call(program: str, library: str, tally: Tally) -> None:
+def quiet_call(program: str, library: str, tally: Tally) -> None:
     """The first read, or write, that fails."""
-    for asked in map(explained, examples()):
-        for kind, reason in (("input", NO_READ), ("output", NO_WRITE)):
+    for asked in map(quiet, examples()):
+        for kind in ("input", "output"):
             with failing(library, kind, 1, {}) as (how, _):
                 ran = run(program, *asked.words, text=asked.text, **how)
-            tally.compare(f"{asked.name}, {kind}", ran, because(reason, errno.EIO))
+            tally.compare(f"{asked.name}, {kind}", ran, DEVICE)
 
 
 def idle_output(program: str, library: str, tally: Tally) -> None:
@@ -122,7 +121,7 @@ def idle_output(program: str, library: str, tally: Tally) -> None:
     for asked in examples():
         surroundings = {**os.environ, "LD_PRELOAD": library, "OUTPUT_AT_MOST": "0"}
         ran = run(program, *asked.words, text=asked.text, env=surroundings)
-        tally.compare(f"{asked.name}, nothing taken", ran, DEVICE)
+        tally.compare(f"{asked.name}, nothing taken", ran, because(f"{NO_WRITE}: write zero"))
 
 
 def cut_output(program: str, tally: Tally) -> None:
@@ -138,7 +137,7 @@ def cut_after(program: str, asked: Asked, most: int, whole: bytes) -> str | None
         ran = run(program, *asked.words, text=asked.text, stdout=file, preexec_fn=partial(limit_files, most))
         file.seek(0)
         came = Ran(ran.status, file.read(), ran.err)
-    wanted = Ran(3, whole[:most], b"device\n")
+    wanted = because(NO_WRITE, errno.EFBIG, whole[:most])
     return None if came == wanted else f"wanted {wanted}; came {came}"
 
 
@@ -152,7 +151,8 @@ def fail_each(program: str, library: str, kind: str, tally: Tally) -> None:
                     tally.blame(f"{asked.name}, no {kind} failed", asked.fault(ran))
                     break
             out = (asked.output or b"")[: PIECE * (number - 1)] if kind == "output" else b""
-            tally.compare(f"{asked.name}, {kind} {number}", ran, Ran(3, out, b"device\n"))
+            wanted = because(NO_WRITE if kind == "output" else NO_READ, errno.EIO, out)
+            tally.compare(f"{asked.name}, {kind} {number}", ran, wanted)
         else:
             tally.blame(asked.name, f"there is still more {kind}")
 
@@ -187,13 +187,14 @@ def failing_both(program: str, tally: Tally) -> None:
 
 
 def failing_input(program: str, tally: Tally) -> None:
-    for words in ((), ("judge",), ("check",), ("plan",)):
+    unread, folded = because(NO_READ, errno.EBADF), because(NO_READ, errno.EISDIR)
+    for words in ((), ("judge",), ("check",), ("plan",), ("run",), ("draw",), ("audit",), ("tree",)):
         asked = Asked(" ".join(words) or "no words", words, b"", 3)
-        tally.compare(f"{asked.name}, closed", closing(program, "<&-", asked), DEVICE)
+        tally.compare(f"{asked.name}, closed", closing(program, "<&-", asked), unread)
         with opened(str(EXAMPLES), os.O_RDONLY) as folder:
-            tally.compare(f"{asked.name}, a folder", run(program, *words, text=None, stdin=folder), DEVICE)
+            tally.compare(f"{asked.name}, a folder", run(program, *words, text=None, stdin=folder), folded)
         with opened("/dev/null", os.O_WRONLY) as sink:
-            tally.compare(f"{asked.name}, only for writing", run(program, *words, text=None, stdin=sink), DEVICE)
+            tally.compare(f"{asked.name}, only for writing", run(program, *words, text=None, stdin=sink), unread)
         tally.compare(f"{asked.name}, all closed", closing(program, "<&- >&- 2>&-", asked), SILENT)
 
 
@@ -216,9 +217,20 @@ def named(asked: Asked) -> Asked:
 
 
 def unreadable_names(program: str, tally: Tally) -> None:
+    reasons = {
+        str(EXAMPLES): because(f"cannot read {EXAMPLES}", errno.EISDIR),
+        f"{EXAMPLES}/two-leaves.json/below": because(
+            f"cannot open {EXAMPLES}/two-leaves.json/below", errno.ENOTDIR
+        ),
+        "no-such-file": because("cannot open no-such-file", errno.ENOENT),
+        "-": because("cannot open -", errno.ENOENT),
+        "": because("cannot open ", errno.ENOENT),
+        "n" * 5000: because(f"cannot open {'n' * 200}..", errno.ENAMETOOLONG),
+    }
     for command in ("judge", "check", "plan"):
-        for name in (str(EXAMPLES), f"{EXAMPLES}/two-leaves.json/below", "no-such-file", "-", "", "n" * 5000):
-            tally.compare(f"{command} {name[:60]!r}", run(program, command, name), DEVICE)
+        for name, wanted in reasons.items():
+            tally.compare(f"{command} {name[:60]!r}", run(program, command, name), wanted)
+            tally.compare(f"{command} {name[:60]!r}, quietly", run(program, command, "--quiet", name), DEVICE)
 
 
 def forbidden(program: str, room: str, tally: Tally) -> None:
@@ -232,7 +244,8 @@ def forbidden(program: str, room: str, tally: Tally) -> None:
         os.chmod(file, 0o644)
         tally.note(f"{asked.name}, with leave", asked.fault(run(own, *words, file, cwd="/", **as_nobody)))
         os.chmod(file, 0)
-        tally.compare(f"{asked.name}, without leave", run(own, *words, file, cwd="/", **as_nobody), DEVICE)
+        wanted = because(f"cannot open {file}", errno.EACCES)
+        tally.compare(f"{asked.name}, without leave", run(own, *words, file, cwd="/", **as_nobody), wanted)
         os.remove(file)
 
 

@@ -127,7 +127,7 @@ def reasons(program: str, tally: Tally) -> None:
     for more in NEAR:
         name = "x" * (MOST_NAME + more)
         shown = name if more <= 0 else "x" * MOST_NAME + ".."
-        ran = run(program, "plan", "--explain", name)
+        ran = run(program, "plan", name)
         tally.compare(f"a name of {len(name)}", ran, because(f"cannot open {shown}", errno.ENOENT))
 
 

@@ -1,6 +1,6 @@
 """Servers of each kind at addresses of both kinds, at ports of their own and at any that is free: each says where it
 is, and answers there. At an address that isn't this machine's, and at a port in use: `device`, and before it the reason
-if `--explain` asks for it."""
+unless `--quiet` leaves it out."""
 
 from __future__ import annotations
 
@@ -80,10 +80,10 @@ def serve_twice(program: str, door: Door, tally: Tally) -> None:
     """At the address that another one has, but no other."""
     with DOORS[0].serving(program, any_port=True) as server:
         port = server.port
-        tally.compare("the same address", ended(program, door, "127.0.0.1", port=port), DEVICE)
         wanted = because(f"cannot listen on 127.0.0.1:{port}", errno.EADDRINUSE)
-        came = ended(program, door, "127.0.0.1", "--explain", port=port)
-        tally.compare("the same address, explained", came, wanted)
+        tally.compare("the same address", ended(program, door, "127.0.0.1", port=port), wanted)
+        came = ended(program, door, "127.0.0.1", "--quiet", port=port)
+        tally.compare("the same address, quietly", came, DEVICE)
         with door.serving(program, port=port, further=("--bind", "127.0.0.2")) as other:
             tally.note("another address", None if other.is_running() else "it has ended")
 
@@ -91,9 +91,9 @@ def serve_twice(program: str, door: Door, tally: Tally) -> None:
 def serve_nowhere(program: str, door: Door, tally: Tally) -> None:
     free = free_port()
     for how, place in (({"any_port": True}, NOWHERE), ({"port": free}, f"{NOWHERE}:{free}")):
-        tally.compare(f"{place}", ended(program, door, NOWHERE, **how), DEVICE)
         wanted = because(f"cannot listen on {place}", errno.EADDRNOTAVAIL)
-        tally.compare(f"{place}, explained", ended(program, door, NOWHERE, "--explain", **how), wanted)
+        tally.compare(f"{place}", ended(program, door, NOWHERE, **how), wanted)
+        tally.compare(f"{place}, quietly", ended(program, door, NOWHERE, "--quiet", **how), DEVICE)
 
 
 def ended(program: str, door: Door, address: str, *further: str, **how) -> Ran:

@@ -39,7 +39,7 @@ MEMORY = Ran(3, b"", b"memory\n")
 
 
 def because(reason: str, number: int | None = None, out: bytes = b"") -> Ran:
-    """What `--explain` adds: the reason, with the system's error of a number, before `device`."""
+    """The reason, with the system's error of a number, before `device`; `--quiet` leaves `DEVICE`."""
     system = f": {os.strerror(number)} (os error {number})" if number else ""
     return Ran(3, out, f"{reason}{system}\ndevice\n".encode())
 

@@ -96,9 +96,9 @@ def page(program: str, room: str, tally: Tally) -> None:
 
 def nobody(program: str, room: str, tally: Tally) -> None:
     file, port = fresh(room, "nobody"), free_port()
-    tally.compare("quiet", save(program, port, file), DEVICE)
     wanted = because(f"cannot reach {HOST}:{port}", errno.ECONNREFUSED)
-    tally.compare("explained", save(program, port, file, "--explain"), wanted)
+    tally.compare("nobody", save(program, port, file), wanted)
+    tally.compare("quietly", save(program, port, file, "--quiet"), DEVICE)
     note_folder(tally, "as it was", file, OLD)
 
 
@@ -245,7 +245,9 @@ def cut(program: str, room: str, tally: Tally) -> None:
         text = sized(DOCUMENT)
         file = fresh(room, "cut")
         with Responding(text[: len(text) - len(DOCUMENT) + count]) as server:
-            tally.compare(f"{count} bytes", save(program, server.port, file), DEVICE)
+            closed = "it closed the connection before the end of a reply"
+            wanted = because(f"lost the server at {HOST}:{server.port}: {closed}")
+            tally.compare(f"{count} bytes", save(program, server.port, file), wanted)
         note_folder(tally, "as it was", file, OLD)
 
 
@@ -295,7 +297,7 @@ def given_up(program: str, room: str, surroundings: dict[str, str], said: bytes,
     file = fresh(room, "silence")
     with Dripping(said) as server:
         began = time.monotonic()
-        ran = save(program, server.port, file, "--explain", env=surroundings)
+        ran = save(program, server.port, file, env=surroundings)
         took = (time.monotonic() - began) * FASTER
         wanted = because(f"lost the server at {HOST}:{server.port}: it sends nothing")
         tally.compare(f"{len(said)} bytes", ran, wanted)
@@ -318,17 +320,21 @@ def unwritable(program: str, room: str, tally: Tally) -> None:
     gone = Path(room) / "nowhere" / "kept.json"
     with Responding(sized(DOCUMENT)) as server:
         wanted = because(f"cannot save {gone}", errno.ENOENT)
-        tally.compare("no folder", save(program, server.port, gone, "--explain"), wanted)
+        tally.compare("no folder", save(program, server.port, gone), wanted)
     folder = fresh(room, "folder", None)
     folder.mkdir()
     with Responding(sized(DOCUMENT)) as server:
-        tally.compare("a folder", save(program, server.port, folder), DEVICE)
+        wanted = because(f"cannot save {folder}", errno.EISDIR)
+        tally.compare("a folder", save(program, server.port, folder), wanted)
     tally.note("nothing beside it", None if list(folder.parent.iterdir()) == [folder] else "something")
     file = fresh(room, "beside")
     beside = Path(f"{file}.new")
     beside.mkdir()
     with Responding(sized(DOCUMENT)) as server:
-        tally.compare("a folder beside it", save(program, server.port, file), DEVICE)
+        wanted = because(f"cannot save {file}", errno.EISDIR)
+        tally.compare("a folder beside it", save(program, server.port, file), wanted)
+    with Responding(sized(DOCUMENT)) as server:
+        tally.compare("a folder beside it, quietly", save(program, server.port, file, "--quiet"), DEVICE)
     tally.note("as it was", None if file.read_bytes() == OLD else "changed")
 
 
@@ -336,9 +342,10 @@ def closed(program: str, room: str, tally: Tally) -> None:
     """The connection doesn't take the place of a closed stream: nothing that is printed goes to the server, and the
     file is as it would be."""
     refused = Ran(REFUSED, b"refused status 404\n", b"")
+    unprinted = because("cannot write standard output", errno.EBADF)
     for text, left, ends in (
         (sized(DOCUMENT), DOCUMENT, (SAVED, SAVED, SAVED)),
-        (sized(b"no", status=b"404 Not Found"), OLD, (refused, DEVICE, refused)),
+        (sized(b"no", status=b"404 Not Found"), OLD, (refused, unprinted, refused)),
     ):
         for stream, wanted in enumerate(ends):
             file = fresh(room, "closed")

@@ -45,7 +45,7 @@ class Saving:
         told = {name: str(number) for name, number in numbers.items()}
         surroundings = {**os.environ, "LD_PRELOAD": self.library, "CALLS": str(self.reports), **told}
         with Responding(sized(self.text)) as server:
-            return save(self.program, server.port, self.file, "--explain", env=surroundings)
+            return save(self.program, server.port, self.file, env=surroundings)
 
     def calls(self) -> list[list[str]]:
         """Each call by its words, in order: no name here has a blank."""

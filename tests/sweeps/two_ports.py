@@ -134,10 +134,11 @@ def taken(program: str, tally: Tally) -> None:
     """A server that can't have its second port, or that is told the same one twice, has served nobody, and ends."""
     with socket.create_server((HOST, 0)) as other:
         second = str(other.getsockname()[1])
-        tally.compare("the port", ended(Serving(program, TREE, further=("--http", second))), DEVICE)
+        wanted = because(f"cannot listen on {HOST}:{second}", errno.EADDRINUSE)
+        tally.compare("the port", ended(Serving(program, TREE, further=("--http", second))), wanted)
     port = free_port()
     explained = because(f"cannot listen on {HOST}:{port}", errno.EADDRINUSE)
-    for further, wanted in (((), DEVICE), (("--explain",), explained)):
+    for further, wanted in (((), explained), (("--quiet",), DEVICE)):
         server = Serving(program, TREE, port=port, further=("--http", str(port), *further))
         tally.compare(f"the same port twice, {further}", ended(server), wanted)
 

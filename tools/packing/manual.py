@@ -20,7 +20,7 @@ STATUSES = [
         "Of \\fBgrove ask\\fR: a reply is an error.",
     ),
     ("2", "The command line is wrong."),
-    ("3", "Standard error has \\fBdevice\\fR: something couldn't be read or written; or \\fBmemory\\fR."),
+    ("3", "Standard error says why, and has \\fBdevice\\fR: something couldn't be read or written; or \\fBmemory\\fR."),
 ]
 
 

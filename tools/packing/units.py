@@ -21,11 +21,10 @@ After=network.target
 Type=exec
 # The words behind the document. `systemctl edit grove-@COMMAND@` gives others (Environment= again), and so does a line
 # GROVE_@NAME@="--port @PORT@" in /etc/default/grove.
-#   --explain   if the document can't be read or the port not be listened on, the journal gets the system's reason.
 #   --verbose   the journal gets who comes and goes and why, which lines are refused, and what was done in each minute.
 #   --idle 600  @IDLE@
 # It listens at 127.0.0.1; --bind ADDRESS is for another address, and every client that reaches that may read and write.
-Environment="GROVE_@NAME@=--port @PORT@ --explain --verbose --idle 600"
+Environment="GROVE_@NAME@=--port @PORT@ --verbose --idle 600"
 EnvironmentFile=-/etc/default/grove
 ExecStart=@PREFIX@/bin/grove @COMMAND@ --tree /etc/grove/tree.json $GROVE_@NAME@
 # What long lines took goes back to the system once they are answered.
@@ -64,8 +63,7 @@ After=network.target grove-page.service grove-serve.service
 Type=oneshot
 # The words before the file. `systemctl edit grove-save` gives others (Environment= again), and so does a line
 # GROVE_SAVE="--port 8080" in /etc/default/grove. The port is that of `grove page`, or of --http of `grove serve`.
-#   --explain   if the server can't be reached or the file not be written, the journal gets the system's reason.
-Environment="GROVE_SAVE=--port 8080 --explain"
+Environment="GROVE_SAVE=--port 8080"
 EnvironmentFile=-/etc/default/grove
 ExecStart=@PREFIX@/bin/grove save $GROVE_SAVE /var/lib/grove/tree.json
 # The file is replaced in one step: status 1 (the server has no document) and 3 (it can't be reached, or the file not be

@@ -8,7 +8,7 @@ use crate::asking::ask;
 use crate::closed_streams::Placeholders;
 use crate::document::document_bytes;
 use crate::explained::Explained;
-use crate::failure::StreamErrors;
+use crate::failure::{StreamErrors, reason_for, reason_of_output};
 use crate::hinting::awaited_by;
 use crate::output::{add, print, report, say_stop, tell};
 use crate::saving::save;
@@ -42,7 +42,7 @@ pub fn run_command<
             }
             carry_out(rt, &invocation, input, out, err)
         }
-        Err(why) => say_no_order(why, out, err),
+        Err(why) => say_no_order(rt.alloc(), why, out, err),
     }
 }
 
@@ -78,7 +78,8 @@ pub fn carry_out<
                 input: input.error(),
                 output: out.error(),
             };
-            say_stop(rt.alloc(), why, invocation, streams, err)
+            let reason = reason_for(rt.alloc(), why, invocation, streams);
+            say_stop(why, reason, err)
         }
     }
 }
@@ -134,7 +135,12 @@ fn do_command<
 }
 
 /// Tells what there is to tell to words that are no order, and gives the status of the process.
-pub fn say_no_order<O: Sink, E: Sink>(why: NoOrder, out: &mut O, err: &mut E) -> u8
+pub fn say_no_order<O: Sink + Explained, E: Sink>(
+    alloc: Global,
+    why: NoOrder,
+    out: &mut O,
+    err: &mut E,
+) -> u8
     requires { HasText why }
     ensures { IsTold (O.contents out.old) (O.contents out.new) (O.has_failed out.new)
         (E.contents err.old) (E.contents err.new) result }
@@ -142,7 +148,7 @@ pub fn say_no_order<O: Sink, E: Sink>(why: NoOrder, out: &mut O, err: &mut E) ->
     match why {
         NoOrder::Shown(lines) => match tell(&lines, out) {
             Ok(()) => 0,
-            Err(why) => report(why, err),
+            Err(why) => say_stop(why, reason_of_output(alloc, out.error()), err),
         },
         NoOrder::Wrong(lines) => match tell(&lines, err) {
             Ok(()) => 2,

@@ -18,6 +18,8 @@ pub enum Failure {
     /// The file of a save couldn't be written, or put in its place.
     Save(io::Error),
     Listen(Place, io::Error),
+    /// A port is no listener any more.
+    Accept,
     Reach(SocketAddr, io::Error),
     Lose(SocketAddr, Loss),
 }
@@ -53,15 +55,15 @@ impl StreamErrors {
     }
 }
 
-/// The line that says what failed, where that is asked for and known: if the stop doesn't tell, the streams may.
-/// Without memory for it there is none.
+/// The line that says what failed, if that is known, unless it is to be left out: if the stop doesn't tell, the streams
+/// may. Without memory for it there is none.
 pub fn reason_for(
     alloc: Global,
     why: Stop,
     invocation: &Invocation<'_>,
     streams: StreamErrors,
 ) -> Option<String> {
-    if !invocation.explain {
+    if invocation.quiet {
         return None;
     }
     let failure = match why {
@@ -69,12 +71,27 @@ pub fn reason_for(
         Stop::Device(None) => streams.failure()?,
         Stop::Memory => return None,
     };
-    reason_line(alloc, &invocation.order, failure).ok()
+    match reason(alloc, &invocation.order, failure) {
+        Ok(reason) => line_of(alloc, &reason).ok(),
+        Err(AllocError) => None,
+    }
 }
 
-fn reason_line(alloc: Global, order: &Order<'_>, failure: Failure) -> Result<String, NoMemory> {
-    let reason = said(alloc, &reason(alloc, order, failure)?)?;
+/// The line that says why standard output failed, if that is known.
+pub fn reason_of_output(alloc: Global, error: Option<io::Error>) -> Option<String> {
+    match no_output(alloc, error?) {
+        Ok(reason) => line_of(alloc, &reason).ok(),
+        Err(AllocError) => None,
+    }
+}
+
+fn line_of(alloc: Global, reason: &str) -> Result<String, NoMemory> {
+    let reason = said(alloc, reason)?;
     Ok(format!(in alloc; "{reason}\n")?)
+}
+
+fn no_output(alloc: Global, error: io::Error) -> Result<String, AllocError> {
+    format!(in alloc; "cannot write standard output: {error}")
 }
 
 fn reason(alloc: Global, order: &Order<'_>, failure: Failure) -> Result<String, AllocError> {
@@ -87,7 +104,7 @@ fn reason(alloc: Global, order: &Order<'_>, failure: Failure) -> Result<String, 
             let file = file_of(alloc, order)?;
             format!(in alloc; "cannot read {file}: {error}")
         }
-        Failure::Write(error) => format!(in alloc; "cannot write standard output: {error}"),
+        Failure::Write(error) => no_output(alloc, error),
         Failure::Save(error) => {
             let file = file_of(alloc, order)?;
             format!(in alloc; "cannot save {file}: {error}")
@@ -99,6 +116,10 @@ fn reason(alloc: Global, order: &Order<'_>, failure: Failure) -> Result<String, 
             }
             Port::Any => format!(in alloc; "cannot listen on {address}: {error}"),
         },
+        Failure::Accept => String::from_str(
+            alloc,
+            "cannot accept connections any more; the log of --verbose has the system's error",
+        ),
         Failure::Reach(address, error) => format!(in alloc; "cannot reach {address}: {error}"),
         Failure::Lose(address, loss) => reason_of_loss(alloc, address, loss),
     }

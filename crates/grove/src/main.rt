@@ -50,7 +50,7 @@ fn main(rt: HostRuntime) -> ExitCode {
             Err(_) => report(Stop::Memory, &mut err),
         },
         Err(error) if error.kind() == ErrorKind::OutOfMemory => report(Stop::Memory, &mut err),
-        Err(_) => say_no_order(not_text(rt.alloc()), &mut out, &mut err),
+        Err(_) => say_no_order(rt.alloc(), not_text(rt.alloc()), &mut out, &mut err),
     };
     ExitCode::from(status)
 }

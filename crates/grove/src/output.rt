@@ -3,11 +3,10 @@ ghost use Rattle.std.specs.Io.KnownBytes.{Appends};
 ghost use Rattle.grove.specs.Answers.{printed, status_of, IsStopped};
 
 use crate::answer::{Answer, Stop};
-use crate::failure::{StreamErrors, reason_for};
+use crate::failure::Failure;
 use grove_base::Hint;
 use grove_serve::{Host, serve};
 use grove_session::{DeviceFault, Sink, write_whole};
-use grove_words::Invocation;
 use std::alloc::Global;
 
 /// Prints the answer, and gives its status. What a port is listened on for ends only where a device fails.
@@ -29,7 +28,7 @@ pub fn print<R: Host, O: Sink>(rt: &R, answer: Answer, out: &mut O) -> Result<u8
         Answer::Listen { line, service } => {
             tell(&line, out)?;
             serve(rt, service);
-            Err(Stop::Device(None))
+            Err(Failure::Accept.stop())
         }
     }
 }
@@ -57,17 +56,11 @@ pub fn add<E: Sink>(alloc: Global, hint: Option<Hint>, err: &mut E) {
     }
 }
 
-/// Says on standard error why there is no answer, after the system's reason where that is asked for and known.
-pub fn say_stop<E: Sink>(
-    alloc: Global,
-    why: Stop,
-    invocation: &Invocation<'_>,
-    streams: StreamErrors,
-    err: &mut E,
-) -> u8
+/// Says on standard error why there is no answer, after the line of the system's reason, if there is one.
+pub fn say_stop<E: Sink>(why: Stop, reason: Option<String>, err: &mut E) -> u8
     ensures { result ≡ 3 }
 {
-    if let Some(line) = reason_for(alloc, why, invocation, streams) {
+    if let Some(line) = reason {
         let _told = write_whole(err, line.as_bytes());
     }
     report(why, err)

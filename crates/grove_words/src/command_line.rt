@@ -42,14 +42,14 @@ fn invocation_among<'a>(alloc: Global, words: &'a [String]) -> Result<Invocation
     match matches.subcommand() {
         Some((word, given)) => Ok(Invocation {
             order: order_with(alloc, word, given)?,
-            explain: given.get_flag("explain"),
+            quiet: given.get_flag("quiet"),
         }),
         None => Ok(Invocation {
             order: Order::Do {
                 command: Command::Judge,
                 document: Document::StandardInput,
             },
-            explain: false,
+            quiet: false,
         }),
     }
 }

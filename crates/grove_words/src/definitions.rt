@@ -98,6 +98,7 @@ fn reading<'a>(
     clap::Command::new(alloc, name)
         .about(about)
         .arg(document)?
+        .arg(quiet(alloc))?
         .arg(explain(alloc))
 }
 
@@ -142,6 +143,7 @@ fn serving<'a>(
             port(alloc, "The port to listen on"),
             flag(alloc, "any-port", any_port),
             address(alloc, "bind", "The IP address to listen at"),
+            quiet(alloc),
             explain(alloc),
             workers(alloc),
             idle(alloc),
@@ -179,6 +181,7 @@ fn calling<'a>(
         .about(about)
         .arg(port(alloc, "The server's port").required(true))?
         .arg(address(alloc, "address", "The server's IP address"))?
+        .arg(quiet(alloc))?
         .arg(explain(alloc))
 }
 
@@ -187,9 +190,19 @@ fn document<'a>(alloc: Global) -> Arg<'a> {
     valued(alloc, "DOC", "tree", "DOC", help).required(true)
 }
 
+fn quiet<'a>(alloc: Global) -> Arg<'a> {
+    let help = "If a file, a port or a server fails, leave out the line that says why";
+    flag(alloc, "quiet", help)
+}
+
+/// What it asks for is done without it. It is taken so that words which have it stay right.
 fn explain<'a>(alloc: Global) -> Arg<'a> {
-    let help = "If a file or a port fails, print the system's reason on standard error";
-    flag(alloc, "explain", help)
+    flag(
+        alloc,
+        "explain",
+        "Say why something fails, as is done anyway",
+    )
+    .hide(true)
 }
 
 fn workers<'a>(alloc: Global) -> Arg<'a> {

@@ -2,11 +2,11 @@ ghost use Rattle.std.specs.Prelude.{◌≤◌};
 
 use std::net::{IpAddr, SocketAddr};
 
-/// What the words of a command line ask for, and whether the system's reason is told where a file or a port fails.
+/// What the words of a command line ask for, and whether it is left out why a file, a port or a server fails.
 #[derive(Drop)]
 pub struct Invocation<'a> {
     pub order: Order<'a>,
-    pub explain: bool,
+    pub quiet: bool,
 }
 
 /// What is to be done.
