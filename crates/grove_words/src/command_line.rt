@@ -10,30 +10,14 @@ use crate::togetherness::go_together;
 use clap::{ArgMatches, Error};
 use std::alloc::Global;
 
-/// What whoever names a file without a command is told.
-const FILE_TIP: &str = "\n  tip: a file comes after its command, as in 'grove judge FILE'\n";
-
 /// What the words after the program's name ask for, or what they are told. No words ask to judge standard input.
 pub fn order_of<'a>(alloc: Global, words: &'a [String]) -> Result<Invocation<'a>, NoOrder>
     ensures { IfErr result HasText }
 {
     match invocation_among(alloc, words) {
         Ok(invocation) => Ok(invocation),
-        Err(error) => Err(no_order(alloc, &error, tip_for(words))),
+        Err(error) => Err(no_order(alloc, &error, words)),
     }
-}
-
-/// What wrong words are told beside clap's text: where a file goes, if one stands in a command's place.
-fn tip_for(words: &[String]) -> &'static str {
-    match words.first() {
-        Some(word) if is_file_name(word) => FILE_TIP,
-        _ => "",
-    }
-}
-
-/// Whether a word that is no command is a file's name by its form.
-fn is_file_name(word: &str) -> bool {
-    !word.starts_with('-') && (word.contains('/') || word.contains('.'))
 }
 
 /// What clap finds in the words, or what they are told. A place may have what is no address.

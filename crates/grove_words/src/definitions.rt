@@ -1,4 +1,4 @@
-use clap::{Arg, ArgAction, value_parser};
+use clap::{Arg, ArgAction, ArgGroup, value_parser};
 use std::alloc::{AllocError, Global};
 
 /// The program's version.
@@ -9,6 +9,9 @@ const LONGEST_IDLE: i64 = 86_400;
 
 /// How many connections over HTTP are served at once at most.
 const MOST_HTTP_SEATS: i64 = 1_024;
+
+/// The forms of a log.
+static LOG_FORMS: [&str; 2] = ["text", "json"];
 
 /// The one definition of the command line.
 pub fn command_line<'a>(alloc: Global) -> Result<clap::Command<'a>, AllocError> {
@@ -152,7 +155,16 @@ fn serving<'a>(
             log(alloc),
             flag(alloc, "hints", hints),
             host(alloc),
-        ]?)
+        ]?)?
+        .group(listening(alloc)?)
+}
+
+/// One of the ways to say which port is listened on is needed.
+fn listening<'a>(alloc: Global) -> Result<ArgGroup<'a>, AllocError> {
+    let ways = ArgGroup::new(alloc, "listening")
+        .arg("port")?
+        .arg("any-port")?;
+    Ok(ways.required(true))
 }
 
 /// The command that asks the server at a port.
@@ -238,6 +250,8 @@ fn http_seats<'a>(alloc: Global) -> Arg<'a> {
 fn log<'a>(alloc: Global) -> Arg<'a> {
     let help = "The form of the log of --verbose: text or json; by default text";
     valued(alloc, "log", "log", "FORM", help)
+        .value_parser(LOG_FORMS.as_slice())
+        .hide_possible_values(true)
 }
 
 fn host<'a>(alloc: Global) -> Arg<'a> {

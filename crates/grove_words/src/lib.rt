@@ -15,4 +15,5 @@ mod no_order;
 mod options;
 mod order;
 mod places;
+mod tips;
 mod togetherness;

@@ -2,6 +2,7 @@ ghost use Rattle.std.specs.Prelude.{◌≢◌, [], IfOk, string_bytes};
 ghost use Rattle.grove_words.specs.NoOrders.{HasText, TellsWrong};
 
 use crate::definitions::command_named;
+use crate::tips::{said_plainly, tip_for};
 use clap::Error;
 use clap::error::ErrorKind;
 use std::alloc::{AllocError, Global};
@@ -31,7 +32,7 @@ fn not_text_lines(alloc: Global) -> Result<String, AllocError>
     ensures { IfOk result (λ lines. string_bytes lines ≢ []) }
 {
     let error = wrong(alloc, "", "an argument of the command line is not UTF-8")?;
-    lines_of(alloc, &error, "")
+    lines_of(alloc, &error, &[])
 }
 
 /// What the words of a command are told that clap takes, and that are no order all the same, with how the command is
@@ -40,14 +41,14 @@ pub fn wrong(alloc: Global, word: &str, message: &str) -> Result<Error, AllocErr
     command_named(alloc, word)?.error(ErrorKind::InvalidValue, message)
 }
 
-/// What clap says to words that are no order: the help that they ask for, or what is wrong with them, and then the tip.
-pub fn no_order(alloc: Global, error: &Error, tip: &str) -> NoOrder
+/// What clap says to words that are no order: the help that they ask for, or what is wrong with them, and then a tip.
+pub fn no_order(alloc: Global, error: &Error, words: &[String]) -> NoOrder
     ensures { HasText result }
 {
     if error.kind() == ErrorKind::OutOfMemory {
         return NoOrder::Memory;
     }
-    match lines_of(alloc, error, tip) {
+    match lines_of(alloc, error, words) {
         Ok(lines) => {
             if error.use_stderr() {
                 NoOrder::Wrong(lines)
@@ -59,10 +60,13 @@ pub fn no_order(alloc: Global, error: &Error, tip: &str) -> NoOrder
     }
 }
 
-/// The error's text with just one line end behind it, and then the tip.
-fn lines_of(alloc: Global, error: &Error, tip: &str) -> Result<String, AllocError>
+/// The error's text, said plainly and with just one line end behind it, and then the tip for the words, if there is
+/// one.
+fn lines_of(alloc: Global, error: &Error, words: &[String]) -> Result<String, AllocError>
     ensures { IfOk result (λ lines. string_bytes lines ≢ []) }
 {
     let text = format!(in alloc; "{error}")?;
+    let tip = tip_for(words, &text);
+    let text = said_plainly(alloc, &text)?;
     format!(in alloc; "{}\n{tip}", text.trim_end())
 }

@@ -1,12 +1,13 @@
 use crate::hosts::hosts_fit;
 use crate::no_order::wrong;
-use crate::order::LogForm;
 use clap::{ArgMatches, Error};
 use std::alloc::Global;
 
-const LOG_APART: &str = "'--log <FORM>' is 'text' or 'json', and needs '--verbose'";
+const LOG_APART: &str = "'--log <FORM>' needs '--verbose'";
 
-const HTTP_APART: &str = "'--http-seats <N>' and '--host <NAME>' need '--http <PORT>'";
+const SEATS_APART: &str = "'--http-seats <N>' needs '--http <PORT>'";
+
+const HOST_APART: &str = "'--host <NAME>' needs '--http <PORT>'";
 
 const NO_HOST_NAME: &str =
     "'--host <NAME>' is a name without a port, of letters, digits, '-', '.' and '_'";
@@ -26,30 +27,30 @@ pub fn go_together(alloc: Global, word: &str, given: &ArgMatches<'_>) -> Result<
 fn apart(word: &str, given: &ArgMatches<'_>) -> Option<&'static str> {
     match word {
         "tree" if given.get_flag("csv") && given.get_flag("parents") => Some(TREE_APART),
-        "serve" if !http_fits(given) => Some(HTTP_APART),
+        "serve" if !given.contains_id("http") => http_apart(given).or(serving_apart(given)),
         "serve" | "page" => serving_apart(given),
         _ => None,
     }
 }
 
+/// The option that is about HTTP, if one is given, where no port for HTTP is.
+fn http_apart(given: &ArgMatches<'_>) -> Option<&'static str> {
+    if given.contains_id("http-seats") {
+        Some(SEATS_APART)
+    } else if given.contains_id("host") {
+        Some(HOST_APART)
+    } else {
+        None
+    }
+}
+
 /// What is wrong with options of each command that serves.
 fn serving_apart(given: &ArgMatches<'_>) -> Option<&'static str> {
-    if !log_fits(given) {
+    if given.contains_id("log") && !given.get_flag("verbose") {
         Some(LOG_APART)
     } else if !hosts_fit(given) {
         Some(NO_HOST_NAME)
     } else {
         None
     }
-}
-
-/// Whether the form that is given for the log, if one is, is one, and a log is asked for.
-fn log_fits(given: &ArgMatches<'_>) -> bool {
-    !given.contains_id("log")
-        || (given.get_flag("verbose") && given.get_one::<LogForm>("log").is_some())
-}
-
-/// Whether options that are about HTTP come with a port for it.
-fn http_fits(given: &ArgMatches<'_>) -> bool {
-    given.contains_id("http") || !(given.contains_id("http-seats") || given.contains_id("host"))
 }
