@@ -37,6 +37,8 @@ AWAITED = {
     "audit": ("nodes", "jobs", "events"),
     "tree": (),
 }
+# What is said if no command is named.
+UNNAMED = b'hint: no command is named, so this is "judge"; "grove --help" lists the commands\n'
 # What is said before the system's reason.
 NO_READ, NO_WRITE = "cannot read standard input", "cannot write standard output"
 # If standard error fails too, nothing can be printed.
@@ -270,6 +272,9 @@ def terminal(program: str, tally: Tally) -> None:
         ran = typed(program, (command,), b"/\n" if command == "tree" else b"{}")
         is_well = (ran.hint + ran.err).startswith(awaited_by(command)) and ran.status == (0 if command == "tree" else 1)
         tally.note(command, None if is_well else f"wanted {awaited_by(command)!r}; came {ran}")
+    ran, wanted = typed(program, (), b"{}"), UNNAMED + awaited_by("judge")
+    is_well = ran.err.startswith(wanted) and (ran.status, ran.out) == (1, b"refused shape nodes\n")
+    tally.note("no words", None if is_well else f"wanted {wanted!r}; came {ran}")
     for asked in named_examples():
         tally.note(asked.name, asked.fault(typed(program, asked.words, b"")))
 

@@ -9,7 +9,7 @@ use crate::closed_streams::Placeholders;
 use crate::document::document_bytes;
 use crate::explained::Explained;
 use crate::failure::{StreamErrors, reason_for, reason_of_output};
-use crate::hinting::awaited_by;
+use crate::hinting::{awaited_by, command_lacks};
 use crate::output::{add, print, report, say_stop, tell};
 use crate::saving::save;
 use grove_serve::Host;
@@ -38,7 +38,7 @@ pub fn run_command<
     match order_of(rt.alloc(), words) {
         Ok(invocation) => {
             if is_typed {
-                invite(rt.alloc(), &invocation.order, err);
+                invite(rt.alloc(), words, &invocation.order, err);
             }
             carry_out(rt, &invocation, input, out, err)
         }
@@ -46,8 +46,11 @@ pub fn run_command<
     }
 }
 
-/// Says on standard error which document is to be typed, where one is.
-fn invite<E: Sink>(alloc: Global, order: &Order<'_>, err: &mut E) {
+/// Says on standard error which document is to be typed, where one is, and by which command if none is named.
+fn invite<E: Sink>(alloc: Global, words: &[String], order: &Order<'_>, err: &mut E) {
+    if words.is_empty() {
+        add(alloc, command_lacks(alloc), err);
+    }
     if let Order::Do {
         command,
         document: Document::StandardInput,

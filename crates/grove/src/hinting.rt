@@ -56,6 +56,15 @@ fn refusal_hint(
     }
 }
 
+/// That no command is named, and what is done then.
+pub fn command_lacks(alloc: Global) -> Option<Hint> {
+    let told = "no command is named, so this is \"judge\"; \"grove --help\" lists the commands";
+    match Hint::new(alloc, told) {
+        Ok(hint) => Some(hint),
+        Err(NoMemory) => None,
+    }
+}
+
 /// What a command's document is to be.
 pub fn awaited_by(alloc: Global, command: &Command<'_>) -> Option<Hint> {
     let awaited = match command {
