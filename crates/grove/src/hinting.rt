@@ -1,6 +1,7 @@
 use crate::answer::{Answer, Cause};
 use grove_base::{Hint, NoMemory};
-use grove_hint::{Asked, awaited, hint, oversight};
+use grove_hint::{Asked, awaited, hint, hint_of_no_table, oversight};
+use grove_table::TableFault;
 use grove_wire::{Fault, WireFault};
 use grove_words::Command;
 use serde_json::Value;
@@ -29,9 +30,11 @@ pub fn hint_beside(
                 ..
             },
             _,
-        ) => grove_table::hint(alloc, fault).map(|hint| Some(hint)),
+        ) => table_hint(alloc, bytes, fault).map(|hint| Some(hint)),
         (Answer::Done(_), Some(Value::String(_))) => Ok(None),
-        (Answer::Done(_), Some(document)) => oversight(alloc, asked_by(command), document),
+        (Answer::Done(_), Some(document)) => {
+            oversight(alloc, asked_by(command), bytes, document)
+        }
         _ => Ok(None),
     };
     match told {
@@ -50,9 +53,20 @@ fn refusal_hint(
 ) -> Result<Hint, NoMemory> {
     match (command, fault) {
         (Command::Tree { .. }, Fault::Wire(WireFault::Shape(_))) => {
-            Hint::new(alloc, "the table is not UTF-8")
+            match hint_of_no_table(alloc, bytes)? {
+                Some(hint) => Ok(hint),
+                None => Hint::new(alloc, "the table is not UTF-8"),
+            }
         }
         (command, fault) => hint(alloc, asked_by(command), bytes, document, fault),
+    }
+}
+
+/// Why a table is refused.
+fn table_hint(alloc: Global, bytes: &[u8], fault: &TableFault) -> Result<Hint, NoMemory> {
+    match hint_of_no_table(alloc, bytes)? {
+        Some(hint) => Ok(hint),
+        None => grove_table::hint(alloc, fault),
     }
 }
 

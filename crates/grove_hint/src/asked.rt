@@ -34,4 +34,17 @@ impl Asked {
             _ => &["version"],
         }
     }
+
+    /// The member of its document of this name, if it reads one.
+    pub(crate) fn read_member(self, name: &str) -> Option<&'static str> {
+        let (_, needed) = self.reads();
+        for names in [needed, self.may_read()] {
+            for known in names {
+                if *known == name {
+                    return Some(*known);
+                }
+            }
+        }
+        None
+    }
 }

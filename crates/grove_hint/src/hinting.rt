@@ -2,6 +2,7 @@ use crate::asked::Asked;
 use crate::forms::{items_of, number_of};
 use crate::likeness::stray_member;
 use crate::places::{Subject, Whole};
+use crate::repeats::{Repeated, repeated_in};
 use crate::sayings::Said;
 use crate::shown::{Listed, hint_that};
 use crate::syntax::{Input, NoJson};
@@ -30,9 +31,9 @@ pub fn hint(
         (Fault::Wire(WireFault::Limit(place)), _) if place.part == Part::Whole => {
             too_long(alloc, asked)
         }
-        (fault, Some(document)) => document_hint(alloc, asked, document, fault),
+        (fault, Some(document)) => document_hint(alloc, asked, bytes, document, fault),
         (fault, None) => match Value::from_slice(alloc, bytes) {
-            Ok(document) => document_hint(alloc, asked, &document, fault),
+            Ok(document) => document_hint(alloc, asked, bytes, &document, fault),
             Err(error) => NoJson::new(alloc, Input::Document, bytes, error).hint(),
         },
     }
@@ -54,6 +55,7 @@ fn too_long(alloc: Global, asked: Asked) -> Result<Hint, NoMemory> {
 fn document_hint(
     alloc: Global,
     asked: Asked,
+    bytes: &[u8],
     value: &Value,
     fault: Fault,
 ) -> Result<Hint, NoMemory> {
@@ -63,14 +65,31 @@ fn document_hint(
         value,
         tree: None,
     };
-    hint_that(alloc, &Refused { subject, fault })
+    let repeated = repeated_in(alloc, asked, bytes)?;
+    hint_that(
+        alloc,
+        &Refused {
+            subject,
+            fault,
+            repeated,
+        },
+    )
 }
 
 /// What a person is told of a document that is taken: of a member that nothing uses, if it resembles one that the
-/// command would use and that isn't there.
-pub fn oversight(alloc: Global, asked: Asked, document: &Value) -> Result<Option<Hint>, NoMemory> {
-    match stray_member(alloc, asked, document)? {
-        Some(stray) => Ok(Some(hint_that(alloc, &stray)?)),
+/// command would use and that isn't there, or else of one that stands twice. `bytes` are what the document was read
+/// from.
+pub fn oversight(
+    alloc: Global,
+    asked: Asked,
+    bytes: &[u8],
+    document: &Value,
+) -> Result<Option<Hint>, NoMemory> {
+    if let Some(stray) = stray_member(alloc, asked, document)? {
+        return Ok(Some(hint_that(alloc, &stray)?));
+    }
+    match repeated_in(alloc, asked, bytes)? {
+        Some(repeated) => Ok(Some(hint_that(alloc, &repeated)?)),
         None => Ok(None),
     }
 }
@@ -92,15 +111,21 @@ pub fn awaited(alloc: Global, asked: Asked) -> Result<Hint, NoMemory> {
 pub(crate) struct Refused<'v> {
     pub subject: Subject<'v>,
     pub fault: Fault,
+    /// A member that stands twice, which may be why.
+    pub repeated: Option<Repeated>,
 }
 
 impl Display for Refused<'_> {
     fn fmt<W: Write>(&self, f: &mut Formatter<W>) -> fmt::Result {
         self.subject.refused(f, self.fault)?;
         match (self.subject.whole, self.fault) {
-            (_, Fault::Wire(WireFault::Shape(_))) => Ok(()),
-            (Whole::Document(asked), _) => self.subject.stray(f, asked),
-            _ => Ok(()),
+            (_, Fault::Wire(WireFault::Shape(_))) => {}
+            (Whole::Document(asked), _) => self.subject.stray(f, asked)?,
+            _ => {}
+        }
+        match self.repeated {
+            Some(repeated) => write!(f, "; {repeated}"),
+            None => Ok(()),
         }
     }
 }

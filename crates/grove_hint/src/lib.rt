@@ -3,15 +3,18 @@
 
 pub use asked::Asked;
 pub use hinting::{awaited, hint, oversight};
+pub use kinds::hint_of_no_table;
 pub use session::hint_of_request;
 
 mod asked;
 mod differences;
 mod forms;
 mod hinting;
+mod kinds;
 mod likeness;
 mod paths;
 mod places;
+mod repeats;
 mod rules;
 mod sayings;
 mod session;

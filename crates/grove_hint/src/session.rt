@@ -93,8 +93,16 @@ impl Line<'_> {
             value,
             tree: self.tree,
         };
-        let fault = self.fault;
-        write!(f, "{}", Refused { subject, fault })
+        let (fault, repeated) = (self.fault, None);
+        write!(
+            f,
+            "{}",
+            Refused {
+                subject,
+                fault,
+                repeated
+            }
+        )
     }
 }
 

@@ -1,4 +1,5 @@
 //! Why bytes are no JSON: the kit's reader tells where they stop being JSON, and serde_json what may come there.
+use crate::kinds::{Mistaken, kind_for_json};
 use crate::shown::{Quoted, hint_that};
 use crate::stops::{is_too_large, may_follow, stop_in};
 use grove_base::{Hint, NoMemory};
@@ -18,9 +19,10 @@ static NEXT: [(&str, &str); 6] = [
 ];
 
 /// What the bytes are.
-#[derive(Clone, Copy)]
+#[derive(Clone, Copy, Debug, PartialEq, Eq)]
 pub(crate) enum Input {
     Document,
+    Table,
     Line,
 }
 
@@ -28,6 +30,7 @@ impl Display for Input {
     fn fmt<W: Write>(&self, f: &mut Formatter<W>) -> fmt::Result {
         f.write_str(match self {
             Input::Document => "the document",
+            Input::Table => "the table",
             Input::Line => "the line",
         })
     }
@@ -83,7 +86,7 @@ impl<'b> NoJson<'b> {
         let column = last.chars().count().saturating_add(1);
         match self.input {
             Input::Line => write!(f, "column {column}: "),
-            Input::Document => write!(f, "line {line}, column {column}: "),
+            Input::Document | Input::Table => write!(f, "line {line}, column {column}: "),
         }
     }
 }
@@ -91,6 +94,9 @@ impl<'b> NoJson<'b> {
 impl Display for NoJson<'_> {
     fn fmt<W: Write>(&self, f: &mut Formatter<W>) -> fmt::Result {
         let input = self.input;
+        if let Some(kind) = kind_for_json(input, self.bytes) {
+            return write!(f, "{}", Mistaken { input, kind });
+        }
         if self.bytes.starts_with(b"\xef\xbb\xbf") {
             return write!(
                 f,
@@ -209,7 +215,7 @@ impl Stop<'_> {
     /// What is said of the end of the input.
     fn end(self) -> &'static str {
         match self.input {
-            Input::Document => "",
+            Input::Document | Input::Table => "",
             Input::Line => "; a request is one line",
         }
     }
