@@ -23,7 +23,12 @@ from sweeps.ten_lines import TREE
 TRIED = "runs of the client that saves"
 SAVED, REFUSED = Ran(0, b"", b""), 1
 OLD = b"what was there before\n"
-NOT_HTTP = Ran(REFUSED, b"refused not-http\n", b"")
+NOT_HTTP = Ran(
+    REFUSED,
+    b"refused not-http\n",
+    b"",
+    b'hint: what came is no response of HTTP; save asks "grove page" at its port, or "grove serve" at that of --http\n',
+)
 # What no response begins with.
 NO_RESPONSES = (
     *(b"x", b"\n", 9000 * b"x", b'{"error":"shape"}\n'),
@@ -309,8 +314,10 @@ def given_up(program: str, room: str, surroundings: dict[str, str], said: bytes,
 def note_refused(program: str, port: int, file: Path, what: str, tally: Tally) -> None:
     """What comes is refused soon, and the file is as it was."""
     began = time.monotonic()
-    tally.compare(what, save(program, port, file), NOT_HTTP)
+    ran = save(program, port, file)
     took = time.monotonic() - began
+    tally.compare(what, ran, NOT_HTTP)
+    tally.note(f"{what}, its hint", None if ran.hint == NOT_HTTP.hint else f"came {ran.hint!r}")
     tally.note("how soon", None if took < SOON else f"{what}: it took {took:.1f} s")
     note_folder(tally, "as it was", file, OLD)
 

@@ -105,7 +105,7 @@ fn obey<
     match order {
         Order::Do { command, document } => do_command(rt, command, *document, input, out, err),
         Order::Ask { server, lines } => ask(rt, *server, lines, input, out, err),
-        Order::Save { server, file } => save(rt, *server, file, out),
+        Order::Save { server, file } => save(rt, *server, file, out, err),
     }
 }
 

@@ -5,11 +5,22 @@ use std::alloc::{AllocError, Global};
 /// How the first line of a response begins.
 pub const HTTP_BEGINS: &str = "HTTP/1.";
 
+/// What a person is told of each refusal.
+const NOT_HTTP: &str =
+    "what came is no response of HTTP; save asks \"grove page\" at its port, or \"grove serve\" at that of --http";
+
+const NO_DOCUMENT: &str =
+    "the server answers by this status and sends no document; is it \"grove page\", or \"grove serve\" with --http?";
+
+const BAD_LENGTH: &str = "the response says no length of its document, or another one than came";
+
+const NO_TREE: &str = "what the server sent is no document with a tree";
+
 /// Why a response has no document.
 #[derive(Drop)]
 pub enum NoDocument {
-    /// It is another response, or none of HTTP: what is told of it.
-    Refused(String),
+    /// It is another response, or none of HTTP: the fault, and what a person is told of it.
+    Refused { fault: String, why: &'static str },
     /// It ends before its length.
     Cut,
     /// A growth was refused.
@@ -25,18 +36,18 @@ impl From<AllocError> for NoDocument {
 /// The document that is the body of a response.
 pub fn document_in<'a>(alloc: Global, response: &'a [u8]) -> Result<&'a [u8], NoDocument> {
     let Some((head, body)) = parts_of(response) else {
-        return Err(refused(alloc, "not-http"));
+        return Err(refused(alloc, "not-http", NOT_HTTP));
     };
     let Some(status) = status_in(head) else {
-        return Err(refused(alloc, "not-http"));
+        return Err(refused(alloc, "not-http", NOT_HTTP));
     };
     if status != "200" {
-        return Err(NoDocument::Refused(format!(in alloc; "status {status}")?));
+        return Err(refused(alloc, &format!(in alloc; "status {status}")?, NO_DOCUMENT));
     }
     match length_in(head) {
         Some(length) if length == body.len() => {}
         Some(length) if length > body.len() => return Err(NoDocument::Cut),
-        _ => return Err(refused(alloc, "bad-length")),
+        _ => return Err(refused(alloc, "bad-length", BAD_LENGTH)),
     }
     see_document(alloc, body)?;
     Ok(body)
@@ -56,14 +67,17 @@ fn see_document(alloc: Global, body: &[u8]) -> Result<(), NoDocument> {
 
 fn no_document(alloc: Global, fault: WireFault) -> NoDocument {
     match Refusal::of_wire(alloc, &fault) {
-        Refusal::Fault { text, .. } => NoDocument::Refused(text.into_string()),
+        Refusal::Fault { text, .. } => NoDocument::Refused {
+            fault: text.into_string(),
+            why: NO_TREE,
+        },
         Refusal::Memory => NoDocument::Memory,
     }
 }
 
-fn refused(alloc: Global, fault: &str) -> NoDocument {
+fn refused(alloc: Global, fault: &str, why: &'static str) -> NoDocument {
     match String::from_str(alloc, fault) {
-        Ok(fault) => NoDocument::Refused(fault),
+        Ok(fault) => NoDocument::Refused { fault, why },
         Err(_) => NoDocument::Memory,
     }
 }

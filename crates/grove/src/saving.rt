@@ -6,11 +6,12 @@ use crate::answer::Stop;
 use crate::explained::Explained;
 use crate::failure::Failure;
 use crate::file_source::FileSource;
-use crate::output::tell;
+use crate::output::{add, tell};
 use crate::replacing::replace;
 use crate::response::{NoDocument, document_in};
 use crate::response_reader::ResponseReader;
 use crate::server::{Loss, loss_by};
+use grove_base::Hint;
 use grove_serve::Host;
 use grove_session::{ReadFault, Sink, WriterSink, read_whole, write_whole};
 use std::alloc::Global;
@@ -25,12 +26,13 @@ const MOST_BYTES: usize = 4_194_304 + 65_536;
 const MOST_SECONDS: u64 = 60;
 
 /// Saves the document of the server at the address in the file, which is replaced in one step. Gives the status of the
-/// process: 0, or 1 if what the server sends is no document, and the file is as it was.
-pub fn save<R: Host + Files + Net<Listener = TcpListener, Stream = TcpStream>, O: Sink>(
+/// process: 0, or 1 if what the server sends is no document, and the file is as it was. Then a hint may go to `err`.
+pub fn save<R: Host + Files + Net<Listener = TcpListener, Stream = TcpStream>, O: Sink, E: Sink>(
     rt: &R,
     server: SocketAddr,
     file: &str,
     out: &mut O,
+    err: &mut E,
 ) -> Result<u8, Stop>
     ensures saved { IfOk result
         (λ status. ((status ≡ 0) × Keeps (O.contents out.old) (O.contents out.new))
@@ -45,8 +47,9 @@ pub fn save<R: Host + Files + Net<Listener = TcpListener, Stream = TcpStream>, O
             replace(rt, alloc, file, document)?;
             Ok(0)
         }
-        Err(NoDocument::Refused(fault)) => {
+        Err(NoDocument::Refused { fault, why }) => {
             tell(&format!(in alloc; "refused {fault}\n")?, out)?;
+            add(alloc, Hint::new(alloc, why).ok(), err);
             Ok(1)
         }
         Err(NoDocument::Cut) => Err(Failure::Lose(server, Loss::Closed).stop()),
