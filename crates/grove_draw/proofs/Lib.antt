@@ -1,2 +1,3 @@
+pub mod WrittenRows
 pub mod LockedNodes
 pub mod BarsBelow

@@ -1,2 +1,4 @@
 pub mod Pictures
 pub mod Bars
+pub mod Writings
+pub mod Scales

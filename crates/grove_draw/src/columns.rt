@@ -1,3 +1,6 @@
+ghost use Rattle.std.specs.Prelude.{◌≡◌};
+ghost use Rattle.grove_draw.specs.Scales.{end_of, start_of};
+
 use grove_access::Access;
 use std::alloc::{AllocError, Global};
 
@@ -38,7 +41,9 @@ impl Columns {
     }
 
     /// Where the access begins, or the last one ends.
-    pub fn start(&self, access: usize) -> usize {
+    pub fn start(&self, access: usize) -> usize
+        ensures { result ≡ start_of self.now access }
+    {
         match self.starts.get(access) {
             Some(start) => *start,
             None => self.end(),
@@ -46,7 +51,9 @@ impl Columns {
     }
 
     /// Where the last access ends.
-    pub fn end(&self) -> usize {
+    pub fn end(&self) -> usize
+        ensures { result ≡ end_of self.now }
+    {
         self.starts.last().copied().unwrap_or(0)
     }
 

@@ -1,4 +1,5 @@
-ghost use Rattle.std.specs.Prelude.{◌≡◌, ◌-◌, option_map};
+ghost use Rattle.std.specs.Prelude.{◌≡◌, ◌-◌, IfOk, option_map, string_bytes};
+ghost use Rattle.grove_draw.specs.Writings.{IsWritten};
 
 use crate::Picture;
 use crate::svg::svg;
@@ -33,11 +34,13 @@ impl Drawing {
         }
     }
 
-    /// Writes the drawing. What it looks like is no part of the contract.
-    pub fn written(&self, alloc: Global, form: Form) -> Result<String, NoMemory> {
-        Ok(match form {
-            Form::Svg => svg(alloc, self)?,
-            Form::Text => text(alloc, self)?,
-        })
+    /// Writes the drawing.
+    pub fn written(&self, alloc: Global, form: Form) -> Result<String, NoMemory>
+        ensures { IfOk result (λ text. IsWritten form self.now (string_bytes text)) }
+    {
+        match form {
+            Form::Svg => Ok(svg(alloc, self)?),
+            Form::Text => Ok(text(alloc, self)?),
+        }
     }
 }

@@ -1,5 +1,10 @@
+ghost use Rattle.std.specs.Prelude.{◌≡◌, ◌<◌, ◌-◌, IfOk, length, slice_get, Some, string_bytes};
+ghost use Rattle.grove_draw.specs.declared.bar.Bar.{Bar};
+ghost use Rattle.grove_draw.specs.Writings.{AreWritten, IsOwn, IsRowHead, IsShape, IsSvg, IsSvgPicture, IsSvgRow};
+ghost use Rattle.grove_draw.specs.Scales.{x_of};
+
 use crate::columns::{Columns, Widths};
-use crate::escaping::push_escaped;
+use crate::escaping::{escaped, push_escaped};
 use crate::words::{depth_below, name_of, path_in, push_cost, push_length, push_number, word_of};
 use crate::{Bar, Drawing, Picture};
 use std::alloc::{AllocError, Global};
@@ -55,23 +60,53 @@ struct Frame {
 }
 
 /// The drawing as one SVG document.
-pub fn svg(alloc: Global, drawing: &Drawing) -> Result<String, AllocError> {
+pub fn svg(alloc: Global, drawing: &Drawing) -> Result<String, AllocError>
+    ensures { IfOk result (λ text. IsSvg drawing.now (string_bytes text)) }
+{
     let frame = Frame::new(alloc, drawing)?;
-    let mut body = String::new(alloc);
-    let mut y = MARGIN;
-    if let Some(own) = &drawing.own {
-        y = frame.push_picture(&mut body, "The document&apos;s plan", own, y)?;
-    }
-    y = frame.push_picture(&mut body, "The settled plan", &drawing.settled, y)?;
+    let top = match &drawing.own {
+        Some(own) => below_picture(own, MARGIN),
+        None => MARGIN,
+    };
+    let own = frame.own(alloc, drawing)?;
+    let settled = frame.picture(alloc, "The settled plan", &drawing.settled, top)?;
+    let end = end_of(alloc, drawing, below_picture(&drawing.settled, top))?;
+    let head = frame.head(alloc, end.below)?;
+    let text = end.text;
+    format!(in alloc; "<svg {head}{own}{settled}{text}</svg>\n")
+}
+
+/// What stands below the pictures, and where it ends.
+#[derive(Drop)]
+struct End {
+    text: String,
+    below: usize,
+}
+
+/// What the settled plan saves, and the accesses.
+fn end_of(alloc: Global, drawing: &Drawing, top: usize) -> Result<End, AllocError> {
+    let mut text = String::new(alloc);
+    let mut below = top;
     if let Some(saved) = drawing.saved() {
-        y = push_saved(&mut body, saved, y)?;
+        below = push_saved(&mut text, saved, below)?;
     }
-    y = push_accesses(&mut body, &drawing.settled, y)?;
-    let mut out = String::new(alloc);
-    frame.push_head(&mut out, y)?;
-    out.push_str(&body)?;
-    out.push_str("</svg>\n")?;
-    Ok(out)
+    below = push_accesses(&mut text, &drawing.settled, below)?;
+    Ok(End { text, below })
+}
+
+/// Where the next thing may begin below a picture.
+fn below_picture(picture: &Picture, top: usize) -> usize {
+    let rows = picture.bars.len().saturating_mul(ROW);
+    rows_top(top).saturating_add(rows).saturating_add(ROW)
+}
+
+/// Where the scale of a picture stands, and where its rows begin.
+fn scale_top(top: usize) -> usize {
+    top.saturating_add(40)
+}
+
+fn rows_top(top: usize) -> usize {
+    scale_top(top).saturating_add(8)
 }
 
 impl Frame {
@@ -93,46 +128,85 @@ impl Frame {
     }
 
     /// Where a slot begins.
-    fn x_of(&self, slot: usize) -> usize {
+    fn x_of(&self, slot: usize) -> usize
+        ensures { result ≡ x_of self.now slot }
+    {
         self.left.saturating_add(self.columns.start(slot))
     }
 
-    fn push_head(&self, out: &mut String, height: usize) -> Result<(), AllocError> {
+    fn head(&self, alloc: Global, height: usize) -> Result<String, AllocError> {
         let width = self.right.saturating_add(230).max(640);
-        write!(
-            out,
-            "<svg xmlns=\"http://www.w3.org/2000/svg\" width=\"{width}\" "
+        let mut head = format!(in alloc;
+            "xmlns=\"http://www.w3.org/2000/svg\" width=\"{width}\" "
         )?;
-        writeln!(out, "height=\"{height}\" viewBox=\"0 0 {width} {height}\">")?;
-        out.push_str(STYLE)?;
-        out.push_str("<rect class=\"paper\" width=\"100%\" height=\"100%\"/>\n")
+        writeln!(
+            head,
+            "height=\"{height}\" viewBox=\"0 0 {width} {height}\">"
+        )?;
+        head.push_str(STYLE)?;
+        head.push_str("<rect class=\"paper\" width=\"100%\" height=\"100%\"/>\n")?;
+        Ok(head)
     }
 
-    /// A picture below its title and its scale. Gives where the next thing may begin.
-    fn push_picture(
+    /// The picture of the document's plan, if it has one.
+    fn own(&self, alloc: Global, drawing: &Drawing) -> Result<String, AllocError>
+        ensures { IfOk result (λ text. IsOwn (IsSvgPicture (x_of self.now)) drawing.now.own (string_bytes text)) }
+    {
+        match &drawing.own {
+            Some(own) => self.picture(alloc, "The document&apos;s plan", own, MARGIN),
+            None => Ok(String::new(alloc)),
+        }
+    }
+
+    /// A picture below its title and its scale.
+    fn picture(
         &self,
-        out: &mut String,
+        alloc: Global,
         title: &str,
         picture: &Picture,
         top: usize,
-    ) -> Result<usize, AllocError> {
+    ) -> Result<String, AllocError>
+        ensures { IfOk result (λ text. IsSvgPicture (x_of self.now) picture.now (string_bytes text)) }
+    {
+        let cost = picture.cost;
+        let scale = self.scale(alloc, title, picture, top)?;
+        let rows = self.rows(alloc, picture, rows_top(top))?;
+        format!(in alloc; "<g class=\"plan\" data-cost=\"{cost}\">\n{scale}{rows}</g>\n")
+    }
+
+    /// The title of a picture, and its scale.
+    fn scale(
+        &self,
+        alloc: Global,
+        title: &str,
+        picture: &Picture,
+        top: usize,
+    ) -> Result<String, AllocError> {
         let cost = picture.cost;
         let y = top.saturating_add(14);
-        writeln!(out, "<g class=\"plan\" data-cost=\"{cost}\">")?;
+        let end = rows_top(top).saturating_add(picture.bars.len().saturating_mul(ROW));
+        let mut scale = String::new(alloc);
         writeln!(
-            out,
+            scale,
             "<text class=\"title\" x=\"{MARGIN}\" y=\"{y}\">{title}: cost {cost}</text>"
         )?;
-        let scale = y.saturating_add(26);
-        let mut row = scale.saturating_add(8);
-        let rows = picture.bars.len().saturating_mul(ROW);
-        self.push_scale(out, picture, scale, row.saturating_add(rows))?;
-        for (place, bar) in picture.bars.iter().enumerate() {
-            self.push_row(out, picture, bar, place == 0, row)?;
-            row = row.saturating_add(ROW);
+        self.push_scale(&mut scale, picture, scale_top(top), end)?;
+        Ok(scale)
+    }
+
+    /// The rows of a picture's bars.
+    fn rows(&self, alloc: Global, picture: &Picture, top: usize) -> Result<String, AllocError>
+        ensures { IfOk result (λ text. AreWritten (IsSvgRow (x_of self.now)) picture.now.bars.items
+            (string_bytes text)) }
+    {
+        let mut rows = String::new(alloc);
+        let mut y = top;
+        for place in 0..picture.bars.len() {
+            let row = self.row(alloc, picture, place, y)?;
+            rows.push_str(&row)?;
+            y = y.saturating_add(ROW);
         }
-        out.push_str("</g>\n")?;
-        Ok(row.saturating_add(ROW))
+        Ok(rows)
     }
 
     /// The names of the columns, and a line for each slot at which an access begins.
@@ -170,34 +244,71 @@ impl Frame {
         Ok(())
     }
 
-    /// The row of a node: its name, its weight, its bar, and what it costs.
-    fn push_row(
+    /// The row of a bar: its name, its weight, the bar, and what it costs.
+    fn row(
         &self,
-        out: &mut String,
+        alloc: Global,
+        picture: &Picture,
+        place: usize,
+        y: usize,
+    ) -> Result<String, AllocError>
+        requires { place < length picture.now.bars.items }
+        ensures { IfOk result (λ text. (bar : Bar) × (slice_get picture.now.bars.items place ≡ Some bar)
+            × IsSvgRow (x_of self.now) bar (string_bytes text)) }
+    {
+        let bar = &picture.bars[place];
+        let head = row_head(alloc, bar)?;
+        let label = self.label(alloc, picture, bar, place == 0, y)?;
+        let shape = self.shape(alloc, bar, y)?;
+        let rest = self.rest(alloc, picture, bar, y)?;
+        format!(in alloc; "{head}{label}{shape}{rest}</g>\n")
+    }
+
+    /// What is known of a bar, its name and its weight.
+    fn label(
+        &self,
+        alloc: Global,
         picture: &Picture,
         bar: &Bar,
         first: bool,
         y: usize,
-    ) -> Result<(), AllocError> {
+    ) -> Result<String, AllocError> {
         let base = y.saturating_add(16);
         let indent = depth_below(picture, bar).saturating_mul(INDENT);
         let x = MARGIN.saturating_add(indent);
-        push_row_head(out, bar)?;
-        write!(out, "<text x=\"{x}\" y=\"{base}\">")?;
-        push_escaped(out, name_of(bar, first))?;
         let weights = self.weights;
         let weight = bar.weight;
+        let lock = bar.lock;
+        let release = bar.release;
+        let path = escaped(alloc, &bar.path)?;
+        let name = escaped(alloc, name_of(bar, first))?;
+        let mut label = format!(in alloc;
+            "<title>{path}: locked before access {lock}, released before access {release}</title>\n"
+        )?;
+        write!(label, "<text x=\"{x}\" y=\"{base}\">{name}")?;
         writeln!(
-            out,
+            label,
             "</text><text class=\"end\" x=\"{weights}\" y=\"{base}\">{weight}</text>"
         )?;
-        self.push_bar(out, bar, y)?;
-        self.push_works(out, picture, bar, y)?;
+        Ok(label)
+    }
+
+    /// What is done to the bar's node, and what it costs.
+    fn rest(
+        &self,
+        alloc: Global,
+        picture: &Picture,
+        bar: &Bar,
+        y: usize,
+    ) -> Result<String, AllocError> {
+        let base = y.saturating_add(16);
         let costs = self.right.saturating_add(28);
-        let held = self.held(bar);
-        write!(out, "<text x=\"{costs}\" y=\"{base}\">")?;
-        push_cost(out, bar, held, "×")?;
-        out.push_str("</text></g>\n")
+        let mut rest = String::new(alloc);
+        self.push_works(&mut rest, picture, bar, y)?;
+        write!(rest, "<text x=\"{costs}\" y=\"{base}\">")?;
+        push_cost(&mut rest, bar, self.held(bar), "×")?;
+        rest.push_str("</text>")?;
+        Ok(rest)
     }
 
     /// For how many slots the bar lasts.
@@ -207,17 +318,19 @@ impl Frame {
     }
 
     /// The bar; a stroke where the node is let go in the slot of its lock.
-    fn push_bar(&self, out: &mut String, bar: &Bar, y: usize) -> Result<(), AllocError> {
+    fn shape(&self, alloc: Global, bar: &Bar, y: usize) -> Result<String, AllocError>
+        ensures { IfOk result (λ text. IsShape (x_of self.now bar.now.lock)
+            (x_of self.now bar.now.release - x_of self.now bar.now.lock) (string_bytes text)) }
+    {
         let x = self.x_of(bar.lock as usize);
         let width = self.x_of(bar.release as usize).saturating_sub(x);
         let top = y.saturating_add(3);
         let end = y.saturating_add(21);
         if width == 0 {
-            return writeln!(out, "<path class=\"stroke\" d=\"M{x} {top}V{end}\"/>");
+            return format!(in alloc; "<path class=\"stroke\" d=\"M{x} {top}V{end}\"/>\n");
         }
-        writeln!(
-            out,
-            "<rect class=\"bar\" x=\"{x}\" y=\"{top}\" width=\"{width}\" height=\"18\"/>"
+        format!(in alloc;
+            "<rect class=\"bar\" x=\"{x}\" y=\"{top}\" width=\"{width}\" height=\"18\"/>\n"
         )
     }
 
@@ -240,22 +353,16 @@ impl Frame {
     }
 }
 
-/// The beginning of a row, with what there is to be known of it.
-fn push_row_head(out: &mut String, bar: &Bar) -> Result<(), AllocError> {
+/// The beginning of a row, which tells of its bar.
+fn row_head(alloc: Global, bar: &Bar) -> Result<String, AllocError>
+    ensures { IfOk result (λ text. IsRowHead bar.now (string_bytes text)) }
+{
     let lock = bar.lock;
     let release = bar.release;
     let cost = bar.cost;
-    out.push_str("<g class=\"row\" data-node=\"")?;
-    push_escaped(out, &bar.path)?;
-    write!(
-        out,
-        "\" data-lock=\"{lock}\" data-release=\"{release}\" data-cost=\"{cost}\">"
-    )?;
-    out.push_str("<title>")?;
-    push_escaped(out, &bar.path)?;
-    writeln!(
-        out,
-        ": locked before access {lock}, released before access {release}</title>"
+    let path = escaped(alloc, &bar.path)?;
+    format!(in alloc;
+        "<g class=\"row\" data-node=\"{path}\" data-lock=\"{lock}\" data-release=\"{release}\" data-cost=\"{cost}\">"
     )
 }
 

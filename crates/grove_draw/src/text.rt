@@ -1,5 +1,9 @@
+ghost use Rattle.std.specs.Prelude.{◌≡◌, ◌<◌, IfOk, codes, length, slice_get, Some, string_bytes};
+ghost use Rattle.grove_draw.specs.declared.bar.Bar.{Bar};
+ghost use Rattle.grove_draw.specs.Writings.{AreWritten, IsOwn, IsText, IsTextPicture, IsTextRow};
+
 use crate::columns::{Columns, Widths};
-use crate::words::{depth_below, name_of, path_in, push_cost, push_length, push_number, word_of};
+use crate::words::{depth_below, name_of, path_in, push_length, push_number, word_of};
 use crate::{Bar, Drawing, Picture};
 use grove_access::Access;
 use std::alloc::{AllocError, Global};
@@ -11,22 +15,35 @@ const NAMES: usize = 30;
 const ACCESSES: usize = 64;
 
 /// The drawing for a terminal: no row is longer than some 120 letters.
-pub fn text(alloc: Global, drawing: &Drawing) -> Result<String, AllocError> {
-    let mut out = String::new(alloc);
+pub fn text(alloc: Global, drawing: &Drawing) -> Result<String, AllocError>
+    ensures { IfOk result (λ text. IsText drawing.now (string_bytes text)) }
+{
     let columns = columns_of(alloc, &drawing.settled.accesses)?;
-    if let Some(own) = &drawing.own {
-        let cost = own.cost;
-        writeln!(out, "the document's plan: cost {cost}")?;
-        push_picture(&mut out, own, &columns)?;
+    let own = own_text(alloc, drawing, &columns)?;
+    let settled = titled(alloc, "the settled plan", &drawing.settled, &columns)?;
+    let end = end_of(alloc, drawing)?;
+    format!(in alloc; "{own}{settled}{end}")
+}
+
+/// The picture of the document's plan, if it has one.
+fn own_text(alloc: Global, drawing: &Drawing, columns: &Columns) -> Result<String, AllocError>
+    ensures { IfOk result (λ text. IsOwn (IsTextPicture (codes "the document's plan")) drawing.now.own
+        (string_bytes text)) }
+{
+    match &drawing.own {
+        Some(own) => titled(alloc, "the document's plan", own, columns),
+        None => Ok(String::new(alloc)),
     }
-    let cost = drawing.settled.cost;
-    writeln!(out, "the settled plan: cost {cost}")?;
-    push_picture(&mut out, &drawing.settled, &columns)?;
+}
+
+/// What the settled plan saves, and the accesses.
+fn end_of(alloc: Global, drawing: &Drawing) -> Result<String, AllocError> {
+    let mut end = String::new(alloc);
     if let Some(saved) = drawing.saved() {
-        writeln!(out, "saved: {saved}\n")?;
+        writeln!(end, "saved: {saved}\n")?;
     }
-    push_accesses(&mut out, &drawing.settled)?;
-    Ok(out)
+    push_accesses(&mut end, &drawing.settled)?;
+    Ok(end)
 }
 
 /// The columns of the accesses: of a few, each has room for its word.
@@ -41,22 +58,89 @@ fn columns_of(alloc: Global, accesses: &[Access]) -> Result<Columns, AllocError>
     Columns::new(alloc, accesses, widths)
 }
 
-fn push_picture(out: &mut String, picture: &Picture, columns: &Columns) -> Result<(), AllocError> {
+/// A picture below its title and its scale.
+fn titled(
+    alloc: Global,
+    title: &str,
+    picture: &Picture,
+    columns: &Columns,
+) -> Result<String, AllocError>
+    ensures { IfOk result (λ text. IsTextPicture title.now picture.now (string_bytes text)) }
+{
+    let cost = picture.cost;
     let names = names_width(picture);
-    push_padded(out, "node", names)?;
-    out.push_str(" weight ")?;
-    push_times(out, picture, columns)?;
-    for (place, bar) in picture.bars.iter().enumerate() {
-        push_name(out, picture, bar, place == 0, names)?;
-        push_weight(out, bar)?;
-        push_bar(out, picture, bar, columns)?;
-        let held = columns
-            .time(bar.release as usize)
-            .saturating_sub(columns.time(bar.lock as usize));
-        push_cost(out, bar, held, "x")?;
-        out.push('\n')?;
+    let scale = scale_of(alloc, picture, names, columns)?;
+    let rows = rows_of(alloc, picture, names, columns)?;
+    format!(in alloc; "{title}: cost {cost}\n{scale}{rows}\n")
+}
+
+/// The names of the columns, and the slots at which the accesses begin.
+fn scale_of(
+    alloc: Global,
+    picture: &Picture,
+    names: usize,
+    columns: &Columns,
+) -> Result<String, AllocError> {
+    let mut scale = String::new(alloc);
+    push_padded(&mut scale, "node", names)?;
+    scale.push_str(" weight ")?;
+    push_times(&mut scale, picture, columns)?;
+    Ok(scale)
+}
+
+/// The rows of a picture's bars.
+fn rows_of(
+    alloc: Global,
+    picture: &Picture,
+    names: usize,
+    columns: &Columns,
+) -> Result<String, AllocError>
+    ensures { IfOk result (λ text. AreWritten IsTextRow picture.now.bars.items (string_bytes text)) }
+{
+    let mut rows = String::new(alloc);
+    for place in 0..picture.bars.len() {
+        let row = row_of(alloc, picture, place, names, columns)?;
+        rows.push_str(&row)?;
     }
-    out.push('\n')
+    Ok(rows)
+}
+
+/// The row of a bar: its name, its weight, the bar, and what it costs.
+fn row_of(
+    alloc: Global,
+    picture: &Picture,
+    place: usize,
+    names: usize,
+    columns: &Columns,
+) -> Result<String, AllocError>
+    requires { place < length picture.now.bars.items }
+    ensures { IfOk result (λ text. (bar : Bar) × (slice_get picture.now.bars.items place ≡ Some bar)
+        × IsTextRow bar (string_bytes text)) }
+{
+    let bar = &picture.bars[place];
+    let drawn = drawn_of(alloc, picture, bar, place == 0, names, columns)?;
+    let weight = bar.weight;
+    let cost = bar.cost;
+    let held = columns
+        .time(bar.release as usize)
+        .saturating_sub(columns.time(bar.lock as usize));
+    format!(in alloc; "{drawn}{weight} x {held} = {cost}\n")
+}
+
+/// The name of a bar, its weight, and the bar.
+fn drawn_of(
+    alloc: Global,
+    picture: &Picture,
+    bar: &Bar,
+    first: bool,
+    names: usize,
+    columns: &Columns,
+) -> Result<String, AllocError> {
+    let mut drawn = String::new(alloc);
+    push_name(&mut drawn, picture, bar, first, names)?;
+    push_weight(&mut drawn, bar)?;
+    push_bar(&mut drawn, picture, bar, columns)?;
+    Ok(drawn)
 }
 
 /// How wide the names of a picture are.

@@ -1,1 +1,6 @@
 pub mod Lines
+pub mod LookedAt
+pub mod PathNames
+pub mod RowRules
+pub mod TextRefusals
+pub mod SpareLines

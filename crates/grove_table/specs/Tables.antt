@@ -1,6 +1,6 @@
 -- A table of a tree: lines of a path, a weight and a value; and the trees with records that are of a table.
-use Rattle.std.specs.Prelude.{◌≡◌, ◌≢◌, ◌≤◌, ◌<◌, ◌⊎◌, ℕ, ℤ, pos, true, List, [], ◌∷◌, length, slice_get, Option}
-use Rattle.std.specs.Prelude.{None, Some, unwrap_or, string_bytes, codes}
+use Rattle.std.specs.Prelude.{◌≡◌, ◌≢◌, ◌≤◌, ◌<◌, ◌⊎◌, ℕ, ℤ, pos, true, List, [], ◌∷◌, ◌++◌, length, slice_get}
+use Rattle.std.specs.Prelude.{Some, unwrap_or, string_bytes, codes}
 use Rattle.std.specs.List.{AllZip}
 use Rattle.std.specs.Str.Parse.{IsNumeral, digits_value, signed_digits_value, without_leading_plus}
 use Rattle.std.specs.Str.Parse.{without_leading_sign}
@@ -37,10 +37,14 @@ pub record IsLine (fields : List (List ℕ)) (line : Line) : Type 0 where
   pub weight : IsWeightIn (field_of fields 1) line.weight
   pub value : IsValueIn (field_of fields 2) line.value
 
--- the lines are the rows of a text of CSV, in which `#` begins a comment; a first row may be a header
+-- the rows of a text of CSV, in which `#` begins a comment; a line feed behind the text ends its last line
+abbrev pub AreRowsOf : List ℕ → List (List (List ℕ)) → Type 0
+AreRowsOf text rows =
+    AreRecords (record default_config { comment = Some 35 }) st.StartRecord (strip_bom (text ++ 10 ∷ [])) rows
+
+-- the lines are the rows of a text; a first row may be a header
 abbrev pub AreLinesOf : List ℕ → List Line → Type 0
-AreLinesOf text lines = (rows : List (List (List ℕ)))
-    × AreRecords (record default_config { comment = Some 35 }) st.StartRecord (strip_bom text) rows
+AreLinesOf text lines = (rows : List (List (List ℕ))) × AreRowsOf text rows
     × (AllZip IsLine rows lines
     ⊎ ((header : List (List ℕ)) × (below : List (List (List ℕ))) × (rows ≡ header ∷ below)
     × (field_of header 0 ≡ codes "path") × AllZip IsLine below lines))

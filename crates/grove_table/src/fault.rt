@@ -1,4 +1,5 @@
 ghost use Rattle.std.specs.Prelude.{◌≡◌};
+ghost use Rattle.grove_table.specs.Rows.{Tells};
 
 use grove_tree::NoMemory;
 use std::alloc::{AllocError, AllocFailed, Global};
@@ -6,8 +7,6 @@ use std::alloc::{AllocError, AllocFailed, Global};
 /// Why a text is no table of a tree.
 #[derive(Debug, Drop)]
 pub enum TableFault {
-    /// It has more than 4 MiB.
-    Limit,
     /// It has no line of a node.
     Empty,
     /// A line is at fault.
@@ -55,7 +54,9 @@ pub enum Reason {
 
 impl TableFault {
     /// A line at fault.
-    pub fn of_line(alloc: Global, number: u64, reason: Reason, about: &str) -> TableFault {
+    pub fn of_line(alloc: Global, number: u64, reason: Reason, about: &str) -> TableFault
+        ensures { Tells number reason about.now result }
+    {
         match String::from_str(alloc, about) {
             Ok(about) => TableFault::Line(LineFault {
                 number,

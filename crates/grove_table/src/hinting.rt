@@ -6,12 +6,6 @@ use std::alloc::{AllocError, Global};
 pub fn hint(alloc: Global, fault: &TableFault) -> Result<Hint, NoMemory> {
     let told = match fault {
         TableFault::Line(at) => fault_of_line(alloc, at)?,
-        TableFault::Limit => {
-            String::from_str(
-                alloc,
-                "the table has more than the 4194304 bytes that \"tree\" takes",
-            )?
-        }
         TableFault::Empty => {
             String::from_str(alloc, "the table has no line with a path, as \"/,1,0\"")?
         }

@@ -15,6 +15,7 @@ mod fields;
 mod hinting;
 mod line;
 mod line_numbers;
+mod paths;
 mod planting;
 mod reading;
 mod rows;

@@ -1,7 +1,9 @@
-ghost use Rattle.std.specs.Prelude.{map, IfOk};
+ghost use Rattle.std.specs.Prelude.{map, IfErr, IfOk, OnOk};
 ghost use Rattle.std.specs.List.{AllZip};
 ghost use Rattle.csv.specs.Records.{fields_of};
 ghost use Rattle.grove_table.specs.Tables.{AreLinesOf, IsLine};
+ghost use Rattle.grove_table.specs.Refusals.{AreFaultless, IsTextFaultless, IsTextRefused};
+ghost use Rattle.grove_table.specs.Rows.{AreRowsRefused};
 
 use crate::fields::{is_header, line_of, see_header};
 use crate::line_numbers::LineNumbers;
@@ -10,16 +12,12 @@ use crate::{Line, TableFault};
 use csv::ByteRecord;
 use std::alloc::Global;
 
-/// The most bytes of a table.
-const MOST_BYTES: usize = 4_194_304;
-
 /// The lines of a text of CSV.
 pub fn read_table(alloc: Global, text: &[u8]) -> Result<Vec<Line>, TableFault>
-    ensures { IfOk result (λ lines. AreLinesOf text.now lines.items) }
+    ensures read { IfOk result (λ lines. AreLinesOf text.now lines.items) }
+    ensures faultless { OnOk result (IsTextFaultless text.now) }
+    ensures refused { IfErr result (IsTextRefused text.now) }
 {
-    if text.len() > MOST_BYTES {
-        return Err(TableFault::Limit);
-    }
     let rows = rows_in(alloc, text)?;
     let mut numbers = LineNumbers::new(text);
     match rows.split_first() {
@@ -37,7 +35,9 @@ fn lines_of(
     rows: &[ByteRecord],
     numbers: &mut LineNumbers<'_>,
 ) -> Result<Vec<Line>, TableFault>
-    ensures { IfOk result (λ lines. AllZip IsLine (map fields_of rows.now) lines.items) }
+    ensures read { IfOk result (λ lines. AllZip IsLine (map fields_of rows.now) lines.items) }
+    ensures faultless { OnOk result (AreFaultless (map fields_of rows.now)) }
+    ensures refused { IfErr result (AreRowsRefused (map fields_of rows.now)) }
 {
     let mut lines = Vec::new(alloc);
     for place in 0..rows.len() {

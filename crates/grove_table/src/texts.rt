@@ -1,7 +1,7 @@
 use crate::{Reason, TableFault};
 use std::alloc::{AllocError, Global};
 
-/// The text of a fault, as a refusal has it: `line 3 bad-weight`, `limit whole`, `table empty`.
+/// The text of a fault, as a refusal has it: `line 3 bad-weight`, `table empty`.
 pub fn fault_text(alloc: Global, fault: &TableFault) -> Result<String, AllocError> {
     match fault {
         TableFault::Line(at) => {
@@ -9,7 +9,6 @@ pub fn fault_text(alloc: Global, fault: &TableFault) -> Result<String, AllocErro
             let name = name_of(at.reason);
             format!(in alloc; "line {number} {name}")
         }
-        TableFault::Limit => String::from_str(alloc, "limit whole"),
         TableFault::Empty => String::from_str(alloc, "table empty"),
         TableFault::Unlike => String::from_str(alloc, "table unlike"),
         TableFault::Memory => Err(AllocError),

@@ -1,7 +1,11 @@
-ghost use Rattle.std.specs.Prelude.{IfOk};
+ghost use Rattle.std.specs.Prelude.{IfErr, IfOk};
 ghost use Rattle.grove_table.specs.Tables.{IsTreeOf};
+ghost use Rattle.grove_table.specs.Refusals.{AreLinesRefused};
+ghost use Rattle.grove_table.specs.Plantings.{IsNoLinesFault, IsOrphanFault};
 
 use crate::confirming::is_tree_of;
+use crate::line::line_with;
+use crate::paths::{name_in, parent_path};
 use crate::planting::{Sprout, planted, preorder};
 use crate::{Line, Reason, TableFault};
 use grove_access::Records;
@@ -29,14 +33,15 @@ pub enum Origin {
 /// The tree of the lines, with its records. Children stand in the order in which the lines mention them, or what is
 /// below them.
 pub fn tree_of(alloc: Global, lines: &[Line], absent: Absent) -> Result<(Tree, Records), TableFault>
-    ensures { IfOk result (λ made. IsTreeOf absent lines.now made.0 made.1) }
+    ensures made { IfOk result (λ made. IsTreeOf absent lines.now made.0 made.1) }
+    ensures refused { IfErr result (AreLinesRefused absent lines.now) }
 {
     if lines.is_empty() {
         return Err(TableFault::Empty);
     }
     let sprouts = planted(alloc, lines)?;
     if absent == Absent::Refused {
-        see_parents(alloc, lines, &sprouts)?;
+        see_parents(alloc, lines)?;
     }
     let grown = grown_of(alloc, lines, &sprouts)?;
     let tree = match Tree::build(alloc, &grown.rows) {
@@ -53,24 +58,18 @@ pub fn tree_of(alloc: Global, lines: &[Line], absent: Absent) -> Result<(Tree, R
 }
 
 /// Refuses the first line whose parent has no line.
-fn see_parents(alloc: Global, lines: &[Line], sprouts: &[Sprout<'_>]) -> Result<(), TableFault> {
-    let Some(bare) = sprouts.iter().find(|sprout| sprout.line.is_none()) else {
-        return Ok(());
-    };
-    let Some(line) = lines.get(bare.mention) else {
-        return Err(TableFault::Unlike);
-    };
-    let path = parent_path(&line.path);
-    Err(TableFault::of_line(alloc, line.number, Reason::NoParent, path))
-}
-
-/// The path of the parent of what a path is of.
-fn parent_path(path: &str) -> &str {
-    match path.rsplit_once('/') {
-        Some(("", _name)) => "/",
-        Some((above, _name)) => above,
-        None => path,
+fn see_parents(alloc: Global, lines: &[Line]) -> Result<(), TableFault>
+    ensures { IfErr result (IsOrphanFault lines.now) }
+{
+    for place in 0..lines.len() {
+        let line = &lines[place];
+        let parent = parent_path(&line.path);
+        if line_with(lines, parent).is_none() {
+            let reason = Reason::NoParent;
+            return Err(TableFault::of_line(alloc, line.number, reason, parent));
+        }
     }
+    Ok(())
 }
 
 /// The rows of a tree with its values, and what each comes from.
@@ -82,7 +81,10 @@ struct Grown {
 }
 
 /// The rows of the nodes, in preorder.
-fn grown_of(alloc: Global, lines: &[Line], sprouts: &[Sprout<'_>]) -> Result<Grown, TableFault> {
+#[tactic(auto, using(crate::proofs::SpareLines::memory_fault))]
+fn grown_of(alloc: Global, lines: &[Line], sprouts: &[Sprout<'_>]) -> Result<Grown, TableFault>
+    ensures { IfErr result IsNoLinesFault }
+{
     let mut grown = Grown {
         rows: Vec::new(alloc),
         values: Vec::new(alloc),
@@ -111,14 +113,20 @@ fn grown_of(alloc: Global, lines: &[Line], sprouts: &[Sprout<'_>]) -> Result<Gro
 }
 
 /// Adds the row of a node.
+#[tactic(auto, using(crate::proofs::SpareLines::memory_fault))]
 fn grow_one(
     alloc: Global,
     grown: &mut Grown,
     lines: &[Line],
     sprout: &Sprout<'_>,
     parent: Option<u32>,
-) -> Result<(), TableFault> {
-    let (weight, value, origin) = match sprout.line {
+) -> Result<(), TableFault>
+    ensures { IfErr result IsNoLinesFault }
+{
+    let Ok(path) = str::from_utf8(sprout.path) else {
+        return Err(TableFault::Unlike);
+    };
+    let (weight, value, origin) = match line_with(lines, path) {
         Some(place) => match lines.get(place) {
             Some(line) => (line.weight, line.value, Origin::Line(place)),
             None => return Err(TableFault::Unlike),
@@ -127,7 +135,7 @@ fn grow_one(
     };
     grown.rows.push(Row {
         parent,
-        name: String::from_str(alloc, sprout.name)?,
+        name: String::from_str(alloc, name_in(path))?,
         weight,
     })?;
     grown.values.push(value)?;

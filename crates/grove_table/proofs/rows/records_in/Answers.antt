@@ -1,4 +1,4 @@
-use Rattle.std.proofs.Common.{Bor, List, ℕ, ◌≡◌, ◌∙◌, ap, sym, refl, rules, inl, inr, true, map, Some, ◌∷◌, []}
+use Rattle.std.proofs.Common.{Bor, List, ℕ, option_map, ◌≡◌, ◌∙◌, ap, sym, refl, rules, inl, inr, true, map, Some, ◌∷◌, ◌++◌, []}
 use Rattle.std.specs.Result.{is_ok}
 use Rattle.std.proofs.lemmas.List.{map-append}
 use Rattle.csv.specs.Reading.{builder_config, builder_names_headers, builder_trim, Reached, strip_bom}
@@ -7,7 +7,7 @@ use Rattle.csv.specs.declared.reader.ReaderBuilder.{ReaderBuilder}
 use Rattle.csv.specs.Records.{fields_of}
 use Rattle.csv.specs.declared.parser.State.TheVariants as st
 use Rattle.csv.proofs.ReadFacts.{rows-end, rows-more}
-use Rattle.grove_table.specs.Confirming.{table_config}
+use Rattle.grove_table.specs.Confirming.{known, table_config}
 use Rattle.grove_table.proofs.rows.records_in.Goals as goal
 
 -- how a builder reads once it takes comments
@@ -37,8 +37,8 @@ loop-row-init c =
       left,
       fr.config ∙ ap builder_config commented ∙ ap commenting flexible ∙ ap commenting bare
           ∙ ap with_comments c.new.ensures.config,
-      strip_bom c.args.text.now,
-      fr.source,
+      strip_bom (c.args.text.now ++ 10 ∷ []),
+      fr.source ∙ ap (option_map strip_bom) c.chain.ensures.bytes,
       (sym fr.state, refl),
     )
 
@@ -48,8 +48,8 @@ loop-row-preserved c =
     let s = rw (c.in-Some.is, c.in_ok-row.was) at ((c.next.ensures.steps inv.2 inv.0).0 inv.1) in
     let good : is_ok c.push.result ≡ true = search rules in
     let items = rw good at c.push.ensures.items in
-    let m = rows-more (λ (s : Bor (List ℕ)). Some s.now) c.loop-row.row-iterator.rdr c.next.new.self.rdr
-    (fields_of c.in_ok-row.field-0) table_config st.StartRecord (strip_bom c.args.text.now) inv.4
+    let m = rows-more known c.loop-row.row-iterator.rdr c.next.new.self.rdr
+    (fields_of c.in_ok-row.field-0) table_config st.StartRecord (strip_bom (c.args.text.now ++ 10 ∷ [])) inv.4
     (map fields_of c.loop-row.rows.items) inv.3 inv.5 inv.6 s.0 in (
       s.0.3 ∙ inv.0,
       inl s.1,
@@ -67,6 +67,6 @@ returns c =
       c.loop-row.row-iterator.rdr.state,
       inv.4,
       inv.6,
-      rows-end (λ (s : Bor (List ℕ)). Some s.now)
+      rows-end known
           c.loop-row.row-iterator.rdr c.next.new.self.rdr [] table_config inv.4 inv.3 inv.5 s,
     )
