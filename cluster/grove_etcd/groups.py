@@ -85,6 +85,10 @@ class Group:
         marks = self.turn is Turn.HELD and self.may_mark
         return not (self.taken or marks or self.waits or ends_empty_plan)
 
+    def ends(self) -> bool:
+        """Is the job at its end then?"""
+        return self.progress.step + self.taken == self.progress.steps
+
     def after(self, is_held: bool = False) -> Progress:
         """The progress that the group leaves, by whether the next node is held when the transaction is made."""
         old = self.progress

@@ -7,6 +7,7 @@ tree, by its paths.
 from __future__ import annotations
 
 import json
+from functools import lru_cache
 from typing import Any, Container, Optional
 
 from .documents import MOST_DEPTH, NAME, is_whole
@@ -18,6 +19,8 @@ from .tree import names_of, path_of, ways_down
 # Of a job's text, and of the nodes on the ways down to those that it names, which one audit takes.
 MOST_BYTES, MOST_NODES = 1_000_000, 4096
 MOST_AGE = 10**17 - 1
+# Of a path, and of paths of which it is kept whether they have the form of one.
+MOST_LENGTH, MOST_KEPT = 33 * MOST_DEPTH, 16384
 KINDS = {kind.value for kind in Kind}
 
 
@@ -33,7 +36,8 @@ def read_job(name: str, text: str, put_at: int = 0) -> Job:
     if wrong:
         raise Refused(f"malformed {wrong}")
     job = Job(name, fields["age"], fields["list"], fields["plan"], fields.get("by"), put_at)
-    if len(ways_down(job.nodes())) > MOST_NODES:
+    nodes = job.nodes()
+    if len(nodes) * (MOST_DEPTH + 1) > MOST_NODES and len(ways_down(nodes)) > MOST_NODES:
         raise Refused("malformed too-many-nodes")
     return job
 
@@ -61,10 +65,13 @@ def wrong_member(fields: Any) -> Optional[str]:
 
 
 def is_path(path: Any) -> bool:
-    if not isinstance(path, str) or not path.startswith("/"):
-        return False
-    names = names_of(path)
-    return len(names) <= MOST_DEPTH and all(map(NAME.fullmatch, names))
+    return isinstance(path, str) and len(path) <= MOST_LENGTH and has_form_of_path(path)
+
+
+@lru_cache(MOST_KEPT)
+def has_form_of_path(text: str) -> bool:
+    names = names_of(text)
+    return text.startswith("/") and len(names) <= MOST_DEPTH and all(map(NAME.fullmatch, names))
 
 
 def is_step(step: Any, accesses: int) -> bool:

@@ -32,8 +32,8 @@ from .wire import (
 
 # Of operations in a transaction, and of its compares (etcd's default limit).
 MOST_OPERATIONS = 128
-# Of transactions within one that have few operations.
-MOST_WIDE = 64
+# Of transactions within one that have few operations, and of the operations of each of a few.
+MOST_WIDE, MOST_OF_WIDE = 64, 100
 # Keys of one answer.
 PAGE = 2000
 # For how long one member is waited for, and for how long a call is repeated.
@@ -196,6 +196,12 @@ class Members:
         for start in range(0, len(reads), MOST_OPERATIONS):
             whole.entries.update(self.read(list(reads[start : start + MOST_OPERATIONS])).entries)
         return whole
+
+    def read_at_once(self, reads: list[Operation]) -> Found:
+        """At most 2,800 reads, at one revision."""
+        if len(reads) <= MOST_OPERATIONS:
+            return self.read(reads)
+        return self.read_wide([reads[start : start + MOST_OF_WIDE] for start in range(0, len(reads), MOST_OF_WIDE)])
 
     def read_wide(self, parts: Sequence[list[Operation]]) -> Found:
         """More than 128 reads at one revision, as transactions within one."""

@@ -2,12 +2,12 @@
 locked for it. So it is named, and ends no worker."""
 from __future__ import annotations
 
-from typing import Iterable, Optional
+from typing import Iterable, NamedTuple, Optional
 
 from .failures import cut, why_of
 from .jobs import Aside, Job, Progress, UnderWay
 from .journal import Journal
-from .judging import need_legal, read_job
+from .judging import is_path, need_legal, read_job
 from .keys import Keys, last_part
 from .members import Members
 from .refusals import Refused
@@ -17,17 +17,37 @@ from .wire import Entry, Found, absent, deleting, putting, reading, unchanged
 MOST_KNOWN = 100_000
 
 
+class Fresh(NamedTuple):
+    """That nobody has begun a job: the key that says so, the revision at which it was put, and the node at which the
+    job begins, by its submitter."""
+
+    key: str
+    put_at: int
+    node: str
+
+
 class Reader:
     def __init__(self, members: Members, keys: Keys, journal: Journal) -> None:
         self.members, self.keys, self.journal = members, keys, journal
-        # Of jobs that nobody has begun, by name: the key that says so, and the revision at which it was put.
-        self.fresh: dict[str, tuple[str, int]] = {}
+        # The jobs that nobody has begun, by name.
+        self.fresh: dict[str, Fresh] = {}
         # Nodes stay for good.
         self.nodes: set[str] = set()
 
+    def note(self, found: dict[str, Entry]) -> list[str]:
+        """The names of the jobs of which these keys say that nobody has begun them, the oldest first."""
+        self.fresh = {last_part(key): Fresh(key, found[key].put_at, found[key].value) for key in sorted(found)}
+        return list(self.fresh)
+
     def jobs(self, names: list[str]) -> list[Job]:
-        """Those of these that are jobs."""
-        found = self.members.read_all([reading(self.keys.job(name)) for name in names])
+        """Those of these that are jobs. With them it is read whether there are the nodes at which they begin."""
+        if not names:
+            return []
+        begun_at = {self.fresh[name].node for name in names if name in self.fresh} - self.nodes
+        unknown = {self.keys.weight(path): path for path in filter(is_path, begun_at)}
+        reads = [reading(self.keys.job(name)) for name in names]
+        found = self.members.read_at_once(reads + [reading(key, keys_only=True) for key in unknown])
+        self.nodes |= {path for key, path in unknown.items() if key in found.entries}
         jobs = [job for job in (self.job(name, found) for name in names) if job is not None]
         self.know({path for job in jobs for path in job.nodes()})
         return [job for job in jobs if self.is_legal(job)]
@@ -44,10 +64,10 @@ class Reader:
 
     def need_fresh(self, job: Job) -> Job:
         """The key by which nobody has begun a job is put with the job."""
-        key, put_at = self.fresh.get(job.name, (None, job.put_at))
-        if key is not None and key != self.keys.fresh(job.age, job.name):
+        fresh = self.fresh.get(job.name)
+        if fresh is not None and fresh.key != self.keys.fresh(job.age, job.name):
             raise Refused("malformed age")
-        if put_at != job.put_at:
+        if fresh is not None and fresh.put_at != job.put_at:
             raise Refused("job-rewritten")
         return job
 
@@ -89,7 +109,7 @@ class Reader:
     def set_aside(self, name: str, why: str) -> None:
         """Without having locked anything for it. What has ended, or has been begun since, is only begun no more."""
         self.journal.log("set_aside", job=name, why=cut(why))
-        own, put_at = self.fresh.pop(name, (self.keys.under_way(name), 0))
+        own, put_at, _ = self.fresh.pop(name, Fresh(self.keys.under_way(name), 0, ""))
         found = self.members.get(own, self.keys.under_way(name), self.keys.progress(name))
         put_at = put_at or found.revision_of(own)
         if not put_at:

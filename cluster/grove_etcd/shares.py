@@ -24,6 +24,8 @@ class Shares:
     by_nodes: bool
     # It takes one in so many of the jobs that it looks at.
     parts: int = 1
+    # How many workers there are, itself among them.
+    workers: int = 1
     # Since when jobs of others' shares have been seen, by name.
     seen: dict[str, float] = field(default_factory=dict)
 
@@ -34,15 +36,19 @@ class Shares:
     def choose(self, fresh: dict[str, str], workers: Sequence[str], most: int) -> list[str]:
         """Some of these jobs, which have the nodes at which they begin: those of its own share, or else those that have
         been left for a while, from a random one on."""
-        names = self.own(fresh, workers) if self.by_nodes else list(fresh)
+        names = self.own_or_left(fresh, workers) if self.by_nodes else list(fresh)
         if not names:
             return []
         first = random.randrange(len(names))
         return (names[first:] + names[:first])[: max(1, min(most, len(names) // self.parts))]
 
-    def own(self, fresh: dict[str, str], workers: Sequence[str]) -> list[str]:
-        every = sorted({*workers, self.worker})
-        place, now = every.index(self.worker), time.monotonic()
-        own = [name for name, node in fresh.items() if crc32((node or name).encode()) % len(every) == place]
+    def own_or_left(self, fresh: dict[str, str], workers: Sequence[str]) -> list[str]:
+        now = time.monotonic()
         self.seen = {name: self.seen.get(name, now) for name in fresh}
-        return own or [name for name, since in self.seen.items() if now - since >= LEFT_SECONDS]
+        return self.own(fresh, workers) or [name for name, since in self.seen.items() if now - since >= LEFT_SECONDS]
+
+    def own(self, fresh: dict[str, str], workers: Sequence[str]) -> list[str]:
+        """Those of its share."""
+        every = sorted({*workers, self.worker})
+        self.workers, place = len(every), every.index(self.worker)
+        return [name for name, node in fresh.items() if crc32((node or name).encode()) % len(every) == place]

@@ -35,15 +35,22 @@ class Part:
     about: frozenset[str] = frozenset()
     # How many operations are in the transactions within it.
     inner: int = 0
+    # What is read otherwise that no other part changes.
+    own: list[Operation] = field(default_factory=list)
 
     @cached_property
     def request(self) -> Request:
-        return request_of(self.guards, [*self.changes, *self.then], self.otherwise)
+        return request_of(self.guards, [*self.changes, *self.then], [*self.otherwise, *self.own])
 
     @property
     def size(self) -> int:
         longest = max(len(self.guards), len(self.changes), len(self.then), len(self.otherwise))
         return longest + self.inner
+
+    @property
+    def reads(self) -> bool:
+        """Does it read what another part may change?"""
+        return bool(self.then or self.otherwise)
 
     def may_share(self) -> bool:
         return self.size <= MOST_SHARED and bool(self.about)
@@ -136,7 +143,7 @@ class Commits:
         if len(parts) == 1:
             return [self.made(parts[0].request)]
         try:
-            return parted(self.made(together(parts)), len(parts))
+            return parted(self.made(together(parts)), parts)
         except Failed:
             return map(self.made, (part.request for part in parts))
 
@@ -144,16 +151,19 @@ class Commits:
 def together(parts: Sequence[Part]) -> Request:
     """First the changes of all, then what each reads. Guards are of what stands before the transaction, so each holds
     both times, or neither."""
-    changes = [choosing(part.guards, part.changes, []) for part in parts]
-    return request_of([], [*changes, *(choosing(part.guards, part.then, part.otherwise) for part in parts)], [])
+    changes = [choosing(part.guards, part.changes, part.own) for part in parts]
+    reads = [choosing(part.guards, part.then, part.otherwise) for part in parts if part.reads]
+    return request_of([], [*changes, *reads], [])
 
 
-def parted(done: Done, count: int) -> list[Done]:
+def parted(done: Done, parts: Sequence[Part]) -> list[Done]:
     """What was done of each part."""
     answers = [each.response_txn for each in done.found.responses]
+    later = iter(answers[len(parts) :])
+    both = [(first, next(later).responses if part.reads else ()) for first, part in zip(answers, parts)]
     return [
-        Done(first.succeeded, Found(done.found.revision, responses=[*first.responses, *second.responses]))
-        for first, second in zip(answers[:count], answers[count:])
+        Done(first.succeeded, Found(done.found.revision, responses=[*first.responses, *second]))
+        for first, second in both
     ]
 
 

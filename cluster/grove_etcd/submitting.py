@@ -4,7 +4,8 @@ from __future__ import annotations
 
 import time
 import uuid
-from typing import Any, Iterator, Optional
+from concurrent.futures import ThreadPoolExecutor
+from typing import Any, Callable, Iterator, NamedTuple, Optional
 
 from .head import need_store
 from .jobs import Access, Job, Progress
@@ -13,24 +14,34 @@ from .keys import JOB_NAME, Keys
 from .members import GIVE_UP_SECONDS, MOST_OPERATIONS, Lost, Members, pauses
 from .planning import Planner, ways_of
 from .refusals import Refused
+from .sharing import MOST_PARTS, Commits, Part
 from .waiting import Watched, changes
 from .weighing import last_weighing
 from .weights import Weight
-from .wire import Operation, absent, after, putting, reading
+from .wire import Found, Operation, absent, after, at_hand, putting, reading
 
-# Of jobs in one transaction; each is two puts.
-MOST_JOBS = MOST_OPERATIONS // 2
+# Of jobs in one part of a transaction, each of which is two puts; and of transactions that are on their way at once.
+MOST_JOBS, MOST_SENT = (MOST_OPERATIONS - MOST_PARTS) // 2, 4
+# Of weights that are read at once.
+MOST_READ = 2000
 # For how long weights are kept, and of how many nodes.
 KNOWN_SECONDS, MOST_KNOWN = 1.0, 100_000
 # The length of a watch for replies.
 WATCH_SECONDS = 5.0
 
 
+class Written(NamedTuple):
+    """A job with its text."""
+
+    job: Job
+    text: str
+
+
 class Submitter:
     """Plans lists, and submits them as jobs."""
 
     def __init__(self, members: Members, keys: Keys, grove: Optional[str] = None) -> None:
-        self.members, self.keys = members, keys
+        self.members, self.keys, self.commits = members, keys, Commits(members)
         self.planner = Planner(grove)
         # Weights that were read lately, and by which reweighing they count.
         self.known: dict[str, int] = {}
@@ -53,12 +64,12 @@ class Submitter:
         weights = self.weights(lists)
         for number, accesses in enumerate(lists):
             plan = self.plan(number, accesses, weights)
-            jobs.append(Job(f"{name}.{number}", now + number, accesses, plan, by))
-            if len(jobs[-1].text()) > MOST_BYTES:
+            jobs.append(written_of(Job(f"{name}.{number}", now + number, accesses, plan, by)))
+            if len(jobs[-1].text) > MOST_BYTES:
                 raise Refused(f"job-too-large lists {number}")
-            need_legal(jobs[-1], weights)
-        self.put_all(jobs)
-        return [job.name for job in jobs]
+            need_legal(jobs[-1].job, weights)
+        self.put_written(jobs)
+        return [job.name for job, _ in jobs]
 
     def submit_planned(self, accesses: list[Access], plan: list[list[Any]]) -> str:
         """Submits a list by a plan that needn't be the settled one, but has to be legal."""
@@ -80,42 +91,63 @@ class Submitter:
             self.known, self.known_at = {}, time.monotonic()
             self.reweighing = last_weighing(self.members, self.keys).number
         paths = {path for accesses in lists for path in ways_of(accesses)}
-        new = {self.keys.weight(path): path for path in sorted(paths - self.known.keys())}
-        found = self.members.read_all(list(map(reading, new)))
-        self.known |= {new[key]: Weight.read(entry.value).at(self.reweighing) for key, entry in found.entries.items()}
+        # One member's own are enough: nodes stay, and a plan by old weights is legal. The others are asked for the rest.
+        self.learn(paths, at_hand)
+        self.learn(paths, lambda read: read)
         return {path: self.known[path] for path in paths if path in self.known}
 
+    def learn(self, paths: set[str], how: Callable[[Operation], Operation]) -> None:
+        """Reads the weights of these that aren't known."""
+        new = {self.keys.weight(path): path for path in sorted(paths - self.known.keys())}
+        reads = [how(reading(key)) for key in new]
+        for start in range(0, len(reads), MOST_READ):
+            found = self.members.read_at_once(reads[start : start + MOST_READ]).entries
+            self.known |= {new[key]: Weight.read(entry.value).at(self.reweighing) for key, entry in found.items()}
+
     def put_all(self, jobs: list[Job]) -> None:
-        for batch in batches_of(jobs):
-            until = time.monotonic() + GIVE_UP_SECONDS
-            for pause in pauses():
-                try:
-                    batch = self.put(batch)
-                except Lost:
-                    if time.monotonic() > until:
-                        raise
-                    time.sleep(pause)
-                if not batch:
-                    break
+        self.put_written(list(map(written_of, jobs)))
 
-    def put(self, jobs: list[Job]) -> list[Job]:
-        """Puts jobs in one transaction. If some are there already, it puts none, and gives the others."""
-        keys = [self.keys.job(job.name) for job in jobs]
-        done = self.members.commit(list(map(absent, keys)), self.changes(jobs), [], list(map(reading, keys)))
-        if done.succeeded:
-            return []
-        left = []
-        for job, key in zip(jobs, keys):
-            text = done.found.value(key)
-            if text is None:
-                left.append(job)
-            elif Job.read(job.name, text).accesses != job.accesses:
-                raise Refused(f"id-taken {job.name}")
-        return left
+    def put_written(self, jobs: list[Written]) -> None:
+        """Puts jobs, some transactions at once. Before others are made, one has to be without a refusal."""
+        transactions = transactions_of(jobs)
+        for some in transactions[:1]:
+            self.put_until_answered(some)
+        if len(transactions) > 1:
+            with ThreadPoolExecutor(MOST_SENT) as pool:
+                list(pool.map(self.put_until_answered, transactions[1:]))
 
-    def changes(self, jobs: list[Job]) -> list[Operation]:
-        texts = [putting(self.keys.job(job.name), job.text()) for job in jobs]
-        return texts + [putting(self.keys.fresh(job.age, job.name), job.begins_at()) for job in jobs]
+    def put_until_answered(self, jobs: list[Written]) -> None:
+        until = time.monotonic() + GIVE_UP_SECONDS
+        for pause in pauses():
+            try:
+                jobs = self.put(jobs)
+            except Lost:
+                if time.monotonic() > until:
+                    raise
+                time.sleep(pause)
+            if not jobs:
+                break
+
+    def put(self, jobs: list[Written]) -> list[Written]:
+        """Puts jobs in one transaction, in which some at a time are put, or not: those among which some are there
+        already. Gives the others of these."""
+        batches = [jobs[start : start + MOST_JOBS] for start in range(0, len(jobs), MOST_JOBS)]
+        dones = self.commits.make_all(list(map(self.part, batches)))
+        failed = [(batch, done.found) for batch, done in zip(batches, dones) if not done.succeeded]
+        return [each for batch, found in failed for each in batch if not self.is_there(each.job, found)]
+
+    def part(self, jobs: list[Written]) -> Part:
+        keys = [self.keys.job(job.name) for job, _ in jobs]
+        puts = [putting(key, text) for key, (_, text) in zip(keys, jobs)]
+        puts += [putting(self.keys.fresh(job.age, job.name), job.begins_at()) for job, _ in jobs]
+        return Part(list(map(absent, keys)), puts, [], [], own=list(map(reading, keys)))
+
+    def is_there(self, job: Job, found: Found) -> bool:
+        """Has it been put before? Another one of its name is refused."""
+        text = found.value(self.keys.job(job.name))
+        if text is not None and Job.read(job.name, text).accesses != job.accesses:
+            raise Refused(f"id-taken {job.name}")
+        return text is not None
 
     def ends(self, names: list[str]) -> Iterator[tuple[str, Progress]]:
         """These jobs in the end, each once it has ended."""
@@ -143,18 +175,21 @@ class Submitter:
             came.close()
 
 
-def batches_of(jobs: list[Job]) -> Iterator[list[Job]]:
-    batch: list[Job] = []
+def written_of(job: Job) -> Written:
+    return Written(job, job.text())
+
+
+def transactions_of(jobs: list[Written]) -> list[list[Written]]:
+    """The jobs in lists that have no more of them, and no longer texts, than one transaction takes."""
+    lists: list[list[Written]] = []
     size = 0
-    for job in jobs:
-        length = len(job.text())
-        if batch and (len(batch) == MOST_JOBS or size + length > MOST_BYTES):
-            yield batch
-            batch, size = [], 0
-        batch.append(job)
-        size += length
-    if batch:
-        yield batch
+    for each in jobs:
+        if not lists or len(lists[-1]) == MOST_JOBS * MOST_PARTS or size + len(each.text) > MOST_BYTES:
+            lists.append([])
+            size = 0
+        lists[-1].append(each)
+        size += len(each.text)
+    return lists
 
 
 def place_in_lists(fault: str, number: int) -> str:

@@ -1,12 +1,13 @@
 """Short jobs in one transaction: those that nobody has begun, that have no work, and whose nodes are all free.
 
 They are done whole, one after the other, in the state that was seen. So no node is held once the transaction is made.
-Those at one node are in one chunk, and each chunk is made, or fails, by itself (sharing.py). The events of a chunk have
-the same revision, and so a place in it.
+Those that have nodes in common are in one chunk, and each chunk is made, or fails, by itself (sharing.py). The events
+of a chunk have the same revision, and so a place in it.
 """
 from __future__ import annotations
 
-from dataclasses import dataclass, field, replace
+from dataclasses import dataclass, field
+from functools import cached_property
 from typing import Iterable
 
 from .groups import Group, Limits, group_of
@@ -18,23 +19,60 @@ from .sharing import MOST_PARTS, MOST_SHARED, Commits, Part
 from .wire import Entry, Found, Guard, Operation, deleting, putting, reading, reading_below, unchanged
 
 
+@dataclass(frozen=True)
+class Short:
+    """A job, with the nodes that it locks and those that it accesses."""
+
+    job: Job
+    locked: frozenset[str]
+    accessed: frozenset[str]
+
+    @staticmethod
+    def of(job: Job) -> Short:
+        locked = frozenset(step.path for step in job.steps if step.kind is Kind.LOCK)
+        accessed = frozenset(step.path for step in job.steps if step.kind is Kind.ACCESS)
+        return Short(job, locked, accessed)
+
+    @property
+    def nodes(self) -> frozenset[str]:
+        return self.locked | self.accessed
+
+    @cached_property
+    def fits(self) -> bool:
+        """Is there room for it in a chunk of its own?"""
+        return Chunk().take([self])
+
+
 @dataclass
 class Chunk:
     """Jobs that are read together, of which no other chunk has a node."""
 
-    nodes: set[str] = field(default_factory=set)
     jobs: list[Job] = field(default_factory=list)
-    reads: dict[str, Operation] = field(default_factory=dict)
+    locked: set[str] = field(default_factory=set)
+    accessed: set[str] = field(default_factory=set)
 
-    def take(self, keys: Keys, job: Job, nodes: set[str]) -> bool:
-        """Takes one more job, if there is room. There are at least as many reads as guards, but for two a job."""
-        reads = {**self.reads, **reads_of(keys, job)}
-        if len(reads) + 2 * (len(self.jobs) + 1) > MOST_SHARED:
+    def take(self, some: list[Short]) -> bool:
+        """Takes these jobs, if there is room for the reads, the guards and the changes of all."""
+        locked = self.locked.union(*(each.locked for each in some))
+        accessed = self.accessed.union(*(each.accessed for each in some))
+        jobs = len(self.jobs) + len(some)
+        reads, changes = 2 * len(locked) + len(accessed), 3 * jobs + len(accessed)
+        guards = 2 * jobs + len(locked) + len(accessed)
+        if max(reads, guards, changes) > MOST_SHARED:
             return False
-        self.reads = reads
-        self.nodes |= nodes
-        self.jobs.append(job)
+        self.locked, self.accessed = locked, accessed
+        self.jobs += [each.job for each in some]
         return True
+
+    def take_some(self, some: list[Short]) -> list[Job]:
+        """Takes those for which there is room, one after the other, and gives the others."""
+        return [each.job for each in some if not self.take([each])]
+
+    def reads(self, keys: Keys) -> list[Operation]:
+        """Of each node that is locked who holds it and who is the first that waits, and the records."""
+        owners = [reading(keys.owner(path)) for path in self.locked]
+        lines = [reading_below(keys.waiters(path), limit=1, keys_only=True) for path in self.locked]
+        return [*owners, *lines, *(reading(keys.record(path)) for path in self.accessed)]
 
 
 @dataclass
@@ -50,20 +88,19 @@ class Together:
     seen: dict[str, int] = field(default_factory=dict)
 
     def add(self, job: Job) -> None:
-        """Does the job, which nobody had begun when it was chosen, if it can be done whole, and there is room."""
+        """Does the job, which nobody had begun when it was chosen, if it can be done whole."""
         group = self.group(job)
-        changed = {path: group.records[path] for path in group.changed} if group else {}
-        records = {**self.records, **changed}
-        if group is None or 3 * (len(self.done) + 1) + len(records) > MOST_SHARED:
+        if group is None:
             self.left.append(job)
             return
         guarded = [*map(self.keys.owner, group.locked), *map(self.keys.record, group.records)]
         self.seen |= {each: self.found.revision_of(each) for each in guarded}
         self.seen |= dict.fromkeys([self.keys.fresh(job.age, job.name), self.keys.job(job.name)], job.put_at)
-        self.records = records
+        self.records |= {path: group.records[path] for path in group.changed}
         for path, record in group.records.items():
             entry = self.found.entries.get(self.keys.record(path), Entry("0", 0, 0, 0))
             self.found.entries[self.keys.record(path)] = entry._replace(value=str(record))
+        group.place = len(self.done)
         self.done.append((job, group))
 
     def group(self, job: Job) -> Group | None:
@@ -72,21 +109,20 @@ class Together:
             group = group_of(self.keys, job, job.steps, Progress(0, len(job.plan)), self.found, Limits())
         except Refused:
             return None
-        return group if group.after().has_ended() and not job.is_late() else None
+        return group if group.ends() and not job.is_late() else None
 
     def part(self) -> Part:
         """If it isn't made, it is read whether others have begun the jobs."""
         guards: list[Guard] = [unchanged(key, revision) for key, revision in self.seen.items()]
         fresh = [reading(self.keys.fresh(job.age, job.name), keys_only=True) for job, _ in self.done]
-        return Part(guards, self.changes(), [], fresh)
+        return Part(guards, self.changes(), [], [], own=fresh)
 
     def changes(self) -> list[Operation]:
         changes = [putting(self.keys.record(path), str(record)) for path, record in self.records.items()]
-        for place, (job, group) in enumerate(self.done):
-            event = replace(group.event(), place=place)
+        for job, group in self.done:
             changes.append(deleting(self.keys.fresh(job.age, job.name)))
             changes.append(putting(self.keys.progress(job.name), group.after().text()))
-            changes.append(putting(self.keys.event(job.name, 0), event.text()))
+            changes.append(putting(self.keys.event(job.name, 0), group.event().text()))
         return changes
 
     def are_taken(self, now: Found) -> bool:
@@ -94,61 +130,76 @@ class Together:
         return any(self.keys.fresh(job.age, job.name) not in now.entries for job, _ in self.done)
 
 
-def reads_of(keys: Keys, job: Job) -> dict[str, Operation]:
-    """The reads for a job's nodes, by key or prefix."""
-    reads: dict[str, Operation] = {}
-    for step in job.steps:
-        if step.kind is Kind.LOCK:
-            reads[keys.owner(step.path)] = reading(keys.owner(step.path))
-            reads[keys.waiters(step.path)] = reading_below(keys.waiters(step.path), limit=1, keys_only=True)
-        elif step.kind is Kind.ACCESS:
-            reads[keys.record(step.path)] = reading(keys.record(step.path))
-    return reads
-
-
-def chunks_of(keys: Keys, jobs: Iterable[Job]) -> list[Chunk]:
-    """Of those jobs whose nodes are in more than one chunk, or in one that is full, none is chosen."""
-    chunks = [Chunk()]
+def by_nodes(jobs: Iterable[Short]) -> list[list[Short]]:
+    """The jobs in lists of which no two have a node in common."""
+    lists: list[list[Short]] = []
+    list_at: dict[str, int] = {}
     for job in jobs:
-        nodes = job.nodes()
-        known = [chunk for chunk in chunks if chunk.nodes & nodes]
-        if len(known) > 1:
-            continue
-        wanted = known[0] if known else chunks[-1]
-        if not wanted.take(keys, job, nodes) and not known and len(chunks) < MOST_PARTS:
-            chunks.append(Chunk())
-            chunks[-1].take(keys, job, nodes)
-    return [chunk for chunk in chunks if chunk.jobs]
+        first, *others = sorted({list_at[node] for node in job.nodes if node in list_at}) or [len(lists)]
+        lists += [[]] if first == len(lists) else []
+        for other in others:
+            lists[first] += lists[other]
+            list_at |= {node: first for each in lists[other] for node in each.nodes}
+            lists[other] = []
+        lists[first].append(job)
+        list_at |= dict.fromkeys(job.nodes, first)
+    return [some for some in lists if some]
 
 
 @dataclass(frozen=True)
 class Outcome:
     """The names of jobs that were done, how many chunks weren't made, whether that was so since another worker has
-    begun one of their jobs, and the jobs that have to be done one by one."""
+    begun one of their jobs, the jobs that have to be done one by one, and those for which there was no room."""
 
-    ended: list[str]
-    failed: int
-    are_taken: bool
-    left: list[Job]
+    ended: list[str] = field(default_factory=list)
+    failed: int = 0
+    are_taken: bool = False
+    left: list[Job] = field(default_factory=list)
+    rest: list[Job] = field(default_factory=list)
+
+    @property
+    def goes_on(self) -> bool:
+        """Is there a next transaction for those for which there was no room?"""
+        return bool(self.rest) and not self.failed and not self.left
 
 
-def do_together(keys: Keys, members: Members, commits: Commits, jobs: list[Job]) -> Outcome:
-    """Does as many of the jobs as one transaction takes. If there is none, the first has to be done by itself."""
-    chunks = chunks_of(keys, jobs)
-    if not chunks:
-        return Outcome([], 0, False, jobs[:1])
-    found = members.read_wide([list(chunk.reads.values()) for chunk in chunks])
-    every = [Together(keys, found) for _ in chunks]
-    for together, chunk in zip(every, chunks):
-        for job in chunk.jobs:
-            together.add(job)
-    tried = [together for together in every if together.done]
-    dones = list(commits.make_all([together.part() for together in tried])) if tried else []
-    made = [together for together, done in zip(tried, dones) if done.succeeded]
-    failed = [(together, done.found) for together, done in zip(tried, dones) if not done.succeeded]
-    return Outcome(
-        [job.name for together in made for job, _ in together.done],
-        len(failed),
-        any(together.are_taken(now) for together, now in failed),
-        [] if failed else [job for together in every for job in together.left],
-    )
+@dataclass(frozen=True)
+class Batch:
+    """The jobs of one transaction, in chunks; those that none takes, and those for which there is no room in it."""
+
+    chunks: list[Chunk]
+    large: list[Job]
+    rest: list[Job]
+
+    @staticmethod
+    def of(jobs: list[Job]) -> Batch:
+        short = list(map(Short.of, jobs))
+        chunks, rest = [Chunk()], list[Job]()
+        for some in by_nodes(each for each in short if each.fits):
+            if chunks[-1].take(some):
+                continue
+            if chunks[-1].jobs and len(chunks) < MOST_PARTS:
+                chunks.append(Chunk())
+            rest += chunks[-1].take_some(some)
+        return Batch([chunk for chunk in chunks if chunk.jobs], [each.job for each in short if not each.fits], rest)
+
+    def do(self, keys: Keys, members: Members, commits: Commits) -> Outcome:
+        """Does as many of the jobs as can be done whole."""
+        if not self.chunks:
+            return Outcome(left=self.large, rest=self.rest)
+        found = members.read_wide([chunk.reads(keys) for chunk in self.chunks])
+        every = [Together(keys, found) for _ in self.chunks]
+        for together, chunk in zip(every, self.chunks):
+            for job in chunk.jobs:
+                together.add(job)
+        tried = [together for together in every if together.done]
+        dones = list(commits.make_all([together.part() for together in tried])) if tried else []
+        made = [together for together, done in zip(tried, dones) if done.succeeded]
+        failed = [(together, done.found) for together, done in zip(tried, dones) if not done.succeeded]
+        return Outcome(
+            [job.name for together in made for job, _ in together.done],
+            len(failed),
+            any(together.are_taken(now) for together, now in failed),
+            [] if failed else self.large + [job for together in every for job in together.left],
+            list(self.rest),
+        )

@@ -9,8 +9,12 @@ from typing import Any, TypeVar
 Kept = TypeVar("Kept", bound="Value")
 
 
+# One for all, since making one takes longer than writing a value.
+ENCODER = json.JSONEncoder(separators=(",", ":"))
+
+
 def written(value: object) -> str:
-    return json.dumps(value, separators=(",", ":"))
+    return ENCODER.encode(value)
 
 
 @dataclass(frozen=True)

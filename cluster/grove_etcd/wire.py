@@ -147,6 +147,11 @@ def reading_below(prefix: str, limit: int = 0, revision: int = 0, keys_only: boo
     return Operation(etcdrpc.RequestOp(request_range=request))
 
 
+def reading_from(start: str, end: str, limit: int = 0) -> Operation:
+    """Reads the keys from `start` up to `end`."""
+    return Operation(etcdrpc.RequestOp(request_range=ranging(start, end, limit)))
+
+
 def reading_last(start: str, end: str, revision: int = 0, keys_only: bool = False) -> Operation:
     """Reads the last key from `start` up to `end`."""
     request = ranging(start, end, 1, revision, keys_only)

@@ -28,13 +28,15 @@ from .refusals import Failed
 from .seeing import Seen
 from .shares import Shares
 from .signs import PATIENCE, Abandoned
-from .together import do_together
+from .together import Batch, Outcome
 from .turns import Turns
 from .waiting import Watched, wait
 from .wire import Found, after, deleting, reading, reading_below, unchanged
 
 # How many jobs are looked at at once, and how many are chosen of them: with work, and of those that share transactions.
 MOST_LOOKED_AT, MOST_BEGUN, MOST_TOGETHER = 768, 24, 192
+# How many are looked at while a transaction is on its way.
+MOST_PREPARED = 3072
 # How long a worker pauses if others come to the nodes of its jobs.
 STEP_BACK_SECONDS, LONGEST_STEP_BACK_SECONDS = 0.05, 1.5
 # How often it is looked whether the worker is to end, while all turns are taken.
@@ -42,7 +44,7 @@ LOOK_SECONDS = 1.0
 # The same, while its other threads have chosen all jobs that nobody has begun.
 CHOSEN_SECONDS = 0.02
 # The same, while they are in the shares of other workers.
-SHARED_SECONDS = 0.15
+SHARED_SECONDS = 0.04
 # The same, while each of some jobs would be one too many that waits.
 FULL_SECONDS = 0.2
 # For how long a worker's last sign is kept that nobody has missed.
@@ -201,10 +203,13 @@ class Worker:
 
     def let_go(self, names: set[str], but: str | None = None) -> None:
         """Other threads may choose these again, and they are taken out of the set."""
+        self.let_go_of(names - {but}, names)
+
+    def let_go_of(self, some: Iterable[str], names: set[str]) -> None:
+        """The same of some of the set."""
         with self.lock:
-            gone = names - {but}
-            self.chosen -= gone
-            names -= gone
+            self.chosen.difference_update(some)
+            names.difference_update(some)
 
     def start(self, task: Callable[[], bool]) -> None:
         def run() -> None:
@@ -240,10 +245,9 @@ class Worker:
     def fresh_of(self, found: Found) -> list[str]:
         """The names of jobs that nobody has begun, the oldest first."""
         fresh = found.below(self.keys.whole("q"))
-        self.reader.fresh = {last_part(key): (key, fresh[key].put_at) for key in sorted(fresh)}
         age = min(fresh, default="//").split("/")[2]
         self.fresh, self.oldest = len(fresh), int(age) / 1e6 if age.isdecimal() else 0.0
-        return list(self.reader.fresh)
+        return self.reader.note(fresh)
 
     def under_way_of(self, found: Found) -> dict[str, UnderWay]:
         """Those that aren't set aside."""
@@ -253,11 +257,15 @@ class Worker:
 
     def some_of(self, found: Found) -> list[str]:
         """Some of the jobs that nobody has begun; no more than leaves as many for each thread."""
-        keys = found.below(self.keys.whole("q"))
-        nodes = {last_part(key): keys[key].value for key in sorted(keys)}
-        fresh = {name: node for name, node in nodes.items() if name not in self.chosen}
+        fresh = self.nodes_of(found)
         most = MOST_TOGETHER if self.means.work is None else min(MOST_BEGUN, max(1, len(fresh) // self.count))
         return self.shares.choose(fresh, self.others(found), most)
+
+    def nodes_of(self, found: Found) -> dict[str, str]:
+        """The jobs that nobody has begun, without those that are chosen, with the nodes at which they begin."""
+        keys = found.below(self.keys.whole("q"))
+        nodes = {last_part(key): keys[key].value for key in sorted(keys)}
+        return {name: node for name, node in nodes.items() if name not in self.chosen}
 
     def others(self, found: Found) -> list[str]:
         """The workers that give signs of life. The last sign of one that is long gone is deleted."""
@@ -276,17 +284,42 @@ class Worker:
         """Does jobs that nobody has begun: without work as many as possible in one transaction, and the others one by
         one, until it meets one that another worker has begun."""
         if self.means.work is None:
-            jobs = self.do_together(jobs)
+            jobs = self.do_together(jobs, names)
         return self.do_one_by_one(jobs, names)
 
-    def do_together(self, jobs: list[Job]) -> list[Job]:
-        """Gives those jobs that have to be done one by one."""
+    def do_together(self, jobs: list[Job], names: set[str]) -> list[Job]:
+        """Does jobs in one transaction after the other, as long as each is made, and reads the next ones meanwhile.
+        Gives those jobs that have to be done one by one."""
+        until, outcome = time.monotonic() + LOOK_SECONDS, Outcome(rest=jobs)
+        while outcome.goes_on and not (self.means.stopping or self.turns.is_wanted() or time.monotonic() > until):
+            batch = Batch.of(outcome.rest)
+            more = self.means.aside.submit(self.more_short_jobs, MOST_TOGETHER - len(batch.rest))
+            outcome = self.do_batch(batch)
+            chosen = self.choose(job.name for job in more.result())
+            names |= chosen
+            outcome.rest.extend(job for job in more.result() if job.name in chosen)
+            # Not before: what was read may be from before the transaction.
+            self.let_go_of(outcome.ended, names)
+        return outcome.left
+
+    def more_short_jobs(self, most: int) -> list[Job]:
+        """Some jobs of this worker's share that nobody has begun; none if other workers choose of them, too."""
+        if most <= 0 or self.shares.parts > 1:
+            return []
+        fresh, signs = self.keys.whole("q"), self.keys.whole("s")
+        looked_at = min(MOST_PREPARED, 2 * MOST_TOGETHER * self.shares.workers)
+        found = self.members.read([reading_below(fresh, looked_at), reading_below(signs)])
+        self.reader.note(found.below(fresh))
+        names = self.shares.own(self.nodes_of(found), self.others(found))
+        return self.jobs(names[:most])
+
+    def do_batch(self, batch: Batch) -> Outcome:
         try:
-            outcome = do_together(self.keys, self.members, self.means.commits, jobs)
+            outcome = batch.do(self.keys, self.members, self.means.commits)
         except Lost as lost:
             self.means.journal.log("lost", why=lost)
             time.sleep(next(self.pauses))
-            return []
+            return Outcome(failed=1)
         self.pauses = pauses()
         for name in outcome.ended:
             self.means.journal.log("ended", job=name, groups=1)
@@ -296,7 +329,7 @@ class Worker:
             self.means.journal.log("commit_failed")
         self.shares.note(outcome.are_taken)
         self.step_back(outcome.failed > 0 and not (outcome.are_taken or outcome.ended))
-        return outcome.left
+        return outcome
 
     def do_one_by_one(self, jobs: list[Job], names: set[str]) -> bool:
         """If it ends early, it still goes on with a job that was begun with the end of the one before. It ends after

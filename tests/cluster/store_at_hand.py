@@ -80,7 +80,7 @@ class Store:
         worker.attempt = kind
         if kind is not Attempt:
             # One with a planted bug does each job by itself.
-            worker.do_together = list
+            worker.do_together = lambda jobs, _names: jobs
         return worker
 
     def work(self, kind=Attempt, **how):

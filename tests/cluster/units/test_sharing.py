@@ -1,6 +1,7 @@
 """Groups that share a transaction."""
 import unittest
 from concurrent.futures import Future
+from dataclasses import replace
 
 import here  # noqa: F401
 from grove_etcd import etcdrpc
@@ -80,6 +81,16 @@ class Made(unittest.TestCase):
         members = Member(refuses=True)
         dones = list(Commits(members).make_all([part("a"), part("b")]))
         self.assertEqual(([done.succeeded for done in dones], len(members.made)), ([True, True], 3))
+
+    def test_one_that_reads_only_its_own_is_there_once(self):
+        own = replace(part("a"), then=[], otherwise=[], own=[reading("a")])
+        members = Member(held=["a"])
+        dones = list(Commits(members).make_all([own, part("b"), own]))
+        self.assertEqual([done.succeeded for done in dones], [False, True, False])
+        self.assertEqual([list(done.found.entries) for done in dones], [["a"], ["b"], ["a"]])
+        self.assertEqual(len(etcdrpc.TxnRequest.FromString(members.made[0]).success), 4)
+        alone = list(Commits(members).make_all([own]))
+        self.assertEqual([(done.succeeded, list(done.found.entries)) for done in alone], [(False, ["a"])])
 
     def test_what_is_read_comes_after_all_changes(self):
         asked = etcdrpc.TxnRequest.FromString(together([part("a"), part("b")])).success
