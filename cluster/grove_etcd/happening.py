@@ -10,7 +10,7 @@ from .auditing import Auditor
 from .chain import Passing
 from .head import head_text
 from .jobs import Event, Progress
-from .keys import Keys
+from .keys import MOST_KEY, Keys
 from .members import Members
 from .past import Epoch, Past, Taken, past_job
 from .refusals import Refused
@@ -201,8 +201,8 @@ class Happening:
     def need_nobody_left_out(self, changes: dict[str, dict[str, Change]], revision: int) -> None:
         for kind in "qua":
             for rest, change in changes.get(kind, {}).items():
-                name = rest.rpartition("/")[2]
-                if change.value is None and not self.is_elsewhere(name, changes):
+                name, is_job = rest.rpartition("/")[2], len(change.key) <= MOST_KEY
+                if change.value is None and is_job and not self.is_elsewhere(name, changes):
                     self.need_there(name, revision)
 
     def is_elsewhere(self, name: str, changes: dict[str, dict[str, Change]]) -> bool:

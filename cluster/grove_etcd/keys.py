@@ -45,6 +45,9 @@ import re
 NAME = re.compile(r"[a-z0-9_-]{1,32}")
 # Of a job: the ID given to `submit --id`, or a new one, and the number of the list.
 JOB_NAME = re.compile(r"[a-z0-9_-]{1,64}\.[0-9]{1,9}")
+# Of a key that is a job's. What is longer below `p/` or `q/` somebody has put there, and no program takes it for a job:
+# etcd wouldn't take a transaction that names it twice.
+MOST_KEY = 512
 # The kinds of keys that go on with a path.
 OF_NODES = set("mrovb")
 # The format of the keys and their values as described here. Stores of the format before are gone on with.

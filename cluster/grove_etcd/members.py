@@ -291,6 +291,8 @@ class Members:
             member.channel.close()
 
 
+# What gRPC says of a request that is larger than members take, with the code of a member that has too much to do.
+TOO_LARGE = "larger than max"
 KINDS = {grpc.StatusCode.INVALID_ARGUMENT: Unfit, grpc.StatusCode.OUT_OF_RANGE: Compacted}
 
 
@@ -304,6 +306,8 @@ def pauses() -> Iterator[float]:
 
 def lost(member: Member, error: Any) -> Lost:
     """`Lost`, if the error means that there was no answer; any other one is raised with etcd's own message."""
+    if TOO_LARGE in (error.details() or ""):
+        raise Unfit(f"etcd at {member.address}: {error.details()}") from error
     if error.code() not in NO_ANSWER:
         raise KINDS.get(error.code(), Failed)(f"etcd at {member.address}: {error.details()}") from error
     return Lost(f"{member.address}: {error.details()}")

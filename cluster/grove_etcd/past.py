@@ -6,7 +6,7 @@ from typing import Iterable
 
 from .jobs import Event, Job, Kind, Progress, Step
 from .judging import read_job
-from .keys import Keys, last_part
+from .keys import MOST_KEY, Keys, last_part
 from .members import Members
 from .refusals import Refused
 from .values import Value
@@ -69,7 +69,7 @@ def epochs_of(members: Members, keys: Keys, revision: int = 0) -> dict[int, Epoc
 
 def names_below(members: Members, keys: Keys, kind: str, revision: int) -> set[str]:
     pages = members.pages(keys.whole(kind), revision, keys_only=True)
-    return {last_part(key) for page in pages for key in page.entries}
+    return {last_part(key) for page in pages for key in page.entries if len(key) <= MOST_KEY}
 
 
 def begun_names(members: Members, keys: Keys, revision: int) -> list[str]:

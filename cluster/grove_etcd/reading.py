@@ -8,13 +8,13 @@ from .failures import cut, why_of
 from .jobs import Aside, Job, Progress, UnderWay
 from .journal import Journal
 from .judging import is_path, need_legal, read_job
-from .keys import Keys, last_part
+from .keys import MOST_KEY, Keys, last_part
 from .members import Members
 from .refusals import Refused
 from .wire import Entry, Found, absent, deleting, putting, reading, unchanged
 
-# Of paths that are known to be those of nodes.
-MOST_KNOWN = 100_000
+# Of paths that are known to be those of nodes; and of a key that is too long, what is said of it.
+MOST_KNOWN, MOST_SAID = 100_000, 80
 
 
 class Fresh(NamedTuple):
@@ -35,8 +35,13 @@ class Reader:
         self.nodes: set[str] = set()
 
     def note(self, found: dict[str, Entry]) -> list[str]:
-        """The names of the jobs of which these keys say that nobody has begun them, the oldest first."""
-        self.fresh = {last_part(key): Fresh(key, found[key].put_at, found[key].value) for key in sorted(found)}
+        """The names of the jobs of which these keys say that nobody has begun them, the oldest first. A key that is too
+        long for one is deleted."""
+        known = sorted(key for key in found if len(key) <= MOST_KEY)
+        for key in found.keys() - set(known):
+            self.journal.log("stray", key=f"{key[:MOST_SAID]}..")
+            self.members.write([deleting(key)])
+        self.fresh = {last_part(key): Fresh(key, found[key].put_at, found[key].value) for key in known}
         return list(self.fresh)
 
     def jobs(self, names: list[str]) -> list[Job]:

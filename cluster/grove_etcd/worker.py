@@ -20,7 +20,7 @@ from .failures import why_of
 from .head import need_store
 from .jobs import Job, UnderWay
 from .journal import Journal
-from .keys import Keys, last_part
+from .keys import MOST_KEY, Keys, last_part
 from .leash import Leash
 from .members import Lost, Members, pauses
 from .reading import Reader
@@ -264,7 +264,7 @@ class Worker:
     def nodes_of(self, found: Found) -> dict[str, str]:
         """The jobs that nobody has begun, without those that are chosen, with the nodes at which they begin."""
         keys = found.below(self.keys.whole("q"))
-        nodes = {last_part(key): keys[key].value for key in sorted(keys)}
+        nodes = {last_part(key): keys[key].value for key in sorted(keys) if len(key) <= MOST_KEY}
         return {name: node for name, node in nodes.items() if name not in self.chosen}
 
     def others(self, found: Found) -> list[str]:

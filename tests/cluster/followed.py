@@ -5,10 +5,12 @@ from functools import partial
 import between
 from parked import put_all, started, workers_of
 from planted import Strays, StraysWithAnEvent, TellsAnotherRecord, told_as
+from spoiled import AT_A, put_job, text_of
 from store_at_hand import BOTH, SECONDS, Programs, Store, await_true, one_group, refusal
 
 from etcd3 import etcdrpc
 from grove_etcd.chain import Left
+from grove_etcd.failures import cut
 from grove_etcd.following import Follower
 from grove_etcd.head import head_text
 from grove_etcd.keys import Keys
@@ -84,6 +86,27 @@ def what_happens_is_followed(cluster, grove):
     wanted = sorted([*wanted, *(f"late.{n}" for n in range(4))])
     came = first.end, second.end, jobs == wanted, first.missed + second.missed, store.left("pjqux")
     return None if came == (None, None, True, [], []) else f"came {came}, {set(wanted) ^ set(jobs)}"
+
+
+def a_name_that_no_job_has_stops_nobody(cluster, grove):
+    """It is so long that etcd takes no transaction with several of such names, or even with one twice. A submitter may
+    put it; workers, a follower and audits pass it by."""
+    store, programs = Store(cluster, grove, "long-names"), Programs(cluster, "long-names")
+    with Followed(cluster, store) as first:
+        for age, length in enumerate([300_000] * 6 + [700_000] * 4 + [1_400_000]):
+            name = f"{'n' * length}.{age}"
+            store.write(putting(store.keys.job(name), "{"))
+            store.write(putting(store.keys.fresh(age, name), ""))
+        put_job(store, "good.0", text_of([["add", "/a", 1]], AT_A, 99), 99)
+        threads = started([store.worker()], False)
+        has_ended = store.await_true(lambda: not store.left() and not first.end)
+        await_true(lambda: first.jobs() or first.end)
+        stop_all(threads)
+    came = has_ended, store.left("qua"), first.end, first.jobs(), store.records("/a")
+    wanted = True, [], None, ["good.0"], [11]
+    lines = [line for line in programs.lines("status", "--jobs") if line.startswith(("job ", "left-out "))]
+    told, wanted_told = (lines, refusal(store.audit)), ([], "refused no-jobs")
+    return None if (came, told) == (wanted, wanted_told) else f"came {cut(str((came, told)))}"
 
 
 def stop_all(threads):

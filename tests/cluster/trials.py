@@ -21,6 +21,7 @@ from beginning import (
 from between import what_is_planted_between_epochs_is_told, what_no_worker_writes_is_not_seen
 from fleet import Fleet
 from followed import (
+    a_name_that_no_job_has_stops_nobody,
     it_is_followed_by_the_program,
     what_happens_is_followed,
     what_no_event_tells_of_is_refused,
@@ -411,6 +412,7 @@ TRIALS = [
     a_forgotten_job_is_not_done_again,
     what_happens_is_followed,
     what_no_event_tells_of_is_refused,
+    a_name_that_no_job_has_stops_nobody,
     what_was_compacted_is_said_to_be_missed,
     it_is_followed_by_the_program,
     what_audits_have_passed_is_exported,
