@@ -7,7 +7,7 @@ import sys
 import traceback
 from importlib import import_module
 from pathlib import Path
-from typing import Any, Callable
+from typing import Any, Callable, NoReturn
 
 # A program imports this module before the others, which import these.
 try:
@@ -25,7 +25,6 @@ except Exception as why:  # packages that don't go together raise errors of thei
 from .keys import Keys
 from .members import Credentials, Lost, Members, addresses_of
 from .nested import warning
-from .program import GROVE
 from .refusals import Failed, Refused
 
 # As etcdctl has it.
@@ -48,6 +47,9 @@ def arguments(description: str) -> argparse.ArgumentParser:
 
 
 def with_grove(parser: argparse.ArgumentParser) -> argparse.ArgumentParser:
+    # Only the programs that audit look for it.
+    from .program import GROVE
+
     parser.add_argument("--grove", default=str(GROVE), metavar="PROGRAM", help="the program that audits")
     return parser
 
@@ -84,7 +86,17 @@ def run(parser: argparse.ArgumentParser, program: Program) -> None:
         addresses, keys, credentials = addresses_of(given.members), Keys(given.store), credentials_of(given)
     except ValueError as bad:
         parser.error(str(bad))
-    sys.exit(status_of(lambda: program(Members(addresses, credentials), keys, given)))
+    end(status_of(lambda: program(Members(addresses, credentials), keys, given)))
+
+
+def end(status: int) -> NoReturn:
+    """Ends the process at once: gRPC takes longer to be tidied up than a short program takes for its work."""
+    for stream in (sys.stdout, sys.stderr):
+        try:
+            stream.flush()
+        except OSError:
+            """Nobody reads it any more."""
+    os._exit(status)
 
 
 def warn_of_rights(members: Members, keys: Keys) -> None:
@@ -95,6 +107,14 @@ def warn_of_rights(members: Members, keys: Keys) -> None:
 
 def status_of(program: Callable[[], Any]) -> int:
     """Runs the program. An error is printed as one line, but for one of the program itself, with its traceback."""
+    try:
+        return status_told(program)
+    except BrokenPipeError:
+        os.dup2(os.open(os.devnull, os.O_WRONLY), sys.stdout.fileno())
+        return 3
+
+
+def status_told(program: Callable[[], Any]) -> int:
     try:
         program()
         sys.stdout.flush()
@@ -107,8 +127,7 @@ def status_of(program: Callable[[], Any]) -> int:
     except Failed as failed:
         return print_error(str(failed), 3)
     except BrokenPipeError:
-        os.dup2(os.open(os.devnull, os.O_WRONLY), sys.stdout.fileno())
-        return 3
+        raise
     except KeyboardInterrupt:
         return 130
     except Exception:  # an error of the program itself, or a value in etcd that hasn't its form

@@ -10,9 +10,9 @@ import json
 from functools import lru_cache
 from typing import Any, Container, Optional
 
+from .accesses import MOST_ACCESSES, is_access
 from .documents import MOST_DEPTH, NAME, is_whole
 from .jobs import Job, Kind, Step
-from .planning import MOST_ACCESSES, is_access
 from .refusals import Refused
 from .tree import names_of, path_of, ways_down
 

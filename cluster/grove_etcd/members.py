@@ -7,6 +7,7 @@ from __future__ import annotations
 
 import random
 import time
+from concurrent.futures import ThreadPoolExecutor
 from dataclasses import dataclass
 from pathlib import Path
 from typing import Any, Callable, Iterator, Sequence
@@ -210,6 +211,11 @@ class Members:
     def count(self, prefix: str, revision: int = 0) -> int:
         """How many keys have this prefix."""
         return int(self.range(counting(prefix, revision)).count)
+
+    def counts(self, prefixes: Sequence[str], revision: int) -> list[int]:
+        """The same of several, side by side."""
+        with ThreadPoolExecutor(len(prefixes)) as pool:
+            return list(pool.map(lambda prefix: self.count(prefix, revision), prefixes))
 
     def range(self, request: Any) -> Any:
         return self.call_until_answered(lambda member: member.ask(member.range, request, self.seconds))

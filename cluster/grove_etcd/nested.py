@@ -7,6 +7,7 @@ from __future__ import annotations
 
 from typing import Optional
 
+from .head import need_store
 from .keys import Keys
 from .members import Members
 from .refusals import Failed
@@ -20,6 +21,7 @@ def unchecked(members: Members, keys: Keys) -> list[str]:
     right, as without users."""
     if not members.has_user():
         return []
+    need_store(members, keys)
     own = [keys.weight("/"), keys.head(), keys.job("x.0"), keys.record("/")]
     tried = {
         "put": [putting(key, "") for key in own],

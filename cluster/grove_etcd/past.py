@@ -63,8 +63,11 @@ class Epoch(Value):
 
 def epochs_of(members: Members, keys: Keys, revision: int = 0) -> dict[int, Epoch]:
     """The epochs that are kept, by number; the open one is among them if an audit of it broke off."""
-    found = members.below(keys.whole("x"), revision)
-    return {int(last_part(key)): Epoch.read(entry.value) for key, entry in found.entries.items()}
+    return epochs_in(members.below(keys.whole("x"), revision).entries)
+
+
+def epochs_in(entries: dict[str, Entry]) -> dict[int, Epoch]:
+    return {int(last_part(key)): Epoch.read(entry.value) for key, entry in entries.items()}
 
 
 def names_below(members: Members, keys: Keys, kind: str, revision: int) -> set[str]:

@@ -8,15 +8,13 @@ from __future__ import annotations
 import json
 from typing import Any, Hashable, Mapping, Optional
 
-from .documents import LEAST, MOST, is_whole
+from .accesses import MOST_ACCESSES, is_access
 from .jobs import slots_of
 from .planners import planner_of
 from .tree import Row, rows_of, way_down, ways_down
 from .values import written
 
 MOST_KEPT = 1024
-MOST_ACCESSES, MOST_SLOTS = 64, 1000
-ITEMS = {"get": 2, "set": 3, "add": 3, "take": 3}
 
 
 class Planner:
@@ -64,18 +62,3 @@ def form_of(rows: list[Row], paths: list[str], accesses: list[Any]) -> Hashable 
         return None
     tree = tuple((row["parent"], row["weight"]) for row in rows)
     return tree, tuple((number_of[access[1]], slots_of(access)) for access in accesses)
-
-
-def is_access(access: Any) -> bool:
-    if not isinstance(access, list) or len(access) < 2 or not isinstance(access[0], str):
-        return False
-    items = ITEMS.get(access[0], 0)
-    numbers = access[2:items]
-    lengths = access[items:]
-    return (
-        items <= len(access) <= items + 1
-        and items > 0
-        and isinstance(access[1], str)
-        and all(is_whole(number, LEAST, MOST) for number in numbers)
-        and all(is_whole(length, 1, MOST_SLOTS) for length in lengths)
-    )

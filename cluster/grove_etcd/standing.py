@@ -4,13 +4,13 @@ from __future__ import annotations
 from dataclasses import dataclass
 from typing import Iterable, Iterator
 
-from .head import need_store
+from .head import Head, head_of
 from .jobs import Aside, Progress
 from .keys import Keys, last_part
-from .members import Members
-from .past import Epoch, epochs_of, names_below, past_job, pasts
+from .members import PAGE, Members
+from .past import Epoch, epochs_in, names_below, past_job, pasts
 from .refusals import Refused
-from .wire import reading
+from .wire import Entry, reading, reading_below
 
 
 @dataclass(frozen=True)
@@ -29,25 +29,24 @@ class Standing:
 
     @staticmethod
     def read(members: Members, keys: Keys, epoch: int | None) -> Standing:
-        head = need_store(members, keys)
-        at = head.revision
-        epochs = {number: of for number, of in epochs_of(members, keys, at).items() if number < head.epoch}
-        begun = under_way(members, keys, at)
-        aside = asides(members, keys, at)
+        small = Small.read(members, keys)
+        at, now = small.head.revision, small.head.epoch
+        epochs = {number: of for number, of in small.epochs.items() if number < now}
+        begun = held_by(members, keys, small.begun, at)
+        aside = small.aside
         held = sum(len(nodes) for nodes in begun.values() if nodes) + sum(len(each.holds) for each in aside.values())
-        if epoch is not None and epoch != head.epoch:
+        if epoch is not None and epoch != now:
             if epoch not in epochs:
                 raise Refused("no-jobs")
             count = len(epochs[epoch].jobs)
             return Standing(epoch, count, count, 0, held, epochs, at, False)
         closed = sum(len(of.jobs) for of in epochs.values())
-        counts = {kind: members.count(keys.whole(kind), at) for kind in "pqj"}
-        jobs = counts["p"] - closed
+        every, fresh, known = members.counts([keys.whole(kind) for kind in "pqj"], at)
         going = sum(nodes is not None for nodes in begun.values()) + sum(bool(each.groups) for each in aside.values())
-        ended = counts["j"] - closed - going
+        jobs, ended = every - closed, known - closed - going
         there = sum(each.why != "job-gone" for each in aside.values())
-        left_out = jobs - ended - counts["q"] - len(begun) - there
-        return Standing(head.epoch, jobs, ended, max(0, left_out), held, epochs, at)
+        left_out = jobs - ended - fresh - len(begun) - there
+        return Standing(now, jobs, ended, max(0, left_out), held, epochs, at)
 
     @property
     def closed(self) -> list[int]:
@@ -65,9 +64,29 @@ class Standing:
         return ((name, past.progress, not past.has_ended() and name not in told) for name, past in found.items())
 
 
-def under_way(members: Members, keys: Keys, revision: int) -> dict[str, list[str] | None]:
-    """The jobs under way, each with the nodes that it holds; None if it has done nothing yet."""
-    return held_by(members, keys, names_below(members, keys, "u", revision), revision)
+@dataclass(frozen=True)
+class Small:
+    """What there are few keys of, all at the head's revision: the epochs that are kept, the jobs under way, and those
+    that are set aside."""
+
+    head: Head
+    epochs: dict[int, Epoch]
+    begun: list[str]
+    aside: dict[str, Aside]
+
+    @staticmethod
+    def read(members: Members, keys: Keys) -> Small:
+        """In one request, unless there are many all the same."""
+        heads = [reading(keys.head()), reading(keys.old_head())]
+        found = members.read(heads + [reading_below(keys.whole(kind), PAGE) for kind in "xua"])
+        head = head_of(keys, found)
+
+        def all_of(kind: str) -> dict[str, Entry]:
+            entries = found.below(keys.whole(kind))
+            return entries if len(entries) < PAGE else members.below(keys.whole(kind), head.revision).entries
+
+        aside = {last_part(key): Aside.read(entry.value) for key, entry in all_of("a").items()}
+        return Small(head, epochs_in(all_of("x")), list(map(last_part, all_of("u"))), aside)
 
 
 def held_by(members: Members, keys: Keys, names: Iterable[str], revision: int) -> dict[str, list[str] | None]:
@@ -82,11 +101,6 @@ def held_by(members: Members, keys: Keys, names: Iterable[str], revision: int) -
             whole = past_job(name, job, True)
             held[name] = (whole if now.dropped is None else whole.cut(now.dropped)).held_at(now.step)
     return held
-
-
-def asides(members: Members, keys: Keys, revision: int) -> dict[str, Aside]:
-    pages = members.pages(keys.whole("a"), revision)
-    return {last_part(key): Aside.read(entry.value) for page in pages for key, entry in page.entries.items()}
 
 
 def record_at(members: Members, keys: Keys, path: str) -> str:

@@ -246,7 +246,7 @@ def errors_are_a_line_and_a_status(cluster, grove):
     faults = [f"wanted {want}; came {each}" for each, want in zip(came, wanted) if each != want]
     if statuses != [2] * len(wrong):
         faults.append(f"statuses {statuses}")
-    return "; ".join(faults) or fault_of_garbage(programs)
+    return "; ".join(faults) or fault_of_garbage(programs) or fault_of_unread(programs)
 
 
 def fault_of_garbage(programs):
@@ -255,6 +255,19 @@ def fault_of_garbage(programs):
     ran = programs.ran("status", "--store", "garbage")
     is_well = (ran.returncode, ran.stdout, ran.stderr[:9]) == (3, "", "Traceback")
     return None if is_well else f"status {ran.returncode}, {ran.stdout}{ran.stderr}"
+
+
+def fault_of_unread(programs):
+    """Lines and refusals that nobody reads leave no traceback."""
+    for words in ([], ["--record", "/q"], ["--store", "nowhere"]):
+        reads, writes = os.pipe()
+        os.close(reads)
+        started = programs.start("status", *words, stdout=writes, stderr=subprocess.PIPE)
+        os.close(writes)
+        said = started.communicate(timeout=SECONDS)[1]
+        if (started.returncode, said) != (3, ""):
+            return f"status {words}: status {started.returncode}, {said}"
+    return None
 
 
 def a_document_is_read_as_the_program_reads_it(_cluster, grove):
