@@ -32,6 +32,7 @@ from installed import (
     the_wheel_has_the_programs,
     what_audits_have_passed_is_exported,
 )
+from mixed import fault_of_mixed, random_access
 from leashed import (
     a_stopped_worker_is_killed_in_its_work,
     a_worker_that_is_cut_off_is_killed_in_its_work,
@@ -124,6 +125,8 @@ from grove_etcd.works import slots
 # The nodes of the small tree.
 PATHS = ("/", "/a", "/b", "/b/c", "/a-d")
 JOBS, ACCESSES, WORKERS, KILLED = 64, 8, 8, 4
+# How long the mixed trial goes on, if all has been tried by then.
+MIXED_SECONDS = 20
 # A slot of the first try at killing some, in milliseconds.
 SLOT_OF_KILLED = 10
 # Of forty jobs that wait for one node, how many may commit in vain. Where workers have no processor when it is let go
@@ -146,11 +149,6 @@ def random_document(seed):
     grow(None, 0)
     paths = Tree(rows).paths
     return {"nodes": rows, "lists": [[random_access(random, paths) for _ in range(ACCESSES)] for _ in range(JOBS)]}
-
-
-def random_access(random, paths):
-    operation, path = random.choice(["get", "set", "add", "take"]), random.choice(paths)
-    return [operation, path] if operation == "get" else [operation, path, random.randint(0, 5)]
 
 
 def workers_and_a_member_are_killed(cluster, grove):
@@ -354,6 +352,12 @@ def members_are_spoken_to_as_etcdctl_does(_cluster, grove):
     return None if is_well and not left else f"came {without}, {wrong}, {left}"
 
 
+def all_ends_whatever_is_killed(_cluster, grove):
+    """The mixed trial, for a short while; tests/cluster/soak runs it for longer."""
+    seed = int(time.time())
+    return fault_of_mixed(grove, random_document(f"mixed {seed}"), MIXED_SECONDS, seed)
+
+
 def add_user(members):
     """A root with a password, whom etcd wants from then on."""
     calls = etcdrpc.AuthStub(members.asked.channel)
@@ -365,6 +369,7 @@ def add_user(members):
 
 TRIALS = [
     workers_and_a_member_are_killed,
+    all_ends_whatever_is_killed,
     workers_with_a_bug_are_caught,
     marks_that_are_left_out_are_told,
     what_is_planted_between_epochs_is_told,
