@@ -48,6 +48,7 @@ JOB_NAME = re.compile(r"[a-z0-9_-]{1,64}\.[0-9]{1,9}")
 # Of a key that is a job's. What is longer below `p/` or `q/` somebody has put there, and no program takes it for a job:
 # etcd wouldn't take a transaction that names it twice.
 MOST_KEY = 512
+DIGITS_OF_AGE = 17
 # The kinds of keys that go on with a path.
 OF_NODES = set("mrovb")
 # The format of the keys and their values as described here. Stores of the format before are gone on with.
@@ -84,13 +85,13 @@ class Keys:
         return f"{self.store}/v{path}//"
 
     def waiter(self, path: str, age: int, name: str) -> str:
-        return f"{self.waiters(path)}{age:017}/{name}"
+        return f"{self.waiters(path)}{age:0{DIGITS_OF_AGE}}/{name}"
 
     def job(self, name: str) -> str:
         return f"{self.store}/p/{name}"
 
     def fresh(self, age: int, name: str) -> str:
-        return f"{self.store}/q/{age:017}/{name}"
+        return f"{self.store}/q/{age:0{DIGITS_OF_AGE}}/{name}"
 
     def under_way(self, name: str) -> str:
         return f"{self.store}/u/{name}"

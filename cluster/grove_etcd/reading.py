@@ -8,7 +8,7 @@ from .failures import cut, why_of
 from .jobs import Aside, Job, Progress, UnderWay
 from .journal import Journal
 from .judging import is_path, need_legal, read_job
-from .keys import MOST_KEY, Keys, last_part
+from .keys import DIGITS_OF_AGE, MOST_KEY, Keys, last_part
 from .members import Members
 from .refusals import Refused
 from .wire import Entry, Found, absent, deleting, putting, reading, unchanged
@@ -43,6 +43,12 @@ class Reader:
             self.members.write([deleting(key)])
         self.fresh = {last_part(key): Fresh(key, found[key].put_at, found[key].value) for key in known}
         return list(self.fresh)
+
+    def oldest(self) -> float:
+        """When the first of these jobs was submitted, in seconds; 0 if there is none, or its key doesn't say that."""
+        first = next(iter(self.fresh.values()), None)
+        age = first.key.split("/")[2] if first else ""
+        return int(age) / 1e6 if age.isdecimal() and len(age) <= DIGITS_OF_AGE else 0.0
 
     def jobs(self, names: list[str]) -> list[Job]:
         """Those of these that are jobs. With them it is read whether there are the nodes at which they begin."""

@@ -244,10 +244,9 @@ class Worker:
 
     def fresh_of(self, found: Found) -> list[str]:
         """The names of jobs that nobody has begun, the oldest first."""
-        fresh = found.below(self.keys.whole("q"))
-        age = min(fresh, default="//").split("/")[2]
-        self.fresh, self.oldest = len(fresh), int(age) / 1e6 if age.isdecimal() else 0.0
-        return self.reader.note(fresh)
+        names = self.reader.note(found.below(self.keys.whole("q")))
+        self.fresh, self.oldest = len(names), self.reader.oldest()
+        return names
 
     def under_way_of(self, found: Found) -> dict[str, UnderWay]:
         """Those that aren't set aside."""

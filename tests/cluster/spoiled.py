@@ -192,6 +192,25 @@ def what_is_said_to_be_fresh_again_is_not_done_again(cluster, grove):
     return None if came == (1, [12, 1], sorted(store.jobs), []) else f"came {came}"
 
 
+# What stands for the time at which a job was submitted.
+NO_AGES = ["00" + "9" * 398, "0" * 400, "", "x", "-1", "0\u0663", "00"]
+
+
+def an_age_that_is_none_stops_nobody(cluster, grove):
+    """One by one, so that each is the first that a worker sees."""
+    for number, age in enumerate(NO_AGES):
+        store = Store(cluster, grove, f"ages-{number}")
+        store.write(putting(store.keys.job("bad.0"), text_of([["add", "/a", 1]], AT_A)))
+        store.write(putting(f"{store.keys.whole('q')}{age}/bad.0", ""))
+        put_job(store, "good.0", text_of([["add", "/a", 1]], AT_A, 10**15), 10**15)
+        store.work()
+        aside = {name: each.why for name, each in failed(store.members, store.keys)}
+        store.audit()
+        if (aside, store.records("/a")) != ({"bad.0": "malformed age"}, [11]):
+            return f"{age[:20]}: came {aside}, {store.records('/a')}"
+    return None
+
+
 def a_job_that_is_left_out_is_named(cluster, grove):
     """Somebody has deleted what says that it waits for a worker, or that it is under way."""
     came = []

@@ -76,6 +76,7 @@ from store_at_hand import (
     one_group,
 )
 from spoiled import (
+    an_age_that_is_none_stops_nobody,
     a_job_that_is_left_out_is_named,
     a_group_ends_before_it_is_too_large,
     a_late_job_is_dropped,
@@ -428,6 +429,7 @@ TRIALS = [
     no_work_ends_all_workers,
     what_is_no_job_is_set_aside_by_name,
     what_is_said_to_be_fresh_again_is_not_done_again,
+    an_age_that_is_none_stops_nobody,
     a_job_that_is_left_out_is_named,
     what_submitted_jobs_say_is_judged,
     a_plan_is_judged_as_the_program_judges_it,
