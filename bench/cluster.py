@@ -10,10 +10,10 @@ that lock everything first, and by transactions that compare what they read and 
 job adds to the root's record and then to three of 64 leaves; `mild`: to four of 64 leaves. chain: 64 jobs that take
 one from the root, from one of four nodes below it and from one of four below that, 5 ms each; the same ways, and
 `records`: a lock for each record, taken in sorted order and held to the end. root: 250 jobs of one `add` at the root
-by 1, 4 and 16 workers. submitting: 2,000 jobs of one `add` at random leaves, submitted by 4 processes while 8 workers
-do them. All these are done RUNS times, all cases in turn; the median is printed, with the least and the most in
-brackets. large: trees of 1,111,111 and of some 1,000 nodes are loaded, and the same jobs of 8 accesses planned,
-submitted and run in each.
+by 1, 4 and 16 workers. submitting: 2,000 jobs of one `add` at random leaves, submitted by 4 processes, 20 or 500 in a
+call, while 4 workers do them. All these are done RUNS times, all cases in turn; the median is printed, with the least
+and the most in brackets. large: trees of 1,111,111 and of some 1,000 nodes are loaded, and the same jobs of 8 accesses
+planned, submitted and run in each.
 """
 import argparse
 import itertools
@@ -21,6 +21,7 @@ import json
 import statistics
 import subprocess
 import sys
+import threading
 import time
 from collections import Counter
 from pathlib import Path
@@ -31,13 +32,13 @@ sys.path.insert(0, str(TOP / "tests/cluster"))
 from members_at_hand import Cluster  # noqa: E402
 
 from grove_etcd.auditing import audit  # noqa: E402
-from grove_etcd.command_line import GROVE  # noqa: E402
 from grove_etcd.groups import answer  # noqa: E402
 from grove_etcd.jobs import Job  # noqa: E402
 from grove_etcd.journal import Journal  # noqa: E402
 from grove_etcd.keys import Keys  # noqa: E402
 from grove_etcd.loading import load  # noqa: E402
 from grove_etcd.members import Members  # noqa: E402
+from grove_etcd.program import GROVE  # noqa: E402
 from grove_etcd.refusals import Refused  # noqa: E402
 from grove_etcd.submitting import Submitter  # noqa: E402
 from grove_etcd.tree import names_of, ways_down  # noqa: E402
@@ -47,6 +48,8 @@ from grove_etcd.worker import Worker  # noqa: E402
 from grove_etcd.works import slots  # noqa: E402
 
 WORKERS = (1, 4, 16)
+# Of lists in a call of a submitter.
+SIZES = (20, 500)
 SLOT = 0.005
 LEAVES = [f"/l{number}" for number in range(64)]
 MANY_LEAVES = [f"/l{number:03}" for number in range(250)]
@@ -132,13 +135,13 @@ def be_worker(way, addresses, store, slot):
     print(json.dumps(WAYS[way](members, keys, lists, float(slot))), flush=True)
 
 
-def be_submitter(addresses, store, grove):
+def be_submitter(addresses, store, grove, size):
     members, keys = Members(addresses.split(",")), Keys(store)
     submitter = Submitter(members, keys, grove)
     print("ready", flush=True)
     lists = json.loads(sys.stdin.readline())
-    for start in range(0, len(lists), 20):
-        submitter.submit_all(lists[start : start + 20])
+    for start in range(0, len(lists), int(size)):
+        submitter.submit_all(lists[start : start + int(size)])
     print(json.dumps({"last": time.time()}), flush=True)
 
 
@@ -305,23 +308,26 @@ def contend(cluster, given, turn, kind, way, workers, lists, rows):
 
 
 def submitting(given):
-    rates = []
+    found = {size: [] for size in SIZES}
     with Cluster(3) as cluster:
         for turn in range(given.runs):
-            rates.append(submit_and_work(cluster, given, f"s{turn}"))
-    submitted, done, epochs = zip(*rates)
-    print(f"submitting: {spread(submitted)} submitted, {spread(done)} done a second, {epochs} epochs", flush=True)
+            for size, rates in found.items():
+                rates.append(submit_and_work(cluster, given, f"s{turn}-{size}", size))
+    for size, rates in found.items():
+        submitted, done, epochs = zip(*rates)
+        told = f"{spread(submitted)} submitted, {spread(done)} done a second, {epochs} epochs"
+        print(f"submitting, {size} in a call: {told}", flush=True)
 
 
-def submit_and_work(cluster, given, name):
+def submit_and_work(cluster, given, name, size):
     """How many jobs a second were submitted, and done from the first submission to the last commit; and how many
     epochs they were."""
     members, keys, random = cluster.members(), Keys(name), Random(name)
     load(members, keys, rows_below_root(MANY_LEAVES, 50))
     lists = [[["add", random.choice(MANY_LEAVES), 1]] for _ in range(2000)]
-    submitters = [start("submitter", cluster.addresses, name, given.grove) for _ in range(4)]
-    workers = [start("lasting", cluster.addresses, name, len(lists)) for _ in range(8)]
-    begin(workers, [None] * 8)
+    submitters = [start("submitter", cluster.addresses, name, given.grove, size) for _ in range(4)]
+    workers = [start("lasting", cluster.addresses, name, len(lists)) for _ in range(4)]
+    begin(workers, [None] * 4)
     begun = begin(submitters, [lists[number::4] for number in range(4)])
     submitted = max(json.loads(each.communicate()[0])["last"] for each in submitters)
     done = max(json.loads(each.communicate()[0])["last"] for each in workers)
@@ -332,14 +338,19 @@ def submit_and_work(cluster, given, name):
 
 
 def be_lasting(addresses, store, wanted):
-    """A worker that ends once so many jobs have been submitted and all have ended."""
-    members, keys = Members(addresses.split(",")), Keys(store)
+    """A worker that is told to end once so many jobs have ended."""
+    members, keys, journal = Members(addresses.split(",")), Keys(store), Timed()
+    worker = Worker(members, keys, journal=journal)
+    thread = threading.Thread(target=worker.run)
+    thread.start()
+    while not journal.counts["started"]:
+        time.sleep(0.01)
     print("ready", flush=True)
     sys.stdin.readline()
-    journal = Timed()
     while members.count(keys.whole("j")) < int(wanted):
-        Worker(members, keys, journal=journal).run(until_ended=True)
-        time.sleep(0.02)
+        time.sleep(0.05)
+    worker.stop()
+    thread.join()
     print(json.dumps({"last": journal.last}), flush=True)
 
 

@@ -91,7 +91,7 @@ class Submitter:
             self.known, self.known_at = {}, time.monotonic()
             self.reweighing = last_weighing(self.members, self.keys).number
         paths = {path for accesses in lists for path in ways_of(accesses)}
-        # One member's own are enough: nodes stay, and a plan by old weights is legal. The others are asked for the rest.
+        # One member's own are enough: nodes stay, and a plan by old weights is legal. What it hasn't all are asked for.
         self.learn(paths, at_hand)
         self.learn(paths, lambda read: read)
         return {path: self.known[path] for path in paths if path in self.known}

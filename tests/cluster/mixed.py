@@ -40,8 +40,8 @@ TRIES = 5
 # How workers are called: those that are let be, one that does many jobs in one transaction, and the others.
 LASTING_WORDS, SHORT_WORDS = ("--slot", "1"), ("--patience", "1")
 OTHER_WORDS = ("--work", "soaked_work:perform", "--patience", "1", "--threads", "3", "--tries", str(TRIES))
-# How long something is stopped at most, how long a worker without work lives, how long lies between two disturbances, and
-# how often an epoch is audited.
+# How long something is stopped at most, how long a worker without work lives, how long lies between two disturbances,
+# and how often an epoch is audited.
 LONGEST_STOP, SHORT_LIFE, BETWEEN, EVERY = 4.0, (0.5, 2.0), (0.3, 3.0), 2.0
 # How workers may end: told to, killed by us or by a leash, ended by their work, and without a member for a minute.
 STATUSES = {0, -signal.SIGTERM, -signal.SIGKILL, 9, 3}
