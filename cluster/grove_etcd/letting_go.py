@@ -40,11 +40,17 @@ def drop_one(members: Members, keys: Keys, name: str) -> list[str]:
     held = job.held_at(now.step)
     if held:
         del taken_away[1]
-    if not members.write([*taken_away, *changes], guards):
+    if not members.write([*taken_away, *changes], guards) and not is_dropped(members, keys, name):
         raise Refused(f"not-set-aside {name}")
     if held:
         let_go(members, keys, name)
     return held
+
+
+def is_dropped(members: Members, keys: Keys, name: str) -> bool:
+    """It is, if the first call was made, and brought no answer."""
+    progress = members.get(keys.progress(name)).value(keys.progress(name))
+    return progress is not None and Progress.read(progress).dropped is not None
 
 
 def job_of(keys: Keys, name: str, found: Found, progress: Optional[Entry]) -> Job:

@@ -30,7 +30,6 @@ from grove_etcd.jobs import Progress
 from grove_etcd.keys import Keys
 from grove_etcd.letting_go import drop_all
 from grove_etcd.loading import load
-from grove_etcd.refusals import Refused
 from grove_etcd.setting_aside import failed, retry
 from grove_etcd.submitting import Submitter
 from grove_etcd.wire import putting
@@ -160,12 +159,7 @@ class Mixed:
         self.counts["tried again"] += len(retry(self.members, self.keys, names))
 
     def drop(self, names):
-        """One whose drop brought no answer, and was made all the same, isn't set aside when that is repeated."""
-        try:
-            for _ in drop_all(self.members, self.keys, names):
-                self.counts["dropped"] += 1
-        except Refused:
-            self.counts["dropped without an answer"] += 1
+        self.counts["dropped"] += len(list(drop_all(self.members, self.keys, names)))
 
     # What disturbs
 

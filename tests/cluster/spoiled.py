@@ -24,7 +24,8 @@ from working import Counted
 from grove_etcd.jobs import Job
 from grove_etcd.judging import need_legal, read_job
 from grove_etcd.letting_go import drop_all
-from grove_etcd.setting_aside import failed
+from grove_etcd.members import Members
+from grove_etcd.setting_aside import failed, retry
 from grove_etcd.wire import deleting, putting
 
 LEAVES = [f"/x{number}" for number in range(32)]
@@ -303,6 +304,34 @@ def what_is_dropped_ends_where_it_is(cluster, grove):
     came = aside[name].holds, early, told, (store.records("/a", "/b"), sorted(waits.jobs))
     is_well = came == wanted and len(tries) == 2 and not store.left("qua")
     return None if is_well else f"wanted {wanted}; came {came}, {store.left('qua')}, {tries}"
+
+
+class MadeTwice(Members):
+    """Repeats each transaction, as if the first call had brought no answer."""
+
+    def transact(self, request):
+        super().transact(request)
+        return super().transact(request)
+
+
+def what_is_dropped_without_an_answer_is_dropped(cluster, grove):
+    """One that holds a node, and one that is none; and those that are tried again."""
+    store, members = Store(cluster, grove, "dropped-twice", [BOTH]), MadeTwice(cluster.clients)
+
+    def work(_access, _record, _token):
+        raise RuntimeError("no")
+
+    put_job(store, "none.0", "{")
+    for number in range(2):
+        store.work(work=work, tries=1)
+        if number == 0:
+            retry(members, store.keys, [])
+    came = refusal(lambda: sorted(drop_all(members, store.keys, [])))
+    store.work()
+    store.audit()
+    wanted = sorted([(store.jobs[0], ["/a", "/b"]), ("none.0", [])])
+    left = store.left("oqua")
+    return None if (came, left, store.records("/a", "/b")) == (wanted, [], [10, 0]) else f"came {came}, {left}"
 
 
 def worker_stops_once(worker, is_so):
