@@ -89,12 +89,16 @@ def after(prefix: str) -> str:
     return prefix[:-1] + chr(ord(prefix[-1]) + 1)
 
 
-def transaction(guards: list[Guard], then: list[Operation], otherwise: list[Operation]) -> Any:
-    return etcdrpc.TxnRequest(compare=guards, success=then, failure=otherwise)
+def fill(transaction: Any, guards: list[Guard], then: list[Operation], otherwise: list[Operation]) -> None:
+    transaction.compare.extend(guards)
+    transaction.success.extend(then)
+    transaction.failure.extend(otherwise)
 
 
 def request_of(guards: list[Guard], then: list[Operation], otherwise: list[Operation]) -> Request:
-    return Request(transaction(guards, then, otherwise).SerializeToString())
+    transaction = etcdrpc.TxnRequest()
+    fill(transaction, guards, then, otherwise)
+    return Request(transaction.SerializeToString())
 
 
 def done(answer: Any) -> Done:
@@ -178,7 +182,11 @@ def deleting_below(prefix: str) -> Operation:
 
 def choosing(guards: list[Guard], then: list[Operation], otherwise: list[Operation]) -> Operation:
     """A nested transaction: one or the other."""
-    return Operation(etcdrpc.RequestOp(request_txn=transaction(guards, then, otherwise)))
+    operation = etcdrpc.RequestOp()
+    # An empty one is one, too.
+    operation.request_txn.SetInParent()
+    fill(operation.request_txn, guards, then, otherwise)
+    return Operation(operation)
 
 
 def unchanged(key: str, revision: int) -> Guard:
