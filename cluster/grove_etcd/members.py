@@ -16,6 +16,7 @@ import grpc
 from . import etcdrpc
 from .refusals import Failed
 from .wire import (
+    Branches,
     Done,
     Found,
     Guard,
@@ -23,12 +24,12 @@ from .wire import (
     Request,
     after,
     at_hand,
-    choosing,
     counting,
     done,
     ranging,
     reading,
     request_of,
+    request_of_all,
 )
 
 # Of operations in a transaction, and of its compares (etcd's default limit).
@@ -206,7 +207,7 @@ class Members:
 
     def read_wide(self, parts: Sequence[list[Operation]]) -> Found:
         """More than 128 reads at one revision, as transactions within one."""
-        return self.read([choosing([], part, []) for part in parts])
+        return done(self.transact(request_of_all(Branches([], part, []) for part in parts))).found
 
     def count(self, prefix: str, revision: int = 0) -> int:
         """How many keys have this prefix."""

@@ -15,7 +15,7 @@ from typing import Iterable, Sequence
 
 from .members import MOST_OPERATIONS, Members
 from .refusals import Failed
-from .wire import Done, Found, Guard, Operation, Request, choosing, request_of
+from .wire import Branches, Done, Found, Guard, Operation, Request, request_of, request_of_all
 
 # Of groups in one transaction, of the operations of each, and of the bytes of all.
 MOST_PARTS, MOST_SHARED, MOST_BYTES = 8, 100, 1_000_000
@@ -151,9 +151,9 @@ class Commits:
 def together(parts: Sequence[Part]) -> Request:
     """First the changes of all, then what each reads. Guards are of what stands before the transaction, so each holds
     both times, or neither."""
-    changes = [choosing(part.guards, part.changes, part.own) for part in parts]
-    reads = [choosing(part.guards, part.then, part.otherwise) for part in parts if part.reads]
-    return request_of([], [*changes, *reads], [])
+    changes = [Branches(part.guards, part.changes, part.own) for part in parts]
+    reads = [Branches(part.guards, part.then, part.otherwise) for part in parts if part.reads]
+    return request_of_all([*changes, *reads])
 
 
 def parted(done: Done, parts: Sequence[Part]) -> list[Done]:

@@ -14,14 +14,15 @@ from .keys import JOB_NAME, Keys
 from .members import GIVE_UP_SECONDS, MOST_OPERATIONS, Lost, Members, pauses
 from .planning import Planner, ways_of
 from .refusals import Refused
-from .sharing import MOST_PARTS, Commits, Part
+from .sharing import Commits, Part
 from .waiting import Watched, changes
 from .weighing import last_weighing
 from .weights import Weight
 from .wire import Found, Operation, absent, after, at_hand, putting, reading
 
-# Of jobs in one part of a transaction, each of which is two puts; and of transactions that are on their way at once.
-MOST_JOBS, MOST_SENT = (MOST_OPERATIONS - MOST_PARTS) // 2, 4
+# Of parts of a transaction, of jobs in each, which are two puts, and of transactions that are on their way at once.
+MOST_PARTS, MOST_SENT = 16, 4
+MOST_JOBS = (MOST_OPERATIONS - MOST_PARTS) // 2
 # Of weights that are read at once.
 MOST_READ = 2000
 # For how long weights are kept, and of how many nodes.

@@ -7,8 +7,7 @@ of a chunk have the same revision, and so a place in it.
 from __future__ import annotations
 
 from dataclasses import dataclass, field
-from functools import cached_property
-from typing import Iterable
+from typing import Collection, Iterable
 
 from .groups import Group, Limits, group_of
 from .jobs import Job, Kind, Progress
@@ -37,10 +36,16 @@ class Short:
     def nodes(self) -> frozenset[str]:
         return self.locked | self.accessed
 
-    @cached_property
+    @property
     def fits(self) -> bool:
         """Is there room for it in a chunk of its own?"""
-        return Chunk().take([self])
+        return size_of(1, self.locked, self.accessed) <= MOST_SHARED
+
+
+def size_of(jobs: int, locked: Collection[str], accessed: Collection[str]) -> int:
+    """How many the reads are, or the guards, or the changes of so many jobs at these nodes, whichever are most."""
+    records = len(accessed)
+    return max(2 * len(locked) + records, 2 * jobs + len(locked) + records, 3 * jobs + records)
 
 
 @dataclass
@@ -52,13 +57,10 @@ class Chunk:
     accessed: set[str] = field(default_factory=set)
 
     def take(self, some: list[Short]) -> bool:
-        """Takes these jobs, if there is room for the reads, the guards and the changes of all."""
+        """Takes these jobs, if there is room for all."""
         locked = self.locked.union(*(each.locked for each in some))
         accessed = self.accessed.union(*(each.accessed for each in some))
-        jobs = len(self.jobs) + len(some)
-        reads, changes = 2 * len(locked) + len(accessed), 3 * jobs + len(accessed)
-        guards = 2 * jobs + len(locked) + len(accessed)
-        if max(reads, guards, changes) > MOST_SHARED:
+        if size_of(len(self.jobs) + len(some), locked, accessed) > MOST_SHARED:
             return False
         self.locked, self.accessed = locked, accessed
         self.jobs += [each.job for each in some]
@@ -82,6 +84,8 @@ class Together:
     keys: Keys
     found: Found
     done: list[tuple[Job, Group]] = field(default_factory=list)
+    # The keys that say that nobody has begun these.
+    fresh: list[str] = field(default_factory=list)
     # Those that have to be done one by one.
     left: list[Job] = field(default_factory=list)
     records: dict[str, int] = field(default_factory=dict)
@@ -95,7 +99,8 @@ class Together:
             return
         guarded = [*map(self.keys.owner, group.locked), *map(self.keys.record, group.records)]
         self.seen |= {each: self.found.revision_of(each) for each in guarded}
-        self.seen |= dict.fromkeys([self.keys.fresh(job.age, job.name), self.keys.job(job.name)], job.put_at)
+        self.fresh.append(self.keys.fresh(job.age, job.name))
+        self.seen |= dict.fromkeys([self.fresh[-1], self.keys.job(job.name)], job.put_at)
         self.records |= {path: group.records[path] for path in group.changed}
         for path, record in group.records.items():
             entry = self.found.entries.get(self.keys.record(path), Entry("0", 0, 0, 0))
@@ -114,20 +119,19 @@ class Together:
     def part(self) -> Part:
         """If it isn't made, it is read whether others have begun the jobs."""
         guards: list[Guard] = [unchanged(key, revision) for key, revision in self.seen.items()]
-        fresh = [reading(self.keys.fresh(job.age, job.name), keys_only=True) for job, _ in self.done]
-        return Part(guards, self.changes(), [], [], own=fresh)
+        return Part(guards, self.changes(), [], [], own=[reading(key, keys_only=True) for key in self.fresh])
 
     def changes(self) -> list[Operation]:
         changes = [putting(self.keys.record(path), str(record)) for path, record in self.records.items()]
+        changes += map(deleting, self.fresh)
         for job, group in self.done:
-            changes.append(deleting(self.keys.fresh(job.age, job.name)))
             changes.append(putting(self.keys.progress(job.name), group.after().text()))
             changes.append(putting(self.keys.event(job.name, 0), group.event().text()))
         return changes
 
     def are_taken(self, now: Found) -> bool:
         """Has another worker begun one of the jobs?"""
-        return any(self.keys.fresh(job.age, job.name) not in now.entries for job, _ in self.done)
+        return any(key not in now.entries for key in self.fresh)
 
 
 def by_nodes(jobs: Iterable[Short]) -> list[list[Short]]:

@@ -89,15 +89,32 @@ def after(prefix: str) -> str:
     return prefix[:-1] + chr(ord(prefix[-1]) + 1)
 
 
-def fill(transaction: Any, guards: list[Guard], then: list[Operation], otherwise: list[Operation]) -> None:
-    transaction.compare.extend(guards)
-    transaction.success.extend(then)
-    transaction.failure.extend(otherwise)
+class Branches(NamedTuple):
+    """A transaction: if the guards hold, one, and else the other."""
+
+    guards: list[Guard]
+    then: list[Operation]
+    otherwise: list[Operation]
+
+    def fill(self, transaction: Any) -> None:
+        """An empty one is one, too."""
+        transaction.SetInParent()
+        transaction.compare.extend(self.guards)
+        transaction.success.extend(self.then)
+        transaction.failure.extend(self.otherwise)
 
 
 def request_of(guards: list[Guard], then: list[Operation], otherwise: list[Operation]) -> Request:
     transaction = etcdrpc.TxnRequest()
-    fill(transaction, guards, then, otherwise)
+    Branches(guards, then, otherwise).fill(transaction)
+    return Request(transaction.SerializeToString())
+
+
+def request_of_all(parts: Iterable[Branches]) -> Request:
+    """A transaction of these, one after the other, each of which is made by itself."""
+    transaction = etcdrpc.TxnRequest()
+    for part in parts:
+        part.fill(transaction.success.add().request_txn)
     return Request(transaction.SerializeToString())
 
 
@@ -183,9 +200,7 @@ def deleting_below(prefix: str) -> Operation:
 def choosing(guards: list[Guard], then: list[Operation], otherwise: list[Operation]) -> Operation:
     """A nested transaction: one or the other."""
     operation = etcdrpc.RequestOp()
-    # An empty one is one, too.
-    operation.request_txn.SetInParent()
-    fill(operation.request_txn, guards, then, otherwise)
+    Branches(guards, then, otherwise).fill(operation.request_txn)
     return Operation(operation)
 
 

@@ -12,6 +12,7 @@ import uuid
 from collections import deque
 from concurrent.futures import Future
 from contextlib import contextmanager
+from dataclasses import dataclass, field
 from functools import partial
 from typing import Any, Callable, Iterable, Iterator, Optional
 
@@ -289,10 +290,10 @@ class Worker:
     def do_together(self, jobs: list[Job], names: set[str]) -> list[Job]:
         """Does jobs in one transaction after the other, as long as each is made, and reads the next ones meanwhile.
         Gives those jobs that have to be done one by one."""
-        until, outcome = time.monotonic() + LOOK_SECONDS, Outcome(rest=jobs)
+        until, outcome, coming = time.monotonic() + LOOK_SECONDS, Outcome(rest=jobs), Coming(self)
         while outcome.goes_on and not (self.means.stopping or self.turns.is_wanted() or time.monotonic() > until):
             batch = Batch.of(outcome.rest)
-            more = self.means.aside.submit(self.more_short_jobs, MOST_TOGETHER - len(batch.rest))
+            more = self.means.aside.submit(coming.jobs, MOST_TOGETHER - len(batch.rest))
             outcome = self.do_batch(batch)
             chosen = self.choose(job.name for job in more.result())
             names |= chosen
@@ -301,16 +302,13 @@ class Worker:
             self.let_go_of(outcome.ended, names)
         return outcome.left
 
-    def more_short_jobs(self, most: int) -> list[Job]:
-        """Some jobs of this worker's share that nobody has begun; none if other workers choose of them, too."""
-        if most <= 0 or self.shares.parts > 1:
-            return []
+    def own_names(self) -> list[str]:
+        """Of the jobs that nobody has begun and no thread has chosen, those of this worker's share."""
         fresh, signs = self.keys.whole("q"), self.keys.whole("s")
         looked_at = min(MOST_PREPARED, 2 * MOST_TOGETHER * self.shares.workers)
         found = self.members.read([reading_below(fresh, looked_at), reading_below(signs)])
         self.reader.note(found.below(fresh))
-        names = self.shares.own(self.nodes_of(found), self.others(found))
-        return self.jobs(names[:most])
+        return self.shares.own(self.nodes_of(found), self.others(found))
 
     def do_batch(self, batch: Batch) -> Outcome:
         try:
@@ -450,6 +448,23 @@ class Worker:
         watched = Watched(fresh, after(fresh))
         if self.ended == ended:
             wait(self.members, watched, found.revision, seconds, lambda change: change.value is not None, self.idles)
+
+
+@dataclass
+class Coming:
+    """The jobs of a worker's share that come next, read some at a time."""
+
+    worker: Worker
+    # Those that nobody had begun when it was looked last.
+    names: list[str] = field(default_factory=list)
+
+    def jobs(self, most: int) -> list[Job]:
+        """None if other workers choose of them, too."""
+        if most <= 0 or self.worker.shares.parts > 1:
+            return []
+        self.names = self.names or self.worker.own_names()
+        some, self.names = self.names[:most], self.names[most:]
+        return self.worker.jobs(some)
 
 
 def in_order(names: list[str], some: set[str]) -> list[str]:

@@ -6,6 +6,7 @@ import here  # noqa: F401
 from grove_etcd.jobs import Job
 from grove_etcd.judging import MOST_BYTES
 from grove_etcd.sharing import MOST_PARTS, MOST_SHARED
+from grove_etcd import submitting
 from grove_etcd.submitting import MOST_JOBS, Written, transactions_of
 from grove_etcd.together import Batch, Short, by_nodes
 
@@ -71,7 +72,7 @@ class Batches(unittest.TestCase):
 
 class Submitted(unittest.TestCase):
     def test_as_many_as_one_transaction_takes(self):
-        most = MOST_JOBS * MOST_PARTS
+        most = MOST_JOBS * submitting.MOST_PARTS
         jobs = [Written(job(number), "x") for number in range(2 * most + 1)]
         self.assertEqual(list(map(len, transactions_of(jobs))), [most, most, 1])
         self.assertEqual(transactions_of([]), [])
