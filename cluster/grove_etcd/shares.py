@@ -24,8 +24,6 @@ class Shares:
     by_nodes: bool
     # It takes one in so many of the jobs that it looks at.
     parts: int = 1
-    # How many workers there are, itself among them.
-    workers: int = 1
     # Since when jobs of others' shares have been seen, by name.
     seen: dict[str, float] = field(default_factory=dict)
 
@@ -34,21 +32,26 @@ class Shares:
         self.parts = min(MOST_PARTS, self.parts * 2) if are_taken else max(1, self.parts // 2)
 
     def choose(self, fresh: dict[str, str], workers: Sequence[str], most: int) -> list[str]:
-        """Some of these jobs, which have the nodes at which they begin: those of its own share, or else those that have
-        been left for a while, from a random one on."""
-        names = self.own_or_left(fresh, workers) if self.by_nodes else list(fresh)
-        if not names:
-            return []
-        first = random.randrange(len(names))
-        return (names[first:] + names[:first])[: max(1, min(most, len(names) // self.parts))]
+        """Some of these jobs, which have the nodes at which they begin: the first ones of its own share, or else, from
+        a random one on, those that have been left for a while."""
+        if self.by_nodes:
+            left = self.left(fresh)
+            names = self.own(fresh, workers) or from_a_random_one(left)
+        else:
+            names = from_a_random_one(list(fresh))
+        return names[: max(1, min(most, len(names) // self.parts))]
 
-    def own_or_left(self, fresh: dict[str, str], workers: Sequence[str]) -> list[str]:
+    def left(self, fresh: dict[str, str]) -> list[str]:
         now = time.monotonic()
         self.seen = {name: self.seen.get(name, now) for name in fresh}
-        return self.own(fresh, workers) or [name for name, since in self.seen.items() if now - since >= LEFT_SECONDS]
+        return [name for name, since in self.seen.items() if now - since >= LEFT_SECONDS]
 
     def own(self, fresh: dict[str, str], workers: Sequence[str]) -> list[str]:
-        """Those of its share."""
         every = sorted({*workers, self.worker})
-        self.workers, place = len(every), every.index(self.worker)
+        place = every.index(self.worker)
         return [name for name, node in fresh.items() if crc32((node or name).encode()) % len(every) == place]
+
+
+def from_a_random_one(names: list[str]) -> list[str]:
+    first = random.randrange(len(names)) if names else 0
+    return names[first:] + names[:first]

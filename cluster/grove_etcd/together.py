@@ -12,10 +12,14 @@ from typing import Collection, Iterable
 from .groups import Group, Limits, group_of
 from .jobs import Job, Kind, Progress
 from .keys import Keys
-from .members import Members
+from .members import MOST_OPERATIONS, Members
 from .refusals import Refused
-from .sharing import MOST_PARTS, MOST_SHARED, Commits, Part
+from .sharing import MOST_SHARED, Commits, Part
 from .wire import Entry, Found, Guard, Operation, deleting, putting, reading, reading_below, unchanged
+
+# Of chunks in one transaction. None reads what another one changes, so each is one part of it.
+MOST_CHUNKS = 16
+assert MOST_CHUNKS + MOST_SHARED <= MOST_OPERATIONS
 
 
 @dataclass(frozen=True)
@@ -182,7 +186,7 @@ class Batch:
         for some in by_nodes(each for each in short if each.fits):
             if chunks[-1].take(some):
                 continue
-            if chunks[-1].jobs and len(chunks) < MOST_PARTS:
+            if chunks[-1].jobs and len(chunks) < MOST_CHUNKS:
                 chunks.append(Chunk())
             rest += chunks[-1].take_some(some)
         return Batch([chunk for chunk in chunks if chunk.jobs], [each.job for each in short if not each.fits], rest)

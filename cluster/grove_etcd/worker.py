@@ -12,9 +12,8 @@ import uuid
 from collections import deque
 from concurrent.futures import Future
 from contextlib import contextmanager
-from dataclasses import dataclass, field
 from functools import partial
-from typing import Any, Callable, Iterable, Iterator, Optional
+from typing import Any, Callable, Iterable, Iterator, Optional, Sequence
 
 from .attempt import Attempt, Means, Work
 from .failures import why_of
@@ -34,10 +33,12 @@ from .turns import Turns
 from .waiting import Watched, wait
 from .wire import Found, after, deleting, reading, reading_below, unchanged
 
-# How many jobs are looked at at once, and how many are chosen of them: with work, and of those that share transactions.
-MOST_LOOKED_AT, MOST_BEGUN, MOST_TOGETHER = 768, 24, 192
-# How many are looked at while a transaction is on its way.
-MOST_PREPARED = 3072
+# How many jobs are looked at at once, and how many are chosen of them: with work, and without.
+MOST_LOOKED_AT, MOST_BEGUN = 768, 24
+MOST_SHORT, MOST_CHOSEN = 3072, 1536
+# How many of the latter are read for one transaction. After one of fewer jobs than so many, for how long it is waited
+# until it is looked for more.
+MOST_TOGETHER, FEW, GATHER_SECONDS = 192, 48, 0.02
 # How long a worker pauses if others come to the nodes of its jobs.
 STEP_BACK_SECONDS, LONGEST_STEP_BACK_SECONDS = 0.05, 1.5
 # How often it is looked whether the worker is to end, while all turns are taken.
@@ -90,6 +91,8 @@ class Worker:
         # How many times in a row others have come to the nodes in between.
         self.clashes = 0
         self.shares = Shares(name, work is None)
+        # How many jobs it looks at at once.
+        self.most = MOST_SHORT if work is None else MOST_LOOKED_AT
         self.pauses = pauses()
         # The jobs that nobody had begun when it looked last, as far as it looked, and since when the oldest has been.
         self.fresh, self.oldest = 0, 0.0
@@ -98,7 +101,7 @@ class Worker:
     def gauges(self) -> dict[str, tuple[str, Callable[[], float]]]:
         """What is measured of a worker."""
         return {
-            "grove_fresh_jobs": (f"Jobs that nobody has begun, up to {MOST_LOOKED_AT}.", lambda: self.fresh),
+            "grove_fresh_jobs": (f"Jobs that nobody has begun, up to {self.most}.", lambda: self.fresh),
             "grove_oldest_fresh_job_seconds": (
                 "For how long the oldest of them has been submitted, by its submitter's clock.",
                 lambda: max(0.0, time.time() - self.oldest) if self.fresh else 0.0,
@@ -179,7 +182,7 @@ class Worker:
             return self.chosen_for([abandoned.name], lambda names: self.go_on_with(abandoned))
         some = self.some_of(found)
         if some:
-            return self.chosen_for(some, lambda names: self.run_batch(self.jobs(in_order(some, names)), names))
+            return self.chosen_for(some, lambda names: self.run_some(in_order(some, names), names))
         return None
 
     def chosen_for(self, some: list[str], task: Callable[[set[str]], bool]) -> Callable[[], bool]:
@@ -204,13 +207,10 @@ class Worker:
 
     def let_go(self, names: set[str], but: str | None = None) -> None:
         """Other threads may choose these again, and they are taken out of the set."""
-        self.let_go_of(names - {but}, names)
-
-    def let_go_of(self, some: Iterable[str], names: set[str]) -> None:
-        """The same of some of the set."""
         with self.lock:
-            self.chosen.difference_update(some)
-            names.difference_update(some)
+            gone = names - {but}
+            self.chosen -= gone
+            names -= gone
 
     def start(self, task: Callable[[], bool]) -> None:
         def run() -> None:
@@ -239,9 +239,7 @@ class Worker:
     def look(self) -> Found:
         """Reads the oldest jobs that nobody has begun, those under way, and the workers' signs."""
         fresh, begun, signs = (self.keys.whole(kind) for kind in "qus")
-        return self.members.read(
-            [reading_below(fresh, MOST_LOOKED_AT), reading_below(begun), reading_below(signs)]
-        )
+        return self.members.read([reading_below(fresh, self.most), reading_below(begun), reading_below(signs)])
 
     def fresh_of(self, found: Found) -> list[str]:
         """The names of jobs that nobody has begun, the oldest first."""
@@ -257,15 +255,11 @@ class Worker:
 
     def some_of(self, found: Found) -> list[str]:
         """Some of the jobs that nobody has begun; no more than leaves as many for each thread."""
-        fresh = self.nodes_of(found)
-        most = MOST_TOGETHER if self.means.work is None else min(MOST_BEGUN, max(1, len(fresh) // self.count))
-        return self.shares.choose(fresh, self.others(found), most)
-
-    def nodes_of(self, found: Found) -> dict[str, str]:
-        """The jobs that nobody has begun, without those that are chosen, with the nodes at which they begin."""
         keys = found.below(self.keys.whole("q"))
         nodes = {last_part(key): keys[key].value for key in sorted(keys) if len(key) <= MOST_KEY}
-        return {name: node for name, node in nodes.items() if name not in self.chosen}
+        fresh = {name: node for name, node in nodes.items() if name not in self.chosen}
+        most = MOST_CHOSEN if self.means.work is None else MOST_BEGUN
+        return self.shares.choose(fresh, self.others(found), min(most, max(1, len(fresh) // self.count)))
 
     def others(self, found: Found) -> list[str]:
         """The workers that give signs of life. The last sign of one that is long gone is deleted."""
@@ -280,35 +274,30 @@ class Worker:
     def jobs(self, names: list[str]) -> list[Job]:
         return self.reader.jobs(names)
 
-    def run_batch(self, jobs: list[Job], names: set[str]) -> bool:
+    def run_some(self, some: list[str], names: set[str]) -> bool:
+        """Reads the first of these, and does them all."""
+        return self.run_batch(self.jobs(some[:MOST_TOGETHER]), names, some[MOST_TOGETHER:])
+
+    def run_batch(self, jobs: list[Job], names: set[str], later: Sequence[str] = ()) -> bool:
         """Does jobs that nobody has begun: without work as many as possible in one transaction, and the others one by
         one, until it meets one that another worker has begun."""
         if self.means.work is None:
-            jobs = self.do_together(jobs, names)
+            jobs = self.do_together(jobs, list(later))
         return self.do_one_by_one(jobs, names)
 
-    def do_together(self, jobs: list[Job], names: set[str]) -> list[Job]:
-        """Does jobs in one transaction after the other, as long as each is made, and reads the next ones meanwhile.
+    def do_together(self, jobs: list[Job], later: list[str]) -> list[Job]:
+        """Does jobs in one transaction after the other, as long as each is made, and reads the later ones meanwhile.
         Gives those jobs that have to be done one by one."""
-        until, outcome, coming = time.monotonic() + LOOK_SECONDS, Outcome(rest=jobs), Coming(self)
+        until, outcome = time.monotonic() + LOOK_SECONDS, Outcome(rest=jobs)
         while outcome.goes_on and not (self.means.stopping or self.turns.is_wanted() or time.monotonic() > until):
             batch = Batch.of(outcome.rest)
-            more = self.means.aside.submit(coming.jobs, MOST_TOGETHER - len(batch.rest))
+            room = max(0, MOST_TOGETHER - len(batch.rest))
+            more, later = self.means.aside.submit(self.jobs, later[:room]), later[room:]
             outcome = self.do_batch(batch)
-            chosen = self.choose(job.name for job in more.result())
-            names |= chosen
-            outcome.rest.extend(job for job in more.result() if job.name in chosen)
-            # Not before: what was read may be from before the transaction.
-            self.let_go_of(outcome.ended, names)
+            outcome.rest.extend(more.result())
+        if len(outcome.ended) < FEW and not outcome.left:
+            time.sleep(GATHER_SECONDS)
         return outcome.left
-
-    def own_names(self) -> list[str]:
-        """Of the jobs that nobody has begun and no thread has chosen, those of this worker's share."""
-        fresh, signs = self.keys.whole("q"), self.keys.whole("s")
-        looked_at = min(MOST_PREPARED, 2 * MOST_TOGETHER * self.shares.workers)
-        found = self.members.read([reading_below(fresh, looked_at), reading_below(signs)])
-        self.reader.note(found.below(fresh))
-        return self.shares.own(self.nodes_of(found), self.others(found))
 
     def do_batch(self, batch: Batch) -> Outcome:
         try:
@@ -448,23 +437,6 @@ class Worker:
         watched = Watched(fresh, after(fresh))
         if self.ended == ended:
             wait(self.members, watched, found.revision, seconds, lambda change: change.value is not None, self.idles)
-
-
-@dataclass
-class Coming:
-    """The jobs of a worker's share that come next, read some at a time."""
-
-    worker: Worker
-    # Those that nobody had begun when it was looked last.
-    names: list[str] = field(default_factory=list)
-
-    def jobs(self, most: int) -> list[Job]:
-        """None if other workers choose of them, too."""
-        if most <= 0 or self.worker.shares.parts > 1:
-            return []
-        self.names = self.names or self.worker.own_names()
-        some, self.names = self.names[:most], self.names[most:]
-        return self.worker.jobs(some)
 
 
 def in_order(names: list[str], some: set[str]) -> list[str]:

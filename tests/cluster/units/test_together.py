@@ -5,10 +5,10 @@ from random import Random
 import here  # noqa: F401
 from grove_etcd.jobs import Job
 from grove_etcd.judging import MOST_BYTES
-from grove_etcd.sharing import MOST_PARTS, MOST_SHARED
-from grove_etcd import submitting
-from grove_etcd.submitting import MOST_JOBS, Written, transactions_of
-from grove_etcd.together import Batch, Short, by_nodes
+from grove_etcd.sharing import MOST_SHARED
+
+from grove_etcd.submitting import MOST_JOBS, MOST_PARTS, Written, transactions_of
+from grove_etcd.together import MOST_CHUNKS, Batch, Short, by_nodes
 
 
 def job(number, *paths):
@@ -62,7 +62,7 @@ class Batches(unittest.TestCase):
             self.assertEqual(sorted(names(every)), list(range(150)))
             nodes = [set().union(*(each.nodes() for each in chunk.jobs)) for chunk in batch.chunks]
             self.assertEqual(sum(map(len, nodes)), len(set().union(*nodes)))
-            self.assertLessEqual(len(batch.chunks), MOST_PARTS)
+            self.assertLessEqual(len(batch.chunks), MOST_CHUNKS)
             for chunk in batch.chunks:
                 steps = [step for each in chunk.jobs for step in each.steps]
                 locked = {step.path for step in steps if step.kind.value == "lock"}
@@ -72,7 +72,7 @@ class Batches(unittest.TestCase):
 
 class Submitted(unittest.TestCase):
     def test_as_many_as_one_transaction_takes(self):
-        most = MOST_JOBS * submitting.MOST_PARTS
+        most = MOST_JOBS * MOST_PARTS
         jobs = [Written(job(number), "x") for number in range(2 * most + 1)]
         self.assertEqual(list(map(len, transactions_of(jobs))), [most, most, 1])
         self.assertEqual(transactions_of([]), [])
