@@ -51,6 +51,8 @@ def tries(program: str, room: str) -> list[Try]:
             "who is told it and waits for nobody": partial(leave_by, WAITING, told_the_state),
             "who is turned away": partial(leave_by, BUSY, turned_away),
             "who gets a slot": partial(leave_by, WAITING, get_a_slot),
+            "who comes once a slot is left": partial(leave_by, WAITING, come_late),
+            "who asked first": partial(leave_by, WAITING, wait_in_turn),
             "whose thread is refused": partial(threadless, library),
             "each request for the state": each_state,
             "requests that begin alike": others_that_begin_alike,
@@ -99,9 +101,38 @@ def get_a_slot(server: Serving, clients: list[Client], stack: ExitStack, tally: 
         late.send(post(GET))
         time.sleep(PAUSE)
         clients.pop(0).close()
-        came = late.next()
-        tally.note(f"client {number}", None if came and came.status == 200 else f"came {came}")
-        clients.append(late)
+        note_slot(late, number, clients, tally)
+
+
+def come_late(server: Serving, clients: list[Client], stack: ExitStack, tally: Tally) -> None:
+    """A slot is left, and nobody waits: whoever comes next gets it, however late it says something."""
+    for number in range(MANY):
+        clients.pop(0).close()
+        time.sleep(PAUSE)
+        late = stack.enter_context(Client(server.port))
+        time.sleep(PAUSE)
+        late.send(post(GET))
+        note_slot(late, number, clients, tally)
+
+
+def wait_in_turn(server: Serving, clients: list[Client], stack: ExitStack, tally: Tally) -> None:
+    """Of those who wait, each slot that is left goes to the one who asked first."""
+    waiting = []
+    for _ in range(ROOM - 1):
+        late = stack.enter_context(Client(server.port))
+        late.send(post(GET))
+        time.sleep(PAUSE)
+        waiting.append(late)
+    for number, late in enumerate(waiting):
+        clients.pop(0).close()
+        note_slot(late, number, clients, tally)
+
+
+def note_slot(late: Client, number: int, clients: list[Client], tally: Tally) -> None:
+    """A client that has a slot now is answered."""
+    came = late.next()
+    tally.note(f"client {number}", None if came and came.status == 200 else f"came {came}")
+    clients.append(late)
 
 
 def note_room(server: Serving, further: tuple[str, ...], stack: ExitStack, tally: Tally) -> None:

@@ -1,7 +1,6 @@
 -- What the threads of connections share, and what they take with them.
 use denote.Param.Send.{IsSend, IsSync, sendable}
 use Rattle.std.proofs.Crossing.{crosses}
-use Rattle.std.specs.contracts.net.TcpStream as TcpStream
 use Rattle.grove_page.proofs.Sharing.{Paths-sync}
 use Rattle.grove_serve.specs.contracts.slots.Slots as Slots
 use Rattle.grove_serve.specs.contracts.service.Door as Door
@@ -15,9 +14,6 @@ Slots-sync = search (sendable, crosses, Paths-sync) depth 60 fits 20000
 pub Door-sync : IsSync Door.the_row
 Door-sync = search (sendable, crosses) depth 40
 
-stream-send : IsSend TcpStream.the_row
-stream-send = search (sendable, crosses) depth 40
-
 -- a connection may go to another thread
 pub caller-send : IsSend Caller.the_row
-caller-send = search (sendable, crosses, stream-send) depth 40
+caller-send = search (sendable, crosses) depth 40

@@ -1,1 +1,2 @@
 pub mod Remedies
+pub mod MetricsTexts

@@ -9,6 +9,7 @@ use crate::service::{Door, Service, Talk};
 use crate::slots::Slots;
 use crate::talking::{Caller, serve_caller};
 use grove_desk::{Desk, Opening};
+use grove_gauge::Ticket;
 use grove_page::Paths;
 use grove_store::Store;
 use grove_tree::NoMemory;
@@ -93,12 +94,14 @@ fn welcome<B: Opening + Send + Sync, R: Host>(rt: &R, desk: &Desk<B>, slots: &Sl
     thread::scope(thread::scope_env(), rt, |scope| {
         for _ in rt.forever() {
             match next_caller(rt, slots, door) {
-                Arrival::Caller(caller) => {
-                    let (connection, place) = (caller.number, caller.place);
-                    let spawned = scope.spawn(move || serve_caller(rt, desk, slots, caller));
+                Arrival::Caller(caller, ticket) => {
+                    let (connection, place) = (caller.number, ticket.hand_over());
+                    let spawned = scope.spawn(move || {
+                        serve_caller(rt, desk, slots, caller, Ticket::handed_over(place))
+                    });
                     if spawned.is_err() {
                         log_event(rt, slots, Event::NoThread { connection });
-                        slots.pool(door.talk).leave(rt, place);
+                        slots.pool(door.talk).leave(rt, Ticket::handed_over(place));
                     }
                 }
                 Arrival::Nobody => {}
@@ -109,47 +112,46 @@ fn welcome<B: Opening + Send + Sync, R: Host>(rt: &R, desk: &Desk<B>, slots: &Sl
 }
 
 /// What comes of waiting for a connection.
-#[derive(Drop)]
 enum Arrival {
     /// One that has a place.
-    Caller(Caller),
+    Caller(Caller, Ticket),
     /// There was no place for it, or it couldn't be accepted.
     Nobody,
     /// None can be accepted any more.
     Never,
 }
 
-/// The next connection, in a place of the pool. A connection that isn't told that there is none isn't accepted until
-/// there is a place for it.
+/// The next connection, in a place of the pool that it gets once it has come. A connection that isn't told that there
+/// is none isn't accepted until there is a place for it.
 fn next_caller<R: Host>(rt: &R, slots: &Slots, door: &Door) -> Arrival {
-    let pool = slots.pool(door.talk);
-    let place = if slots.patience().tells_busy {
-        None
+    let talk = door.talk;
+    let pool = slots.pool(talk);
+    let tells_busy = slots.patience().tells_busy;
+    if !tells_busy {
+        pool.await_place(rt);
+    }
+    let (stream, address) = match door.listener.accept() {
+        Ok(accepted) => accepted,
+        Err(error) => return await_remedy(rt, slots, talk, number_of(&error)),
+    };
+    let number = note_arrival(rt, slots, talk, address);
+    let ticket = if tells_busy {
+        pool.take_free(rt)
     } else {
         Some(pool.take(rt))
     };
-    match door.listener.accept() {
-        Ok((stream, address)) => {
-            let number = note_arrival(rt, slots, door.talk, address);
-            let talk = door.talk;
-            match place.or_else(|| pool.take_free(rt)) {
-                Some(place) => Arrival::Caller(Caller {
-                    stream,
-                    number,
-                    talk,
-                    place,
-                }),
-                None => {
-                    turn_away(rt, slots, &stream, talk, number);
-                    Arrival::Nobody
-                }
-            }
+    match ticket {
+        Some(ticket) => {
+            let caller = Caller {
+                stream,
+                number,
+                talk,
+            };
+            Arrival::Caller(caller, ticket)
         }
-        Err(error) => {
-            if let Some(place) = place {
-                pool.leave(rt, place);
-            }
-            await_remedy(rt, slots, door.talk, number_of(&error))
+        None => {
+            turn_away(rt, slots, &stream, talk, number);
+            Arrival::Nobody
         }
     }
 }

@@ -1,7 +1,7 @@
 use crate::ending::Ending;
 use crate::remedy::Lack;
-use crate::seconds::Seconds;
 use crate::service::Talk;
+use grove_gauge::Minute;
 use std::net::SocketAddr;
 
 /// What a log says of a server.
@@ -48,31 +48,17 @@ pub enum Event<'a> {
         error: Option<u64>,
     },
     /// A minute is over.
-    Minute(Minute),
+    Minute {
+        minute: Minute,
+        /// How many connections there are now.
+        connections: u64,
+        /// The waits of all nodes; nothing, if there was no memory to look.
+        waits: Option<u64>,
+    },
     /// So many events of a second were too many.
     LeftOut {
         events: u64,
     },
-}
-
-/// What a minute brought.
-#[derive(Clone, Copy)]
-pub struct Minute {
-    pub lines: u64,
-    pub refused: u64,
-    /// How many connections there are now.
-    pub connections: u64,
-    pub rounds: u64,
-    /// The waits of all nodes; nothing, if there was no memory to look.
-    pub waits: Option<u64>,
-    /// A time that half of the rounds took at most, and one that 99 of 100 did, if there were rounds.
-    pub times: Option<RoundTimes>,
-}
-
-#[derive(Clone, Copy)]
-pub struct RoundTimes {
-    pub median: Seconds,
-    pub slowest: Seconds,
 }
 
 /// How much an event matters.
@@ -98,14 +84,14 @@ impl Event<'_> {
             Event::Lacks(Lack::Memory) => "no-memory",
             Event::NotAccepted { .. } => "not-accepted",
             Event::Stopped { .. } => "stopped",
-            Event::Minute(_) => "minute",
+            Event::Minute { .. } => "minute",
             Event::LeftOut { .. } => "left-out",
         }
     }
 
     pub fn level(&self) -> Level {
         match self {
-            Event::Accepted { .. } | Event::Minute(_) => Level::Info,
+            Event::Accepted { .. } | Event::Minute { .. } => Level::Info,
             Event::Ended { ending, .. } => ending.level(),
             Event::Refused { .. } | Event::TurnedAway { .. } => Level::Warn,
             Event::NotAccepted { .. } | Event::LeftOut { .. } => Level::Warn,

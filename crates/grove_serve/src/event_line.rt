@@ -1,6 +1,7 @@
-use crate::event::{Event, Minute};
+use crate::event::Event;
 use crate::fields::Fields;
 use crate::service::LogForm;
+use grove_gauge::Minute;
 use jiff::Timestamp;
 use std::fmt;
 
@@ -71,17 +72,26 @@ fn write_data<W: fmt::Write>(fields: &mut Fields<'_, W>, event: &Event<'_>) -> f
                 None => Ok(()),
             }
         }
-        Event::Minute(minute) => write_minute(fields, minute),
+        Event::Minute {
+            minute,
+            connections,
+            waits,
+        } => write_minute(fields, minute, *connections, *waits),
         Event::LeftOut { events } => fields.number("events", *events),
     }
 }
 
-fn write_minute<W: fmt::Write>(fields: &mut Fields<'_, W>, minute: &Minute) -> fmt::Result {
+fn write_minute<W: fmt::Write>(
+    fields: &mut Fields<'_, W>,
+    minute: &Minute,
+    connections: u64,
+    waits: Option<u64>,
+) -> fmt::Result {
     fields.number("lines", minute.lines)?;
     fields.number("refused", minute.refused)?;
-    fields.number("connections", minute.connections)?;
+    fields.number("connections", connections)?;
     fields.number("rounds", minute.rounds)?;
-    if let Some(waits) = minute.waits {
+    if let Some(waits) = waits {
         fields.number("waits", waits)?;
     }
     if let Some(times) = minute.times {

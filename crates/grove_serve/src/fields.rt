@@ -1,5 +1,5 @@
-use crate::seconds::Seconds;
 use crate::service::LogForm;
+use grove_gauge::Seconds;
 use jiff::Timestamp;
 use std::fmt;
 use std::net::SocketAddr;

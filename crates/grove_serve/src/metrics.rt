@@ -1,9 +1,9 @@
 use crate::counter::Counter;
 use crate::histogram::Histogram;
 use crate::memory_file::MemoryFile;
-use crate::scale::Scale;
 use crate::service::Talk;
 use grove_desk::{Receipt, RoundWatch};
+use grove_gauge::{PortCounts, RefusalCount, Scale, Tally};
 use jiff::Timestamp;
 use std::alloc::Global;
 use std::sync::{Mutex, MutexGuard, Wait};
@@ -28,13 +28,6 @@ pub struct Metrics {
     refused: Counter,
     sessions: Traffic,
     requests: Traffic,
-}
-
-/// How many lines were refused by a name.
-#[derive(Drop)]
-pub struct RefusalCount {
-    pub name: String,
-    pub lines: u64,
 }
 
 /// What is counted of the connections of a port.
@@ -100,9 +93,14 @@ impl Metrics {
         }
     }
 
-    /// How many lines were refused.
-    pub fn refused(&self) -> u64 {
-        self.refused.get()
+    /// What is counted by now of what each minute is told of.
+    pub fn tally(&self) -> Tally {
+        Tally {
+            lines: self.lines.get(),
+            refused: self.refused.get(),
+            rounds: self.rounds.get(),
+            times: self.times_of_rounds.read(),
+        }
     }
 
     /// How many lines were refused by each name. None is refused meanwhile.
@@ -116,6 +114,20 @@ impl Traffic {
     pub fn in_use(&self) -> u64 {
         let left = self.left.get();
         self.begun.get().saturating_sub(left)
+    }
+
+    /// What is counted by now, at a port with so many slots.
+    pub fn read(&self, slots: u32) -> PortCounts {
+        PortCounts {
+            in_use: self.in_use(),
+            slots: u64::from(slots),
+            accepted: self.accepted.get(),
+            failed_accepts: self.failed_accepts.get(),
+            turned_away: self.turned_away.get(),
+            idled: self.idled.get(),
+            bytes_received: self.bytes_received.get(),
+            bytes_sent: self.bytes_sent.get(),
+        }
     }
 
     fn new() -> Traffic {

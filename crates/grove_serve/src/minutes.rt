@@ -1,27 +1,16 @@
-use crate::event::{Event, Minute, RoundTimes};
-use crate::histogram::MOST_BUCKETS;
+use crate::event::Event;
 use crate::host::Host;
 use crate::log::Log;
-use crate::metrics::Metrics;
-use crate::quantile::time_within;
 use crate::service::Talk;
 use crate::slots::Slots;
 use grove_base::NoMemory;
 use grove_desk::{Desk, Opening};
+use grove_gauge::Tally;
 use grove_store::Store;
 use std::time::Duration;
 
 /// How many seconds a minute has.
 const MINUTE: u32 = 60;
-
-/// What was counted before a minute.
-#[derive(Drop)]
-struct Before {
-    lines: u64,
-    refused: u64,
-    rounds: u64,
-    times: [u64; MOST_BUCKETS],
-}
 
 /// Logs each minute in which lines were answered, and each second what the one before left out, until no more
 /// connections are accepted.
@@ -29,7 +18,7 @@ pub fn log_minutes<B: Opening, R: Host>(rt: &R, desk: &Desk<B>, slots: &Slots) {
     let Some(log) = slots.log() else {
         return;
     };
-    let mut before = Before::now(slots.metrics());
+    let mut before = Tally::new();
     let mut seconds = 0u32;
     for _ in rt.forever() {
         if log.closes_within(rt, Duration::from_secs(1)) {
@@ -50,49 +39,21 @@ fn log_minute<B: Opening, R: Host>(
     desk: &Desk<B>,
     slots: &Slots,
     log: &Log,
-    before: Before,
-) -> Before {
-    let now = Before::now(slots.metrics());
+    before: Tally,
+) -> Tally {
+    let now = slots.metrics().tally();
     if now.lines == before.lines {
         return before;
     }
     let tcp = slots.metrics().traffic(Talk::Lines).in_use();
     let http = slots.metrics().traffic(Talk::Requests).in_use();
-    let minute = Minute {
-        lines: now.lines.wrapping_sub(before.lines),
-        refused: now.refused.wrapping_sub(before.refused),
+    let minute = Event::Minute {
+        minute: now.since(&before),
         connections: tcp.saturating_add(http),
-        rounds: now.rounds.saturating_sub(before.rounds),
         waits: waits_at(rt, desk),
-        times: times_since(slots.metrics(), &before, &now),
     };
-    log.write(rt, Event::Minute(minute));
+    log.write(rt, minute);
     now
-}
-
-impl Before {
-    /// What is counted by now.
-    fn now(metrics: &Metrics) -> Before {
-        Before {
-            lines: metrics.lines.get(),
-            refused: metrics.refused(),
-            rounds: metrics.rounds.get(),
-            times: metrics.times_of_rounds.counts(),
-        }
-    }
-}
-
-/// How long rounds took between two times, if there were any.
-fn times_since(metrics: &Metrics, before: &Before, now: &Before) -> Option<RoundTimes> {
-    let mut counts = [0u64; MOST_BUCKETS];
-    for place in 0..MOST_BUCKETS {
-        counts[place] = now.times[place].wrapping_sub(before.times[place]);
-    }
-    let bounds = metrics.times_of_rounds.bounds();
-    Some(RoundTimes {
-        median: time_within(bounds, &counts, 50)?,
-        slowest: time_within(bounds, &counts, 99)?,
-    })
 }
 
 /// The waits of all nodes, if there is memory to look.

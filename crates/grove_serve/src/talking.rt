@@ -2,7 +2,6 @@ use crate::busy::{end_gently, turn_away};
 use crate::ending::Ending;
 use crate::guest::Guest;
 use crate::host::Host;
-use crate::pool::Place;
 use crate::room::state_request;
 use crate::service::Talk;
 use crate::slots::Slots;
@@ -10,6 +9,7 @@ use crate::timed_stream::{Awaited, TimedStream};
 use crate::timed_writer::TimedWriter;
 use crate::watching::{ServedDesk, session_at};
 use grove_desk::{Desk, Opening};
+use grove_gauge::{Place, Ticket};
 use grove_page::{PAGE, Site, serve_page};
 use grove_session::{ReaderSource, SessionFault, WriterSink};
 use std::cell::Cell;
@@ -34,37 +34,40 @@ pub struct Caller {
     /// Its number in the log, if there is one.
     pub number: u64,
     pub talk: Talk,
-    /// What it has of its port's pool.
-    pub place: Place,
 }
 
 /// A session, or requests, over the connection, which is closed then and leaves its place. What ends it ends it alone,
 /// and nobody is left there to be told of it. One that has no slot waits for it, unless it asks for the server's state.
-pub fn serve_caller<B: Opening, R: Host>(rt: &R, desk: &Desk<B>, slots: &Slots, caller: Caller) {
+pub fn serve_caller<B: Opening, R: Host>(
+    rt: &R,
+    desk: &Desk<B>,
+    slots: &Slots,
+    caller: Caller,
+    ticket: Ticket,
+) {
     let Caller {
         stream,
         number,
         talk,
-        place,
     } = caller;
     let guest = Guest::new(slots, talk, number);
     let pool = slots.pool(talk);
-    match place {
-        Place::Slot => talk_in_slot(rt, desk, &guest, stream),
+    match ticket.place() {
+        Place::Slot => talk_in_slot(rt, desk, &guest, stream, ticket),
         Place::Room => match state_request(rt, &stream) {
             Some(length) => {
                 answer_state(rt, desk, &guest, &stream, length);
                 drop(stream);
-                pool.leave(rt, Place::Room);
+                pool.leave(rt, ticket);
             }
             None if slots.patience().tells_busy => {
                 turn_away(rt, slots, &stream, talk, number);
                 drop(stream);
-                pool.leave(rt, Place::Room);
+                pool.leave(rt, ticket);
             }
             None => {
-                pool.enter(rt);
-                talk_in_slot(rt, desk, &guest, stream);
+                let ticket = pool.enter(rt, ticket);
+                talk_in_slot(rt, desk, &guest, stream, ticket);
             }
         },
     }
@@ -76,6 +79,7 @@ fn talk_in_slot<'a, B: Opening, R: Host>(
     desk: &'a Desk<B>,
     guest: &'a Guest<'a>,
     stream: TcpStream,
+    ticket: Ticket,
 ) {
     let slots = guest.slots();
     let traffic = slots.metrics().traffic(guest.talk());
@@ -91,7 +95,7 @@ fn talk_in_slot<'a, B: Opening, R: Host>(
     traffic.left.count_one();
     // Whoever waits for the slot may wait for the descriptor.
     drop(stream);
-    slots.pool(guest.talk()).leave(rt, Place::Slot);
+    slots.pool(guest.talk()).leave(rt, ticket);
 }
 
 /// A session over the stream.

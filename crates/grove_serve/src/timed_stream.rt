@@ -3,6 +3,7 @@ ghost use Rattle.std.specs.Io.{ReadsAtMost};
 ghost use Rattle.std.specs.Io.KnownBytes.{ReadConsumes};
 
 use crate::ending::is_late;
+use grove_gauge::TimeLimit;
 use std::cell::Cell;
 use std::io::{self, Read};
 use std::time::{Clock, Duration, Instant};
@@ -30,9 +31,7 @@ pub struct TimedStream<'a, R, S> {
     clock: &'a R,
     stream: S,
     awaited: Awaited<'a>,
-    longest: Duration,
-    /// Since when it has been waited for; nothing, where the last one has just come.
-    since: Option<Instant>,
+    limit: TimeLimit,
     /// Whether the time was up.
     is_late: &'a Cell<bool>,
 }
@@ -50,8 +49,7 @@ impl<'a, R: Clock, S: LimitedRead> TimedStream<'a, R, S> {
             clock,
             stream,
             awaited,
-            longest,
-            since: None,
+            limit: TimeLimit::new(longest),
             is_late,
         }
     }
@@ -62,13 +60,10 @@ impl<'a, R: Clock, S: LimitedRead> TimedStream<'a, R, S> {
         ensures { self.new.stream ≡ self.old.stream }
     {
         let now = Instant::now(self.clock)?;
-        let has_come = self.has_come();
-        let since = match self.since {
-            Some(since) if !has_come => since,
-            _ => now,
-        };
-        self.since = Some(since);
-        Ok(self.longest.saturating_sub(now.duration_since(since)))
+        if self.has_come() {
+            self.limit.has_come();
+        }
+        Ok(self.limit.time_left(now))
     }
 
     /// Has a request come since this was last asked?
@@ -101,7 +96,7 @@ impl<R: Clock, S: LimitedRead> Read for TimedStream<'_, R, S> {
     fn read(&mut self, buffer: &mut [u8]) -> io::Result<usize> {
         let count = self.read_in_time(buffer)?;
         if matches!(self.awaited, Awaited::Line) && buffer[..count].contains(&b'\n') {
-            self.since = None;
+            self.limit.has_come();
         }
         Ok(count)
     }

@@ -1,0 +1,9 @@
+pub mod Placing
+pub mod Limits
+pub mod Times
+pub mod Families
+pub mod Scales
+pub mod Shares
+pub mod Expositions
+pub mod Minutes
+pub mod Counts
