@@ -36,9 +36,9 @@ from .wire import Found, after, deleting, reading, reading_below, unchanged
 # How many jobs are looked at at once, and how many are chosen of them: with work, and without.
 MOST_LOOKED_AT, MOST_BEGUN = 768, 24
 MOST_SHORT, MOST_CHOSEN = 3072, 1536
-# How many of the latter are read for one transaction. After one of fewer jobs than so many, for how long it is waited
-# until it is looked for more.
-MOST_TOGETHER, FEW, GATHER_SECONDS = 192, 48, 0.02
+# How many of the latter are read for one transaction. After two of fewer jobs than so many within a moment, for how
+# long it is waited until it is looked for more.
+MOST_TOGETHER, FEW, MOMENT_SECONDS, GATHER_SECONDS = 192, 48, 0.2, 0.02
 # How long a worker pauses if others come to the nodes of its jobs.
 STEP_BACK_SECONDS, LONGEST_STEP_BACK_SECONDS = 0.05, 1.5
 # How often it is looked whether the worker is to end, while all turns are taken.
@@ -91,6 +91,8 @@ class Worker:
         # How many times in a row others have come to the nodes in between.
         self.clashes = 0
         self.shares = Shares(name, work is None)
+        # When it did few jobs in one transaction last.
+        self.gathered_at = float("-inf")
         # How many jobs it looks at at once.
         self.most = MOST_SHORT if work is None else MOST_LOOKED_AT
         self.pauses = pauses()
@@ -296,8 +298,14 @@ class Worker:
             outcome = self.do_batch(batch)
             outcome.rest.extend(more.result())
         if len(outcome.ended) < FEW and not outcome.left:
-            time.sleep(GATHER_SECONDS)
+            self.gather()
         return outcome.left
+
+    def gather(self) -> None:
+        """If there was such a transaction a moment ago, too, jobs come one by one: some more are waited for."""
+        last, self.gathered_at = self.gathered_at, time.monotonic()
+        if self.gathered_at - last < MOMENT_SECONDS:
+            time.sleep(GATHER_SECONDS)
 
     def do_batch(self, batch: Batch) -> Outcome:
         try:
