@@ -163,7 +163,8 @@ def once(way: Callable[[], object]) -> float:
 
 def in_rust(case: Case, rust: Path, runs: int, wanted: str) -> dict[str, list[float]]:
     """What the part in Rust prints: the cost, and for each way a line of nanoseconds."""
-    ran = subprocess.run([rust / "library", str(runs)], input=case.numbers(), stdout=subprocess.PIPE, check=True, text=True)
+    words = [rust / "library", str(runs)]
+    ran = subprocess.run(words, input=case.numbers(), stdout=subprocess.PIPE, check=True, text=True)
     cost, by_document, by_tree = ran.stdout.splitlines()
     need(wanted.startswith(f"{cost}\n"), "Rust has another plan")
     named = {"Rust, by document": by_document, "Rust, by kept tree": by_tree}

@@ -43,7 +43,7 @@ fn print_times(name: &str, times: &[f64]) {
     println!("{name}\t{}", times.join(" "));
 }
 
-/// What a transaction takes that so many threads make side by side, from the first one's beginning to the last one's end.
+/// What a transaction takes that so many threads make side by side, from when the first begins until the last ends.
 fn nanoseconds(count: usize, way: &(dyn Fn(usize) + Sync)) -> f64 {
     let start = Barrier::new(count);
     let timed = &|thread: usize| {

@@ -44,10 +44,10 @@ impl Client {
         Ok(Client(Mutex::new(connection)))
     }
 
-    /// What comes of each of the lines, in order, as of [`Requests::send`]; lines are sent ahead of the replies. It ends
-    /// with the first that isn't sent, or whose reply is lost. What comes of one line can be used for the next only if
-    /// each is sent by itself. Replies that nobody takes are passed over by what is sent later. Meanwhile the client is
-    /// its caller's alone.
+    /// What comes of each of the lines, in order, as of [`Requests::send`]; lines are sent ahead of the replies. It
+    /// ends with the first that isn't sent, or whose reply is lost. What comes of one line can be used for the next
+    /// only if each is sent by itself. Replies that nobody takes are passed over by what is sent later. Meanwhile the
+    /// client is its caller's alone.
     pub fn send_all<I>(&mut self, lines: I) -> impl Iterator<Item = Result<String, Error>>
     where
         I: IntoIterator,
@@ -80,7 +80,7 @@ impl fmt::Debug for Client {
     }
 }
 
-/// The replies to lines that are sent ahead of them. There are no lines any more once one wasn't sent, or no reply came.
+/// The replies to lines that are sent ahead of them. There are no lines any more once one wasn't sent, or has no reply.
 struct Replies<'c, L: Iterator> {
     connection: &'c mut Connection,
     lines: Option<Peekable<L>>,

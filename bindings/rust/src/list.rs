@@ -6,7 +6,8 @@ use crate::shape::MOST_STEPS;
 use crate::unpoisoned;
 use std::collections::HashMap;
 use std::fmt;
-use std::sync::{Arc, Mutex};
+use std::ops::Deref;
+use std::sync::{Arc, Mutex, OnceLock};
 use std::time::Duration;
 
 /// As many accesses a list may have, and as many slots an access may take (docs/PROTOCOL.md).
@@ -79,11 +80,32 @@ impl fmt::Debug for List {
     }
 }
 
-/// The nodes and the lengths of a list over the locks of this number, with its program as it was last needed.
+/// The nodes and the lengths of a list over the locks of this number, with its programs: that of its first run, and the
+/// one that was last needed since a reweighing. The first stays as long as the list does, so that threads which run it
+/// side by side share it without a count.
 pub(crate) struct KeptList {
     pub(crate) locks: u64,
     pub(crate) targets: Box<[Target]>,
+    first: OnceLock<Program>,
     latest: Mutex<Option<Arc<Program>>>,
+}
+
+/// A program of a list.
+pub(crate) enum Kept<'l> {
+    First(&'l Program),
+    Latest(Arc<Program>),
+}
+
+impl Deref for Kept<'_> {
+    type Target = Program;
+
+    #[inline]
+    fn deref(&self) -> &Program {
+        match self {
+            Kept::First(program) => program,
+            Kept::Latest(program) => program,
+        }
+    }
 }
 
 impl KeptList {
@@ -91,26 +113,44 @@ impl KeptList {
         KeptList {
             locks,
             targets: targets.into(),
+            first: OnceLock::new(),
             latest: Mutex::default(),
         }
     }
 
-    /// The program of an epoch, which is made if the last one is of another. Of threads that need it each waits for
-    /// the one before.
+    /// The program of an epoch, which is made if there is none.
+    #[inline]
     pub(crate) fn program(
         &self,
         epoch: u64,
         make: impl FnOnce(&[Target]) -> Result<Program, Error>,
-    ) -> Result<Arc<Program>, Error> {
-        let mut latest = unpoisoned(self.latest.lock());
-        match &*latest {
-            Some(program) if program.epoch == epoch => Ok(Arc::clone(program)),
-            _ => {
-                let made = Arc::new(make(&self.targets)?);
-                *latest = Some(Arc::clone(&made));
-                Ok(made)
-            }
+    ) -> Result<Kept<'_>, Error> {
+        match self.first.get() {
+            Some(program) if program.epoch == epoch => Ok(Kept::First(program)),
+            _ => self.other_program(epoch, make),
         }
+    }
+
+    /// The same, where the first program isn't it. Of threads that need it each waits for the one before.
+    #[cold]
+    fn other_program(
+        &self,
+        epoch: u64,
+        make: impl FnOnce(&[Target]) -> Result<Program, Error>,
+    ) -> Result<Kept<'_>, Error> {
+        let mut latest = unpoisoned(self.latest.lock());
+        if let Some(program) = latest.as_ref().filter(|it| it.epoch == epoch) {
+            return Ok(Kept::Latest(Arc::clone(program)));
+        }
+        if let Some(program) = self.first.get().filter(|it| it.epoch == epoch) {
+            return Ok(Kept::First(program));
+        }
+        let made = make(&self.targets)?;
+        if self.first.get().is_none() {
+            return Ok(Kept::First(self.first.get_or_init(|| made)));
+        }
+        let made = latest.insert(Arc::new(made));
+        Ok(Kept::Latest(Arc::clone(made)))
     }
 }
 

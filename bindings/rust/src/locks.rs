@@ -117,7 +117,7 @@ impl<T> Locks<T> {
     ///
     /// [`Error::Nested`]; [`Error::Foreign`] of a list of other locks; and if the list is run for the first time,
     /// [`Error::Refused`] as `too-deep` or [`Error::Memory`].
-    pub fn transaction(&self, list: &List) -> Result<Transaction<'_, T>, Error> {
+    pub fn transaction<'l>(&'l self, list: &'l List) -> Result<Transaction<'l, T>, Error> {
         if list.kept.locks != self.id {
             return Err(Error::Foreign);
         }
@@ -318,7 +318,7 @@ mod tests {
     fn a_list_is_planned_anew_after_a_reweighing() {
         let (locks, asked) = watched();
         let list = locks.list(["/g", "/h/b"]).unwrap();
-        for planned in [1, 2] {
+        for planned in 1..=3 {
             for _ in 0..2 {
                 locks.run(&list, |_, _| ()).unwrap();
                 assert_eq!(asked.lock().unwrap().len(), planned);

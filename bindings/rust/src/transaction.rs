@@ -1,12 +1,12 @@
 use crate::error::Error;
-use crate::list::List;
+use crate::list::{Kept, List};
 use crate::locks::Locks;
-use crate::program::{Action, Program};
+use crate::program::Action;
 use std::cell::RefCell;
 use std::fmt;
 use std::marker::PhantomData;
 use std::ops::{Deref, DerefMut};
-use std::sync::{Arc, MutexGuard};
+use std::sync::{MutexGuard, TryLockError};
 use std::time::Instant;
 
 /// A transaction that has begun. It stays with its thread.
@@ -32,7 +32,7 @@ use std::time::Instant;
 /// one may undo what was done at the nodes that it holds.
 pub struct Transaction<'l, T> {
     locks: &'l Locks<T>,
-    program: Arc<Program>,
+    program: Kept<'l>,
     /// The number of the action that comes next, and how many accesses were begun.
     next: usize,
     done: usize,
@@ -46,7 +46,7 @@ impl<'l, T> Transaction<'l, T> {
     pub(crate) fn new(
         locks: &'l Locks<T>,
         id: u64,
-        program: Arc<Program>,
+        program: Kept<'l>,
         list: &List,
     ) -> Result<Transaction<'l, T>, Error> {
         let limit = list.timeout;
@@ -95,7 +95,7 @@ impl<'l, T> Transaction<'l, T> {
             .filter(|_| number < self.done)?;
         let is_held = self.inside.is_some() && self.held().any(|it| it == node);
         let value = &self.locks.records[node as usize].value;
-        let record = is_held.then(|| value.lock().ok()).flatten()?;
+        let record = is_held.then(|| value.try_lock().ok()).flatten()?;
         Some(Held { number, record })
     }
 
@@ -123,15 +123,16 @@ impl<'l, T> Transaction<'l, T> {
 
     fn hold(&mut self, access: u32, node: u32) -> Result<Held<'_, T>, Error> {
         let number = access as usize;
-        match self.locks.records[node as usize].value.lock() {
+        match self.locks.records[node as usize].value.try_lock() {
             Ok(record) => {
                 (self.next, self.done) = (self.next + 1, number + 1);
                 Ok(Held { number, record })
             }
-            Err(_) => {
+            Err(TryLockError::Poisoned(_)) => {
                 let path = self.path(node);
                 Err(Error::Poisoned { path, done: number })
             }
+            Err(TryLockError::WouldBlock) => panic!("a record of {} was leaked", self.path(node)),
         }
     }
 
@@ -170,7 +171,7 @@ impl<T> fmt::Debug for Transaction<'_, T> {
     }
 }
 
-/// The record of an access, whose node this thread holds.
+/// The record of an access, whose node this thread holds. If it is leaked (`mem::forget`), nobody has the record again.
 #[derive(Debug)]
 pub struct Held<'t, T> {
     number: usize,
