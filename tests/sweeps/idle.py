@@ -243,12 +243,15 @@ def silent_later(program: str, door: Door, tally: Tally) -> None:
 def answered_since(
     store: Store, door: Door, pair: tuple[socket.socket, BinaryIO], count: int, tally: Tally
 ) -> float:
-    """When the reply to the last of so many lines of a client had come."""
+    """When the last of so many lines of a client was sent, whose replies have come. The server counts from that reply
+    on, which on a machine with other work may be long before it is read."""
     client, stream = pair
+    sent = time.monotonic()
     for _ in range(count):
+        sent = time.monotonic()
         client.sendall(door.sent(ADD))
         note_replies(store, ADD, door.reply_in(stream), "a line", tally)
-    return time.monotonic()
+    return sent
 
 
 # ---- who keeps one
