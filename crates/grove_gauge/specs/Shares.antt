@@ -1,8 +1,13 @@
 -- How many values a histogram has, up to a bound and in all.
 use Rattle.std.specs.Prelude.{◌≡◌, ◌≤◌, ◌<◌, ℕ, ◌+◌, ◌-◌, ◌*◌, ◌^◌, min, List, length, sum, take, slice_index}
+use Rattle.std.specs.Prelude.{replicate}
 use Rattle.std.specs.Int.{div_ceil}
 use Rattle.grove_gauge.specs.Scales.{most_of}
 use Rattle.grove_gauge.specs.declared.buckets.Buckets.{Buckets}
+use Rattle.grove_gauge.specs.declared.scale.Scale.{Scale}
+
+abbrev pub no_values : Scale → Buckets
+no_values scale = record { scale = scale; counts = replicate 20 0; sum = 0 }
 
 -- a number as far as 64 bits go
 abbrev pub capped : ℕ → ℕ

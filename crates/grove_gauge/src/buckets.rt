@@ -1,5 +1,5 @@
 ghost use Rattle.std.specs.Prelude.{◌≡◌, ◌≤◌, ◌<◌, sum, length, MatchOption};
-ghost use Rattle.grove_gauge.specs.Shares.{capped, within, share_of, IsTimeWithin, IsChange};
+ghost use Rattle.grove_gauge.specs.Shares.{capped, no_values, within, share_of, IsTimeWithin, IsChange};
 
 use crate::{Scale, Seconds};
 
@@ -17,7 +17,9 @@ pub struct Buckets {
 
 impl Buckets {
     /// No values.
-    pub fn new(scale: Scale) -> Buckets {
+    pub fn new(scale: Scale) -> Buckets
+        ensures { result ≡ no_values scale }
+    {
         Buckets {
             scale,
             counts: [0; MOST_BUCKETS],

@@ -1,5 +1,5 @@
 ghost use Rattle.std.specs.Prelude.{◌≡◌};
-ghost use Rattle.grove_gauge.specs.Minutes.{IsMinute, AreTimes};
+ghost use Rattle.grove_gauge.specs.Minutes.{AreTimes, IsMinute, nothing};
 
 use crate::{Buckets, Scale, Seconds};
 
@@ -31,7 +31,9 @@ pub struct RoundTimes {
 
 impl Tally {
     /// Nothing is counted.
-    pub fn new() -> Tally {
+    pub fn new() -> Tally
+        ensures { result ≡ nothing }
+    {
         Tally {
             lines: 0,
             refused: 0,
