@@ -1,6 +1,7 @@
 -- What a map keeps of its entries, and of what stands at an index, as a pair is inserted: where keys have targets, and
 -- equal keys have the same.
-use Rattle.std.proofs.Common.{◌≡◌, ℕ, zero, suc, ◌+◌, Bool, true, false, cond, not, List, [], ◌∷◌, Some, refl, sym, subst, arith}
+use Rattle.std.proofs.Common.{◌≡◌, ℕ, zero, suc, ◌+◌, Bool, true, false, cond, not, List, [], ◌∷◌, Some, refl, sym}
+use Rattle.std.proofs.Common.{subst, arith}
 use Rattle.std.specs.List.{slice_get, position_or_len}
 use Rattle.std.specs.Map.{keys_of}
 use Rattle.std.proofs.lemmas.Option.{same_Some, none-some}
@@ -45,7 +46,8 @@ module _ {K V T : Type 0} (targets : K → T) where
     key_stays (first ∷ entries) wanted (suc place) has = by (eq key first.0) (key_stays entries wanted place has)
       where
         by : (b : Bool) → HasKey (insert_entry eq entries key value) wanted place
-            → HasKey (cond b ((first.0, value) ∷ entries) (first ∷ insert_entry eq entries key value)) wanted (suc place)
+            → HasKey (cond b ((first.0, value) ∷ entries) (first ∷ insert_entry eq entries key value)) wanted
+            (suc place)
         by true rest = has
         by false rest = rest
 

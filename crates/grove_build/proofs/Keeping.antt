@@ -1,5 +1,6 @@
 -- What is kept in a map: where it stands, and what a pair more leaves of it.
-use Rattle.std.proofs.Common.{◌≡◌, ℕ, ◌<◌, ◌≤◌, ◌⊎◌, inl, inr, Bool, true, List, length, get_or, map, position, Option, Some, None, IfSome, IfNone, sym, ◌∙◌, ap, ap₂, subst, arith, true≢false}
+use Rattle.std.proofs.Common.{◌≡◌, ℕ, ◌<◌, ◌≤◌, ◌⊎◌, inl, inr, Bool, true, List, length, get_or, map, position}
+use Rattle.std.proofs.Common.{Option, Some, None, IfSome, IfNone, sym, ◌∙◌, ap, ap₂, subst, arith, true≢false}
 use Rattle.std.specs.List.{slice_get, position_or_len}
 use Rattle.std.specs.Map.{keys_of}
 use Rattle.std.proofs.lemmas.Bool.{cases_lt}

@@ -1,6 +1,6 @@
 -- Rows that are written one after the other, and what they make up.
-use Rattle.std.proofs.Common.{◌≡◌, ◌∙◌, ◌-◌, ◌<◌, ◌≤◌, ℕ, suc, List, [], ◌∷◌, ◌++◌, Some, ap, append-nil, length, refl}
-use Rattle.std.proofs.Common.{slice_get, string_bytes, subst, sym, take}
+use Rattle.std.proofs.Common.{◌≡◌, ◌∙◌, ℕ, suc, List, [], ◌∷◌, ◌++◌, Some, ap, append-nil}
+use Rattle.std.proofs.Common.{slice_get, subst, sym, take}
 use Rattle.std.specs.Prelude.{Err, IfOk, Ok, Result, codes, decimal, ◌==◌}
 use Rattle.std.proofs.lemmas.Bool.{cond-false, cond-true, eq-eqb, ne_eqb}
 use Rattle.std.specs.List.{AllZip, concat}

@@ -1,6 +1,6 @@
 -- How a drawing is written, as SVG or as lines for a terminal: its pictures, each with a row for each bar, in their
 -- order, and what a row says of its bar. A text that isn't told here is any text.
-use Rattle.std.specs.Prelude.{◌≡◌, ◌==◌, ◌&&◌, ◌||◌, ◌-◌, ℕ, nat_le, Bool, true, List, [], ◌∷◌, ◌++◌, Option}
+use Rattle.std.specs.Prelude.{◌≡◌, ◌==◌, ◌&&◌, ◌||◌, ◌-◌, ℕ, nat_le, Bool, true, List, [], ◌++◌, Option}
 use Rattle.std.specs.Prelude.{None, Some, codes, decimal, string_bytes, if◌then◌else◌}
 use Rattle.std.specs.List.{AllZip, concat, list_all}
 use Rattle.grove_draw.specs.declared.bar.Bar.{Bar}

@@ -1,12 +1,12 @@
 -- Paths and their names, from a scan of the bytes.
-use Rattle.std.proofs.Common.{◌≡◌, ◌≢◌, ℕ, zero, suc, ◌+◌, ◌<◌, ◌≤◌, ◌==◌, ◌&&◌, Bool, true, false, List, [], ◌∷◌, ◌++◌}
+use Rattle.std.proofs.Common.{◌≡◌, ◌≢◌, ℕ, suc, ◌+◌, ◌<◌, ◌≤◌, ◌==◌, ◌&&◌, true, false, List, [], ◌∷◌, ◌++◌}
 use Rattle.std.proofs.Common.{length, refl, sym, ◌∙◌, ap, subst, inl, inr, arith, true≢false, count_by, cond}
 use Rattle.std.specs.Prelude.{flat_map, nat_lt}
 use Rattle.std.specs.List.{list_all}
-use Rattle.std.proofs.lemmas.Bool.{and_parts, and_from, cases_Bool, cond-true, cond-false, ltb-true, lt-ltb, leb-true, le-leb}
+use Rattle.std.proofs.lemmas.Bool.{and_parts, and_from, cases_Bool, cond-true, cond-false, ltb-true, lt-ltb}
+use Rattle.std.proofs.lemmas.Bool.{leb-true, le-leb}
 use Rattle.std.proofs.lemmas.Bool.{eqb-true, ne_eqb}
 use Rattle.std.proofs.lemmas.List.Sums.{sum_by-cons}
-use Rattle.grove_tree.specs.Paths.{or_slash}
 use Rattle.grove_tree.specs.Rules.{is_name_byte, is_name}
 use Rattle.grove_table.specs.PathScans.{are_names_after, has_names, IsPath}
 use Rattle.grove_table.specs.Refusals.{IsPathWith}
@@ -24,7 +24,8 @@ no_byte : (byte : ℕ) → is_name_byte byte ≡ true → (byte == 47) ≡ false
 no_byte byte h = ne_eqb byte 47 (λ e. true≢false (sym h ∙ ap is_name_byte e))
 
 -- a name, from its bytes
-name_from : (name : List ℕ) → list_all is_name_byte name ≡ true → 0 < length name → length name ≤ 32 → is_name name ≡ true
+name_from : (name : List ℕ) → list_all is_name_byte name ≡ true → 0 < length name → length name ≤ 32
+    → is_name name ≡ true
 name_from name ok some few = and_from _ _ (lt-ltb 0 (length name) some)
     (and_from _ _ (le-leb (length name) 32 few) ok)
 
@@ -139,7 +140,8 @@ no_slash (byte ∷ name) rest ok =
     let skip : ◌≡◌ {A = ℕ} (cond (byte == 47) 1 0) 0 = cond-false (byte == 47) 1 0 none in
     omega (arith, step, skip, more)
 
-names_counted : (names : List (List ℕ)) → list_all is_name names ≡ true → slashes (flat_map after_slash names) ≡ length names
+names_counted : (names : List (List ℕ)) → list_all is_name names ≡ true
+    → slashes (flat_map after_slash names) ≡ length names
 names_counted [] good = refl
 names_counted (name ∷ names) good =
     let (here, there) = and_parts (is_name name) (list_all is_name names) good in
@@ -151,7 +153,8 @@ names_counted (name ∷ names) good =
     sum_by-cons (λ (b : ℕ). cond (b == 47) 1 0) 47 (name ++ flat_map after_slash names) in
     omega (arith, step, one, more)
 
-path_counted : (names : List (List ℕ)) (path : List ℕ) → IsPathWith names path → path ≢ 47 ∷ [] → slashes path ≡ length names
+path_counted : (names : List (List ℕ)) (path : List ℕ) → IsPathWith names path → path ≢ 47 ∷ []
+    → slashes path ≡ length names
 path_counted [] path is more = absurd (more is.0)
 path_counted (name ∷ names) path is more = ap slashes is.0 ∙ names_counted (name ∷ names) is.1
 
@@ -170,7 +173,8 @@ names_few path e more few =
     (is.0, is.1, subst (λ (n : ℕ). n ≤ 32) same few)
 
 -- the root's path has no names
-pub root_named : (path : List ℕ) → path ≡ 47 ∷ [] → (names : List (List ℕ)) × IsPathWith names path × (length names ≤ 32)
+pub root_named : (path : List ℕ) → path ≡ 47 ∷ [] → (names : List (List ℕ)) × IsPathWith names path
+    × (length names ≤ 32)
 root_named path e = ([], (e, refl), omega arith)
 
 -- a path has one number of names

@@ -1,17 +1,15 @@
 -- The first rule that the fields of a row break.
-use Rattle.std.proofs.Common.{◌≡◌, ◌≢◌, ℕ, zero, suc, ◌<◌, ◌≤◌, List, [], ◌∷◌, ◌++◌, length, refl, sym, ◌∙◌, subst, arith}
-use Rattle.std.proofs.Common.{Option, None, Some, string_bytes, IsUtf8}
+use Rattle.std.proofs.Common.{◌≡◌, ℕ, zero, suc, ◌<◌, ◌≤◌, List, [], ◌∷◌, ◌++◌, length, refl, sym, ◌∙◌, subst, arith}
+use Rattle.std.proofs.Common.{None, Some, IsUtf8}
 use Rattle.std.proofs.lemmas.Str.{IsUtf8-nil}
-use Rattle.std.specs.List.{list_all}
 use Rattle.csv.specs.Records.{field_at}
-use Rattle.grove_tree.specs.Rules.{is_name}
 use Rattle.grove_table.specs.declared.fault.Reason.{Reason}
 use Rattle.grove_table.specs.declared.fault.Reason.TheVariants.{BadHeader, BadFields, NotText, BadName, TooDeep}
 use Rattle.grove_table.specs.declared.fault.Reason.TheVariants.{BadWeight, BadValue, TwiceNamed, NoParent, TooMany}
 use Rattle.grove_table.specs.declared.fault.TableFault.{TableFault}
 use Rattle.grove_table.specs.declared.fault.TableFault.TheVariants.{Empty, Line, Unlike, Memory}
 use Rattle.grove_table.specs.Tables.{field_of}
-use Rattle.grove_table.specs.Refusals.{Breaks, IsFirstBroken, IsPathWith, KeepsAll, about_of, row_rules}
+use Rattle.grove_table.specs.Refusals.{Breaks, IsFirstBroken, KeepsAll, about_of, row_rules}
 use Rattle.grove_table.specs.PathScans.{PathIs}
 use Rattle.grove_table.specs.Rows.{IsRowFault, Tells}
 use Rattle.grove_table.proofs.PathNames.{not_deep}
@@ -114,11 +112,13 @@ weight_broken fields few text is none = (path_rules, BadValue ∷ [], refl, path
 
 -- and then the value
 pub value_broken : (fields : List (List ℕ)) → length fields ≤ 3 → ¬ Breaks fields NotText
-    → PathIs (field_of fields 0) None → ¬ Breaks fields BadWeight → Breaks fields BadValue → IsFirstBroken fields BadValue
+    → PathIs (field_of fields 0) None → ¬ Breaks fields BadWeight → Breaks fields BadValue
+    → IsFirstBroken fields BadValue
 value_broken fields few text is weight none =
     (path_rules ++ BadWeight ∷ [], [], refl, path_kept fields (BadWeight ∷ []) few text is (weight, tt), none)
 
 -- a row whose fields can be read breaks none
 pub all_kept : (fields : List (List ℕ)) → length fields ≤ 3 → ¬ Breaks fields NotText → PathIs (field_of fields 0) None
     → ¬ Breaks fields BadWeight → ¬ Breaks fields BadValue → KeepsAll fields row_rules
-all_kept fields few text is weight value = path_kept fields (BadWeight ∷ BadValue ∷ []) few text is (weight, (value, tt))
+all_kept fields few text is weight value = path_kept fields (BadWeight ∷ BadValue ∷ []) few text
+    is (weight, (value, tt))

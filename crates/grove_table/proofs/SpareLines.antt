@@ -1,26 +1,27 @@
 -- Lines that no tree has room for: planted paths, and why a line is refused.
-use Rattle.std.proofs.Common.{◌≡◌, ◌∙◌, ◌<◌, ◌≤◌, ◌⊎◌, ◌+◌, ◌-◌, ℕ, zero, suc, Bool, true, false, List, [], ◌∷◌, ◌++◌}
+use Rattle.std.proofs.Common.{◌≡◌, ◌∙◌, ◌<◌, ◌≤◌, ◌+◌, ◌-◌, ℕ, zero, suc, Bool, true, false, List, [], ◌∷◌, ◌++◌}
 use Rattle.std.proofs.Common.{Some, ap, append-nil, arith, bytes_eq, fold, inl, inr, length, length-append, map}
 use Rattle.std.proofs.Common.{refl, slice_get, string_bytes, subst, sym, take}
 use Rattle.std.specs.Prelude.{MatchOption, None, Option, flat_map, is_some}
 use Rattle.std.specs.List.{list_any}
-use Rattle.std.proofs.lemmas.Bool.{cases_Bool, cases_eq, cond-false, cond-true, false_from_ne_true, or_from, or_left, or_right}
+use Rattle.std.proofs.lemmas.Bool.{cases_Bool, cases_eq, cond-false, cond-true, false_from_ne_true, or_from}
+use Rattle.std.proofs.lemmas.Bool.{or_left, or_right}
 use Rattle.std.proofs.lemmas.List.{map-append}
 use Rattle.std.proofs.lemmas.List.Concat.{flat_map-append}
 use Rattle.std.proofs.lemmas.List.Sums.{fold-append}
 use Rattle.std.proofs.lemmas.Option.{same_Some}
 use Rattle.std.proofs.lemmas.Slice.Eq.{bytes_eq-Decides}
 use Rattle.grove_base.specs.Numbers.{alone, passing_below}
-use Rattle.grove_base.proofs.Lists.{map_length, take_next}
+use Rattle.grove_base.proofs.Lists.{take_next}
 use Rattle.grove_table.specs.declared.fault.Reason.{Reason}
-use Rattle.grove_table.specs.declared.fault.Reason.TheVariants.{NoParent, TooMany, TwiceNamed}
+use Rattle.grove_table.specs.declared.fault.Reason.TheVariants.{NoParent, TwiceNamed}
 use Rattle.grove_table.specs.declared.fault.TableFault.{TableFault}
 use Rattle.grove_table.specs.declared.fault.TableFault.TheVariants as fault
 use Rattle.grove_table.specs.declared.line.Line.{Line}
 use Rattle.grove_table.specs.declared.planting.Sprout.{Sprout}
 use Rattle.grove_table.specs.declared.tree_making.Absent.{Absent}
 use Rattle.grove_table.specs.declared.tree_making.Absent.TheVariants.{Refused}
-use Rattle.grove_table.specs.Refusals.{AreLinesRefused, HasPath, IsBeyond, IsFirst, IsLineRefused, IsOrphan, IsRepeated}
+use Rattle.grove_table.specs.Refusals.{AreLinesRefused, HasPath, IsBeyond, IsLineRefused, IsOrphan, IsRepeated}
 use Rattle.grove_table.specs.Refusals.{IsSpare, ends_path, needed, parent_path, paths_to, with_path}
 use Rattle.grove_table.specs.Plantings.{IsFullFault, IsNoLinesFault, IsOrphanFault, IsSpareFault, paths_of}
 use Rattle.grove_table.specs.Rows.{Tells}
@@ -50,7 +51,8 @@ one_planted (first ∷ sprouts) path zero sprout is same =
 one_planted (first ∷ sprouts) path (suc at) sprout is same =
     or_right _ _ (one_planted sprouts path at sprout is same)
 
-pub with_known : (paths : List (List ℕ)) (path : List ℕ) → list_any (same_as path) paths ≡ true → with_path paths path ≡ paths
+pub with_known : (paths : List (List ℕ)) (path : List ℕ) → list_any (same_as path) paths ≡ true
+    → with_path paths path ≡ paths
 with_known paths path known = cond-true _ _ _ known
 
 pub with_new : (paths : List (List ℕ)) (path : List ℕ) → list_any (same_as path) paths ≡ false
@@ -58,10 +60,12 @@ pub with_new : (paths : List (List ℕ)) (path : List ℕ) → list_any (same_as
 with_new paths path new = cond-false _ _ _ new
 
 -- one more node
-pub planted_one : (sprouts : List Sprout) (sprout : Sprout) → list_any (same_as sprout.path.now) (paths_of sprouts) ≡ false
+pub planted_one : (sprouts : List Sprout) (sprout : Sprout)
+    → list_any (same_as sprout.path.now) (paths_of sprouts) ≡ false
     → paths_of (sprouts ++ sprout ∷ []) ≡ with_path (paths_of sprouts) sprout.path.now
 planted_one sprouts sprout new =
-    map-append (λ (s : Sprout). s.path.now) sprouts (sprout ∷ []) ∙ sym (with_new (paths_of sprouts) sprout.path.now new)
+    map-append (λ (s : Sprout). s.path.now) sprouts (sprout ∷ [])
+    ∙ sym (with_new (paths_of sprouts) sprout.path.now new)
 
 -- planting takes none away
 with_grows : (paths : List (List ℕ)) (path : List ℕ) → length paths ≤ length (with_path paths path)
@@ -112,7 +116,8 @@ step_grows : (paths : List (List ℕ)) (path : List ℕ) (n : ℕ)
 step_grows paths path n = elim (cases_Bool (ends_path path n)) [
   | inl ends ↦
       let e : length (fold with_path paths (before path (suc n)))
-      ≡ length (with_path (fold with_path paths (before path n)) (take n path)) = ap length (planted_next paths path n ends) in
+      ≡ length (with_path (fold with_path paths (before path n)) (take n path)) =
+      ap length (planted_next paths path n ends) in
       omega (arith, e, with_grows (fold with_path paths (before path n)) (take n path))
   | inr miss ↦ omega (arith, ap length (planted_same paths path n miss))
 ]
@@ -121,7 +126,8 @@ pub planting_grows : (paths : List (List ℕ)) (path : List ℕ) (n more : ℕ)
     → length (fold with_path paths (before path n)) ≤ length (fold with_path paths (before path (n + more)))
 planting_grows paths path n zero =
     let e : n + 0 ≡ n = omega arith in
-    subst (λ (m : ℕ). length (fold with_path paths (before path n)) ≤ length (fold with_path paths (before path m))) (sym e)
+    subst (λ (m : ℕ). length (fold with_path paths (before path n)) ≤ length (fold with_path paths (before path m)))
+    (sym e)
     (omega arith)
 planting_grows paths path n (suc more) =
     let e : n + suc more ≡ suc (n + more) = omega arith in
@@ -129,7 +135,8 @@ planting_grows paths path n (suc more) =
     planting_grows paths path n more in
     let next : length (fold with_path paths (before path (n + more)))
     ≤ length (fold with_path paths (before path (suc (n + more)))) = step_grows paths path (n + more) in
-    subst (λ (m : ℕ). length (fold with_path paths (before path n)) ≤ length (fold with_path paths (before path m))) (sym e)
+    subst (λ (m : ℕ). length (fold with_path paths (before path n)) ≤ length (fold with_path paths (before path m)))
+    (sym e)
     (omega (arith, here, next))
 
 pub full_more : (line : Line) (paths more : List (List ℕ)) (fault : TableFault) → IsFullFault line paths fault
@@ -151,7 +158,8 @@ full_at line paths path n fault within ends is =
     planting_grows paths path (suc n) (length path - n) in
     full_more line _ (fold with_path paths (paths_to path)) fault
     (subst (λ (found : List (List ℕ)). IsFullFault line found fault) (sym (planted_next paths path n ends)) is)
-    (subst (λ (m : ℕ). length (fold with_path paths (before path (suc n))) ≤ length (fold with_path paths (before path m)))
+    (subst (λ (m : ℕ). length (fold with_path paths (before path (suc n)))
+    ≤ length (fold with_path paths (before path m)))
     e grows)
 
 -- ---- lines, one after the other
@@ -164,7 +172,8 @@ pub needed_more : (lines : List Line) (place : ℕ) (line : Line) → slice_get 
 needed_more lines place line at =
     let more : flat_map line_paths (take (suc place) lines)
     ≡ flat_map line_paths (take place lines) ++ (line_paths line ++ []) =
-    ap (flat_map line_paths) (take_next lines place line at) ∙ flat_map-append line_paths (take place lines) (line ∷ []) in
+    ap (flat_map line_paths) (take_next lines place line at)
+    ∙ flat_map-append line_paths (take place lines) (line ∷ []) in
     let none : line_paths line ++ [] ≡ line_paths line = append-nil (line_paths line) in
     ap (fold with_path []) (more ∙ ap (λ (paths : List (List ℕ)). flat_map line_paths (take place lines) ++ paths) none)
     ∙ fold-append with_path [] (flat_map line_paths (take place lines)) (line_paths line)

@@ -1,18 +1,18 @@
 -- Why a text is refused, from its rows.
-use Rattle.std.proofs.Common.{◌≡◌, ◌∙◌, ◌<◌, ◌≤◌, ℕ, zero, suc, List, [], ◌∷◌, Some, map, refl, sym, ap, subst, inl, inr, arith}
+use Rattle.std.proofs.Common.{◌≡◌, ◌∙◌, ◌<◌, ◌≤◌, ℕ, List, [], ◌∷◌, Some, refl, sym, ap, subst, inl, inr, arith}
 use Rattle.std.proofs.Common.{length, slice_get, Result, Ok, Err, OnOk, IfErr}
 use Rattle.std.proofs.lemmas.Option.{none-some, same_Some}
 use Rattle.grove_table.proofs.LookedAt.{kept_all}
 use Rattle.grove_table.specs.declared.fault.TableFault.{TableFault}
 use Rattle.grove_table.specs.declared.fault.TableFault.TheVariants.{Empty, Line, Unlike, Memory}
 use Rattle.grove_table.specs.Tables.{AreRowsOf}
-use Rattle.grove_table.specs.Refusals.{AreBelow, AreFaultless, IsFaultless, IsHeader, IsTextFaultless, IsTextRefused}
-use Rattle.grove_table.specs.Refusals.{IsWellNamed}
+use Rattle.grove_table.specs.Refusals.{AreBelow, AreFaultless, IsFaultless, IsHeader, IsTextRefused}
 use Rattle.grove_table.specs.Rows.{AreRowsRefused, IsHeaderFault, IsRowFault}
 
 -- the first row that breaks one
 pub row_refuses : (rows : List (List (List ℕ))) (place : ℕ) (row : List (List ℕ)) (fault : TableFault)
-    → ((before : ℕ) (fields : List (List ℕ)) → before < place → slice_get rows before ≡ Some fields → IsFaultless fields)
+    → ((before : ℕ) (fields : List (List ℕ)) → before < place → slice_get rows before ≡ Some fields
+    → IsFaultless fields)
     → slice_get rows place ≡ Some row → IsRowFault row fault → AreRowsRefused rows fault
 row_refuses rows place row Memory kept at why = tt
 row_refuses rows place row (Line fault) kept at why =
@@ -69,6 +69,7 @@ if_err (Err error) P Q is goes = goes error is
 
 -- rows that were all looked at
 pub all_faultless : (rows : List (List (List ℕ))) (place : ℕ)
-    → ((before : ℕ) (fields : List (List ℕ)) → before < place → slice_get rows before ≡ Some fields → IsFaultless fields)
+    → ((before : ℕ) (fields : List (List ℕ)) → before < place → slice_get rows before ≡ Some fields
+    → IsFaultless fields)
     → length rows ≤ place → AreFaultless rows
 all_faultless rows place kept all at fields is = kept_all IsFaultless rows place kept all at fields is

@@ -1,5 +1,5 @@
 -- For the proofs alone: paths, byte by byte.
-use Rattle.std.specs.Prelude.{◌≡◌, ◌<◌, ◌≤◌, ◌==◌, ◌&&◌, ℕ, suc, nat_lt, Bool, false, List, [], ◌∷◌, length}
+use Rattle.std.specs.Prelude.{◌<◌, ◌≤◌, ◌==◌, ◌&&◌, ℕ, suc, nat_lt, Bool, false, List, [], ◌∷◌, length}
 use Rattle.std.specs.Prelude.{Option, None, Some, if◌then◌else◌}
 use Rattle.grove_tree.specs.Rules.{is_name_byte}
 use Rattle.grove_table.specs.declared.fault.Reason.{Reason}

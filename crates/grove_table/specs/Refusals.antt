@@ -1,5 +1,5 @@
 -- Which fault a table is refused for: that of the first line that breaks a rule, and of its rules the first.
-use Rattle.std.specs.Prelude.{◌≡◌, ◌≢◌, ◌<◌, ◌⊎◌, ◌==◌, ◌&&◌, ◌||◌, ⊤, ℕ, ℤ, pred, suc, nat_lt, Bool, true, All, IsUtf8}
+use Rattle.std.specs.Prelude.{◌≡◌, ◌<◌, ◌⊎◌, ◌==◌, ◌&&◌, ◌||◌, ⊤, ℕ, ℤ, pred, suc, nat_lt, Bool, true, IsUtf8}
 use Rattle.std.specs.Prelude.{List, [], ◌∷◌, ◌++◌, length, take, map, flat_map, fold, slice_get, slice_index, Some}
 use Rattle.std.specs.Prelude.{string_bytes, codes, bytes_eq, if◌then◌else◌}
 use Rattle.std.specs.List.{list_all, list_any}

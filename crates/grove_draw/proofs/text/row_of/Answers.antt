@@ -10,4 +10,5 @@ returns c =
     let drawn : List ℕ = string_bytes c.in_ok-drawn.drawn in
     let at : slice_get c.args.picture.now.bars.items c.args.place ≡ Some bar =
     read_at c.args.picture.now.bars.items c.args.place bar c.requires c.index-bar.ensures in
-    if_ok c.format.result _ _ c.format.ensures.ok (λ text is. (bar, at, (drawn, c.saturating_sub-held.result, simp append_assoc is)))
+    if_ok c.format.result _ _ c.format.ensures.ok
+    (λ text is. (bar, at, (drawn, c.saturating_sub-held.result, simp append_assoc is)))

@@ -1,4 +1,4 @@
-use Rattle.std.proofs.Common.{[], add-one, refl, rules}
+use Rattle.std.proofs.Common.{[], add-one, rules}
 use Rattle.grove_draw.specs.Writings.{IsTextRow}
 use Rattle.grove_draw.proofs.WrittenRows.{written_more}
 use Rattle.grove_draw.proofs.text.rows_of.Goals as goal

@@ -1,4 +1,4 @@
-use Rattle.std.proofs.Common.{◌≡◌, ◌≤◌, ℕ, ℤ, true, List, None, length, IsUtf8, arith, rules, refl, ◌∙◌, Some, subst}
+use Rattle.std.proofs.Common.{◌≡◌, ◌≤◌, ℕ, ℤ, true, List, None, length, arith, rules, refl, ◌∙◌, Some, subst}
 use Rattle.csv.specs.Records.{fields_of}
 use Rattle.grove_access.specs.Effects.{fits}
 use Rattle.grove_table.specs.Tables.{field_of, IsValueIn, IsWeightIn}

@@ -4,7 +4,7 @@ use Rattle.grove_table.specs.declared.fault.TableFault.{TableFault}
 use Rattle.grove_table.specs.declared.planting.Sprout.{Sprout}
 use Rattle.grove_table.specs.Refusals.{ends_path, paths_to, with_path}
 use Rattle.grove_table.specs.Plantings.{IsFullFault, paths_of}
-use Rattle.grove_table.proofs.SpareLines.{before, full_at, planted_next, planted_same}
+use Rattle.grove_table.proofs.SpareLines.{full_at, planted_next, planted_same}
 use Rattle.grove_table.proofs.planting.plant.Goals as goal
 use Rattle.grove_table.proofs.planting.plant.Goals.{then-ends_path+in_ok-place_of, else-ends_path}
 

@@ -3,7 +3,6 @@ use Rattle.std.proofs.Common.{string_bytes, subst, suc, sym, take}
 use Rattle.grove_base.proofs.Lists.{map_length, read_at}
 use Rattle.grove_table.specs.declared.fault.Reason.TheVariants.{TwiceNamed}
 use Rattle.grove_table.specs.declared.fault.TableFault.{TableFault}
-use Rattle.grove_table.specs.declared.line.Line.{Line}
 use Rattle.grove_table.specs.declared.planting.Sprout.{Sprout}
 use Rattle.grove_table.specs.Refusals.{HasPath, IsSpare, needed, paths_to, with_path}
 use Rattle.grove_table.specs.Plantings.{IsFullFault, IsSpareFault, paths_of}
@@ -18,7 +17,8 @@ loop-place-preserved c =
     let line = c.index-lines-place.result in
     let place : ℕ = c.loop-place.place in
     let path : List ℕ = string_bytes line.path in
-    let at : slice_get lines place ≡ Some line = read_at lines place line c.loop-place-test.true c.index-lines-place.is in
+    let at : slice_get lines place ≡ Some line = read_at lines place line c.loop-place-test.true
+    c.index-lines-place.is in
     let told : paths_of c.plant.new.sprouts.items
     ≡ fold with_path (paths_of c.loop-place.sprouts.items) (paths_to path) = search rules in
     let planted : paths_of c.plant.new.sprouts.items ≡ needed (take (suc place) lines) =
@@ -29,7 +29,8 @@ loop-place-preserved c =
     map_length (λ (s : Sprout). s.path.now) c.plant.new.sprouts.items in
     let new : HasPath (take place lines) path → ⊥ =
     subst (λ (bytes : List ℕ). HasPath (take place lines) bytes → ⊥) c.deref.ensures
-    (was_not_found c.line_with.result (HasPath (take place lines) c.deref.result.now) c.line_with.ensures (search rules)) in
+    (was_not_found c.line_with.result (HasPath (take place lines) c.deref.result.now) c.line_with.ensures
+    (search rules)) in
     record {
       few = few;
       planted = rw add-one planted;
@@ -43,7 +44,8 @@ returns-then-is_some-clause-refused c =
     let line = c.index-lines-place.result in
     let place : ℕ = c.loop-place.place in
     let path : List ℕ = string_bytes line.path in
-    let at : slice_get lines place ≡ Some line = read_at lines place line c.loop-place-test.true c.index-lines-place.is in
+    let at : slice_get lines place ≡ Some line = read_at lines place line c.loop-place-test.true
+    c.index-lines-place.is in
     let has : HasPath (take place lines) path =
     subst (HasPath (take place lines)) c.deref.ensures
     (was_found c.line_with.result (HasPath (take place lines) c.deref.result.now) c.line_with.ensures (search rules)) in
@@ -59,7 +61,8 @@ returns-in_err-plant-clause-refused c =
     let place : ℕ = c.loop-place.place in
     let path : List ℕ = string_bytes line.path in
     let fault : TableFault = c.in_err-plant.field-0.0 in
-    let at : slice_get lines place ≡ Some line = read_at lines place line c.loop-place-test.true c.index-lines-place.is in
+    let at : slice_get lines place ≡ Some line = read_at lines place line c.loop-place-test.true
+    c.index-lines-place.is in
     let told : IsFullFault line (fold with_path (paths_of c.loop-place.sprouts.items) (paths_to path)) fault =
     search rules in
     let why : IsSpareFault lines fault =

@@ -1,4 +1,4 @@
-use Rattle.std.proofs.Common.{◌≡◌, ◌∙◌, ◌∷◌, ℕ, List, IfErr, OnOk, ap, length, map, refl, rules, subst, inl}
+use Rattle.std.proofs.Common.{◌≡◌, ◌∙◌, ◌∷◌, List, IfErr, OnOk, ap, length, map, refl, rules, subst, inl}
 use Rattle.grove_base.proofs.Lists.{map_length}
 use Rattle.csv.specs.Records.{Row, fields_of}
 use Rattle.grove_table.specs.Tables.{AreRowsOf}
@@ -6,7 +6,8 @@ use Rattle.grove_table.specs.Refusals.{AreBelow, AreFaultless, IsHeader, IsTextF
 use Rattle.grove_table.specs.Rows.{AreRowsRefused}
 use Rattle.grove_table.proofs.TextRefusals.{below_refuses, headless, if_err, on_ok, rowless}
 use Rattle.grove_table.proofs.reading.read_table.Goals as goal
-use Rattle.grove_table.proofs.reading.read_table.Goals.{in_default-via-in-Some+else-is_header, in_default-via-in_default}
+use Rattle.grove_table.proofs.reading.read_table.Goals.{in_default-via-in-Some+else-is_header}
+use Rattle.grove_table.proofs.reading.read_table.Goals.{in_default-via-in_default}
 
 pub returns-in-Some-clause-faultless : goal.returns-in-Some-clause-faultless
 returns-in-Some-clause-faultless c =

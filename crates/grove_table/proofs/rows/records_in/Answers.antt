@@ -1,4 +1,4 @@
-use Rattle.std.proofs.Common.{Bor, List, ℕ, option_map, ◌≡◌, ◌∙◌, ap, sym, refl, rules, inl, inr, true, map, Some, ◌∷◌, ◌++◌, []}
+use Rattle.std.proofs.Common.{option_map, ◌≡◌, ◌∙◌, ap, sym, refl, rules, inl, inr, true, map, Some, ◌∷◌, ◌++◌, []}
 use Rattle.std.specs.Result.{is_ok}
 use Rattle.std.proofs.lemmas.List.{map-append}
 use Rattle.csv.specs.Reading.{builder_config, builder_names_headers, builder_trim, Reached, strip_bom}

@@ -1,4 +1,4 @@
-use Rattle.std.proofs.Common.{◌≡◌, ◌∙◌, List, ℕ, Some, add-one, ap, rules, slice_get, string_bytes, subst, sym}
+use Rattle.std.proofs.Common.{◌≡◌, ◌∙◌, List, ℕ, Some, add-one, ap, rules, slice_get, string_bytes, subst}
 use Rattle.grove_base.proofs.Lists.{read_at}
 use Rattle.grove_table.specs.declared.fault.Reason.TheVariants.{NoParent}
 use Rattle.grove_table.specs.Refusals.{HasPath, IsOrphan, parent_path}
@@ -11,7 +11,8 @@ loop-place-preserved c =
     let lines = c.args.lines.now in
     let line = c.index-lines-place.result in
     let place : ℕ = c.loop-place.place in
-    let at : slice_get lines place ≡ Some line = read_at lines place line c.loop-place-test.true c.index-lines-place.is in
+    let at : slice_get lines place ≡ Some line = read_at lines place line c.loop-place-test.true
+    c.index-lines-place.is in
     let parent : c.parent_path-parent.result.now ≡ parent_path (string_bytes line.path) =
     c.parent_path-parent.ensures ∙ ap parent_path c.deref.ensures in
     let has : HasPath lines (parent_path (string_bytes line.path)) =
@@ -24,12 +25,14 @@ returns-then-is_none c =
     let lines = c.args.lines.now in
     let line = c.index-lines-place.result in
     let place : ℕ = c.loop-place.place in
-    let at : slice_get lines place ≡ Some line = read_at lines place line c.loop-place-test.true c.index-lines-place.is in
+    let at : slice_get lines place ≡ Some line = read_at lines place line c.loop-place-test.true
+    c.index-lines-place.is in
     let parent : c.parent_path-parent.result.now ≡ parent_path (string_bytes line.path) =
     c.parent_path-parent.ensures ∙ ap parent_path c.deref.ensures in
     let without : HasPath lines (parent_path (string_bytes line.path)) → ⊥ =
     subst (λ (bytes : List ℕ). HasPath lines bytes → ⊥) parent
-    (was_not_found c.line_with.result (HasPath lines c.parent_path-parent.result.now) c.line_with.ensures (search rules)) in
+    (was_not_found c.line_with.result (HasPath lines c.parent_path-parent.result.now) c.line_with.ensures
+    (search rules)) in
     let tells : Tells line.number NoParent (parent_path (string_bytes line.path)) c.of_line.result =
     subst (λ (bytes : List ℕ). Tells line.number NoParent bytes c.of_line.result) parent c.of_line.ensures in
     orphan_told lines place line c.of_line.result at without c.loop-place.invariant tells

@@ -6,7 +6,8 @@ use Rattle.grove_draw.proofs.svg.Frame.picture.Goals as goal
 
 pub returns : goal.returns
 returns c =
-    let rows : AreWritten (IsSvgRow (x_of c.args.self.now)) c.args.picture.now.bars.items (string_bytes c.in_ok-rows.rows) =
+    let rows : AreWritten (IsSvgRow (x_of c.args.self.now)) c.args.picture.now.bars.items
+    (string_bytes c.in_ok-rows.rows) =
     search rules in
     if_ok c.format.result _ _ c.format.ensures.ok
     (λ text is. (string_bytes c.in_ok-scale.scale, string_bytes c.in_ok-rows.rows, rows, simp append_assoc is))

@@ -1,4 +1,4 @@
-use Rattle.std.proofs.Common.{◌≡◌, ◌-◌, ◌∙◌, List, ℕ, ap, append_assoc, string_bytes, subst, sym}
+use Rattle.std.proofs.Common.{◌≡◌, ◌-◌, ℕ, append_assoc, string_bytes, subst}
 use Rattle.grove_draw.specs.Scales.{x_of}
 use Rattle.grove_draw.specs.Writings.{IsShape}
 use Rattle.grove_draw.proofs.WrittenRows.{bar_shape, if_ok, stroke_shape}
