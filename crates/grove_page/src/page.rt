@@ -11,13 +11,15 @@ pub const PAGE: &str = r##"<!DOCTYPE html>
 <title>Pickbracken</title>
 <style>
 :root {
-  --paper: #ffffff; --panel: #f4f6f8; --ink: #1b1f24; --quiet: #4d5661; --line: #b9c1ca;
-  --hot: #f2a65a; --bar: #d3e3f2; --work: #0b4a7f; --word: #ffffff; --link: #0b4a7f; --bad: #9b1c1c;
+  --paper: #ffffff; --panel: #f4f6f8; --ink: #1b1f24; --quiet: #4d5661; --line: #b9c1ca; --edge: #6b7682;
+  --hot: #f2a65a; --gauge: #8a4300; --bar: #d3e3f2; --work: #0b4a7f; --word: #ffffff; --link: #0b4a7f;
+  --bad: #9b1c1c; --writes: #8a3200; --shade: rgb(0 0 0 / .35);
 }
 @media screen and (prefers-color-scheme: dark) {
   :root {
-    --paper: #15181c; --panel: #1e2329; --ink: #e8eaec; --quiet: #a9b2bc; --line: #4a535d;
-    --hot: #8a4a05; --bar: #33485c; --work: #a8d1f5; --word: #0c1116; --link: #a8d1f5; --bad: #ffb3ab;
+    --paper: #15181c; --panel: #1e2329; --ink: #e8eaec; --quiet: #a9b2bc; --line: #4a535d; --edge: #808b97;
+    --hot: #955000; --gauge: #ffb45c; --bar: #33485c; --work: #a8d1f5; --word: #0c1116; --link: #a8d1f5;
+    --bad: #ffb3ab; --writes: #ffb27d; --shade: rgb(255 255 255 / .4);
   }
 }
 * { box-sizing: border-box; }
@@ -29,20 +31,31 @@ h1 { font-size: 1.3rem; margin: 0; }
 h2 { font-size: 1.05rem; margin: 0 0 .5rem; }
 h3 { font-size: 1rem; margin: 1.25rem 0 .4rem; }
 p { margin: .4rem 0; max-width: 46rem; }
-main { display: grid; grid-template-columns: minmax(24rem, 2fr) minmax(0, 3fr); gap: 1.5rem; align-items: start; }
-@media (max-width: 62rem) { main { grid-template-columns: minmax(0, 1fr); } }
-a { color: var(--link); }
-button, select, input {
-  color: inherit; background: var(--panel); border: 1px solid var(--line); border-radius: 4px; padding: .25rem .7rem;
+main { display: grid; grid-template-columns: minmax(0, 3fr) minmax(24rem, 2fr); gap: 1.5rem; align-items: start; }
+.skip:not(:focus) { position: absolute; clip-path: inset(50%); }
+@media (max-width: 62rem) {
+  main { grid-template-columns: minmax(0, 1fr); }
+  .skip:not(:focus) { position: static; clip-path: none; }
 }
+a { color: var(--link); }
+header a, summary { line-height: 24px; }
+header a { display: inline-block; }
+button, select, input {
+  color: inherit; background: var(--panel); border: 1px solid var(--edge); border-radius: 4px; padding: .25rem .7rem;
+}
+select, input { background: var(--paper); }
+/* What writes has another edge, colour and sign than what reads. */
+.writes { color: var(--writes); border: 2px dashed var(--writes); font-weight: 600; }
+.writes::before { content: "✎ " / ""; }
+button.writes:hover { border-style: solid; border-color: var(--writes); }
 button, select, summary, .fold, .path { cursor: pointer; }
 button:hover { border-color: var(--ink); }
 ::placeholder { color: var(--quiet); opacity: 1; }
 button[aria-pressed="true"] { background: var(--bar); border-color: var(--ink); }
 input[type="search"] { width: 12rem; max-width: 100%; }
 :focus-visible { outline: 3px solid var(--link); outline-offset: 1px; }
-textarea, pre { padding: .5rem; line-height: 1.5; border: 1px solid var(--line); border-radius: 4px; }
-textarea { width: 100%; min-height: 11rem; resize: vertical; tab-size: 4; color: inherit; background: var(--panel); }
+textarea, pre { padding: .5rem; line-height: 1.5; border: 1px solid var(--edge); border-radius: 4px; }
+textarea { width: 100%; min-height: 11rem; resize: vertical; tab-size: 4; color: inherit; background: var(--paper); }
 pre { margin: .5rem 0; overflow-x: auto; }
 .row { display: flex; flex-wrap: wrap; gap: .5rem 1rem; align-items: baseline; margin: .5rem 0; }
 .row.top { margin-top: 0; }
@@ -50,7 +63,15 @@ pre { margin: .5rem 0; overflow-x: auto; }
 .quiet { color: var(--quiet); }
 .bad { color: var(--bad); font-weight: 600; }
 .anew { font-weight: 600; }
-.wide { overflow-x: auto; max-width: 100%; }
+/* A shade at each side on which there is more. */
+.wide {
+  overflow-x: auto; max-width: 100%;
+  background: linear-gradient(to right, var(--paper) 50%, transparent) left / 2rem 100% no-repeat local,
+    linear-gradient(to left, var(--paper) 50%, transparent) right / 2rem 100% no-repeat local,
+    linear-gradient(to right, var(--shade), transparent) left top / 1rem calc(100% - 1px) no-repeat,
+    linear-gradient(to left, var(--shade), transparent) right top / 1rem calc(100% - 1px) no-repeat;
+}
+.wide :is(thead th, td) { background: none; }
 .tall {
   max-height: max(24rem, 100vh - 21rem); overflow: auto; overflow-anchor: none;
   border: 1px solid var(--line); border-radius: 4px;
@@ -62,8 +83,8 @@ th:first-child, td:first-child, .texts :is(th, td) { text-align: left; }
 tbody th { font-weight: normal; }
 tfoot td { border-bottom: 0; font-weight: 600; }
 [data-by="weight"] .weight, [data-by="waits"] .waits {
-  background: linear-gradient(var(--ink) 0 0) left bottom / calc(var(--heat, 0) * 100%) 3px no-repeat
-    color-mix(in srgb, var(--hot) calc(var(--heat, 0) * 100%), var(--paper));
+  background: linear-gradient(var(--gauge) 0 0) left bottom / calc(var(--heat, 0) * 100%) 4px no-repeat
+    color-mix(in srgb, var(--hot) calc(var(--tint, 0) * 100%), var(--paper));
 }
 td[data-change]::before { content: attr(data-change) " "; color: var(--quiet); }
 td[data-change] { font-weight: 700; }
@@ -83,7 +104,7 @@ td[data-change] { font-weight: 700; }
 .at-record { width: calc(var(--record) + var(--gaps)); }
 #table:not(.reweighed) :is(.was, .at-was) { display: none; }
 .was { color: var(--quiet); }
-thead button { font: inherit; padding: 0; border: 0; background: none; }
+thead button { font: inherit; min-height: 24px; padding: 0; border: 0; background: none; }
 thead button:hover { text-decoration: underline; }
 [aria-sort="descending"] button::after { content: " ↓"; }
 tbody th div { display: flex; align-items: baseline; padding-left: calc(var(--indent) * var(--depth, 0)); }
@@ -108,6 +129,8 @@ svg .bar { fill: var(--bar); stroke: var(--ink); }
 svg .stroke { stroke: var(--ink); stroke-width: 3; }
 svg .work { fill: var(--work); }
 svg .word { fill: var(--word); font-weight: 600; font-size: 12px; text-anchor: middle; }
+svg .total { font-weight: 600; }
+.key svg { display: inline-block; vertical-align: -4px; margin-left: .5rem; }
 details { margin: .5rem 0; }
 dialog { max-width: 44rem; color: inherit; background: var(--paper); border: 1px solid var(--ink); border-radius: 4px; }
 dialog::backdrop { background: rgb(0 0 0 / .5); }
@@ -121,10 +144,10 @@ summary { cursor: pointer; }
   thead th { font-size: 13px; }
 }
 @media print {
-  .asks, .hint { display: none !important; }
+  .asks, .hint, .skip { display: none !important; }
   main { display: block; }
   .tall { max-height: none; overflow: visible; border: 0; }
-  .wide { overflow: visible; }
+  .wide { overflow: visible; background: none; }
   * { print-color-adjust: exact; -webkit-print-color-adjust: exact; }
   section.plan, tr { break-inside: avoid; }
 }
@@ -133,17 +156,42 @@ summary { cursor: pointer; }
 <body>
 <header>
   <h1>Pickbracken</h1>
+  <a class="skip" href="#tree-title">To the nodes</a>
   <span id="state" class="quiet">asking for the nodes</span>
-  <span id="trouble" class="bad" role="alert"></span>
-  <span id="anew" class="anew" role="status"></span>
   <span class="row asks">
     <button id="follow" type="button">Pause</button>
     <a href="/document" download="document.json">Save the document</a>
   </span>
+  <span id="trouble" class="bad" role="alert"></span>
+  <span id="anew" class="anew" role="status"></span>
 </header>
 <noscript><p>This page needs JavaScript. Without it, <a href="/nodes">/nodes</a> and
   <a href="/document">/document</a> tell what the store has.</p></noscript>
 <main>
+<section aria-labelledby="lists-title">
+  <div class="asks">
+  <h2 id="lists-title">Lists</h2>
+  <p id="help">One access a line: <code>get</code> and a path, or <code>set</code>, <code>add</code> or
+    <code>take</code>, a path and a number; behind it how many slots it takes, if more than one. An empty line begins
+    another list, and <code>#</code> a comment.</p>
+  <textarea id="lists" spellcheck="false" aria-labelledby="lists-title" aria-describedby="help"></textarea>
+  <div class="row">
+    <button id="plan" type="button" aria-describedby="plan-does">Plan each list</button>
+    <span id="plan-does" class="quiet">only looks (Ctrl and Enter)</span>
+  </div>
+  <div class="row">
+    <button id="batch" type="button" class="writes" aria-describedby="batch-does">Run them as a batch</button>
+    <span id="batch-does" class="quiet">writes the store's records, and can't be undone</span>
+  </div>
+  <div id="example" hidden>
+    <p>The lists are empty. Here are two for this tree:</p>
+    <pre id="example-text"></pre>
+    <button id="example-plan" type="button">Plan these two</button>
+  </div>
+  </div>
+  <p id="outcome" class="anew" role="status"></p>
+  <div id="answers"></div>
+</section>
 <section aria-labelledby="tree-title">
   <div class="row top">
     <h2 id="tree-title">Nodes</h2>
@@ -156,12 +204,20 @@ summary { cursor: pointer; }
     <button id="unfold" type="button">Unfold all</button>
   </div>
   <div class="row asks">
-    <label>Heat by <select id="by"><option>weight</option><option>waits</option></select></label>
-    <button id="reweigh" type="button" title="new weights, made of the old ones and the waits">Reweigh</button>
+    <button id="reweigh" type="button" class="writes" aria-describedby="reweigh-does">Reweigh</button>
+    <span id="reweigh-does" class="quiet">writes the store's weights: halves what each is above 1, and adds the node's
+      waits</span>
     <span id="reweighed" role="status"></span>
-    <button id="only" type="button" aria-pressed="false" hidden>Only those</button>
   </div>
-  <p class="quiet" id="legend"></p>
+  <div class="row" id="changed" hidden>
+    <button id="only" type="button" class="asks" aria-pressed="false" aria-describedby="only-does">Changed only</button>
+    <span id="only-does" class="quiet">shows the nodes whose weights changed; <em>was</em> is the weight before</span>
+  </div>
+  <div class="row">
+    <label class="asks">Colour by <select id="by" aria-describedby="legend">
+      <option>weight</option><option>waits</option></select></label>
+    <span class="quiet" id="legend"></span>
+  </div>
   <div class="tall" id="box"><table id="table" role="treegrid" tabindex="0" aria-labelledby="tree-title"
     aria-describedby="keys">
     <colgroup><col><col class="at-weight"><col class="at-was"><col class="at-waits"><col class="at-record"></colgroup>
@@ -173,28 +229,11 @@ summary { cursor: pointer; }
       <th scope="col">record</th></tr></thead>
     <tbody id="nodes"></tbody>
   </table></div>
+  <p id="written" role="status"></p>
   <p class="quiet hint" id="keys">A click on a node, or Enter, writes <code>get</code> of it into the lists. The arrow
     keys go up and down, and fold and unfold; a click on <em>weight</em>, <em>waits</em> or <em>node</em> orders.</p>
-</section>
-<section aria-labelledby="lists-title">
-  <div class="asks">
-  <h2 id="lists-title">Lists</h2>
-  <p id="help">One access a line: <code>get</code> and a path, or <code>set</code>, <code>add</code> or
-    <code>take</code>, a path and a number; behind it how many slots it takes, if more than one. An empty line begins
-    another list, and <code>#</code> a comment.</p>
-  <textarea id="lists" spellcheck="false" aria-labelledby="lists-title" aria-describedby="help"></textarea>
-  <div class="row">
-    <button id="plan" type="button">Plan each list</button>
-    <button id="batch" type="button">Run them as a batch</button>
-    <span class="quiet">Ctrl and Enter plans</span>
-  </div>
-  <div id="example" hidden>
-    <p>The lists are empty. Here are two for this tree:</p>
-    <pre id="example-text"></pre>
-    <button id="example-plan" type="button">Write and plan them</button>
-  </div>
-  </div>
-  <div id="answers" aria-live="polite"></div>
+  <p class="quiet">A <em>weight</em> says how much others need the node, <em>waits</em> how often a lock found it held
+    in a long round since the last reweighing. The <em>record</em> is its number.</p>
 </section>
 </main>
 <dialog id="lowering" aria-labelledby="lowering-title">
@@ -259,8 +298,10 @@ const FAULTS = {
   "rounds": "the store can count no further round",
 };
 
+/** Why something is refused, once: by the hint, which is about this very line, or else by what the name means. */
 function faultText({ error, hint }) {
-  return `refused: ${error}${FAULTS[error] ? ` (${FAULTS[error]})` : ""}${hint ? `; hint: ${hint}` : ""}`;
+  const why = hint ?? FAULTS[error];
+  return `refused as ${error}${why ? `: ${why}` : ""}`;
 }
 
 // ---- elements
@@ -276,12 +317,26 @@ function filled(element, attributes, inside) {
 const make = (name, attributes = {}, ...inside) => filled(document.createElement(name), attributes, inside);
 const draw = (name, attributes = {}, ...inside) => filled(document.createElementNS(SVG, name), attributes, inside);
 
-function tableOf(heads, rows, foot, name = "") {
+function tableOf(name, heads, rows, { foot, kind = "" }) {
   const headRow = make("tr", {}, ...heads.map((head) => make("th", { scope: "col" }, head)));
   const line = (cells) => make("tr", {}, ...cells.map((cell) => make("td", {}, String(cell))));
-  const table = make("table", { class: name }, make("thead", {}, headRow), make("tbody", {}, ...rows.map(line)));
-  if (foot) table.append(make("tfoot", {}, line(foot)));
-  return make("div", { class: "wide", tabindex: "0" }, table);
+  const parts = [make("thead", {}, headRow), make("tbody", {}, ...rows.map(line))];
+  if (foot) parts.push(make("tfoot", {}, line(foot)));
+  return scrolling(name, make("table", { class: kind, "aria-label": name }, ...parts));
+}
+
+/** What may be wider than there is room for: where it is, that is said, and it scrolls by keys too. */
+function scrolling(name, inside) {
+  const box = make("div", { class: "wide" }, inside);
+  const cue = make("p", { class: "quiet asks", hidden: "" }, "This is wider than the page: scroll it to the right. →");
+  new ResizeObserver(() => {
+    const isWider = box.scrollWidth > box.clientWidth + 1;
+    cue.hidden = !isWider;
+    for (const [key, value] of Object.entries({ tabindex: "0", role: "region", "aria-label": name })) {
+      put(box, key, isWider ? value : null);
+    }
+  }).observe(box);
+  return make("div", {}, cue, box);
 }
 
 // These leave be what is as it should be, so that a look at many nodes that are as they were costs little.
@@ -338,7 +393,7 @@ function takeLook({ nodes, round }) {
   }
   [rounds, lookedAt] = [round, when];
   takeNodes(nodes, isAnew);
-  const told = rounds === undefined ? "" : `, ${counted(rounds, "round")}`;
+  const told = rounds === undefined ? "" : `, ${counted(rounds, "round")} done (each runs one batch or several)`;
   byId("state").textContent = `${counted(tree.length, "node")}${told}, as of ${when}`;
 }
 
@@ -441,13 +496,13 @@ function noteReweighing(nodes) {
     entry.was = entry.node.weight === nodes[at].weight ? undefined : entry.node.weight;
   });
   byId("reweighed").textContent = `${counted(changed, "weight")} changed, seen at ${timeNow()}`;
-  byId("only").hidden = false;
+  byId("changed").hidden = false;
 }
 
 function forgetReweighing(words) {
   for (const entry of tree) entry.was = undefined;
   byId("reweighed").textContent = words;
-  byId("only").hidden = true;
+  byId("changed").hidden = true;
   setOnly(false);
 }
 
@@ -474,6 +529,8 @@ function isToLower(entries) {
 async function reweigh() {
   try {
     await look();
+    // Nothing is written that nobody has seen.
+    if (byId("trouble").textContent !== "") return;
     const lowered = loweredAlone();
     if (lowered.length && !await isToLower(lowered)) return;
     const [reply] = await repliesTo(['{"reweigh":null}']);
@@ -559,8 +616,8 @@ function showTree() {
   table.classList.toggle("ranked", view.order !== "tree");
   table.classList.toggle("reweighed", tree.some((entry) => entry.was !== undefined));
   put(table, "aria-rowcount", shown.length + 1);
-  write(byId("legend"), `The longer the bar, the greater its ${by}, up to ${most}. ▲ and ▼ mark what rose and`
-    + " what fell since the last look.");
+  write(byId("legend"), `Colour and bar grow with a node's ${by}, up to ${most}. ▲ rose, and ▼ fell, since the last`
+    + " look.");
   write(byId("count"), countText());
   showHeads();
   fitColumns(table);
@@ -645,7 +702,10 @@ function fill({ element, spans, was, cells }, place, at) {
   const within = isFolded ? `+${entry.end - place - 1}` : "";
   [isTree && hasBelow(place) ? sign : "", above, entry.name, within].forEach((text, at) => write(spans[at], text));
   setStyle(element, "--depth", isTree ? entry.depth : 0);
-  setStyle(element, "--heat", Number(entry.node[byId("by").value]) / Math.max(1, most));
+  const heat = Number(entry.node[byId("by").value]) / Math.max(1, most);
+  setStyle(element, "--heat", heat);
+  // Small numbers have a colour too.
+  setStyle(element, "--tint", Math.sqrt(heat));
   for (const [name, cell] of Object.entries(cells)) {
     write(cell, String(entry.node[name]));
     put(cell, "data-change", entry.marks[name] ?? null);
@@ -764,6 +824,7 @@ function writeAccess(path) {
   const before = lists.value === "" || lists.value.endsWith("\n") ? "" : "\n";
   lists.value += `${before}get ${path}\n`;
   lists.scrollTop = lists.scrollHeight;
+  byId("written").textContent = `get ${path} is the last line of the lists.`;
   showExample();
 }
 
@@ -820,34 +881,52 @@ function listsOf(text) {
 
 const jsonOf = (list) => `[${list.map((access) => access.json).join(",")}]`;
 
+/** Is a call under way? Then there is no other one, so that no batch runs twice by a second click. */
+let isAsking = false;
+
 /** Asks what the lists are about, and shows what the call makes of it, or why there is nothing. */
 async function answer(call) {
-  let shown;
+  if (isAsking) {
+    byId("outcome").textContent = "The answer to the last one isn't there yet.";
+    return;
+  }
+  isAsking = true;
   try {
-    shown = await call(listsOf(byId("lists").value));
+    const { outcome, shown } = await call(listsOf(byId("lists").value));
+    byId("outcome").textContent = outcome;
+    byId("answers").replaceChildren(...shown);
   } catch (error) {
     if (!(error instanceof Refused)) throw error;
-    shown = [bad(error.message)];
+    byId("outcome").textContent = "";
+    byId("answers").replaceChildren(bad(error.message));
+  } finally {
+    isAsking = false;
   }
-  byId("answers").replaceChildren(...shown);
 }
 
 async function planned(lists) {
   const replies = await repliesTo(lists.map((list) => `{"plan":${jsonOf(list)}}`));
-  return replies.map((reply, at) => planSection(lists[at], reply, at));
+  const plans = replies.filter((reply) => !reply.error);
+  const sections = replies.map((reply, at) => planSection(lists[at], reply, at));
+  return {
+    outcome: `${counted(plans.length, "list")} of ${lists.length} planned. Nothing has changed.`,
+    shown: plans.length ? [keyOfPictures(), ...sections] : sections,
+  };
 }
 
 async function batched(lists) {
   const [reply] = await repliesTo([`{"batch":[${lists.map(jsonOf).join(",")}]}`]);
-  if (reply.error) return [bad(`Nothing has changed; the batch is ${faultText(reply)}`)];
+  if (reply.error) throw new Refused(`Nothing has changed. The batch is ${faultText(reply)}`);
   const rows = lists.flatMap((list, at) =>
     list.map((access, number) => [at + 1, reply.places[at], access.text, reply.replies[at][number]]));
   await look();
-  return [
-    make("h3", {}, `Done in round ${reply.round}`),
-    make("p", {}, "By their places in the round, the replies are those of lists that are done one after the other."),
-    tableOf(["list", "place", "access", "reply"], rows, undefined, "texts"),
-  ];
+  return {
+    outcome: `Done in round ${reply.round}. The records are written.`,
+    shown: [
+      make("p", {}, "The replies are those of lists that are done one after the other, by their places."),
+      tableOf("the replies", ["list", "place", "access", "reply"], rows, { kind: "texts" }),
+    ],
+  };
 }
 
 // ---- a plan
@@ -884,9 +963,10 @@ function weightsOf(flow) {
 }
 
 function planSection(list, reply, at) {
-  const section = make("section", { class: "plan" }, make("h3", {}, `List ${at + 1}`));
+  const title = `List ${at + 1}`;
+  const section = make("section", { class: "plan", "aria-label": title }, make("h3", {}, title));
   if (reply.error) {
-    section.append(bad(faultText(reply)));
+    section.append(bad(`It is ${faultText(reply)}`));
     return section;
   }
   const weights = weightsOf(reply.flow), bars = barsOf(reply.plan), slots = slotsOf(list);
@@ -896,15 +976,25 @@ function planSection(list, reply, at) {
   });
   section.firstChild.append(`: the least cost is ${reply.cost}`);
   section.append(
-    make("div", { class: "wide", tabindex: "0" }, picture(list, slots, costs, reply.cost)),
+    scrolling(`the plan of ${title}`, picture(list, slots, costs, reply.cost)),
     stepsDetails(reply.plan),
     certificate(list, slots, weights, reply),
   );
   return section;
 }
 
+/** What light and dark are in the pictures, and what a cost is. */
+function keyOfPictures() {
+  const sign = (...inside) => draw("svg", { width: 40, height: 18, "aria-hidden": "true" }, ...inside);
+  const light = draw("rect", { class: "bar", x: 1, y: 1, width: 38, height: 16 });
+  const dark = draw("rect", { class: "work", x: 1, y: 2, width: 38, height: 14 });
+  const stroke = draw("path", { class: "stroke", d: "M20 0V18" });
+  return make("p", { class: "key" }, sign(light), " held ", sign(dark), " accessed ", sign(stroke),
+    " locked and released at one slot. A plan's cost is each node's weight times the slots it is held, added up.");
+}
+
 function picture(list, slots, bars, cost) {
-  const ROW = 24, LEFT = 16, TOP = 34, COSTS = 220, COLUMN = 46;
+  const ROW = 24, LEFT = 16, TOP = 50, COSTS = 220, COLUMN = 46;
   const depths = bars.map((bar) => depthOf(bar.node) - depthOf(bars[0].node));
   const names = bars.map((bar, at) => (at ? bar.node.slice(bar.node.lastIndexOf("/") + 1) : bar.node));
   const weightsEnd = LEFT + 70 + Math.max(40, ...names.map((name, at) => name.length * 8 + depths[at] * 14));
@@ -915,25 +1005,26 @@ function picture(list, slots, bars, cost) {
   const x = (access) => begin + access * COLUMN + Math.round((slots[access] / Math.max(1, slots.at(-1))) * share);
   const end = x(list.length), width = Math.max(end + COSTS, 520), height = TOP + bars.length * ROW + 30;
   const text = (x, y, words, name = "") => draw("text", { x, y, class: name }, words);
-  const svg = draw("svg", { width, height, viewBox: `0 0 ${width} ${height}`, role: "img" });
-  svg.setAttribute("aria-label", `A plan of cost ${cost}: a bar for each locked node, from its lock to its release`);
-  svg.append(text(LEFT, 16, "node"), text(weightsEnd, 16, "weight", "end"));
-  svg.append(text(end + 20, 16, "weight × slots = cost"));
+  const ends = (bar) => `${bar.node}: locked at slot ${slots[bar.lock]}, released at slot ${slots[bar.release]}`;
+  const told = `A plan of cost ${cost}. ${bars.map(ends).join("; ")}`;
+  const svg = draw("svg", { width, height, viewBox: `0 0 ${width} ${height}`, role: "img", "aria-label": told });
+  svg.append(text(LEFT, 32, "node"), text(weightsEnd, 32, "weight", "end"));
+  svg.append(text((begin + end) / 2, 14, "slots", "middle"), text(end + 20, 32, "weight × slots = cost"));
   slots.forEach((slot, at) => {
-    const line = draw("path", { class: "grid", d: `M${x(at)} 22V${height - 30}` });
-    svg.append(text(x(at), 16, String(slot), "middle"), line);
+    const line = draw("path", { class: "grid", d: `M${x(at)} 38V${height - 30}` });
+    svg.append(text(x(at), 32, String(slot), "middle"), line);
   });
   bars.forEach((bar, at) => {
     const y = TOP + at * ROW;
-    const ends = `${bar.node}: locked at slot ${slots[bar.lock]}, let go at slot ${slots[bar.release]}`;
-    const row = draw("g", {}, draw("title", {}, ends));
+    const row = draw("g", {}, draw("title", {}, ends(bar)));
     row.append(text(LEFT + depths[at] * 14, y + 9, names[at]), text(weightsEnd, y + 9, String(bar.weight), "end"));
     row.append(text(end + 20, y + 9, `${bar.weight} × ${bar.held} = ${bar.weight * bar.held}`));
     row.append(...barOf(bar, list, x, y));
     svg.append(row);
   });
   const sum = bars.reduce((sum, bar) => sum + bar.weight * bar.held, 0);
-  svg.append(text(end + 20, height - 10, `together ${sum}${sum === cost ? "" : `, and not ${cost}`}`));
+  svg.append(text(LEFT, height - 10, "total", "total"));
+  svg.append(text(end + 20, height - 10, `${sum}${sum === cost ? "" : `, and not ${cost}`}`, "total"));
   return svg;
 }
 
@@ -977,15 +1068,16 @@ function certificate(list, slots, weights, { plan, flow, cost }) {
     verdict.textContent = await checked(`{"check":{"version":2,"list":${jsonOf(list)},${check}}}`);
   });
   return make("details", { open: "" }, make("summary", {}, "The certificate: no legal plan costs less"),
-    make("p", {}, "The flow bounds what a legal plan costs with these weights, and the bound is this plan's cost."),
-    tableOf(heads, rows, ["together", "", "", "", "", "", "", sum]),
+    make("p", {}, "The amounts from above to own are a flow. It bounds what any legal plan costs with these weights,"
+      + " and the bound is this plan's cost."),
+    tableOf("the certificate", heads, rows, { foot: ["total", "", "", "", "", "", "", sum] }),
     make("div", { class: "row" }, button, verdict));
 }
 
 async function checked(line) {
   try {
     const [reply] = await repliesTo([line]);
-    if (reply.error) return `${faultText(reply)}. The weights may have changed since it was planned.`;
+    if (reply.error) return `It is ${faultText(reply)}. The weights may have changed since it was planned.`;
     return `The server's checker accepts it: cost ${reply.cost}.`;
   } catch (error) {
     return error.message;
