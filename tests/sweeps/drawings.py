@@ -1,5 +1,6 @@
 """Drawings of seeded documents, of which half have a plan of their own: the bars and costs are those of the plans, as
-tests/plans.py works them out, in the SVG and in the text alike. So is each other text in them. The SVG is well-formed;
+tests/plans.py works them out, in the SVG and in the text alike. So is each other text in them: the names of the columns
+and of the axis, the total below each picture, and what light and dark mean. The SVG is well-formed;
 no bar lies over another, and each lies between the lines of its slots. Names and columns are as wide as they may be."""
 
 from __future__ import annotations
@@ -22,6 +23,9 @@ SEEDED = 200
 SVG = "{http://www.w3.org/2000/svg}"
 
 
+# What light, dark and a stroke mean, in the SVG and in the text.
+KEY_SHOWN = ["held", "accessed", "locked and released at one slot"]
+KEY = "key: get=== accesses the node, ------ holds it, | locks and releases it at one slot"
 # How wide the names of a drawing in letters are at most, and of how many accesses each has room for its word.
 WIDEST_NAME, FEW = 30, 12
 NEAR = (-1, 0, 1, 2)
@@ -131,14 +135,16 @@ def texts_of(wanted: list[dict]) -> list[str]:
     texts = []
     titles = ("The settled plan",) if len(wanted) == 1 else ("The document's plan", "The settled plan")
     for title, it in zip(titles, wanted):
-        texts += [f"{title}: cost {it['cost']}", "node", "weight", "weight × slots = cost", *map(str, it["times"])]
+        texts += [f"{title}: cost {it['cost']}", "node", "weight", "weight × slots = cost", "slots"]
+        texts += map(str, it["times"])
         for row in it["rows"]:
             lock, release = row["ends"]
             weight, held, cost = row["cost"]
             texts += [f"{row['path']}: locked before access {lock}, released before access {release}"]
             texts += [row["name"], str(weight), *row["words"], f"{weight} × {held} = {cost}"]
+        texts += ["total", str(it["cost"])]
     saved = [f"The settled plan saves {saved_of(wanted)}"] if saved_of(wanted) is not None else []
-    return [*texts, *saved, *wanted[-1]["accesses"]]
+    return [*texts, *KEY_SHOWN, *saved, *wanted[-1]["accesses"]]
 
 
 def rows_in(plan) -> list:
@@ -180,6 +186,11 @@ def in_text(text: str, wanted: list[dict]) -> Iterator[str]:
         yield f"wanted the costs {[it['cost'] for it in wanted]}; came {costs}"
     if [row[2] for row in rows] != [bar[-1] for bar in bars] or any(one * other != cost for one, other, cost in rows):
         yield f"wanted the bars {bars}; came {rows}"
+    totals = [int(cost) for cost in re.findall(r"^total +(\d+)$", text, re.MULTILINE)]
+    if totals != costs:
+        yield f"wanted the totals {costs}; came {totals}"
+    if text.count(f"\n{KEY}\n") != 1 or len(re.findall(r"^node +weight 0 .*slots$", text, re.MULTILINE)) != len(costs):
+        yield "what the bars mean isn't told once, or an axis has no name"
     if len(wanted) == 2 and f"\nsaved: {costs[0] - costs[1]}\n" not in text:
         yield "what is saved isn't told"
     lines = text.splitlines()

@@ -18,6 +18,10 @@ abbrev pub IsOwn : (Picture → List ℕ → Type 0) → Option Picture → List
 IsOwn IsPicture None text = text ≡ []
 IsOwn IsPicture (Some own) text = IsPicture own text
 
+-- the last row ends with what the bars cost together
+abbrev pub IsTotal : List ℕ → Picture → List ℕ → Type 0
+IsTotal end picture text = (front : List ℕ) × (text ≡ front ++ decimal picture.cost ++ end)
+
 -- ---- as lines
 
 -- a row ends with what the bar costs: its weight for each of some slots
@@ -25,10 +29,11 @@ abbrev pub IsTextRow : Bar → List ℕ → Type 0
 IsTextRow bar text = (drawn : List ℕ) × (held : ℕ) × (text ≡ drawn ++ decimal bar.weight ++ codes " x " ++ decimal held
     ++ codes " = " ++ decimal bar.cost ++ codes "\n")
 
--- a picture has a title with its cost, a scale, its rows, and an empty line
+-- a picture has a title with its cost, a scale, its rows, their total, and an empty line
 abbrev pub IsTextPicture : List ℕ → Picture → List ℕ → Type 0
-IsTextPicture title picture text = (scale rows : List ℕ) × AreWritten IsTextRow picture.bars.items rows
-    × (text ≡ title ++ codes ": cost " ++ decimal picture.cost ++ codes "\n" ++ scale ++ rows ++ codes "\n")
+IsTextPicture title picture text = (scale rows total : List ℕ) × AreWritten IsTextRow picture.bars.items rows
+    × IsTotal (codes "\n") picture total
+    × (text ≡ title ++ codes ": cost " ++ decimal picture.cost ++ codes "\n" ++ scale ++ rows ++ total ++ codes "\n")
 
 abbrev pub IsText : Drawing → List ℕ → Type 0
 IsText drawing text = (own settled end : List ℕ) × (text ≡ own ++ settled ++ end)
@@ -65,11 +70,12 @@ IsSvgRow x bar text = (head label shape rest : List ℕ) × IsRowHead bar head
     × IsShape (x bar.lock) (x bar.release - x bar.lock) shape
     × (text ≡ head ++ label ++ shape ++ rest ++ codes "</g>\n")
 
--- a picture is a group that tells its cost, with a scale and its rows
+-- a picture is a group that tells its cost, with a scale, its rows and their total
 abbrev pub IsSvgPicture : (ℕ → ℕ) → Picture → List ℕ → Type 0
-IsSvgPicture x picture text = (scale rows : List ℕ) × AreWritten (IsSvgRow x) picture.bars.items rows
+IsSvgPicture x picture text = (scale rows total : List ℕ) × AreWritten (IsSvgRow x) picture.bars.items rows
+    × IsTotal (codes "</text>\n") picture total
     × (text ≡ codes "<g class=\"plan\" data-cost=\"" ++ decimal picture.cost ++ codes "\">\n" ++ scale ++ rows
-    ++ codes "</g>\n")
+    ++ total ++ codes "</g>\n")
 
 -- both pictures have one scale of x
 abbrev pub IsSvg : Drawing → List ℕ → Type 0

@@ -1,6 +1,7 @@
-ghost use Rattle.std.specs.Prelude.{◌≡◌, ◌<◌, ◌-◌, IfOk, length, slice_get, Some, string_bytes};
+ghost use Rattle.std.specs.Prelude.{◌≡◌, ◌<◌, ◌-◌, IfOk, codes, length, slice_get, Some, string_bytes};
 ghost use Rattle.grove_draw.specs.declared.bar.Bar.{Bar};
-ghost use Rattle.grove_draw.specs.Writings.{AreWritten, IsOwn, IsRowHead, IsShape, IsSvg, IsSvgPicture, IsSvgRow};
+ghost use Rattle.grove_draw.specs.Writings.{AreWritten, IsOwn, IsRowHead, IsShape, IsSvg};
+ghost use Rattle.grove_draw.specs.Writings.{IsSvgPicture, IsSvgRow, IsTotal};
 ghost use Rattle.grove_draw.specs.Scales.{x_of};
 
 use crate::columns::{Columns, Widths};
@@ -28,6 +29,7 @@ const STYLE: &str = "<style>
 text{font:13px ui-monospace,Menlo,Consolas,monospace;fill:#1b1f24}
 .title{font-weight:bold;font-size:14px}
 .small{font-size:11px}
+.total{font-weight:bold}
 .end{text-anchor:end}
 .middle{text-anchor:middle}
 .grid{stroke:#1b1f24;stroke-opacity:.22}
@@ -83,10 +85,10 @@ struct End {
     below: usize,
 }
 
-/// What the settled plan saves, and the accesses.
+/// What light and dark mean, what the settled plan saves, and the accesses.
 fn end_of(alloc: Global, drawing: &Drawing, top: usize) -> Result<End, AllocError> {
     let mut text = String::new(alloc);
-    let mut below = top;
+    let mut below = push_key(&mut text, top)?;
     if let Some(saved) = drawing.saved() {
         below = push_saved(&mut text, saved, below)?;
     }
@@ -94,19 +96,23 @@ fn end_of(alloc: Global, drawing: &Drawing, top: usize) -> Result<End, AllocErro
     Ok(End { text, below })
 }
 
-/// Where the next thing may begin below a picture.
+/// Where the next thing may begin below a picture: below its total.
 fn below_picture(picture: &Picture, top: usize) -> usize {
-    let rows = picture.bars.len().saturating_mul(ROW);
-    rows_top(top).saturating_add(rows).saturating_add(ROW)
+    rows_end(picture, top).saturating_add(2 * ROW)
 }
 
 /// Where the scale of a picture stands, and where its rows begin.
 fn scale_top(top: usize) -> usize {
-    top.saturating_add(40)
+    top.saturating_add(54)
 }
 
 fn rows_top(top: usize) -> usize {
     scale_top(top).saturating_add(8)
+}
+
+/// Where the rows of a picture end.
+fn rows_end(picture: &Picture, top: usize) -> usize {
+    rows_top(top).saturating_add(picture.bars.len().saturating_mul(ROW))
 }
 
 impl Frame {
@@ -171,7 +177,8 @@ impl Frame {
         let cost = picture.cost;
         let scale = self.scale(alloc, title, picture, top)?;
         let rows = self.rows(alloc, picture, rows_top(top))?;
-        format!(in alloc; "<g class=\"plan\" data-cost=\"{cost}\">\n{scale}{rows}</g>\n")
+        let total = self.total(alloc, picture, rows_end(picture, top))?;
+        format!(in alloc; "<g class=\"plan\" data-cost=\"{cost}\">\n{scale}{rows}{total}</g>\n")
     }
 
     /// The title of a picture, and its scale.
@@ -184,12 +191,12 @@ impl Frame {
     ) -> Result<String, AllocError> {
         let cost = picture.cost;
         let y = top.saturating_add(14);
-        let end = rows_top(top).saturating_add(picture.bars.len().saturating_mul(ROW));
         let mut scale = String::new(alloc);
         writeln!(
             scale,
             "<text class=\"title\" x=\"{MARGIN}\" y=\"{y}\">{title}: cost {cost}</text>"
         )?;
+        let end = rows_end(picture, top);
         self.push_scale(&mut scale, picture, scale_top(top), end)?;
         Ok(scale)
     }
@@ -209,6 +216,25 @@ impl Frame {
         Ok(rows)
     }
 
+    /// The row below the others: what the bars cost together.
+    fn total(&self, alloc: Global, picture: &Picture, y: usize) -> Result<String, AllocError>
+        ensures { IfOk result (λ text. IsTotal (codes "</text>\n") picture.now (string_bytes text)) }
+    {
+        let base = y.saturating_add(16);
+        let costs = self.costs();
+        let cost = picture.cost;
+        let name = format!(in alloc;
+            "<text class=\"total\" x=\"{MARGIN}\" y=\"{base}\">total</text>\n"
+        )?;
+        let front = format!(in alloc; "{name}<text class=\"total\" x=\"{costs}\" y=\"{base}\">")?;
+        format!(in alloc; "{front}{cost}</text>\n")
+    }
+
+    /// Where what the bars cost begins.
+    fn costs(&self) -> usize {
+        self.right.saturating_add(28)
+    }
+
     /// The names of the columns, and a line for each slot at which an access begins.
     fn push_scale(
         &self,
@@ -218,7 +244,7 @@ impl Frame {
         end: usize,
     ) -> Result<(), AllocError> {
         let weights = self.weights;
-        let costs = self.right.saturating_add(28);
+        let costs = self.costs();
         writeln!(
             out,
             "<text class=\"small\" x=\"{MARGIN}\" y=\"{y}\">node</text>"
@@ -230,6 +256,12 @@ impl Frame {
         writeln!(
             out,
             "<text class=\"small\" x=\"{costs}\" y=\"{y}\">weight × slots = cost</text>"
+        )?;
+        let above = y.saturating_sub(15);
+        let middle = self.left.saturating_add(self.right) / 2;
+        writeln!(
+            out,
+            "<text class=\"small middle\" x=\"{middle}\" y=\"{above}\">slots</text>"
         )?;
         let from = y.saturating_add(4);
         for access in 0..=picture.accesses.len() {
@@ -302,7 +334,7 @@ impl Frame {
         y: usize,
     ) -> Result<String, AllocError> {
         let base = y.saturating_add(16);
-        let costs = self.right.saturating_add(28);
+        let costs = self.costs();
         let mut rest = String::new(alloc);
         self.push_works(&mut rest, picture, bar, y)?;
         write!(rest, "<text x=\"{costs}\" y=\"{base}\">")?;
@@ -397,6 +429,29 @@ fn names_width(picture: &Picture) -> usize {
         width = width.max(indent.saturating_add(letters.saturating_mul(LETTER)));
     }
     width
+}
+
+/// What light and dark mean.
+fn push_key(out: &mut String, top: usize) -> Result<usize, AllocError> {
+    let base = top.saturating_add(13);
+    let inner = top.saturating_add(2);
+    write!(
+        out,
+        "<rect class=\"bar\" x=\"16\" y=\"{top}\" width=\"40\" height=\"18\"/>"
+    )?;
+    writeln!(out, "<text x=\"64\" y=\"{base}\">held</text>")?;
+    write!(
+        out,
+        "<rect class=\"work\" x=\"120\" y=\"{inner}\" width=\"40\" height=\"14\"/>"
+    )?;
+    writeln!(out, "<text x=\"168\" y=\"{base}\">accessed</text>")?;
+    let end = top.saturating_add(18);
+    write!(out, "<path class=\"stroke\" d=\"M262 {top}V{end}\"/>")?;
+    writeln!(
+        out,
+        "<text x=\"272\" y=\"{base}\">locked and released at one slot</text>"
+    )?;
+    Ok(top.saturating_add(2 * ROW))
 }
 
 /// What the settled plan saves.

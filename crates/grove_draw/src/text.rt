@@ -1,6 +1,6 @@
 ghost use Rattle.std.specs.Prelude.{◌≡◌, ◌<◌, IfOk, codes, length, slice_get, Some, string_bytes};
 ghost use Rattle.grove_draw.specs.declared.bar.Bar.{Bar};
-ghost use Rattle.grove_draw.specs.Writings.{AreWritten, IsOwn, IsText, IsTextPicture, IsTextRow};
+ghost use Rattle.grove_draw.specs.Writings.{AreWritten, IsOwn, IsText, IsTextPicture, IsTextRow, IsTotal};
 
 use crate::columns::{Columns, Widths};
 use crate::words::{depth_below, name_of, path_in, push_length, push_number, word_of};
@@ -11,8 +11,15 @@ use std::alloc::{AllocError, Global};
 /// How wide the names are at most.
 const NAMES: usize = 30;
 
+/// How wide a weight is, with a blank on each side.
+const WEIGHT: usize = 8;
+
 /// How wide the accesses are together, at most.
 const ACCESSES: usize = 64;
+
+/// What the letters of the bars mean.
+const KEY: &str =
+    "key: get=== accesses the node, ------ holds it, | locks and releases it at one slot\n\n";
 
 /// The drawing for a terminal: no row is longer than some 120 letters.
 pub fn text(alloc: Global, drawing: &Drawing) -> Result<String, AllocError>
@@ -36,9 +43,10 @@ fn own_text(alloc: Global, drawing: &Drawing, columns: &Columns) -> Result<Strin
     }
 }
 
-/// What the settled plan saves, and the accesses.
+/// What the letters of the bars mean, what the settled plan saves, and the accesses.
 fn end_of(alloc: Global, drawing: &Drawing) -> Result<String, AllocError> {
     let mut end = String::new(alloc);
+    end.push_str(KEY)?;
     if let Some(saved) = drawing.saved() {
         writeln!(end, "saved: {saved}\n")?;
     }
@@ -71,7 +79,8 @@ fn titled(
     let names = names_width(picture);
     let scale = scale_of(alloc, picture, names, columns)?;
     let rows = rows_of(alloc, picture, names, columns)?;
-    format!(in alloc; "{title}: cost {cost}\n{scale}{rows}\n")
+    let total = total_of(alloc, picture, names, columns)?;
+    format!(in alloc; "{title}: cost {cost}\n{scale}{rows}{total}\n")
 }
 
 /// The names of the columns, and the slots at which the accesses begin.
@@ -103,6 +112,31 @@ fn rows_of(
         rows.push_str(&row)?;
     }
     Ok(rows)
+}
+
+/// The last row: below what the bars cost, what they cost together.
+fn total_of(
+    alloc: Global,
+    picture: &Picture,
+    names: usize,
+    columns: &Columns,
+) -> Result<String, AllocError>
+    ensures { IfOk result (λ text. IsTotal (codes "\n") picture.now (string_bytes text)) }
+{
+    let front = total_front(alloc, names, columns)?;
+    let cost = picture.cost;
+    format!(in alloc; "{front}{cost}\n")
+}
+
+/// What the last row is called, as wide as what stands before the costs.
+fn total_front(alloc: Global, names: usize, columns: &Columns) -> Result<String, AllocError> {
+    let width = names
+        .saturating_add(WEIGHT)
+        .saturating_add(columns.end())
+        .saturating_add(2);
+    let mut front = String::new(alloc);
+    push_padded(&mut front, "total", width)?;
+    Ok(front)
 }
 
 /// The row of a bar: its name, its weight, the bar, and what it costs.
@@ -170,7 +204,7 @@ fn push_times(out: &mut String, picture: &Picture, columns: &Columns) -> Result<
             at = at.saturating_add(1);
         }
     }
-    out.push('\n')
+    out.push_str("slots\n")
 }
 
 fn push_name(

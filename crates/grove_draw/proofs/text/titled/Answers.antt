@@ -1,10 +1,19 @@
-use Rattle.std.proofs.Common.{append_assoc, rules, string_bytes}
-use Rattle.grove_draw.specs.Writings.{AreWritten, IsTextRow}
+use Rattle.std.proofs.Common.{List, ℕ, append_assoc, codes, rules, string_bytes}
+use Rattle.grove_draw.specs.Writings.{AreWritten, IsTextRow, IsTotal}
 use Rattle.grove_draw.proofs.WrittenRows.{if_ok}
 use Rattle.grove_draw.proofs.text.titled.Goals as goal
 
 pub returns : goal.returns
 returns c =
     let rows : AreWritten IsTextRow c.args.picture.now.bars.items (string_bytes c.in_ok-rows.rows) = search rules in
+    let total : List ℕ = string_bytes c.in_ok-total.total in
+    let is_total : IsTotal (codes "\n") c.args.picture.now total = search rules in
     if_ok c.format.result _ _ c.format.ensures.ok
-    (λ text is. (string_bytes c.in_ok-scale.scale, string_bytes c.in_ok-rows.rows, rows, simp append_assoc is))
+    (λ text is. (
+      string_bytes c.in_ok-scale.scale,
+      string_bytes c.in_ok-rows.rows,
+      total,
+      rows,
+      is_total,
+      simp append_assoc is,
+    ))
