@@ -171,7 +171,6 @@ LIMITS = [
         "crates/grove_desk/src/pipeline.rt",
         "SHORT_LINE",
         [
-            ("docs/ARCHITECTURE.md", "reads a line of more than {} bytes before it puts it"),
             ("docs/DECISIONS.md", "if the line has more than {} bytes."),
         ],
     ),
@@ -189,7 +188,7 @@ LIMITS = [
         "MOST_KEPT",
         [
             ("docs/OPERATING.md", "the steps of {} kept plans"),
-            ("docs/ARCHITECTURE.md", "At most {} plans are kept"),
+            ("docs/DECISIONS.md", "At most {} plans, and"),
         ],
     ),
     (
@@ -197,7 +196,7 @@ LIMITS = [
         "MOST_TEXTS",
         [
             ("docs/OPERATING.md", "kept replies to `plan` lines, {} with"),
-            ("docs/ARCHITECTURE.md", "At most {} texts are kept"),
+            ("docs/DECISIONS.md", "to `plan` lines, {} with"),
         ],
     ),
     (
@@ -205,7 +204,7 @@ LIMITS = [
         "MOST_BYTES",
         [
             ("docs/OPERATING.md", "with {} MiB together"),
-            ("docs/ARCHITECTURE.md", "with at most {} MiB together"),
+            ("docs/DECISIONS.md", "with at most {} MiB together"),
         ],
     ),
     ("crates/grove_store/src/waiting.rt", "MOST_WAITS", [("docs/PROTOCOL.md", "what would exceed {} stays at")]),
