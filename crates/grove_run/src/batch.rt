@@ -4,7 +4,6 @@ ghost use Rattle.grove_core.specs.Openings.{AllFit};
 ghost use Rattle.grove_run.specs.Runs.{IsRunFault, IsLegalRunFault, IsCoreOf};
 ghost use Rattle.grove_run.specs.FinishedRuns.{IsFinishedRun};
 
-use crate::alone::do_alone;
 use crate::bells::Bells;
 use crate::carries::carries_for;
 use crate::register::{Batch, Register};
@@ -59,12 +58,13 @@ pub fn run_legal<'a, R: Threads + Wait + Sync, G: Gate + Sync>(
     ensures run { IfOk result (IsFinishedRun tree.now jobs.now records.now) }
     ensures fault { IfErr result IsLegalRunFault }
 {
-    let mut core = Core::open_legal(alloc, tree, records, jobs)?;
+    let core = Core::open_legal(alloc, tree, records, jobs)?;
     let order = Vec::with_capacity(alloc, jobs.len())?;
-    if !are_worth_a_thread(jobs, gate) {
-        do_alone(&mut core, jobs, gate);
-        return finished_of(core, order);
-    }
+    let workers = if are_worth_a_thread(jobs, gate) {
+        workers
+    } else {
+        1
+    };
     let core = do_together::<Brand, R, G>(rt, alloc, core, jobs, workers, gate)?;
     finished_of(core, order)
 }

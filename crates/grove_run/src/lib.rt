@@ -9,7 +9,6 @@ pub use placing::places_in;
 pub use steps::{BookStep, CarryStep};
 pub use worth::are_worth_a_thread;
 
-mod alone;
 mod batch;
 mod bells;
 mod book;
