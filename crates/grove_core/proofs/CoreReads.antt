@@ -15,12 +15,11 @@ use Rattle.grove_core.specs.declared.job.Job.{Job}
 use Rattle.grove_core.specs.declared.event.Event.{Event}
 use Rattle.grove_core.specs.declared.event.Event.TheVariants.{Take}
 use Rattle.grove_core.specs.declared.progress.Progress.{Progress}
-use Rattle.grove_core.specs.Runs.{list_of, plan_of, steps_done, next_step, holds, is_marked, MayHappen, deeds, run_replies, waits_of}
+use Rattle.grove_core.specs.Runs.{list_of, plan_of, steps_done, next_step, holds, MayHappen, deeds, run_replies, waits_of}
 use Rattle.grove_core.specs.RunBounds.{lock_steps, most_events}
-use Rattle.grove_core.specs.Orders.{lock_time}
 use Rattle.grove_core.specs.declared.owner.Owner.{Owner}
 use Rattle.grove_core.specs.Owners.{holder_of, last_holder_of}
-use Rattle.grove_core.specs.Cores.{time_in, IsFirst, TellsFirsts, HasProgress, Owns, IsLastAt, IsCore}
+use Rattle.grove_core.specs.Cores.{TellsFirsts, HasProgress, Owns, IsLastAt, IsCore}
 use Rattle.grove_core.specs.CarriedTests.{is_owner}
 use Rattle.grove_core.proofs.Precedence.{within_jobs}
 use Rattle.grove_core.proofs.ConflictOrder.{access_held}
@@ -176,26 +175,6 @@ module _ (rows : Rows) (jobs : List Job) (opening : List ℤ) (past : List Event
   end_seen t lt p read job is steps same =
       let all : length progress ≡ length jobs = core.all_jobs in
       ((core.come t p (read_at progress t p (omega arith) read)).at, ap length (same ∙ sym (plan_of_at jobs t job (read_at jobs t job lt is))))
-
-  -- what is read of a job and of a node
-  pub marks_read : (t : ℕ) (p : Progress) → slice_get progress t ≡ Some p → p.marked ≡ is_marked past t
-  marks_read t p at = (core.come t p at).marks
-
-  -- its replies
-  pub answers_read : (t : ℕ) (p : Progress) → slice_get progress t ≡ Some p → p.replies.items ≡ run_replies jobs opening past t
-  answers_read t p at = (core.come t p at).answers
-
-  -- how far it has come
-  pub steps_read : (t : ℕ) (p : Progress) → slice_get progress t ≡ Some p → p.steps_done ≡ steps_done past t
-  steps_read t p at = (core.come t p at).at
-
-  -- how many nodes it holds
-  pub held_read : (t : ℕ) (p : Progress) → slice_get progress t ≡ Some p → p.held_nodes ≡ count_below (length rows) (λ v. holds jobs past t v)
-  held_read t p at = (core.come t p at).holding
-
-  -- when it locked a node that some job locks first
-  pub time_read : (t : ℕ) (p : Progress) → slice_get progress t ≡ Some p → (node : ℕ) → IsFirst jobs node → time_in p.locked.items node ≡ lock_time jobs past t node
-  time_read t p at node first = (core.come t p at).times node first
 
   -- who holds a node that is to be locked, and how often it was waited for, by what is read at its number
   pub owner_seen : (t node number : ℕ) → next_step jobs past t ≡ Some (Lock node) → number ≡ node → (owner : Owner) → owner ≡ get_or owners number owner → (o : Option ℕ) → holder_of owner ≡ o → Owns jobs past node o
