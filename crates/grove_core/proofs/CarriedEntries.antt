@@ -76,7 +76,7 @@ out_at core carry knows has node (Some value) at =
     let item = known_item carry.known node value at in
     sym (subst (λ (n : ℕ). holds core.jobs (past_of core) carry.txn n ≡ true) item.3 (knows item.0 item.1 item.2).0)
 
-is_of_all : (core : CoreState) (carry : Carried) → carry.txn < length core.jobs → KnowsAll core carry.txn carry.known → HasAll core carry
+pub is_of_all : (core : CoreState) (carry : Carried) → carry.txn < length core.jobs → KnowsAll core carry.txn carry.known → HasAll core carry
     → Follows (list_of core.jobs carry.txn) (plan_of core.jobs carry.txn) (steps_done (past_of core) carry.txn) carry.entries → IsOf core carry
 is_of_all core carry job knows has follows = record {
   job = job;
@@ -117,6 +117,13 @@ past_taken history (suc n) t =
     ∙ past_taken (history ++ Take t ∷ []) n t
     ∙ ap (taken n t) (reverse_last history (Take t))
     ∙ taken_shift n t (reverse history)
+
+steps_taken : (n u t : ℕ) (past : List Event) → u ≡ t → steps_done (taken n u past) t ≡ steps_done past t + n
+steps_taken zero u t past same = omega arith
+steps_taken (suc n) u t past same =
+    let rest : steps_done (taken n u past) t ≡ steps_done past t + n = steps_taken n u t past same in
+    let one : steps_done (Take u ∷ taken n u past) t ≡ suc (steps_done (taken n u past) t) = steps_new (taken n u past) u t same in
+    omega arith
 
 -- The entries up to one of them are done: the job is as many steps further, and its records are as the entries left them.
 record HasDone (core : CoreState) (carry : Carried) (n : ℕ) (past : List Event) : Type 0 where
@@ -201,14 +208,6 @@ done_all core carry of sound (suc n) le =
     let item = item_there carry.entries n (omega arith) in
     let before : HasDone core carry n (taken n carry.txn (past_of core)) = done_all core carry of sound n (omega arith) in
     done_next core carry n item.0 item.1 (taken n carry.txn (past_of core)) before (ready core carry of sound n item.0 item.1 (taken n carry.txn (past_of core)) before)
-
--- what an entry's access finds
-ready_at : (core now : CoreState) (carry : Carried) (n : ℕ) (e : Entry) → IsOf core carry → IsSound carry.known carry.entries → slice_get carry.entries n ≡ Some e → now ≡ after_steps core carry.txn n
-    → IsReady core carry n e (past_of now)
-ready_at core now carry n e of sound at is =
-    let lt : n < length carry.entries = slice_get_within carry.entries n e at in
-    let past_is : past_of now ≡ taken n carry.txn (past_of core) = ap past_of is ∙ past_taken core.history n carry.txn in
-    subst (λ (past : List Event). IsReady core carry n e past) (sym past_is) (ready core carry of sound n e at (taken n carry.txn (past_of core)) (done_all core carry of sound n (omega arith)))
 
 -- All entries are done
 
@@ -304,6 +303,15 @@ module _ (rows : Rows) (jobs : List Job) (opening : List ℤ) (past : List Event
       let few : length (plan_of jobs t) < 2 ^ 32 = core.short t lt in
       omega arith
 
+-- so many steps more leave what the core was opened with
+pub batch_after : (core new : CoreState) (t n : ℕ) → new ≡ after_steps core t n → (new.tree ≡ core.tree) × (new.jobs ≡ core.jobs) × (new.opening ≡ core.opening)
+batch_after core new t n is = (ap (λ (s : CoreState). s.tree) is, ap (λ (s : CoreState). s.jobs) is, ap (λ (s : CoreState). s.opening) is)
+
+-- and bring the job on
+pub next_after : (core new : CoreState) (t n : ℕ) → new ≡ after_steps core t n → next_step core.jobs (past_of new) t ≡ slice_get (plan_of core.jobs t) (steps_done (past_of core) t + n)
+next_after core new t n is =
+    ap (λ (k : ℕ). slice_get (plan_of core.jobs t) k) (ap (λ (past : List Event). steps_done past t) (ap past_of is ∙ past_taken core.history n t) ∙ steps_taken n t t (past_of core) refl)
+
 -- what is read of a job
 pub plan_read : (jobs seen : List Job) (t : ℕ) (job : Job) → seen ≡ jobs → t < length jobs → job ≡ get_or seen t job → job.plan ≡ plan_of jobs t
 plan_read jobs seen t job same lt read = sym (plan_of_at jobs t job (read_at jobs t job lt (read ∙ ap (λ (js : List Job). get_or js t job) same)))
@@ -318,15 +326,6 @@ pub follows_read : (list listed : List Access) (plan planned : List Step) (start
 follows_read list listed plan planned start begin entries e f g follows =
     subst (λ (l : List Access). Follows l planned begin entries) e (subst (λ (p : List Step). Follows list p begin entries) f (subst (λ (k : ℕ). Follows list plan k entries) g follows))
 
--- The tests as they are made, of what is read of the carry
-pub is_of_tests : (core : CoreState) (carry : Carried) (t : ℕ) (known : List Known) (entries : List Entry) → t ≡ carry.txn → known ≡ carry.known → entries ≡ carry.entries → t < length core.jobs
-    → KnowsAll core t known → HasAll core carry → Follows (list_of core.jobs t) (plan_of core.jobs t) (steps_done (past_of core) t) entries → IsOf core carry
-is_of_tests core carry t known entries e f g job knows has follows =
-    is_of_all core carry (subst (λ (k : ℕ). k < length core.jobs) e job)
-    (subst (λ (k : ℕ). KnowsAll core k carry.known) e (subst (λ (ks : List Known). KnowsAll core t ks) f knows)) has
-    (subst (λ (k : ℕ). Follows (list_of core.jobs k) (plan_of core.jobs k) (steps_done (past_of core) k) carry.entries) e
-    (subst (λ (es : List Entry). Follows (list_of core.jobs t) (plan_of core.jobs t) (steps_done (past_of core) t) es) g follows))
-
 -- a carry of the core passes the test of what it knows
 pub knows_test : (core : CoreState) (carry : Carried) (t : ℕ) (known : List Known) → t ≡ carry.txn → known ≡ carry.known → AreApart carry.known → IsOf core carry → KnowsAll core t known
 knows_test core carry t known e f apart of =
@@ -339,24 +338,12 @@ follows_test core carry t entries e f of =
     subst (λ (k : ℕ). Follows (list_of core.jobs k) (plan_of core.jobs k) (steps_done (past_of core) k) entries) (sym e)
     (subst (λ (es : List Entry). Follows (list_of core.jobs carry.txn) (plan_of core.jobs carry.txn) (steps_done (past_of core) carry.txn) es) (sym f) (follows_of core carry of))
 
--- what an entry that is read finds
-pub record FindsItself (now : CoreState) (t : ℕ) (e : Entry) : Type 0 where
-  pub next : next_step now.jobs (past_of now) t ≡ Some (plan_step.Access e.number)
-  pub replied : e.reply ≡ reply_to e.access (records_of now)
-
--- the entry that is read finds the record that it was done on
-pub entry_ready : (core now : CoreState) (carry : Carried) (t n : ℕ) (e : Entry) (seen : List Entry) → IsOf core carry → IsSound carry.known carry.entries → t ≡ carry.txn → seen ≡ carry.entries
-    → n < length seen → e ≡ get_or seen n e → now ≡ after_steps core carry.txn n → FindsItself now t e
-entry_ready core now carry t n e seen of sound txn all lt read is =
-    let at : slice_get carry.entries n ≡ Some e = ap (λ (es : List Entry). slice_get es n) (sym all) ∙ read_at seen n e lt read in
-    let ready : IsReady core carry n e (past_of now) = ready_at core now carry n e of sound at is in
-    let jobs : now.jobs ≡ core.jobs = ap (λ (s : CoreState). s.jobs) is in
-    let opening : now.opening ≡ core.opening = ap (λ (s : CoreState). s.opening) is in
-    record {
-      next = ap (λ (js : List Job). next_step js (past_of now) t) jobs ∙ ap (λ (k : ℕ). next_step core.jobs (past_of now) k) txn ∙ ready.next;
-      replied = ready.replied ∙ ap (λ (js : List Job). reply_to e.access (run_records js core.opening (past_of now))) (sym jobs)
-          ∙ ap (λ (os : List ℤ). reply_to e.access (run_records now.jobs os (past_of now))) (sym opening);
-    }
+-- the entry that is read is the job's next step
+pub entry_next : (core now : CoreState) (carry : Carried) (t n : ℕ) (e : Entry) (seen : List Entry) → Follows (list_of core.jobs t) (plan_of core.jobs t) (steps_done (past_of core) t) seen
+    → t ≡ carry.txn → n < length seen → e ≡ get_or seen n e → now ≡ after_steps core carry.txn n → next_step now.jobs (past_of now) t ≡ Some (plan_step.Access e.number)
+entry_next core now carry t n e seen follows txn lt read is =
+    rw is (ap (λ (k : ℕ). slice_get (plan_of core.jobs t) k) (ap (λ (past : List Event). steps_done past t) (past_taken core.history n carry.txn) ∙ steps_taken n carry.txn t (past_of core) (sym txn))
+    ∙ (follows n e (read_at seen n e lt read)).0)
 
 -- all entries are done
 pub steps_whole : (core new : CoreState) (carry : Carried) (n : ℕ) (seen : List Entry) → seen ≡ carry.entries → length seen ≤ n → n ≤ length seen → new ≡ after_steps core carry.txn n

@@ -145,11 +145,6 @@ module _ (rows : Rows) (jobs : List Job) (opening : List ℤ) (past : List Event
       holding_unlocked rows jobs past t node (length rows) (core.legal t (job_there t (Unlock node) next)).obeys next (unlocked_within t node next) in
       omega arith
 
-  -- the next step, as it is read
-  pub next_read : (t : ℕ) (p : Progress) (job : Job) → slice_get progress t ≡ Some p → slice_get jobs t ≡ Some job → slice_get job.plan p.steps_done ≡ next_step jobs past t
-  next_read t p job at there =
-      ap (λ (n : ℕ). slice_get job.plan n) (core.come t p at).at ∙ ap (λ (plan : List Step). slice_get plan (steps_done past t)) (sym (plan_of_at jobs t job there))
-
   -- the progress of a job, as it is read
   pub progress_seen : (seen : List Progress) (t : ℕ) (p : Progress) → seen ≡ progress → ltb t (length seen) ≡ true → p ≡ get_or seen t p → slice_get progress t ≡ Some p
   progress_seen seen t p same lt read =
@@ -158,16 +153,6 @@ module _ (rows : Rows) (jobs : List Job) (opening : List ℤ) (past : List Event
   -- that of a job with a next step
   pub progress_at : (t : ℕ) (s : Step) → next_step jobs past t ≡ Some s → (p : Progress) → p ≡ get_or progress t p → slice_get progress t ≡ Some p
   progress_at t s next p read = read_at progress t p (progress_there t s next) read
-
-  -- the next step by what is read of the job's progress and of the job
-  pub next_seen : (seen : List Progress) (t : ℕ) (p : Progress) (job : Job) → seen ≡ progress → ltb t (length seen) ≡ true → p ≡ get_or seen t p → job ≡ get_or jobs t job
-      → (t < length jobs) × (slice_get job.plan p.steps_done ≡ next_step jobs past t)
-  next_seen seen t p job same lt read is =
-      let at : slice_get progress t ≡ Some p = progress_seen seen t p same lt read in
-      let within : t < length progress = slice_get_within progress t p at in
-      let all : length progress ≡ length jobs = core.all_jobs in
-      let there : t < length jobs = omega arith in
-      (there, next_read t p job at (read_at jobs t job there is))
 
   -- how far a job has come and how far it goes, by what is read of its progress and of its plan
   pub end_seen : (t : ℕ) → t < length jobs → (p : Progress) → p ≡ get_or progress t p → (job : Job) → job ≡ get_or jobs t job → (steps : List Step) → steps ≡ job.plan

@@ -11,7 +11,7 @@ ghost use Rattle.grove_core.specs.Replays.{IsFirstUnfinished};
 ghost use Rattle.grove_core.specs.Kept.{past_of};
 ghost use Rattle.grove_core.specs.Cores.{IsFirst};
 
-use crate::following::{is_owner, step_at};
+use crate::following::is_owner;
 use crate::locking::{Locked, first_lock, time_in};
 use crate::opening::{judge_all, mark_firsts, room, start_all};
 use crate::owner::Owner;
@@ -320,10 +320,10 @@ impl<'a> Core<'a> {
         ensures take { IfErr result (λ fault. IsRefused self.now.jobs (past_of self.now) (Event.Take txn) fault) }
         ensures mark { IfErr result (λ fault. IsRefused self.now.jobs (past_of self.now) (Event.Mark txn) fault) }
     {
-        let Some(progress) = self.progress.get(txn as usize) else {
+        if txn as usize >= self.jobs().len() {
             return Err(StepFault::NoTxn);
-        };
-        match step_at(&self.jobs[txn as usize], progress.steps_done) {
+        }
+        match self.step_ahead(txn, 0) {
             Some(step) => Ok(step),
             None => Err(StepFault::Ended),
         }

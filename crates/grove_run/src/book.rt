@@ -1,4 +1,4 @@
-ghost use Rattle.std.specs.Prelude.{◌≡◌, ◌<◌, ◌≤◌, ◌+◌, [], length, true, false, Some, None, IfSome, IfNone};
+ghost use Rattle.std.specs.Prelude.{◌≡◌, ◌<◌, ◌≤◌, ◌+◌, ◌↔◌, [], length, Some, None, IfSome, IfNone, IsTrue};
 ghost use Rattle.grove_access.specs.Carries.{carry_settled};
 ghost use Rattle.grove_plan.specs.declared.step.Step.{Step as PlanStep};
 ghost use Rattle.grove_core.specs.Runs.{next_step, AllLegal, MayHappen};
@@ -14,7 +14,6 @@ use grove_plan::Step;
 use grove_tree::Node;
 use std::marker::Model;
 
-mod carrying_on;
 mod waiting;
 
 /// A core, and how many of its jobs are claimed: the jobs below that number.
@@ -114,42 +113,54 @@ impl<'a> Book<'a> {
             × (carry.new ≡ carry_settled carry.old) }
         ensures stays { (result ≡ CarryStep.Foreign → ⊥) → IsOf self.new.core carry.new }
     {
-        if is_foreign(&self.core, carry) {
+        let next = self.core.step_ahead(carry.txn(), carry.entries().len());
+        if has_no_step(carry, &next) {
             return CarryStep::Foreign;
         }
-        let next = self.core.step_ahead(carry.txn(), carry.entries().len());
-        self.core.add_entries(carry);
+        if !self.core.take_carried(carry) {
+            return CarryStep::Foreign;
+        }
         carry.settle();
         match next {
             Some(step) => do_step(&mut self.core, carry, step),
             None => CarryStep::Ended,
         }
     }
+
+    /// Does what `carry_step` does, for the only holder of a carry since before its job's first step: what it has out
+    /// isn't compared. After `Foreign` some of it may be done.
+    pub(crate) fn carry_on(&mut self, carry: &mut Carry) -> CarryStep
+        ensures claims { self.new.claimed ≡ self.old.claimed }
+        ensures same { IsSameBatch self.old.core self.new.core }
+        ensures ended { result ≡ CarryStep.Ended → (step_after self.old.core carry.old ≡ None)
+            × (self.new.core ≡ core_taken self.old.core carry.old) × (carry.new ≡ carry_settled carry.old) }
+        ensures stepped { result ≡ CarryStep.Stepped → (step : PlanStep)
+            × (step_after self.old.core carry.old ≡ Some step)
+            × (self.new.core ≡ after_event (core_taken self.old.core carry.old) (Event.Take carry.old.txn))
+            × Moved (core_taken self.old.core carry.old) (carry_settled carry.old) step carry.new }
+        ensures blocked { result ≡ CarryStep.Blocked → IsBlockedAt (core_taken self.old.core carry.old) carry.old.txn
+            × (self.new.core ≡ marked (core_taken self.old.core carry.old) carry.old.txn)
+            × (carry.new ≡ carry_settled carry.old) }
+    {
+        if !self.core.take_entries(carry) {
+            return CarryStep::Foreign;
+        }
+        carry.settle();
+        match self.core.step_ahead(carry.txn(), 0) {
+            Some(step) => do_step(&mut self.core, carry, step),
+            None => CarryStep::Ended,
+        }
+    }
 }
 
-// Is the carry not of the job as it is now, or the step after its entries none that can be done with it?
-fn is_foreign(core: &Core, carry: &Carry) -> bool
-    ensures yes { result ≡ true → IsForeign core.now carry.now }
-    ensures fits { result ≡ false → IsOf core.now carry.now }
-    ensures no { result ≡ false → HasNoStep carry.now (step_after core.now carry.now) → ⊥ }
-{
-    if !core.is_of(carry) {
-        return true;
-    }
-    match core.step_ahead(carry.txn(), carry.entries().len()) {
-        Some(step) => has_no_step(carry, step),
-        None => false,
-    }
-}
-
-fn has_no_step(carry: &Carry, step: Step) -> bool
-    ensures yes { result ≡ true → HasNoStep carry.now (Some step) }
-    ensures no { result ≡ false → HasNoStep carry.now (Some step) → ⊥ }
+// Can the step not be done with the carry?
+fn has_no_step(carry: &Carry, step: &Option<Step>) -> bool
+    ensures { IsTrue result ↔ HasNoStep carry.now step.now }
 {
     match step {
-        Step::Lock(_) => carry.is_full(),
-        Step::Unlock(_) => false,
-        Step::Access(_) => true,
+        Some(Step::Lock(_)) => carry.is_full(),
+        Some(Step::Access(_)) => true,
+        Some(Step::Unlock(_)) | None => false,
     }
 }
 

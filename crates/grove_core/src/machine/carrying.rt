@@ -1,6 +1,6 @@
-ghost use Rattle.std.specs.Prelude.{◌≡◌, ◌+◌, ◌<◌, ◌≤◌, ◌^◌, ℕ, ℤ, [], ◌∷◌, ◌++◌, length, true, false, Some, slice_get};
-ghost use Rattle.grove_access.specs.Effects.{record_at, reply_to};
-ghost use Rattle.grove_access.specs.Carries.{present_at, carry_settled};
+ghost use Rattle.std.specs.Prelude.{◌≡◌, ◌+◌, ◌<◌, ◌≤◌, ◌^◌, ℕ, ℤ, ◌++◌, length, true, false, Some, slice_get};
+ghost use Rattle.grove_access.specs.Effects.{record_at};
+ghost use Rattle.grove_access.specs.Carries.{present_at, carry_settled, IsSound};
 ghost use Rattle.grove_base.specs.Numbers.{count_below};
 ghost use Rattle.grove_core.specs.Runs.{list_of, plan_of, steps_done, next_step, holds, run_replies};
 ghost use Rattle.grove_core.specs.Kept.{past_of};
@@ -8,7 +8,6 @@ ghost use Rattle.grove_core.specs.Cores.{Owns};
 ghost use Rattle.grove_core.specs.Carried.{records_of, IsOf, after_steps, replies_in};
 ghost use Rattle.grove_core.specs.CarriedTests.{Knows, KnowsAll, HasAll, Follows};
 
-use crate::Event;
 use crate::following::{follows, has_value, is_owner, step_at};
 use crate::machine::Core;
 use grove_access::{Carry, Entry, Known};
@@ -27,19 +26,49 @@ impl<'a> Core<'a> {
         ensures replies { result ≡ true → run_replies self.old.jobs self.old.opening (past_of self.new) carry.now.txn
             ≡ run_replies self.old.jobs self.old.opening (past_of self.old) carry.now.txn
             ++ replies_in carry.now.entries }
+        ensures next { result ≡ true → next_step self.old.jobs (past_of self.new) carry.now.txn
+            ≡ slice_get (plan_of self.old.jobs carry.now.txn)
+            (steps_done (past_of self.old) carry.now.txn + length carry.now.entries) }
+        ensures settled { result ≡ true → IsOf self.new (carry_settled carry.now) }
         ensures unchanged { result ≡ false → self.new ≡ self.old }
     {
-        if !self.is_of(carry) {
+        self.is_out(carry) && self.take_entries(carry)
+    }
+
+    /// Does the accesses that the carry's job did, as far as they are its next steps: what they find and leave is not
+    /// compared. False where there is no such job, or one is another step.
+    pub fn take_entries(&mut self, carry: &Carry) -> bool
+        ensures job { result ≡ true → carry.now.txn < length self.old.jobs }
+        ensures follows { result ≡ true → Follows (list_of self.old.jobs carry.now.txn)
+            (plan_of self.old.jobs carry.now.txn) (steps_done (past_of self.old) carry.now.txn) carry.now.entries }
+        ensures added { result ≡ true → self.new ≡ after_steps self.old carry.now.txn (length carry.now.entries) }
+        ensures fits { IsOf self.old carry.now → result ≡ true }
+        ensures unchanged { result ≡ false → self.new ≡ self.old }
+        ensures next { result ≡ true → next_step self.old.jobs (past_of self.new) carry.now.txn
+            ≡ slice_get (plan_of self.old.jobs carry.now.txn)
+            (steps_done (past_of self.old) carry.now.txn + length carry.now.entries) }
+        ensures batch { (self.new.tree ≡ self.old.tree) × (self.new.jobs ≡ self.old.jobs)
+            × (self.new.opening ≡ self.old.opening) }
+    {
+        let txn = carry.txn();
+        if txn as usize >= self.jobs().len() {
             return false;
         }
-        self.add_entries(carry);
+        if !self.continues(txn, carry.entries()) {
+            return false;
+        }
+        for entry in carry.entries() {
+            self.access(txn, entry.number);
+        }
         true
     }
 
-    /// Is the carry of this core as it is now?
-    pub fn is_of(&self, carry: &Carry) -> bool
-        ensures yes { result ≡ true → IsOf self.now carry.now }
+    // Is what the carry has out what its job holds, known as it is?
+    fn is_out(&self, carry: &Carry) -> bool
+        ensures knows { result ≡ true → KnowsAll self.now carry.now.txn carry.now.known }
+        ensures has { result ≡ true → HasAll self.now carry.now }
         ensures no { result ≡ false → IsOf self.now carry.now → ⊥ }
+        ensures sound { IsSound carry.now.known carry.now.entries }
     {
         let txn = carry.txn();
         if txn as usize >= self.jobs().len() {
@@ -48,41 +77,20 @@ impl<'a> Core<'a> {
         if !self.knows_all(txn, carry.known()) {
             return false;
         }
-        if !self.has_all(carry) {
-            return false;
-        }
-        self.continues(txn, carry.entries())
-    }
-
-    /// Does the carry's accesses.
-    pub fn add_entries(&mut self, carry: &Carry)
-        requires { IsOf self.old carry.now }
-        ensures added { self.new ≡ after_steps self.old carry.now.txn (length carry.now.entries) }
-        ensures records { (node : ℕ) (value : ℤ) → present_at carry.now node ≡ Some value
-            → slice_get (records_of self.new) node ≡ Some value }
-        ensures replies { run_replies self.old.jobs self.old.opening (past_of self.new) carry.now.txn
-            ≡ run_replies self.old.jobs self.old.opening (past_of self.old) carry.now.txn
-            ++ replies_in carry.now.entries }
-        ensures next { next_step self.old.jobs (past_of self.new) carry.now.txn
-            ≡ slice_get (plan_of self.old.jobs carry.now.txn)
-            (steps_done (past_of self.old) carry.now.txn + length carry.now.entries) }
-        ensures settled { IsOf self.new (carry_settled carry.now) }
-    {
-        let txn = carry.txn();
-        for entry in carry.entries() {
-            self.add_entry(txn, entry);
-        }
+        self.has_all(carry)
     }
 
     /// The step that is so many ahead of a job's next one.
     pub fn step_ahead(&self, txn: u32, ahead: usize) -> Option<Step>
-        requires job { txn < length self.now.jobs }
-        requires few { ahead < 2 ^ 32 }
+        requires { ahead < 2 ^ 32 }
         ensures { result ≡ slice_get (plan_of self.now.jobs txn) (steps_done (past_of self.now) txn + ahead) }
     {
-        let steps_done = self.steps_done(txn);
-        let job = &self.jobs()[txn as usize];
-        step_at(job, steps_done + ahead)
+        let jobs = self.jobs();
+        if txn as usize >= jobs.len() {
+            return None;
+        }
+        let job = &jobs[txn as usize];
+        step_at(job, self.steps_done(txn) + ahead)
     }
 
     /// The record of a node as it is now.
@@ -171,18 +179,5 @@ impl<'a> Core<'a> {
     {
         let job = &self.jobs()[txn as usize];
         follows(job, self.steps_done(txn), entries)
-    }
-
-    // Does an access with the reply that it had.
-    fn add_entry(&mut self, txn: u32, entry: &Entry)
-        requires next { next_step self.old.jobs (past_of self.old) txn ≡ Some (Step.Access entry.now.number) }
-        requires listed { slice_get (list_of self.old.jobs txn) entry.now.number ≡ Some entry.now.access }
-        requires replied { entry.now.reply ≡ reply_to entry.now.access (records_of self.old) }
-        ensures { self.new ≡ record self.old { history = self.old.history ++ Event.Take txn ∷ [] } }
-    {
-        let _ = self.records.apply(&entry.access);
-        let progress = &mut self.progress[txn as usize];
-        progress.answer(entry.reply);
-        self.history.push_reserved(Event::Take(txn));
     }
 }
