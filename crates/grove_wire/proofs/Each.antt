@@ -1,37 +1,52 @@
 -- Items read in turn, by a loop that has read some of them.
 use Rattle.std.proofs.Common.{◌≡◌, ℕ, suc, ◌+◌, ◌<◌, ◌≤◌, List, [], ◌∷◌, ◌++◌, length, drop, get_or, cond, refl, ap}
-use Rattle.std.proofs.Common.{sym, ◌∙◌, add-one, append_assoc, append-nil, drop-cons, arith}
-use Rattle.std.specs.Prelude.{Result, Ok, Err, IsErrAnd, map}
-use Rattle.std.proofs.lemmas.List.{drop_all}
+use Rattle.std.proofs.Common.{Bool, true, false, subst, ltb-true, ltb-false, Bor, sym, ◌∙◌, add-one, append_assoc}
+use Rattle.std.proofs.Common.{append-nil, drop-cons, arith}
+use Rattle.std.specs.Fn.{Shared}
+use Rattle.std.specs.Prelude.{nat_lt, Result, Ok, Err, IfOk, IfErr, IsErrAnd, map}
+use Rattle.std.proofs.lemmas.List.{drop_all, map-id}
 use Rattle.std.proofs.lemmas.Bool.{le-ltb}
+use Rattle.std.proofs.lemmas.Fn.{says}
 use Rattle.serde_json.specs.Data.{Data}
 use Rattle.serde_json.specs.View.{view}
 use Rattle.serde_json.specs.declared.value.Value.{Value}
+use Rattle.grove_base.proofs.Lists.{map_length}
 use Rattle.grove_wire.specs.declared.fault.WireFault.{WireFault}
 use Rattle.grove_wire.specs.declared.fault.WireFault.TheVariants.{BadJson, Shape, NoPath, BadLength, Limit, Tree, Memory}
 use Rattle.grove_wire.specs.declared.place.Place.{Place}
 use Rattle.grove_wire.specs.Outcomes.{◌>>=◌, each_from, each_on, few_on, Fails, Gives}
+use Rattle.grove_wire.specs.Arrays.{EachRead, ends, stops, goes, FewRead, ReadsAt, Stopped}
 use Rattle.grove_wire.specs.Places.{item_on}
 
--- a call that fails with the fault that is given fails as is said
+-- a call fails as is said if what is read is that fault, unless memory ran out
+pub fails_unless : {A : Type 0} (fault : WireFault) (read : Result A WireFault)
+    → ((fault ≡ Memory → ⊥) → read ≡ Err fault) → Fails fault read
+fails_unless BadJson read is = is (λ same. absurd (cc))
+fails_unless (Shape place) read is = is (λ same. absurd (cc))
+fails_unless (NoPath place) read is = is (λ same. absurd (cc))
+fails_unless (BadLength place) read is = is (λ same. absurd (cc))
+fails_unless (Limit place) read is = is (λ same. absurd (cc))
+fails_unless (Tree fault) read is = is (λ same. absurd (cc))
+fails_unless Memory read is = tt
+
+-- and the other way round
+fault_of : {A : Type 0} (fault : WireFault) (read : Result A WireFault) → (fault ≡ Memory → ⊥) → Fails fault read
+    → read ≡ Err fault
+fault_of BadJson read other fails = fails
+fault_of (Shape place) read other fails = fails
+fault_of (NoPath place) read other fails = fails
+fault_of (BadLength place) read other fails = fails
+fault_of (Limit place) read other fails = fails
+fault_of (Tree fault) read other fails = fails
+fault_of Memory read other fails = absurd (other refl)
+
 pub fails_so : {A : Type 0} (fault : WireFault) (read : Result A WireFault) → read ≡ Err fault → Fails fault read
-fails_so BadJson read is = is
-fails_so (Shape place) read is = is
-fails_so (NoPath place) read is = is
-fails_so (BadLength place) read is = is
-fails_so (Limit place) read is = is
-fails_so (Tree fault) read is = is
-fails_so Memory read is = tt
+fails_so fault read is = fails_unless fault read (λ other. is)
 
 -- where a part's fault is that of the whole, the whole fails as the part does
-pub fails_as : {A B : Type 0} (fault : WireFault) (part : Result A WireFault) (whole : Result B WireFault) → (part ≡ Err fault → whole ≡ Err fault) → Fails fault part → Fails fault whole
-fails_as BadJson part whole so fails = so fails
-fails_as (Shape place) part whole so fails = so fails
-fails_as (NoPath place) part whole so fails = so fails
-fails_as (BadLength place) part whole so fails = so fails
-fails_as (Limit place) part whole so fails = so fails
-fails_as (Tree fault) part whole so fails = so fails
-fails_as Memory part whole so fails = tt
+pub fails_as : {A B : Type 0} (fault : WireFault) (part : Result A WireFault) (whole : Result B WireFault)
+    → (part ≡ Err fault → whole ≡ Err fault) → Fails fault part → Fails fault whole
+fails_as fault part whole so fails = fails_unless fault whole (λ other. so (fault_of fault part other fails))
 
 -- a call that passes a fault on answers as is said of the fault
 pub passes_on : {T A : Type 0} (seen : T → A) (result : Result T WireFault) (read : Result A WireFault) (fault : WireFault) → IsErrAnd result (λ passed. passed ≡ fault) → Fails fault read → Gives seen result read
@@ -43,7 +58,7 @@ abbrev pub with_front : {A : Type 0} → List A → Result (List A) WireFault �
 with_front front rest = rest >>= λ items. Ok (front ++ items)
 
 -- one more item at the end of the front is one more before the rest
-with_front-more : {A : Type 0} (front : List A) (x : A) (rest : Result (List A) WireFault) → with_front front (rest >>= λ others. Ok (x ∷ others)) ≡ with_front (front ++ x ∷ []) rest
+pub with_front-more : {A : Type 0} (front : List A) (x : A) (rest : Result (List A) WireFault) → with_front front (rest >>= λ others. Ok (x ∷ others)) ≡ with_front (front ++ x ∷ []) rest
 with_front-more front x (Ok others) = ap Ok (sym (append_assoc front (x ∷ []) others))
 with_front-more front x (Err fault) = refl
 
@@ -128,3 +143,112 @@ few_read most read place ds xs few is =
     let same : length ds ≡ length xs = each_length (λ at. read (item_on place at)) 0 ds xs is in
     let within : length ds ≤ most = omega arith in
     ap (λ test. cond test (Err (Limit place)) (each_on read place ds)) (le-ltb most (length ds) within) ∙ is
+
+-- what a generic reader of arrays gives, by what its reader of items does
+
+pub reads_at : {F T : Type 0} (g : Shared F (ℕ × (Bor Value × Unit {0})) (Result T WireFault)) {reader : F} {at : ℕ}
+    {shown : Bor Value} {r v : Result T WireFault} → g.post reader (at, (shown, tt)) r → r ≡ v
+    → ReadsAt g reader at shown.now v
+reads_at g {reader} {at} {shown} may is = record { shown = shown; shows = refl; says = says g may is }
+
+-- what is left of values begins with the value at the place
+pub turn : (values : List Value) (at : ℕ) (value : Value) → at < length values → value ≡ get_or values at value
+    → drop at values ≡ value ∷ drop (at + 1) values
+turn values at value within is = rw add-one (drop_turn values at value within is)
+
+-- what is read exactly so is what is given
+pub exactly : {A : Type 0} (result read : Result A WireFault) → result ≡ read → Gives (λ x. x) result read
+exactly (Ok x) read is = sym is
+exactly (Err fault) read is = fails_so fault read (sym is)
+
+-- a fault that is passed on is what is read
+pub stopped_by : {B T : Type 0} (result : Result B WireFault) (fault : WireFault)
+    (Read : Result (List T) WireFault → Type 0)
+    → IsErrAnd result (λ passed. passed ≡ fault) → Read (Err fault) → IfErr result (λ told. Stopped told Read)
+stopped_by (Ok x) fault Read passed read = absurd passed
+stopped_by (Err other) fault Read passed read = λ known. rw passed read
+
+module _ {F T A : Type 0} (g : Shared F (ℕ × (Bor Value × Unit {0})) (Result T WireFault)) (reader : F) (seen : T → A)
+    (read : ℕ → Data → Result A WireFault)
+    (one : (at : ℕ) (shown : Bor Value) (r : Result T WireFault) → g.post reader (at, (shown, tt)) r
+    → Gives seen r (read at (view shown.now))) where
+  one_at : (at : ℕ) (value : Value) (r : Result T WireFault) → ReadsAt g reader at value r
+      → Gives seen r (read at (view value))
+  one_at at value r is = subst (λ v. Gives seen r (read at (view v))) is.shows (one at is.shown r is.says.met)
+
+  one_more : (x : T) (rest : Result (List T) WireFault) (others : Result (List A) WireFault)
+      → Gives (map seen) rest others
+      → Gives (map seen) (rest >>= λ xs. Ok (x ∷ xs)) (others >>= λ ys. Ok (seen x ∷ ys))
+  one_more x (Ok xs) others is = rw is refl
+  one_more x (Err fault) others is = fails_as fault others _ (λ refused. rw refused refl) is
+
+  each_given : {at : ℕ} {values : List Value} {outcome : Result (List T) WireFault}
+      → EachRead (ReadsAt g reader) at values outcome
+      → Gives (map seen) outcome (each_from read at (map view values))
+  each_given (ends at) = refl
+  each_given (stops at value values fault step) =
+      fails_as fault (read at (view value)) _ (λ refused. rw refused refl) (one_at at value (Err fault) step)
+  each_given (goes at value values x rest step others) =
+      let e : read at (view value) ≡ Ok (seen x) = one_at at value (Ok x) step in
+      let given : Gives (map seen) rest (each_from read (suc at) (map view values)) =
+      subst (λ n. Gives (map seen) rest (each_from read n (map view values))) (add-one at) (each_given others) in
+      rw e (one_more x rest (each_from read (suc at) (map view values)) given)
+
+  few_given : (most : ℕ) (place : Place) (values : List Value) (outcome : Result (List T) WireFault)
+      → FewRead most place (ReadsAt g reader) values outcome
+      → Gives (map seen) outcome
+      (cond (nat_lt most (length (map view values))) (Err (Limit place)) (each_from read 0 (map view values)))
+  few_given most place values outcome is = rw (map_length view values) (by_test (nat_lt most (length values)) refl)
+    where
+      by_test : (test : Bool) → nat_lt most (length values) ≡ test
+          → Gives (map seen) outcome (cond test (Err (Limit place)) (each_from read 0 (map view values)))
+      by_test true beyond = rw (is.many (ltb-true most (length values) beyond)) refl
+      by_test false within = each_given (is.few (ltb-false most (length values) within))
+
+  -- what is read of all of them
+  gives_few : {V : Type 0} (items : V → List T) (most : ℕ) (place : Place) (values : List Value)
+      (result : Result V WireFault)
+      → IfOk result (λ all. FewRead most place (ReadsAt g reader) values (Ok (items all)))
+      → IfErr result (λ fault. Stopped fault (FewRead most place (ReadsAt g reader) values))
+      → Gives (λ all. map seen (items all)) result
+      (cond (nat_lt most (length (map view values))) (Err (Limit place)) (each_from read 0 (map view values)))
+  gives_few items most place values (Ok all) is stopped = few_given most place values (Ok (items all)) is
+  gives_few items most place values (Err fault) is stopped =
+      fails_unless fault _ (λ other. fault_of fault _ other (few_given most place values (Err fault) (stopped other)))
+
+-- where items are seen as they are
+unseen : {T V : Type 0} (items : V → List T) (result : Result V WireFault) (read : Result (List T) WireFault)
+    → Gives (λ all. map (λ x. x) (items all)) result read → Gives items result read
+unseen items (Ok all) read is = is ∙ ap Ok (map-id (items all))
+unseen items (Err fault) read is = is
+
+module _ {F T V : Type 0} (g : Shared F (ℕ × (Bor Value × Unit {0})) (Result T WireFault)) (reader : F)
+    (items : V → List T) (most : ℕ) (place said : Place) (same : place ≡ said) (values : List Value)
+    (result : Result V WireFault)
+    (all : IfOk result (λ all. FewRead most place (ReadsAt g reader) values (Ok (items all))))
+    (stopped : IfErr result (λ fault. Stopped fault (FewRead most place (ReadsAt g reader) values))) where
+  -- each item at its number
+  pub gives_numbered : (read : ℕ → Data → Result T WireFault)
+      → ((at : ℕ) (shown : Bor Value) (r : Result T WireFault) → g.post reader (at, (shown, tt)) r
+      → Gives (λ x. x) r (read at (view shown.now)))
+      → Gives items result
+      (cond (nat_lt most (length (map view values))) (Err (Limit said)) (each_from read 0 (map view values)))
+  gives_numbered read one =
+      subst (λ p. Gives items result
+      (cond (nat_lt most (length (map view values))) (Err (Limit p)) (each_from read 0 (map view values)))) same
+      (unseen items result _ (gives_few g reader (λ x. x) read one items most place values result all stopped))
+
+  -- each at its place, and seen otherwise
+  pub gives_seen : {A : Type 0} (seen : T → A) (read : Place → Data → Result A WireFault)
+      → ((at : ℕ) (shown : Bor Value) (r : Result T WireFault) → g.post reader (at, (shown, tt)) r
+      → Gives seen r (read (item_on place at) (view shown.now)))
+      → Gives (λ all. map seen (items all)) result (few_on most read said (map view values))
+  gives_seen seen read one =
+      subst (λ p. Gives (λ all. map seen (items all)) result (few_on most read p (map view values))) same
+      (gives_few g reader seen (λ at. read (item_on place at)) one items most place values result all stopped)
+
+  pub gives_items : (read : Place → Data → Result T WireFault)
+      → ((at : ℕ) (shown : Bor Value) (r : Result T WireFault) → g.post reader (at, (shown, tt)) r
+      → Gives (λ x. x) r (read (item_on place at) (view shown.now)))
+      → Gives items result (few_on most read said (map view values))
+  gives_items read one = unseen items result _ (gives_seen (λ x. x) read one)

@@ -1,9 +1,9 @@
 -- What a reading answers is within its limits and of the tree; and no reading is out of memory.
-use Rattle.std.proofs.Common.{◌≡◌, ℕ, zero, suc, ◌<◌, ◌≤◌, Bool, true, false, cond, List, [], ◌∷◌, length, Option, Some, None, IfSome, refl, ap, subst, ◌∙◌, arith, Vec, Global, bytes_eq, codes}
+use Rattle.std.proofs.Common.{◌≡◌, ℕ, zero, suc, ◌<◌, ◌≤◌, Bool, true, false, cond, List, [], ◌∷◌, length, Option, Some, None, IfSome, refl, ap, subst, arith, Vec, Global, bytes_eq, codes}
 use Rattle.std.specs.Prelude.{Result, Ok, Err, IfOk, is_some, nat_lt, slice_get}
 use Rattle.std.specs.List.{All, find}
 use Rattle.std.specs.Option.{option_or}
-use Rattle.std.proofs.lemmas.Bool.{le-ltb, ltb-false, leb-true, and_parts}
+use Rattle.std.proofs.lemmas.Bool.{ltb-false, leb-true, and_parts}
 use Rattle.std.proofs.lemmas.Option.{same_Some}
 use Rattle.std.proofs.lemmas.List.Elements.{All-nil, All-cons, All-head, All-tail, All-weaker}
 use Rattle.std.proofs.lemmas.List.Folds.{find-append}
@@ -20,7 +20,7 @@ use Rattle.grove_core.specs.declared.job.Job.{Job}
 use Rattle.grove_core.specs.Openings.{AllFit}
 use Rattle.grove_proof.specs.declared.flow.FlowRow.{FlowRow}
 use Rattle.grove_wire.specs.declared.fault.WireFault.{WireFault}
-use Rattle.grove_wire.specs.declared.fault.WireFault.TheVariants.{BadJson, Shape, NoPath, BadLength, Limit, Tree, Memory}
+use Rattle.grove_wire.specs.declared.fault.WireFault.TheVariants.{Shape, NoPath, BadLength, Limit, Memory}
 use Rattle.grove_wire.specs.declared.place.Part.{Part}
 use Rattle.grove_wire.specs.declared.place.Part.TheVariants as part
 use Rattle.grove_wire.specs.declared.place.Place.{Place}
@@ -35,16 +35,15 @@ use Rattle.grove_wire.specs.Reading.{flow_row_at, flow_in}
 use Rattle.grove_wire.proofs.Turns.{access_in, nth_list, step_in, flow_row_in}
 use Rattle.grove_wire.specs.Writing.{StepFits, PlanFits, FlowFits}
 
--- a reading answers what has a property, or a fault other than out of memory
+-- a fault that isn't out of memory
+abbrev pub Refuses : WireFault → Type 0
+Refuses Memory = ⊥
+Refuses fault = Unit {0}
+
+-- a reading answers what has a property, or such a fault
 abbrev pub Reads : {A : Type 0} → (A → Type 0) → Result A WireFault → Type 0
 Reads P (Ok x) = P x
-Reads P (Err BadJson) = Unit {0}
-Reads P (Err (Shape place)) = Unit {0}
-Reads P (Err (NoPath place)) = Unit {0}
-Reads P (Err (BadLength place)) = Unit {0}
-Reads P (Err (Limit place)) = Unit {0}
-Reads P (Err (Tree fault)) = Unit {0}
-Reads P (Err Memory) = ⊥
+Reads P (Err fault) = Refuses fault
 
 -- so does a call that gives what is read
 pub given_reads : {T A : Type 0} (seen : T → A) (P : A → Type 0) (result : Result T WireFault) (read : Result A WireFault) → Gives seen result read → Reads P read → IfOk result (λ x. P (seen x))
@@ -54,13 +53,7 @@ given_reads seen P (Err fault) read gives reads = tt
 -- a reading, and then another of what it answers
 pub then_reads : {A B : Type 0} (P : A → Type 0) (Q : B → Type 0) (read : Result A WireFault) (next : A → Result B WireFault) → Reads P read → ((x : A) → P x → Reads Q (next x)) → Reads Q (read >>= next)
 then_reads P Q (Ok x) next here there = there x here
-then_reads P Q (Err BadJson) next here there = tt
-then_reads P Q (Err (Shape place)) next here there = tt
-then_reads P Q (Err (NoPath place)) next here there = tt
-then_reads P Q (Err (BadLength place)) next here there = tt
-then_reads P Q (Err (Limit place)) next here there = tt
-then_reads P Q (Err (Tree fault)) next here there = tt
-then_reads P Q (Err Memory) next here there = absurd here
+then_reads P Q (Err fault) next here there = here
 
 -- what is there, or else a fault
 pub or_reads : {A : Type 0} (P : A → Type 0) (fault : WireFault) (o : Option A) → Reads P (Err fault) → IfSome o P → Reads P (or_fault fault o)
@@ -84,13 +77,7 @@ each_reads P read reads at (d ∷ ds) =
 -- what is read has a property that follows
 weaker_reads : {A : Type 0} (P Q : A → Type 0) (read : Result A WireFault) → ((x : A) → P x → Q x) → Reads P read → Reads Q read
 weaker_reads P Q (Ok x) weaker here = weaker x here
-weaker_reads P Q (Err BadJson) weaker here = tt
-weaker_reads P Q (Err (Shape place)) weaker here = tt
-weaker_reads P Q (Err (NoPath place)) weaker here = tt
-weaker_reads P Q (Err (BadLength place)) weaker here = tt
-weaker_reads P Q (Err (Limit place)) weaker here = tt
-weaker_reads P Q (Err (Tree fault)) weaker here = tt
-weaker_reads P Q (Err Memory) weaker here = absurd here
+weaker_reads P Q (Err fault) weaker here = here
 
 -- few items, and each of them read
 few_reads : {A : Type 0} (P : A → Type 0) (most : ℕ) (place : Place) (read : ℕ → Data → Result A WireFault) (ds : List Data) (test : Bool) → (test ≡ false → length ds ≤ most)
@@ -168,9 +155,9 @@ list_reads rows version place ds =
     weaker_reads (λ list. (length list ≤ 64) × All (IsAccess rows) list) (AreListed rows) (list_of rows version place ds) (λ list here. (here.0, are_nodes rows list here.1, are_lengths list rows here.1))
     (few_reads (IsAccess rows) 64 place (access_in rows version place) ds (nat_lt 64 (length ds)) (ltb-false 64 (length ds)) (λ at d. access_reads rows version (item_on place at) d))
 
-pub accesses_fit : (rows : Rows) (version : Version) (place : Place) (ds : List Data) (list : List Access) → length ds ≤ 64 → each_from (access_in rows version place) 0 ds ≡ Ok list → AreListed rows list
-accesses_fit rows version place ds list few is =
-    subst (Reads (AreListed rows)) (ap (λ test. cond test (Err (Limit place)) (each_from (access_in rows version place) 0 ds)) (le-ltb 64 (length ds) few) ∙ is) (list_reads rows version place ds)
+pub accesses_fit : (rows : Rows) (version : Version) (place : Place) (ds : List Data) (list : List Access)
+    → list_of rows version place ds ≡ Ok list → AreListed rows list
+accesses_fit rows version place ds list is = subst (Reads (AreListed rows)) is (list_reads rows version place ds)
 
 -- a list that stands by itself
 pub list_on_reads : (rows : Rows) (version : Version) (place : Place) (d : Data) → Reads (AreListed rows) (list_on rows version place d)

@@ -3,20 +3,17 @@ use Rattle.std.specs.Prelude.{ℕ, ℤ, List, Result}
 use Rattle.serde_json.specs.Data.{Data}
 use Rattle.grove_tree.specs.Trees.{Rows, NodeRow}
 use Rattle.grove_access.specs.declared.access.Access.{Access}
-use Rattle.grove_access.specs.declared.reply.Reply.{Reply}
 use Rattle.grove_plan.specs.declared.step.Step.{Step}
 use Rattle.grove_proof.specs.declared.flow.FlowRow.{FlowRow}
-use Rattle.grove_core.specs.declared.event.Event.{Event}
 use Rattle.grove_wire.specs.declared.fault.WireFault.{WireFault}
 use Rattle.grove_wire.specs.declared.place.Part.TheVariants as part
 use Rattle.grove_wire.specs.declared.place.Place.{Place}
 use Rattle.grove_wire.specs.declared.versions.Version.{Version}
 use Rattle.grove_wire.specs.Outcomes.{of_form}
 use Rattle.grove_wire.specs.Places.{whole_of, item_on}
-use Rattle.grove_wire.specs.Forms.{row_form, as_signed, event_form, reply_form}
+use Rattle.grove_wire.specs.Forms.{row_form}
 use Rattle.grove_wire.specs.Reading.{access_at, list_on, step_at, flow_row_at}
 use Rattle.grove_wire.specs.Sketches.{kept_step_at, kept_row_at}
-use Rattle.grove_wire.specs.Histories.{replies_on}
 
 abbrev pub row_in : ℕ → Data → Result (NodeRow × ℤ) WireFault
 row_in = λ at. of_form row_form (item_on (whole_of part.Nodes) at)
@@ -39,15 +36,3 @@ kept_step_in tree = λ at. kept_step_at tree (item_on (whole_of part.Plan) at)
 
 abbrev pub kept_row_in : Rows → ℕ → Data → Result FlowRow WireFault
 kept_row_in tree = λ at. kept_row_at tree (item_on (whole_of part.Flow) at)
-
-abbrev pub event_at : ℕ → Data → Result Event WireFault
-event_at = λ at. of_form event_form (item_on (whole_of part.Events) at)
-
-abbrev pub record_at : ℕ → Data → Result ℤ WireFault
-record_at = λ at. of_form as_signed (item_on (whole_of part.StandingRecords) at)
-
-abbrev pub reply_in : Place → ℕ → Data → Result Reply WireFault
-reply_in place = λ at. of_form reply_form (item_on place at)
-
-abbrev pub replies_at : ℕ → Data → Result (List Reply) WireFault
-replies_at = λ at. replies_on (item_on (whole_of part.StandingReplies) at)

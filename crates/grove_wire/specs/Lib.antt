@@ -1,4 +1,5 @@
 pub mod Outcomes
+pub mod Arrays
 pub mod Places
 pub mod Forms
 pub mod RowParts

@@ -1,10 +1,11 @@
 ghost use Rattle.std.specs.Prelude.{◌≡◌, ◌≤◌, Some, None, codes, if◌then◌else◌, map, IfOk, length};
 ghost use Rattle.serde_json.specs.View.{view};
 ghost use Rattle.grove_wire.specs.Forms.{is_word, event_form};
-ghost use Rattle.grove_wire.specs.Outcomes.{Gives, of_form, each_on};
+ghost use Rattle.grove_wire.specs.Outcomes.{Gives, of_form, few_on};
 ghost use Rattle.grove_wire.specs.Places.{whole_of, item_of};
 ghost use Rattle.grove_wire.specs.Histories.{events_in};
 
+use crate::arrays::read_few;
 use crate::document::items_in;
 use crate::forms::{is_word, list_items, short_number};
 use crate::{Part, Place, WireFault};
@@ -22,25 +23,22 @@ pub fn read_events(alloc: Global, document: &Value) -> Result<Vec<Event>, WireFa
     ensures few { IfOk result (λ events. length events.items ≤ 1048576) }
 {
     let items = items_in(document, Part::Events)?;
-    if items.len() > MOST_EVENTS {
-        return Err(WireFault::Limit(Place::whole(Part::Events)));
-    }
-    read_each_event(alloc, items)
+    events_of(alloc, items)
 }
 
-/// The events, of which there are few enough.
-fn read_each_event(alloc: Global, items: &[Value]) -> Result<Vec<Event>, WireFault>
-    requires { length items.now ≤ 1048576 }
+/// The values as events.
+fn events_of(alloc: Global, items: &[Value]) -> Result<Vec<Event>, WireFault>
     ensures read { Gives (λ events. events.items) result
-        (each_on (of_form event_form) (whole_of Part.Events) (map view items.now)) }
+        (few_on 1048576 (of_form event_form) (whole_of Part.Events) (map view items.now)) }
     ensures few { IfOk result (λ events. length events.items ≤ 1048576) }
 {
-    let mut events = Vec::new(alloc);
-    for (at, item) in items.iter().enumerate() {
-        let event = event_at(at as u32, item)?;
-        events.push(event)?;
-    }
-    Ok(events)
+    read_few(
+        alloc,
+        MOST_EVENTS,
+        Place::whole(Part::Events),
+        items,
+        event_at,
+    )
 }
 
 fn event_at(at: u32, value: &Value) -> Result<Event, WireFault>

@@ -1,9 +1,10 @@
-ghost use Rattle.std.specs.Prelude.{◌≤◌, map, IfOk, length};
+ghost use Rattle.std.specs.Prelude.{map, IfOk, length, ◌≤◌};
 ghost use Rattle.serde_json.specs.View.{view};
 ghost use Rattle.grove_core.specs.Openings.{AllFit};
-ghost use Rattle.grove_wire.specs.Outcomes.{Gives, each_from};
+ghost use Rattle.grove_wire.specs.Outcomes.{Gives};
 ghost use Rattle.grove_wire.specs.Histories.{job_at, jobs_of, jobs_in};
 
+use crate::arrays::read_few;
 use crate::document::{items_at, items_in};
 use crate::lists::list_of;
 use crate::plans::plan_of;
@@ -41,28 +42,13 @@ fn jobs_of(
 ) -> Result<Vec<Job>, WireFault>
     ensures { Gives (λ jobs. jobs.items) result (jobs_of tree.now version (map view items.now)) }
 {
-    if items.len() > MOST_JOBS {
-        return Err(WireFault::Limit(Place::whole(Part::Jobs)));
-    }
-    read_each_job(alloc, tree, version, items)
-}
-
-/// The jobs, of which there are few enough.
-fn read_each_job(
-    alloc: Global,
-    tree: &Tree,
-    version: Version,
-    items: &[Value],
-) -> Result<Vec<Job>, WireFault>
-    requires { length items.now ≤ 256 }
-    ensures { Gives (λ jobs. jobs.items) result (each_from (job_at tree.now version) 0 (map view items.now)) }
-{
-    let mut jobs = Vec::new(alloc);
-    for (at, item) in items.iter().enumerate() {
-        let job = job_at(alloc, tree, version, at as u32, item)?;
-        jobs.push(job)?;
-    }
-    Ok(jobs)
+    read_few(
+        alloc,
+        MOST_JOBS,
+        Place::whole(Part::Jobs),
+        items,
+        |at, item| { job_at(alloc, tree, version, at, item) },
+    )
 }
 
 /// A value as the job of this number.

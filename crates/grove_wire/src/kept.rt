@@ -4,13 +4,14 @@ ghost use Rattle.serde_json.specs.Data.{Data};
 ghost use Rattle.serde_json.specs.Find.{as_number, as_str, as_u64};
 ghost use Rattle.serde_json.specs.View.{view};
 ghost use Rattle.grove_wire.specs.Forms.{as_list, flow_form};
-ghost use Rattle.grove_wire.specs.Outcomes.{Gives, each_on};
+ghost use Rattle.grove_wire.specs.Outcomes.{Gives, few_on};
 ghost use Rattle.grove_wire.specs.Places.{whole_of};
 ghost use Rattle.grove_wire.specs.Reading.{path_at};
 ghost use Rattle.grove_wire.specs.RowParts.{flow_with};
 ghost use Rattle.grove_wire.specs.Sketches.{text_kept, count_kept, operand_kept, step_kept, row_kept, kept_form_of};
 ghost use Rattle.grove_wire.specs.Sketches.{unlock_on, kept_step_at, kept_row_at, kept_plan_in, kept_flow_in};
 
+use crate::arrays::read_few;
 use crate::document::{MOST_ITEMS, items_in};
 use crate::flows::{FlowForm, flow_form, row_at};
 use crate::forms::{is_word, list_items, short_number};
@@ -90,25 +91,19 @@ pub(crate) fn kept_plan(alloc: Global, tree: &Tree, check: &Value) -> Result<Pla
     ensures { Gives (λ plan. plan) result (kept_plan_in tree.now (view check.now)) }
 {
     let items = items_in(check, Part::Plan)?;
-    if items.len() > MOST_ITEMS {
-        return Err(WireFault::Limit(Place::whole(Part::Plan)));
-    }
     let steps = kept_steps(alloc, tree, items)?;
     Ok(Plan::new(steps))
 }
 
 fn kept_steps(alloc: Global, tree: &Tree, items: &[Value]) -> Result<Vec<Step>, WireFault>
-    requires { length items.now < 2 ^ 32 }
     ensures read { Gives (λ steps. steps.items) result
-        (each_on (kept_step_at tree.now) (whole_of Part.Plan) (map view items.now)) }
+        (few_on 4294967295 (kept_step_at tree.now) (whole_of Part.Plan) (map view items.now)) }
     ensures few { IfOk result (λ steps. vec_len steps < 2 ^ 32) }
 {
-    let mut steps = Vec::new(alloc);
-    for (at, item) in items.iter().enumerate() {
-        let step = kept_step_at(tree, Place::item(Part::Plan, at as u32), item)?;
-        steps.push(step)?;
-    }
-    Ok(steps)
+    let place = Place::whole(Part::Plan);
+    read_few(alloc, MOST_ITEMS, place, items, |at, item| {
+        kept_step_at(tree, place.within(at), item)
+    })
 }
 
 fn kept_step_at(tree: &Tree, place: Place, kept: &Value) -> Result<Step, WireFault>
@@ -147,25 +142,19 @@ pub(crate) fn kept_flow(alloc: Global, tree: &Tree, check: &Value) -> Result<Flo
     ensures { Gives (λ flow. flow) result (kept_flow_in tree.now (view check.now)) }
 {
     let items = items_in(check, Part::Flow)?;
-    if items.len() > MOST_ITEMS {
-        return Err(WireFault::Limit(Place::whole(Part::Flow)));
-    }
     let rows = kept_rows(alloc, tree, items)?;
     Ok(Flow::new(rows))
 }
 
 fn kept_rows(alloc: Global, tree: &Tree, items: &[Value]) -> Result<Vec<FlowRow>, WireFault>
-    requires { length items.now < 2 ^ 32 }
     ensures read { Gives (λ rows. rows.items) result
-        (each_on (kept_row_at tree.now) (whole_of Part.Flow) (map view items.now)) }
+        (few_on 4294967295 (kept_row_at tree.now) (whole_of Part.Flow) (map view items.now)) }
     ensures few { IfOk result (λ rows. vec_len rows < 2 ^ 32) }
 {
-    let mut rows = Vec::new(alloc);
-    for (at, item) in items.iter().enumerate() {
-        let row = kept_row_at(tree, Place::item(Part::Flow, at as u32), item)?;
-        rows.push(row)?;
-    }
-    Ok(rows)
+    let place = Place::whole(Part::Flow);
+    read_few(alloc, MOST_ITEMS, place, items, |at, item| {
+        kept_row_at(tree, place.within(at), item)
+    })
 }
 
 fn kept_row_at(tree: &Tree, place: Place, kept: &Value) -> Result<FlowRow, WireFault>

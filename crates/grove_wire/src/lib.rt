@@ -28,6 +28,7 @@ pub use standing::{Standing, read_standing};
 pub use tree_values::{document_text, document_value};
 
 mod accesses;
+mod arrays;
 mod document;
 mod events;
 mod fault;

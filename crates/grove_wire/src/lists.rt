@@ -2,11 +2,11 @@ ghost use Rattle.std.specs.Prelude.{map, IfOk, length, ◌≤◌};
 ghost use Rattle.std.specs.List.{All};
 ghost use Rattle.serde_json.specs.View.{view};
 ghost use Rattle.grove_access.specs.Lists.{nodes_of, AreNodes};
-ghost use Rattle.grove_wire.specs.Outcomes.{Gives, each_on};
-ghost use Rattle.grove_wire.specs.Places.{whole_of};
-ghost use Rattle.grove_wire.specs.Reading.{access_at, list_of, list_in, list_on, lists_of, lists_in};
+ghost use Rattle.grove_wire.specs.Outcomes.{Gives};
+ghost use Rattle.grove_wire.specs.Reading.{list_of, list_in, list_on, lists_of, lists_in};
 
 use crate::accesses::access_at;
+use crate::arrays::read_few;
 use crate::document::items_in;
 use crate::forms::list_items;
 use crate::versions::{Version, version_of};
@@ -60,9 +60,6 @@ pub(crate) fn list_of(
     ensures read { Gives (λ list. list) result (list_of tree.now version place (map view items.now)) }
     ensures fitting { IfOk result (λ list. AreNodes tree.now (nodes_of list)) }
 {
-    if items.len() > MOST_ACCESSES {
-        return Err(WireFault::Limit(place));
-    }
     let accesses = read_accesses(alloc, tree, version, place, items)?;
     match AccessList::new(alloc, tree, &accesses) {
         Ok(list) => Ok(list),
@@ -71,7 +68,7 @@ pub(crate) fn list_of(
     }
 }
 
-/// The accesses of a list that is short enough.
+/// The accesses of a list, of which there are at most 64.
 fn read_accesses(
     alloc: Global,
     tree: &Tree,
@@ -79,16 +76,11 @@ fn read_accesses(
     place: Place,
     items: &[Value],
 ) -> Result<Vec<Access>, WireFault>
-    requires { length items.now ≤ 64 }
-    ensures { Gives (λ accesses. accesses.items) result
-        (each_on (access_at tree.now version) place (map view items.now)) }
+    ensures { Gives (λ accesses. accesses.items) result (list_of tree.now version place (map view items.now)) }
 {
-    let mut accesses = Vec::new(alloc);
-    for (at, item) in items.iter().enumerate() {
-        let access = access_at(tree, version, place.within(at as u32), item)?;
-        accesses.push(access)?;
-    }
-    Ok(accesses)
+    read_few(alloc, MOST_ACCESSES, place, items, |at, item| {
+        access_at(tree, version, place.within(at), item)
+    })
 }
 
 /// A value by itself as a list that stands at the place.
@@ -118,28 +110,8 @@ pub(crate) fn lists_of(
 ) -> Result<Vec<AccessList>, WireFault>
     ensures { Gives (λ lists. lists.items) result (lists_of tree.now version (map view items.now)) }
 {
-    if items.len() > MOST_LISTS {
-        return Err(WireFault::Limit(Place::whole(Part::Lists)));
-    }
-    read_each_list(alloc, tree, version, items)
-}
-
-/// The lists of a batch of few enough.
-fn read_each_list(
-    alloc: Global,
-    tree: &Tree,
-    version: Version,
-    items: &[Value],
-) -> Result<Vec<AccessList>, WireFault>
-    requires { length items.now ≤ 256 }
-    ensures { Gives (λ lists. lists.items) result
-        (each_on (list_on tree.now version) (whole_of Part.Lists) (map view items.now)) }
-{
-    let mut lists = Vec::new(alloc);
-    for (at, item) in items.iter().enumerate() {
-        let place = Place::item(Part::Lists, at as u32);
-        let list = list_on(alloc, tree, version, place, item)?;
-        lists.push(list)?;
-    }
-    Ok(lists)
+    let place = Place::whole(Part::Lists);
+    read_few(alloc, MOST_LISTS, place, items, |at, item| {
+        list_on(alloc, tree, version, place.within(at), item)
+    })
 }

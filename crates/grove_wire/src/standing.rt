@@ -1,10 +1,11 @@
-ghost use Rattle.std.specs.Prelude.{◌≡◌, ◌<◌, ◌^◌, map, option_map, length};
+ghost use Rattle.std.specs.Prelude.{◌≡◌, map, option_map};
 ghost use Rattle.serde_json.specs.View.{view};
 ghost use Rattle.grove_wire.specs.Forms.{as_signed, reply_form};
-ghost use Rattle.grove_wire.specs.Outcomes.{Gives, of_form, each_on, few_on};
+ghost use Rattle.grove_wire.specs.Outcomes.{Gives, of_form, few_on};
 ghost use Rattle.grove_wire.specs.Places.{whole_of, item_of};
 ghost use Rattle.grove_wire.specs.Histories.{replies_on, standing_at, said_standing, standing_in};
 
+use crate::arrays::read_few;
 use crate::document::{MOST_ITEMS, items_at};
 use crate::forms::{is_word, list_items};
 use crate::{Part, Place, WireFault};
@@ -52,24 +53,8 @@ fn records_of(alloc: Global, items: &[Value]) -> Result<Vec<i64>, WireFault>
     ensures { Gives (λ records. records.items) result
         (few_on 4294967295 (of_form as_signed) (whole_of Part.StandingRecords) (map view items.now)) }
 {
-    if items.len() > MOST_ITEMS {
-        return Err(WireFault::Limit(Place::whole(Part::StandingRecords)));
-    }
-    read_records(alloc, items)
-}
-
-/// The records, of which there are few enough.
-fn read_records(alloc: Global, items: &[Value]) -> Result<Vec<i64>, WireFault>
-    requires { length items.now < 2 ^ 32 }
-    ensures { Gives (λ records. records.items) result
-        (each_on (of_form as_signed) (whole_of Part.StandingRecords) (map view items.now)) }
-{
-    let mut records = Vec::new(alloc);
-    for (at, item) in items.iter().enumerate() {
-        let record = record_at(at as u32, item)?;
-        records.push(record)?;
-    }
-    Ok(records)
+    let place = Place::whole(Part::StandingRecords);
+    read_few(alloc, MOST_ITEMS, place, items, record_at)
 }
 
 fn record_at(at: u32, value: &Value) -> Result<i64, WireFault>
@@ -84,24 +69,10 @@ fn replies_of(alloc: Global, items: &[Value]) -> Result<Vec<Vec<Reply>>, WireFau
     ensures { Gives (λ all. map (λ replies. replies.items) all.items) result
         (few_on 4294967295 replies_on (whole_of Part.StandingReplies) (map view items.now)) }
 {
-    if items.len() > MOST_ITEMS {
-        return Err(WireFault::Limit(Place::whole(Part::StandingReplies)));
-    }
-    read_each_replies(alloc, items)
-}
-
-/// The replies to each job, of which there are few enough.
-fn read_each_replies(alloc: Global, items: &[Value]) -> Result<Vec<Vec<Reply>>, WireFault>
-    requires { length items.now < 2 ^ 32 }
-    ensures { Gives (λ all. map (λ replies. replies.items) all.items) result
-        (each_on replies_on (whole_of Part.StandingReplies) (map view items.now)) }
-{
-    let mut all = Vec::new(alloc);
-    for (at, item) in items.iter().enumerate() {
-        let replies = replies_on(alloc, Place::item(Part::StandingReplies, at as u32), item)?;
-        all.push(replies)?;
-    }
-    Ok(all)
+    let place = Place::whole(Part::StandingReplies);
+    read_few(alloc, MOST_ITEMS, place, items, |at, item| {
+        replies_on(alloc, place.within(at), item)
+    })
 }
 
 /// A value as the replies to one job, which stand at the place.
@@ -112,23 +83,17 @@ fn replies_on(alloc: Global, place: Place, value: &Value) -> Result<Vec<Reply>, 
     let Some(items) = list_items(value) else {
         return Err(WireFault::Shape(place));
     };
-    if items.len() > MOST_ITEMS {
-        return Err(WireFault::Limit(place));
-    }
     read_replies(alloc, place, items)
 }
 
-/// The replies to one job, of which there are few enough.
+/// The values as the replies to one job.
 fn read_replies(alloc: Global, place: Place, items: &[Value]) -> Result<Vec<Reply>, WireFault>
-    requires { length items.now < 2 ^ 32 }
-    ensures { Gives (λ replies. replies.items) result (each_on (of_form reply_form) place (map view items.now)) }
+    ensures { Gives (λ replies. replies.items) result
+        (few_on 4294967295 (of_form reply_form) place (map view items.now)) }
 {
-    let mut replies = Vec::new(alloc);
-    for (at, item) in items.iter().enumerate() {
-        let reply = reply_at(place.within(at as u32), item)?;
-        replies.push(reply)?;
-    }
-    Ok(replies)
+    read_few(alloc, MOST_ITEMS, place, items, |at, item| {
+        reply_at(place.within(at), item)
+    })
 }
 
 fn reply_at(place: Place, value: &Value) -> Result<Reply, WireFault>

@@ -1,32 +1,10 @@
-use Rattle.std.proofs.Common.{◌∙◌, ◌+◌, sym, ap}
-use Rattle.grove_wire.proofs.Turns.{kept_row_in}
-use Rattle.grove_wire.proofs.Each.{with_front-none, each_goes, each_stops, each_ends, fails_so, passes_on}
+use Rattle.std.proofs.Common.{rules}
+use Rattle.grove_wire.specs.Sketches.{kept_row_at}
+use Rattle.grove_wire.proofs.Each.{exactly, gives_items}
 use Rattle.grove_wire.proofs.kept.kept_rows.Goals as goal
 
-pub loop-at-init : goal.loop-at-init
-loop-at-init c = record {
-  read = rw c.new-rows.ensures.items (with_front-none _);
-  few = c.new-rows.ensures.len;
-}
-
-pub returns-in_err-row-clause-read : goal.returns-in_err-row-clause-read
-returns-in_err-row-clause-read c =
-    let stop = sym c.loop-at.invariant.read ∙ each_stops (kept_row_in c.args.tree.now) c.loop-at.rows.items
-    c.args.items.now c.loop-at.at c.index-items-at.result c.in_err-row.field-0.0 c.loop-at-test.true
-    c.index-items-at.is (cc (c.kept_row_at.ensures, c.item.ensures, c.in_err-row.was)) in
-    passes_on _ c.from_residual.result _ c.in_err-row.field-0.0 c.from_residual.ensures.1
-    (fails_so c.in_err-row.field-0.0 _ stop)
-
-pub loop-at-preserved : goal.loop-at-preserved
-loop-at-preserved c =
-    let go = each_goes (kept_row_in c.args.tree.now) c.loop-at.rows.items c.args.items.now c.loop-at.at
-    c.index-items-at.result c.in_ok-row.row c.loop-at-test.true c.index-items-at.is
-    (cc (c.kept_row_at.ensures, c.item.ensures, c.in_ok-row.was)) in
-    record {
-      read = rw c.in_ok-push.ensures.items (sym go ∙ c.loop-at.invariant.read);
-      few = c.in_ok-push.ensures.len ∙ ap (λ n. n + 1) c.loop-at.invariant.few;
-    }
-
 pub returns-clause-read : goal.returns-clause-read
-returns-clause-read c = sym c.loop-at.invariant.read
-    ∙ each_ends (kept_row_in c.args.tree.now) _ c.args.items.now c.loop-at.at c.loop-at-test.false
+returns-clause-read c =
+    gives_items _ _ _ 4294967295 _ _ c.whole-place.ensures c.args.items.now c.read_few.result c.read_few.ensures.all
+    c.read_few.ensures.stopped (kept_row_at c.args.tree.now)
+    (λ at shown r is. exactly r _ (search rules))
