@@ -4,8 +4,8 @@
  *
  * Says what is wrong, and ends with status 1 then.
  */
-#include "counted.h"
 #include "grove.h"
+#include "rooms.h"
 
 typedef grove_told call(const uint8_t *, size_t, uint8_t *, size_t);
 

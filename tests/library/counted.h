@@ -1,5 +1,5 @@
 /* For a program that is linked with --wrap of malloc, realloc and free: the blocks that calls have, and one growth that
- * is refused; a buffer behind which it is seen that nothing is written; and what is wrong so far. */
+ * is refused; and what is wrong so far. */
 #ifndef COUNTED_H
 #define COUNTED_H
 
@@ -8,7 +8,7 @@
 #include <stdlib.h>
 #include <string.h>
 
-enum { MOST = 1 << 22, AGAIN = 10000, BEYOND = 32 };
+enum { MOST = 1 << 22, AGAIN = 10000 };
 
 void *__real_malloc(size_t size);
 void *__real_realloc(void *block, size_t size);
@@ -45,7 +45,6 @@ typedef struct bytes {
     size_t length;
 } bytes;
 
-static uint8_t text[MOST];
 static int is_wrong;
 
 static void want(int is_so, const char *name, const char *what) {
@@ -61,31 +60,6 @@ static void read_file(const char *path, bytes *read) {
         exit(2);
     read->length = fread(read->at, 1, MOST, file);
     fclose(file);
-}
-
-/* Is the buffer from here on as it was filled? */
-static int is_untouched(size_t from) {
-    size_t at;
-    for (at = from; at < from + BEYOND; at++)
-        if (text[at] != 0xA5)
-            return 0;
-    return 1;
-}
-
-/* A GiB that the system gives no pages for as long as nobody writes there; nothing, and that is wrong, if it has none.
- * It is given back to __real_free. */
-enum { GIGABYTE = 1 << 30 };
-
-static uint8_t *gigabyte(const char *name) {
-    uint8_t *much = __real_malloc(GIGABYTE);
-    want(much != NULL, name, "there is 1 GiB");
-    return much;
-}
-
-/* A room of so many bytes, behind which it is seen that nothing is written. */
-static size_t filled(size_t room) {
-    memset(text, 0xA5, room + BEYOND);
-    return room;
 }
 
 #endif

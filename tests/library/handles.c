@@ -6,8 +6,8 @@
  * DOC has a list, a plan and a flow; a QUESTION is the same with no nodes, or with others. Says what is wrong, and ends
  * with status 1 then.
  */
-#include "counted.h"
 #include "grove.h"
+#include "rooms.h"
 
 typedef grove_told call(const uint8_t *, size_t, uint8_t *, size_t);
 typedef grove_told ask(grove_tree *, const uint8_t *, size_t, uint8_t *, size_t);

@@ -6,8 +6,8 @@
  * DOC has a node `/a` below its root, and PLAN is the line of a plan over it. Says what is wrong, and ends with status
  * 1 then.
  */
-#include "counted.h"
 #include "grove.h"
+#include "rooms.h"
 
 static const char add[] = "{\"batch\":[[[\"add\",\"/a\",1],[\"get\",\"/a\"]],[[\"take\",\"/a\",1]]]}";
 static const char weights[] = "{\"weights\":null}", reweigh[] = "{\"reweigh\":null}";

@@ -18,6 +18,7 @@ from functools import lru_cache
 from pathlib import Path
 
 from comparing import Answer, all_documents, by_program, note_answers, read_answers, streams_of
+from numbering import Numbers, differences
 from storing import note_talk, talks, written
 from sweeps.documents import EXAMPLES
 from sweeps.program import Tally
@@ -149,6 +150,8 @@ def valgrind(_given: Given, room: Path, tally: Tally) -> None:
     note_well(tally, "handles", called(*words, room / "program", document, bare))
     compile_trial("stores", room, tally)
     note_well(tally, "stores", called(*words, room / "program", *written_for_stores(room)))
+    compile_trial("numbers", room, tally)
+    note_well(tally, "numbers", called(*words, room / "program", EXAMPLES / "settings.json"))
 
 
 def buffers(_given: Given, room: Path, tally: Tally) -> None:
@@ -171,6 +174,12 @@ def stores(_given: Given, room: Path, tally: Tally) -> None:
     """The calls by a handle of a store, likewise."""
     compile_trial("stores", room, tally)
     note_well(tally, "stores", called(room / "program", *written_for_stores(room)))
+
+
+def numbers(_given: Given, room: Path, tally: Tally) -> None:
+    """The calls over numbers, likewise."""
+    compile_trial("numbers", room, tally)
+    note_well(tally, "numbers", called(room / "program", EXAMPLES / "settings.json"))
 
 
 def compile_trial(name: str, room: Path, tally: Tally) -> None:
@@ -316,6 +325,17 @@ def c_says_the_same(given: Given, room: Path, tally: Tally) -> None:
     note_same(given, room, tally, [room / "program"])
 
 
+def numbers_say_the_same(given: Given, _room: Path, tally: Tally) -> None:
+    """The calls over numbers, of what each document's tree, list, plan and flow are in numbers."""
+    compared, library = 0, Numbers(LIBRARY / "libgrove.so")
+    for number, document in enumerate(documents_of(given.documents)):
+        for fault in differences(library, said, document):
+            tally.note(f"document {number}, {document!r:.200}", fault)
+            compared += 1
+    library.close()
+    tally.blame("compared", None if compared > given.documents else f"only {compared}")
+
+
 def rust_says_the_same(given: Given, room: Path, tally: Tally) -> None:
     note_same(given, room, tally, [built_in_rust("answers", room, tally)])
 
@@ -418,6 +438,7 @@ TRIALS = [
     Trial("buffers", buffers, ("cc",)),
     Trial("handles", handles, ("cc",)),
     Trial("stores", stores, ("cc",)),
+    Trial("numbers", numbers, ("cc",)),
     Trial("valgrind", valgrind, ("cc", "valgrind")),
     Trial("rust", rust, ("cargo", "cargo-fmt", "cargo-clippy")),
     Trial("python", python, ("python3",)),
@@ -425,6 +446,7 @@ TRIALS = [
     Trial("locks_of_redis", locks_of_redis, ("python3", "redis-server")),
     Trial("quotas_over_http", quotas_over_http, ("python3",)),
     Trial("c_says_the_same", c_says_the_same, ("cc",)),
+    Trial("numbers_say_the_same", numbers_say_the_same, ("python3",)),
     Trial("rust_says_the_same", rust_says_the_same, ("cargo",)),
     Trial("python_says_the_same", python_says_the_same, ("python3",)),
     Trial("c_store_says_the_same", c_store_says_the_same, ("cc",)),

@@ -4,16 +4,7 @@ use Rattle.grove_answer.specs.declared.refusal.Refusal.{Refusal}
 use Rattle.grove_answer.specs.Outcomes.{Outcome}
 use Rattle.grove_answer.specs.Says.{refusal_outcome}
 use Rattle.grove_c.specs.declared.telling.Told.{Told}
-use Rattle.grove_c.specs.declared.telling.Status.{Status}
-use Rattle.grove_c.specs.declared.telling.Status.TheVariants.{Done, Refused, Room, Memory, Closed}
 use Rattle.grove_c.specs.Tellings.{Holds}
-
-abbrev pub number_of : Status → ℕ
-number_of Done = 0
-number_of Refused = 1
-number_of Room = 2
-number_of Memory = 3
-number_of Closed = 4
 
 -- the outcome that is said; out of memory is none
 abbrev pub outcome_of : {Z : Type 0} → Result (String Z) Refusal → Option Outcome

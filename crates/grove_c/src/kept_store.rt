@@ -4,7 +4,8 @@ ghost use Rattle.grove_store.specs.Rounds.{IsAnswerAlone};
 ghost use Rattle.grove_c.specs.Endings.{IsPut};
 ghost use Rattle.grove_c.specs.Handles.{Replies};
 
-use crate::telling::{Status, Told, put, told_memory};
+use crate::telling::{Told, put, told_memory};
+use grove_nodes::Status;
 use grove_session::LINE_LIMIT;
 use grove_store::Store;
 use grove_tree::NoMemory;

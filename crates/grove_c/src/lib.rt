@@ -13,6 +13,10 @@ ghost use Rattle.grove_c.specs.Tellings.{Tells};
 
 use grove_draw::Form;
 pub use handle::Handle;
+pub use numbers::{
+    grove_c_plan_part, grove_c_tree_build, grove_c_tree_check_nodes, grove_c_tree_find,
+    grove_c_tree_judge_nodes, grove_c_tree_plan_nodes, grove_c_tree_reweigh, grove_c_version,
+};
 use opening::{open, store_opened, tree_opened};
 use sayings::{audited, checked, drawn, judged, planned, planned_in_document};
 use std::alloc::Global;
@@ -23,6 +27,7 @@ mod handle;
 mod kept;
 mod kept_store;
 mod loose;
+mod numbers;
 mod opening;
 mod sayings;
 mod telling;

@@ -1,7 +1,9 @@
 ghost use Rattle.std.specs.Prelude.{◌≡◌};
-ghost use Rattle.grove_c.specs.Endings.{number_of, outcome_of, IsPut, IsTold};
+ghost use Rattle.grove_nodes.specs.Statuses.{number_of};
+ghost use Rattle.grove_c.specs.Endings.{outcome_of, IsPut, IsTold};
 
 use grove_answer::Refusal;
+use grove_nodes::Status;
 
 /// How a call ended, and how long its text is.
 #[repr(C)]
@@ -11,29 +13,6 @@ pub struct Told {
     pub status: u32,
     /// How many bytes the text has; 0 where there is none.
     pub length: usize,
-}
-
-/// How a call ended. The numbers are those of the program's statuses, but for `Room`.
-#[derive(Clone, Copy)]
-pub enum Status {
-    /// The buffer begins with the lines that the command prints.
-    Done = 0,
-    /// It begins with the fault for which the document is refused.
-    Refused = 1,
-    /// It has no room for the text, and is as it was.
-    Room = 2,
-    /// A growth was refused, and the buffer is as it was.
-    Memory = 3,
-    /// The handle holds nothing that the call is about, and the buffer is as it was.
-    Closed = 4,
-}
-
-impl Status {
-    fn number(self) -> u32
-        ensures { result ≡ number_of self }
-    {
-        self as u32
-    }
 }
 
 /// Puts the text of what is said into the buffer, and tells how that ended.

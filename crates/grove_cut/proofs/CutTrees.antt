@@ -58,7 +58,7 @@ module _ (whole cut : Rows) (origin : ℕ → ℕ) (is : IsCut whole cut origin)
   deeper n same (Some p) = ap suc (same p)
 
   -- an origin is as deep as its node, within as many steps up
-  depth_at_origin : (n v : ℕ) → depth_within cut n v ≡ depth_within whole n (origin v)
+  pub depth_at_origin : (n v : ℕ) → depth_within cut n v ≡ depth_within whole n (origin v)
   depth_at_origin zero v = refl
   depth_at_origin (suc n) v = deeper n (depth_at_origin n) (parent_of cut v) ∙ ap (one_more (depth_within whole n)) (sym (is.parents v))
 
@@ -112,22 +112,23 @@ module _ (whole cut : Rows) (origin : ℕ → ℕ) (is : IsCut whole cut origin)
     named limits zero some lt = absurd (omega arith)
     named limits (suc v) some lt = limits.names v lt
 
-    limited : IsWithinLimits whole → IsWithinLimits cut
-    limited limits = record {
+    limited : ((node : ℕ) → name_of whole (origin node) ≡ name_of cut node) → IsWithinLimits whole → IsWithinLimits cut
+    limited names limits = record {
       few = le_trans no_more limits.few;
       shallow = λ v. le_trans
           (subst (λ (n : ℕ). n ≤ depth_within whole (length whole) (origin v)) (sym (depth_at_origin (length cut) v))
           (depth_grows whole (length cut) (length whole) (origin v) no_more))
           (limits.shallow (origin v));
-      unnamed_root = sym (is.names 0) ∙ (ap (name_of whole) first_origin ∙ limits.unnamed_root);
-      names = λ v lt. subst (λ (n : List ℕ). IsTrue (is_name n)) (is.names (suc v)) (named limits (origin (suc v))
+      unnamed_root = sym (names 0) ∙ (ap (name_of whole) first_origin ∙ limits.unnamed_root);
+      names = λ v lt. subst (λ (n : List ℕ). IsTrue (is_name n)) (names (suc v)) (named limits (origin (suc v))
           (let step : origin v < origin (suc v) = is.rises v (suc v) (omega arith) in omega arith) ((is.within (suc v)).0 lt));
       differ = λ a b p up_a up_b same. same_origin origin is.rises a b
           (limits.differ (origin a) (origin b) (origin p) (is.parents a ∙ ap (option_map origin) up_a) (is.parents b ∙ ap (option_map origin) up_b)
-          (is.names a ∙ (same ∙ sym (is.names b))));
+          (names a ∙ (same ∙ sym (names b))));
       weighty = λ v lt. subst (λ (n : ℕ). 1 ≤ n) (is.weights v) (limits.weighty (origin v) ((is.within v).0 lt));
       light = λ v. subst (λ (n : ℕ). n ≤ heaviest) (is.weights v) (limits.light (origin v));
     }
 
 pub cuts_are_trees : CutsAreTrees
-cuts_are_trees whole cut origin (tree, limits) is = (cut_is_tree whole cut origin is tree, limited whole cut origin is tree limits)
+cuts_are_trees whole cut origin (tree, limits) is names =
+    (cut_is_tree whole cut origin is tree, limited whole cut origin is tree names limits)

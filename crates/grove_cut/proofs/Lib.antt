@@ -1,5 +1,5 @@
-mod CutPlans
-mod CutTrees
-mod CutFlows
-mod CutLeast
-mod CutSettled
+pub mod CutPlans
+pub mod CutTrees
+pub mod CutFlows
+pub mod CutLeast
+pub mod CutSettled

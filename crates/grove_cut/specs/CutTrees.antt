@@ -10,13 +10,13 @@ use Rattle.grove_proof.specs.declared.flow.FlowRow.{FlowRow}
 use Rattle.grove_proof.specs.Flows.{IsCertificate}
 use Rattle.grove_build.specs.Settled.{IsSettled}
 
--- A cut of a whole tree: rows of some of its nodes, in its order. A node's origin is its number in the whole tree.
+-- A cut of a whole tree: rows of some of its nodes, in its order. A node's origin is its number in the whole tree. Names
+-- are of no importance to plans, and may be others.
 pub record IsCut (whole cut : Rows) (origin : ℕ → ℕ) : Type 0 where
   pub some : 0 < length cut
   pub rises : (a b : ℕ) → a < b → origin a < origin b
   pub within : (node : ℕ) → node < length cut ↔ origin node < length whole
   pub parents : (node : ℕ) → parent_of whole (origin node) ≡ option_map origin (parent_of cut node)
-  pub names : (node : ℕ) → name_of whole (origin node) ≡ name_of cut node
   pub weights : (node : ℕ) → weight_of whole (origin node) ≡ weight_of cut node
 
 -- a plan and a flow with the origins of their nodes
@@ -61,6 +61,7 @@ CutsKeepCertificates = (whole cut : Rows) (origin : ℕ → ℕ) → IsTree whol
     → AreNodes cut nodes → IsCertificate cut nodes lengths flow claim
     ↔ IsCertificate whole (map origin nodes) lengths (flow_at_origin origin flow) claim
 
--- a cut of a tree is a tree, and within the limits where the tree is
+-- a cut of a tree, with its names, is a tree, and within the limits where the tree is
 abbrev pub CutsAreTrees : Type 0
-CutsAreTrees = (whole cut : Rows) (origin : ℕ → ℕ) → AreTreeRows whole → IsCut whole cut origin → AreTreeRows cut
+CutsAreTrees = (whole cut : Rows) (origin : ℕ → ℕ) → AreTreeRows whole → IsCut whole cut origin
+    → ((node : ℕ) → name_of whole (origin node) ≡ name_of cut node) → AreTreeRows cut

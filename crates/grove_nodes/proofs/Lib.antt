@@ -1,0 +1,9 @@
+pub mod UnlistedPlaces
+pub mod Shapes
+pub mod Naming
+pub mod BuiltShapes
+pub mod PathTexts
+pub mod FilledBuffers
+pub mod Parts
+pub mod Verdicts
+pub mod Weighings

@@ -1,0 +1,6 @@
+use Rattle.std.proofs.Common.{◌≡◌, map, take}
+use Rattle.grove_nodes.specs.declared.part.PartNode.{PartNode}
+use Rattle.grove_nodes.proofs.part.parents_of.Given as goal
+
+abbrev pub invariant-loop-node : goal.invariant-loop-node
+invariant-loop-node l = l.parents.items ≡ map (λ (node : PartNode). node.parent) (take l.node-index l.part)

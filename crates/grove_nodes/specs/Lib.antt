@@ -1,0 +1,13 @@
+pub mod Statuses
+pub mod Shapes
+pub mod Lists
+pub mod Numbered
+pub mod Planning
+pub mod Putting
+pub mod Parts
+pub mod PartPlans
+pub mod Building
+pub mod Faults
+pub mod Telling
+pub mod Checking
+pub mod Weighing
