@@ -35,7 +35,7 @@ def blocks(text):
 
 def head(item):
     """An item's own name: of a function, a type or a trait, or of the type that an `impl` is for."""
-    block = re.match(r"impl(?:<[^>]*>)?\s+(?:[\w:<>', ]+?\s+for\s+)?(\w+)", item)
+    block = re.match(r"impl(?:<(?:[^<>]|<[^<>]*>)*>)?\s+(?:[\w:<>', ]+?\s+for\s+)?(\w+)", item)
     plain = re.match(r"(?:pub )?(?:fn|struct|enum|trait)\s+(\w+)", item)
     return (block or plain)[1] if block or plain else None
 
