@@ -1,0 +1,9 @@
+mod Behind
+mod Calls
+mod Crash
+mod Extended
+mod Fronts
+mod Kept
+mod Moments
+mod Passing
+mod Steps
