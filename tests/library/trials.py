@@ -23,6 +23,7 @@ from storing import note_talk, talks, written
 from sweeps.documents import EXAMPLES
 from sweeps.program import Tally
 from tool_trials import Trial
+from valuing import lines_of, note_values
 
 TOP = Path(__file__).resolve().parents[2]
 LIBRARY = TOP / "out/library"
@@ -358,6 +359,14 @@ def note_same(given: Given, room: Path, tally: Tally, words: list[str | Path], *
     tally.blame("faults among them", None if refused > len(documents) else f"only {refused}")
 
 
+def rust_values_say_the_same(given: Given, room: Path, tally: Tally) -> None:
+    """Plans, checks and judgements of values, which go by numbers, on each document of which there are values."""
+    documents, program = documents_of(given.documents), built_in_rust("values", room, tally)
+    ran = called(program, input=b"".join(map(lines_of, documents)), stdin=None, text=False)
+    tally.blame("it ran", None if ran.returncode == 0 else f"status {ran.returncode}: {ran.stderr[-2000:]!r}")
+    note_values(tally, documents, read_answers(ran.stdout), by_program(given.program, documents))
+
+
 def built_in_rust(name: str, room: Path, tally: Tally) -> Path:
     """A program of this folder that uses the crate."""
     project = room / name
@@ -452,4 +461,5 @@ TRIALS = [
     Trial("c_store_says_the_same", c_store_says_the_same, ("cc",)),
     Trial("rust_store_says_the_same", rust_store_says_the_same, ("cargo",)),
     Trial("python_store_says_the_same", python_store_says_the_same, ("python3",)),
+    Trial("rust_values_say_the_same", rust_values_say_the_same, ("cargo",)),
 ]

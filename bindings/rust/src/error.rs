@@ -9,9 +9,15 @@ pub enum Error {
     /// What was handed in is refused.
     Refused(Fault),
     /// An allocation failed.
-    Memory,
+    NoMemory,
+    /// The library that is linked isn't of this crate's version.
+    #[non_exhaustive]
+    OtherVersion {
+        /// The library's: major, minor and patch.
+        library: (u8, u8, u8),
+    },
     /// This is no path from the root down, as `/` or `/a/b`.
-    Path(String),
+    BadPath(String),
     /// No node has this path.
     NoNode(String),
     /// A node's weight isn't 1 to 1,000.
@@ -70,8 +76,16 @@ impl fmt::Display for Error {
     fn fmt(&self, out: &mut fmt::Formatter<'_>) -> fmt::Result {
         match self {
             Error::Refused(fault) => write!(out, "refused {fault}"),
-            Error::Memory => out.write_str("memory"),
-            Error::Path(path) => write!(out, "{path:?} is no path from the root down"),
+            Error::NoMemory => out.write_str("memory"),
+            Error::OtherVersion { library } => {
+                let (major, minor, patch) = library;
+                let own = env!("CARGO_PKG_VERSION");
+                write!(
+                    out,
+                    "the library has version {major}.{minor}.{patch}, and the crate {own}"
+                )
+            }
+            Error::BadPath(path) => write!(out, "{path:?} is no path from the root down"),
             Error::NoNode(path) => write!(out, "no node has the path {path:?}"),
             Error::Weight { path, weight } => {
                 write!(out, "{path:?} weighs {weight}, which isn't 1 to 1,000")

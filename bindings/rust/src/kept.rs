@@ -1,26 +1,98 @@
+use crate::access::Access;
+use crate::bounded::Bounded;
 use crate::error::Error;
 use crate::library::KeptTree;
+use crate::nodes::Nodes;
+use crate::plan::Plan;
+use crate::target::Target;
 use crate::unpoisoned;
 use std::fmt;
+use std::hash::{BuildHasher, Hash, Hasher, RandomState};
 use std::sync::Mutex;
 
-/// A tree as the library keeps it, from its first use on. A clone is another tree, which is read anew.
-#[derive(Default)]
-pub(crate) struct Kept(Mutex<Option<KeptTree>>);
+/// So many plans are kept of a tree; then all are forgotten.
+const MOST_PLANS: usize = 4_096;
+
+/// What a tree keeps from call to call: how the library has it, and the plans that were made over it. A clone is
+/// another tree, which keeps nothing yet.
+pub(crate) struct Kept {
+    whole: Mutex<Whole>,
+    /// By a hash of the paths and the lengths of their lists.
+    plans: Mutex<Bounded<u64, KeptPlan>>,
+    hashes: RandomState,
+}
+
+/// A plan with its list.
+struct KeptPlan {
+    list: Box<[Target]>,
+    plan: Plan,
+}
+
+/// How the library has a tree.
+pub(crate) enum Whole {
+    /// Nobody has asked for it yet.
+    Unasked,
+    /// As a whole.
+    Kept(KeptTree),
+    /// Not at all: the tree is too large or too deep, and each call takes a part.
+    InParts,
+}
 
 impl Kept {
-    /// What a call says of the tree that this document has. Of several threads each waits for the one before.
-    pub(crate) fn say(
-        &self,
-        document: impl FnOnce() -> String,
-        call: impl FnOnce(&mut KeptTree) -> Result<String, Error>,
-    ) -> Result<String, Error> {
-        let mut kept = unpoisoned(self.0.lock());
-        let tree = match kept.take() {
-            Some(tree) => tree,
-            None => KeptTree::open(document().as_bytes())?,
+    /// What a list is kept by, of whose accesses only paths and lengths matter.
+    #[inline]
+    pub(crate) fn key(&self, list: &[Access]) -> u64 {
+        let mut hasher = self.hashes.build_hasher();
+        for access in list {
+            access.path.hash(&mut hasher);
+            access.length.hash(&mut hasher);
+        }
+        hasher.finish()
+    }
+
+    /// The plan that was made for a list with this key.
+    #[inline]
+    pub(crate) fn plan(&self, key: u64, list: &[Access], nodes: &Nodes) -> Option<Plan> {
+        let plans = unpoisoned(self.plans.lock());
+        let kept = plans.get(&key)?;
+        let is_it = |(access, target): (&Access, &Target)| {
+            access.length == target.length.into() && access.path == nodes.path(target.node)
         };
-        call(kept.insert(tree))
+        let is_same = list.len() == kept.list.len() && list.iter().zip(&kept.list).all(is_it);
+        is_same.then(|| kept.plan.clone())
+    }
+
+    /// Keeps a plan, in the place of another one if two lists have the same key.
+    pub(crate) fn keep(&self, key: u64, list: &[Target], plan: &Plan) {
+        let (list, plan) = (list.into(), plan.clone());
+        let steps = plan.numbered_steps().len();
+        unpoisoned(self.plans.lock()).keep(key, KeptPlan { list, plan }, steps);
+    }
+
+    /// What a call says of the whole tree, if the library has it so. Of several threads each waits for the one before.
+    pub(crate) fn ask<A>(
+        &self,
+        build: impl FnOnce() -> Result<Whole, Error>,
+        call: impl FnOnce(&mut KeptTree) -> A,
+    ) -> Result<Option<A>, Error> {
+        let mut whole = unpoisoned(self.whole.lock());
+        if let Whole::Unasked = *whole {
+            *whole = build()?;
+        }
+        Ok(match &mut *whole {
+            Whole::Kept(tree) => Some(call(tree)),
+            Whole::Unasked | Whole::InParts => None,
+        })
+    }
+}
+
+impl Default for Kept {
+    fn default() -> Kept {
+        Kept {
+            whole: Mutex::new(Whole::Unasked),
+            plans: Mutex::new(Bounded::new(MOST_PLANS)),
+            hashes: RandomState::new(),
+        }
     }
 }
 
@@ -29,15 +101,6 @@ impl Clone for Kept {
         Kept::default()
     }
 }
-
-impl PartialEq for Kept {
-    /// It adds nothing to what a tree is.
-    fn eq(&self, _: &Kept) -> bool {
-        true
-    }
-}
-
-impl Eq for Kept {}
 
 impl fmt::Debug for Kept {
     fn fmt(&self, out: &mut fmt::Formatter<'_>) -> fmt::Result {

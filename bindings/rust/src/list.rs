@@ -1,19 +1,15 @@
+use crate::access::Access;
+use crate::bounded::Bounded;
 use crate::error::Error;
-use crate::fault::Fault;
-use crate::nodes::{Nodes, Target};
 use crate::program::Program;
-use crate::shape::MOST_STEPS;
+use crate::target::Target;
 use crate::unpoisoned;
-use std::collections::HashMap;
 use std::fmt;
 use std::ops::Deref;
 use std::sync::{Arc, Mutex, OnceLock};
 use std::time::Duration;
 
-/// As many accesses a list may have, and as many slots an access may take (docs/PROTOCOL.md).
-const MOST_ACCESSES: usize = 64;
-const MOST_LENGTH: u64 = 1_000;
-/// So many lists are kept, with so many steps of theirs as of shapes; then all are forgotten.
+/// So many lists are kept; then all are forgotten.
 const MOST_LISTS: usize = 4_096;
 
 /// An access that a list is to have: the path of its node, or the path with the slots that it takes, 1 to 1,000.
@@ -25,8 +21,8 @@ const MOST_LISTS: usize = 4_096;
 /// ```
 #[derive(Clone, Copy, Debug, PartialEq, Eq)]
 pub struct Wanted<'p> {
-    path: &'p str,
-    length: u64,
+    pub(crate) path: &'p str,
+    pub(crate) length: u64,
 }
 
 impl<'p, P: AsRef<str> + ?Sized> From<&'p P> for Wanted<'p> {
@@ -39,6 +35,13 @@ impl<'p, P: AsRef<str> + ?Sized> From<(&'p P, u64)> for Wanted<'p> {
     fn from((path, length): (&'p P, u64)) -> Wanted<'p> {
         let path = path.as_ref();
         Wanted { path, length }
+    }
+}
+
+impl From<Wanted<'_>> for Access {
+    /// An access that only reads, for a plan.
+    fn from(wanted: Wanted<'_>) -> Access {
+        Access::get(wanted.path).lasting(wanted.length)
     }
 }
 
@@ -155,23 +158,22 @@ impl KeptList {
 }
 
 /// The lists that were asked for, by their nodes and lengths.
-#[derive(Default)]
-pub(crate) struct Lists(Mutex<KeptLists>);
-
-#[derive(Default)]
-struct KeptLists {
-    of: HashMap<Box<[Target]>, Arc<KeptList>>,
-    steps: usize,
-}
+pub(crate) struct Lists(Mutex<Bounded<Box<[Target]>, Arc<KeptList>>>);
 
 impl Lists {
+    pub(crate) fn new() -> Lists {
+        Lists(Mutex::new(Bounded::new(MOST_LISTS)))
+    }
+
     /// The list of these accesses over the locks of a number.
     pub(crate) fn list(&self, locks: u64, targets: &[Target]) -> List {
         let mut lists = unpoisoned(self.0.lock());
-        let kept = match lists.of.get(targets) {
-            Some(kept) => Arc::clone(kept),
-            None => lists.keep(KeptList::new(locks, targets)),
-        };
+        let found = lists.get(targets).map(Arc::clone);
+        let kept = found.unwrap_or_else(|| {
+            let list = Arc::new(KeptList::new(locks, targets));
+            lists.keep(targets.into(), Arc::clone(&list), 0);
+            list
+        });
         List {
             kept,
             timeout: None,
@@ -181,93 +183,10 @@ impl Lists {
 
     /// Counts the steps of a program that was made.
     pub(crate) fn count(&self, steps: usize) {
-        let mut lists = unpoisoned(self.0.lock());
-        lists.steps += steps;
-        if lists.steps > MOST_STEPS {
-            lists.forget();
-        }
+        unpoisoned(self.0.lock()).count(steps);
     }
 
     pub(crate) fn forget(&self) {
         unpoisoned(self.0.lock()).forget();
-    }
-
-    #[cfg(test)]
-    pub(crate) fn len(&self) -> usize {
-        unpoisoned(self.0.lock()).of.len()
-    }
-}
-
-impl KeptLists {
-    fn keep(&mut self, list: KeptList) -> Arc<KeptList> {
-        if self.of.len() >= MOST_LISTS {
-            self.forget();
-        }
-        let (key, kept) = (list.targets.clone(), Arc::new(list));
-        self.of.insert(key, Arc::clone(&kept));
-        kept
-    }
-
-    fn forget(&mut self) {
-        *self = KeptLists::default();
-    }
-}
-
-/// The nodes and the lengths of what is wanted; or the first reason why that is no list.
-pub(crate) fn targets_of<'p>(
-    nodes: &Nodes,
-    wanted: impl IntoIterator<Item = Wanted<'p>>,
-) -> Result<Vec<Target>, Error> {
-    let mut targets = Vec::new();
-    for it in wanted {
-        let node = nodes.number(it.path)?;
-        let number = targets.len();
-        if number == MOST_ACCESSES {
-            return Err(refused("limit list".to_owned()));
-        }
-        if !(1..=MOST_LENGTH).contains(&it.length) {
-            return Err(refused(format!("bad-length list {number}")));
-        }
-        let length = it.length as u32;
-        targets.push(Target { node, length });
-    }
-    Ok(targets)
-}
-
-fn refused(text: String) -> Error {
-    Error::Refused(Fault::of(text))
-}
-
-#[cfg(test)]
-mod tests {
-    use super::{Lists, MOST_LISTS};
-    use crate::nodes::Target;
-    use crate::shape::MOST_STEPS;
-    use std::sync::Arc;
-
-    fn single(node: u32) -> [Target; 1] {
-        [Target { node, length: 1 }]
-    }
-
-    #[test]
-    fn so_many_lists_are_kept() {
-        let lists = Lists::default();
-        for node in 0..MOST_LISTS as u32 {
-            let list = lists.list(0, &single(node));
-            assert!(Arc::ptr_eq(&list.kept, &lists.list(0, &single(node)).kept));
-            assert_eq!(lists.len(), node as usize + 1);
-        }
-        lists.list(0, &single(1_000_000));
-        assert_eq!(lists.len(), 1);
-    }
-
-    #[test]
-    fn so_many_steps_are_kept() {
-        let lists = Lists::default();
-        lists.list(0, &single(1));
-        lists.count(MOST_STEPS);
-        assert_eq!(lists.len(), 1);
-        lists.count(1);
-        assert_eq!(lists.len(), 0);
     }
 }

@@ -1,12 +1,14 @@
 use crate::error::{Error, Stopped};
 use crate::latch::Latch;
-use crate::list::{List, Lists, Wanted, targets_of};
-use crate::nodes::{Nodes, Target};
+use crate::list::{List, Lists, Wanted};
+use crate::nodes::Nodes;
+use crate::part::Part;
 use crate::program::Program;
-use crate::shape::{Planner, Plans, settled};
+use crate::shape::{Planner, Plans, Shape, settled};
+use crate::target::{Target, Targets};
 use crate::transaction::Transaction;
 use crate::unpoisoned;
-use crate::weighing::{MOST_WEIGHT, Weighing, told};
+use crate::weighing::{Weighing, told, weights_of};
 use std::fmt;
 use std::sync::Mutex;
 use std::sync::atomic::{AtomicU64, Ordering};
@@ -61,7 +63,7 @@ impl<T> Locks<T> {
     ///
     /// # Errors
     ///
-    /// [`Error::Path`] of what is no path from the root down, and [`Error::Weight`].
+    /// [`Error::BadPath`] of what is no path from the root down, and [`Error::Weight`].
     pub fn new<P: AsRef<str>>(
         weights: impl IntoIterator<Item = (P, u32)>,
         record_of: impl FnMut(&str) -> T,
@@ -79,17 +81,17 @@ impl<T> Locks<T> {
         let given: Vec<(P, u32)> = weights.into_iter().collect();
         let paths = given.iter().map(|(path, _)| path.as_ref());
         let nodes = Nodes::new(paths)?;
-        let record = |path: &String| Record {
+        let record = |path| Record {
             latch: Latch::default(),
             value: Mutex::new(record_of(path)),
         };
         Ok(Locks {
             id: NEXT.fetch_add(1, Ordering::Relaxed),
             weighing: Weighing::new(weights_of(&nodes, &given)?),
-            records: nodes.paths().iter().map(record).collect(),
+            records: nodes.paths.iter().map(record).collect(),
             nodes,
             plans: Plans::new(planner),
-            lists: Lists::default(),
+            lists: Lists::new(),
         })
     }
 
@@ -106,7 +108,7 @@ impl<T> Locks<T> {
         wanted: impl IntoIterator<Item = W>,
     ) -> Result<List, Error> {
         let wanted = wanted.into_iter().map(Into::into);
-        let targets = targets_of(&self.nodes, wanted)?;
+        let targets = Targets::of_wanted(&self.nodes, wanted)?;
         Ok(self.lists.list(self.id, &targets))
     }
 
@@ -116,7 +118,7 @@ impl<T> Locks<T> {
     /// # Errors
     ///
     /// [`Error::Nested`]; [`Error::Foreign`] of a list of other locks; and if the list is run for the first time,
-    /// [`Error::Refused`] as `too-deep` or [`Error::Memory`].
+    /// [`Error::Refused`] as `too-deep` or [`Error::NoMemory`].
     pub fn transaction<'l>(&'l self, list: &'l List) -> Result<Transaction<'l, T>, Error> {
         if list.kept.locks != self.id {
             return Err(Error::Foreign);
@@ -209,24 +211,28 @@ impl<T> Locks<T> {
     pub fn into_records(self) -> impl Iterator<Item = (String, T)> {
         let records = self.records.into_iter();
         let values = records.map(|it| unpoisoned(it.value.into_inner()));
-        self.nodes.into_paths().into_iter().zip(values)
+        let paths = self.nodes.paths;
+        (0..)
+            .zip(values)
+            .map(move |(number, value)| (paths.path(number).to_owned(), value))
     }
 
     fn by_path(&self, each: impl Iterator<Item = u32>) -> impl Iterator<Item = (&str, u32)> {
-        self.nodes.paths().iter().map(String::as_str).zip(each)
+        self.nodes.paths.iter().zip(each)
     }
 
     /// The program of a list by the weights of now.
     fn made(&self, list: &[Target]) -> Result<Program, Error> {
         let (epoch, weights) = self.weighing.now();
-        let cut = self.nodes.cut(list);
-        let plan = if list.is_empty() {
-            [].into()
-        } else {
-            self.plans.plan(self.nodes.shape(&cut, &weights, list))?
+        let part = Part::of(&self.nodes, list.iter().map(|it| it.node).collect())?;
+        let shape = Shape {
+            rows: part.rows(&weights, |place, _| place),
+            places: list.iter().map(|it| part.place(it.node)).collect(),
+            lengths: list.iter().map(|it| it.length).collect(),
         };
+        let plan = self.plans.plan(shape)?;
         self.lists.count(plan.len());
-        Ok(Program::new(epoch, list, &cut, &plan))
+        Ok(Program::new(epoch, list, &part.numbers, &plan))
     }
 }
 
@@ -239,39 +245,40 @@ impl<T> fmt::Debug for Locks<T> {
     }
 }
 
-/// The weight of each node by those that are given.
-fn weights_of<P: AsRef<str>>(nodes: &Nodes, given: &[(P, u32)]) -> Result<Vec<u32>, Error> {
-    let mut weights = vec![1; nodes.paths().len()];
-    for (path, weight) in given {
-        let (path, weight) = (path.as_ref(), *weight);
-        if !(1..=MOST_WEIGHT).contains(&weight) {
-            let path = path.to_owned();
-            return Err(Error::Weight { path, weight });
-        }
-        weights[nodes.number(path)? as usize] = weight;
-    }
-    Ok(weights)
-}
-
 #[cfg(test)]
 mod tests {
     use super::Locks;
     use crate::error::Error;
-    use crate::shape::{Placed, PlacedStep, Row, Shape};
+    use crate::numbers::{NumberedStep, PartNode};
+    use crate::shape::Shape;
     use std::sync::{Arc, Mutex};
 
     type Asked = Arc<Mutex<Vec<Shape>>>;
 
     /// A plan that locks all first, and unlocks it in the end.
-    fn throughout(shape: &Shape) -> Vec<PlacedStep> {
-        let places = || 0..shape.rows.len() as u16;
-        let accesses = 0..shape.accesses.len() as u16;
-        let locks = places().map(PlacedStep::Lock);
-        let unlocks = places().map(PlacedStep::Unlock);
+    fn throughout(shape: &Shape) -> Vec<NumberedStep> {
+        let places = || 0..shape.rows.len() as u32;
+        let accesses = 0..shape.places.len() as u32;
+        let locks = places().map(NumberedStep::Lock);
+        let unlocks = places().map(NumberedStep::Unlock);
         locks
-            .chain(accesses.map(PlacedStep::Access))
+            .chain(accesses.map(NumberedStep::Access))
             .chain(unlocks)
             .collect()
+    }
+
+    /// A shape by the parents and the weights of its nodes, whose accesses take a slot each.
+    fn shape(nodes: &[(u32, u32)], places: &[u32]) -> Shape {
+        let row = |(number, &(parent, weight)): (u32, &(u32, u32))| PartNode {
+            number,
+            parent,
+            weight,
+        };
+        Shape {
+            rows: (0..).zip(nodes).map(row).collect(),
+            places: places.into(),
+            lengths: vec![1; places.len()],
+        }
     }
 
     /// Locks of two groups with a leaf each, and the shapes that are planned for them.
@@ -297,19 +304,11 @@ mod tests {
         for paths in [["/g", "/g/a"], ["/h", "/h/b"], ["/g", "/g/a"]] {
             run(&locks, &paths).unwrap();
         }
-        let row = |depth, weight| Row { depth, weight };
-        let placed = |place| Placed { place, length: 1 };
-        let shape = Shape {
-            rows: vec![row(0, 3), row(1, 1)],
-            accesses: vec![placed(0), placed(1)],
-        };
-        assert_eq!(*asked.lock().unwrap(), [shape]);
+        let pair = shape(&[(0, 3), (0, 1)], &[0, 1]);
+        assert_eq!(*asked.lock().unwrap(), [pair]);
         run(&locks, &["/h/b", "/g"]).unwrap();
-        let shape = Shape {
-            rows: vec![row(0, 9), row(1, 3), row(1, 3), row(2, 1)],
-            accesses: vec![placed(3), placed(1)],
-        };
-        assert_eq!(asked.lock().unwrap()[1..], [shape]);
+        let fork = shape(&[(0, 9), (0, 3), (0, 3), (2, 1)], &[3, 1]);
+        assert_eq!(asked.lock().unwrap()[1..], [fork]);
         let records: Vec<u32> = locks.into_records().map(|(_, record)| record).collect();
         assert_eq!(records, [0, 3, 2, 1, 2]);
     }

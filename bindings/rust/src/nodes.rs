@@ -1,140 +1,308 @@
 use crate::error::Error;
-use crate::shape::{Placed, Row, Shape};
-use crate::tree::names_of;
-use std::collections::{BTreeSet, HashMap};
+use crate::paths::{Paths, Place, names_of};
+use std::collections::HashMap;
+use std::hash::{BuildHasherDefault, Hasher};
+use std::sync::Arc;
 
-/// The nodes of some paths and all above them, by their numbers in preorder. There may be any number of them.
+/// The nodes of some paths and all above them, by their numbers in preorder. There may be any number of them. Siblings
+/// come in the order in which they were named.
 pub(crate) struct Nodes {
-    paths: Vec<String>,
-    number_of: HashMap<String, u32>,
+    pub(crate) paths: Arc<Paths>,
+    numbers: Numbers,
     /// The root has itself above it.
     parents: Vec<u32>,
     depths: Vec<u32>,
 }
 
-/// An access of a list: its node and its length.
-#[derive(Clone, Copy, Debug, PartialEq, Eq, Hash)]
-pub(crate) struct Target {
-    pub(crate) node: u32,
-    pub(crate) length: u32,
-}
-
 impl Nodes {
     pub(crate) fn new<'p>(paths: impl IntoIterator<Item = &'p str>) -> Result<Nodes, Error> {
-        let mut all = BTreeSet::from([Ordered("/")]);
+        let mut growing = Growing::new();
         for path in paths {
-            names_of(path).map(drop)?;
-            let mut way = path;
-            while all.insert(Ordered(way)) {
-                way = parent_of(way);
-            }
+            let names = names_of(path).ok_or_else(|| Error::BadPath(path.to_owned()))?;
+            growing.add(path, names);
         }
-        let paths: Vec<String> = all.into_iter().map(|it| it.0.to_owned()).collect();
-        let number_of: HashMap<String, u32> = paths.iter().cloned().zip(0..).collect();
-        let parents: Vec<u32> = paths
-            .iter()
-            .map(|path| number_of[parent_of(path)])
-            .collect();
-        let mut depths = vec![0; paths.len()];
-        for number in 1..paths.len() {
-            depths[number] = 1 + depths[parents[number] as usize];
-        }
-        Ok(Nodes {
-            paths,
-            number_of,
-            parents,
-            depths,
-        })
+        Ok(growing.in_preorder())
     }
 
-    pub(crate) fn paths(&self) -> &[String] {
-        &self.paths
-    }
-
-    pub(crate) fn into_paths(self) -> Vec<String> {
-        self.paths
+    pub(crate) fn len(&self) -> usize {
+        self.parents.len()
     }
 
     pub(crate) fn path(&self, number: u32) -> &str {
-        &self.paths[number as usize]
+        self.paths.path(number)
+    }
+
+    /// The number of the node of a path.
+    #[inline]
+    pub(crate) fn find(&self, path: &str) -> Option<u32> {
+        let names = if path == "/" { "" } else { path };
+        let hash = Rolling::default().over(names).hash();
+        self.numbers
+            .find(hash, |number| self.paths.path(number) == path)
     }
 
     pub(crate) fn number(&self, path: &str) -> Result<u32, Error> {
-        let found = self.number_of.get(path).copied();
-        found.ok_or_else(|| Error::NoNode(path.to_owned()))
+        self.find(path)
+            .ok_or_else(|| Error::NoNode(path.to_owned()))
     }
 
-    /// The nodes from the lowest common ancestor of those that are accessed down to these, in preorder: no other node's
-    /// weight is of any account for the settled plan.
-    pub(crate) fn cut(&self, list: &[Target]) -> Vec<u32> {
-        let numbers = || list.iter().map(|target| target.node);
-        let (Some(first), Some(last)) = (numbers().min(), numbers().max()) else {
-            return Vec::new();
-        };
-        let mut cut = BTreeSet::from([self.meeting(first, last)]);
-        for mut number in numbers() {
-            while cut.insert(number) {
-                number = self.parents[number as usize];
-            }
-        }
-        cut.into_iter().collect()
+    pub(crate) fn parents(&self) -> &[u32] {
+        &self.parents
+    }
+
+    pub(crate) fn depth(&self, number: u32) -> u32 {
+        self.depths[number as usize]
+    }
+
+    pub(crate) fn parent(&self, number: u32) -> u32 {
+        self.parents[number as usize]
     }
 
     /// The lowest common ancestor of two nodes. (In preorder that of a set is that of its first and its last.)
-    fn meeting(&self, mut first: u32, mut last: u32) -> u32 {
+    pub(crate) fn meeting(&self, mut first: u32, mut last: u32) -> u32 {
         while first != last {
             let lower = if self.depth(first) > self.depth(last) {
                 &mut first
             } else {
                 &mut last
             };
-            *lower = self.parents[*lower as usize];
+            *lower = self.parent(*lower);
         }
         first
     }
+}
 
-    fn depth(&self, number: u32) -> u32 {
-        self.depths[number as usize]
+/// A hash of a text that grows: that of a path is a step on the way to those of all below it. So a path of a million
+/// names is read once for all its nodes. (It is FNV-1a.)
+#[derive(Clone, Copy)]
+struct Rolling(u64);
+
+impl Rolling {
+    #[inline]
+    fn over(self, text: &str) -> Rolling {
+        let step =
+            |hash: u64, byte: u8| (hash ^ u64::from(byte)).wrapping_mul(0x0000_0100_0000_01b3);
+        Rolling(text.bytes().fold(self.0, step))
     }
 
-    /// The shape of a list over the part of the tree that is cut for it.
-    pub(crate) fn shape(&self, cut: &[u32], weights: &[u32], list: &[Target]) -> Shape {
-        let top = cut.first().map_or(0, |&number| self.depth(number));
-        let row = |&number: &u32| Row {
-            depth: self.depth(number) - top,
-            weight: weights[number as usize],
+    /// The hash, of which all bits depend on all.
+    fn hash(self) -> u64 {
+        let mixed = (self.0 ^ self.0 >> 32).wrapping_mul(0xd6e8_feb8_6659_fd93);
+        mixed ^ mixed >> 32
+    }
+}
+
+impl Default for Rolling {
+    fn default() -> Rolling {
+        Rolling(0xcbf2_9ce4_8422_2325)
+    }
+}
+
+/// The numbers of nodes by the hashes of their paths, that of the root by the hash of nothing.
+#[derive(Default)]
+struct Numbers(HashMap<u64, u32, BuildHasherDefault<Known>>);
+
+impl Numbers {
+    /// The number that is kept at a hash and that it is, of several that have the same.
+    #[inline]
+    fn find(&self, mut hash: u64, is_it: impl Fn(u32) -> bool) -> Option<u32> {
+        loop {
+            let found = *self.0.get(&hash)?;
+            if is_it(found) {
+                return Some(found);
+            }
+            hash = hash.wrapping_add(1);
+        }
+    }
+
+    fn keep(&mut self, mut hash: u64, number: u32) {
+        while self.0.contains_key(&hash) {
+            hash = hash.wrapping_add(1);
+        }
+        self.0.insert(hash, number);
+    }
+}
+
+/// What is hashed already.
+#[derive(Default)]
+struct Known(u64);
+
+impl Hasher for Known {
+    fn finish(&self) -> u64 {
+        self.0
+    }
+
+    fn write(&mut self, _: &[u8]) {
+        unreachable!("it is a number")
+    }
+
+    fn write_u64(&mut self, hash: u64) {
+        self.0 = hash;
+    }
+}
+
+/// Nodes in the order in which they are named, each with its children in theirs.
+struct Growing {
+    paths: Paths,
+    numbers: Numbers,
+    nodes: Vec<Grown>,
+}
+
+struct Grown {
+    parent: u32,
+    depth: u32,
+    first_child: Option<u32>,
+    last_child: Option<u32>,
+    next: Option<u32>,
+}
+
+const ROOT: u32 = 0;
+
+impl Growing {
+    fn new() -> Growing {
+        let mut growing = Growing {
+            paths: Paths::default(),
+            numbers: Numbers::default(),
+            nodes: Vec::new(),
         };
-        let placed = |target: &Target| Placed {
-            place: cut.partition_point(|&number| number < target.node) as u32,
-            length: target.length,
-        };
-        Shape {
-            rows: cut.iter().map(row).collect(),
-            accesses: list.iter().map(placed).collect(),
+        growing.paths.push("/");
+        growing.numbers.keep(Rolling::default().hash(), ROOT);
+        growing.nodes.push(Grown::below(ROOT, 0));
+        growing
+    }
+
+    /// Adds the node of a path with these names, and those above it, as far as they aren't there.
+    fn add<'p>(&mut self, path: &str, names: impl Iterator<Item = &'p str>) {
+        let (mut rolling, mut at) = (Rolling::default(), ROOT);
+        let (mut end, mut start) = (0, None);
+        for name in names {
+            rolling = rolling.over("/").over(name);
+            let hash = rolling.hash();
+            let from = end + 1;
+            end = from + name.len();
+            let is_it = |it: u32| {
+                self.nodes[it as usize].parent == at && it != ROOT && self.paths.name(it) == name
+            };
+            at = match self.numbers.find(hash, is_it) {
+                Some(found) => found,
+                None => {
+                    let start = *start.get_or_insert_with(|| self.paths.add(path));
+                    let place = Place {
+                        start,
+                        name: start + from,
+                        end: start + end,
+                    };
+                    self.grow(at, place, hash)
+                }
+            };
+        }
+    }
+
+    /// Adds a child of a node.
+    fn grow(&mut self, above: u32, place: Place, hash: u64) -> u32 {
+        let number = self.nodes.len() as u32;
+        let depth = self.nodes[above as usize].depth + 1;
+        self.nodes.push(Grown::below(above, depth));
+        let parent = &mut self.nodes[above as usize];
+        let before = parent.last_child.replace(number);
+        match before {
+            Some(before) => self.nodes[before as usize].next = Some(number),
+            None => parent.first_child = Some(number),
+        }
+        self.paths.places.push(place);
+        self.numbers.keep(hash, number);
+        number
+    }
+
+    fn in_preorder(mut self) -> Nodes {
+        let order = self.order();
+        let mut number_of = vec![0; order.len()];
+        for (number, &grown) in order.iter().enumerate() {
+            number_of[grown as usize] = number as u32;
+        }
+        for number in self.numbers.0.values_mut() {
+            *number = number_of[*number as usize];
+        }
+        let each = || order.iter().map(|&grown| &self.nodes[grown as usize]);
+        let places = order.iter().map(|&it| self.paths.places[it as usize]);
+        let places = places.collect();
+        Nodes {
+            parents: each().map(|it| number_of[it.parent as usize]).collect(),
+            depths: each().map(|it| it.depth).collect(),
+            numbers: self.numbers,
+            paths: Arc::new(Paths {
+                text: self.paths.text,
+                places,
+            }),
+        }
+    }
+
+    /// The nodes in preorder. (A path may be longer than calls can nest.)
+    fn order(&self) -> Vec<u32> {
+        let mut order = Vec::with_capacity(self.nodes.len());
+        let mut left = vec![ROOT];
+        while let Some(number) = left.pop() {
+            order.push(number);
+            let node = &self.nodes[number as usize];
+            left.extend(node.next);
+            left.extend(node.first_child);
+        }
+        order
+    }
+}
+
+impl Grown {
+    fn below(parent: u32, depth: u32) -> Grown {
+        Grown {
+            parent,
+            depth,
+            first_child: None,
+            last_child: None,
+            next: None,
         }
     }
 }
 
-/// The path of the node above; of the root its own.
-fn parent_of(path: &str) -> &str {
-    match path.rfind('/') {
-        None | Some(0) => "/",
-        Some(end) => &path[..end],
+#[cfg(test)]
+mod tests {
+    use super::Nodes;
+
+    fn paths(nodes: &Nodes) -> Vec<&str> {
+        nodes.paths.iter().collect()
     }
-}
 
-/// A path, which comes before all below it, and these before the next sibling.
-#[derive(PartialEq, Eq)]
-struct Ordered<'p>(&'p str);
-
-impl Ord for Ordered<'_> {
-    fn cmp(&self, other: &Self) -> std::cmp::Ordering {
-        self.0.split('/').cmp(other.0.split('/'))
+    #[test]
+    fn nodes_stand_in_preorder() {
+        let nodes = Nodes::new(["/b/c", "/a", "/b/a/x", "/b", "/a/z"]).unwrap();
+        let wanted = ["/", "/b", "/b/c", "/b/a", "/b/a/x", "/a", "/a/z"];
+        assert_eq!(paths(&nodes), wanted);
+        assert_eq!(nodes.parents(), [0, 0, 1, 1, 3, 0, 5]);
+        assert_eq!((0..7).map(|it| nodes.depth(it)).max(), Some(3));
+        for (number, path) in wanted.into_iter().enumerate() {
+            assert_eq!(nodes.find(path), Some(number as u32), "{path}");
+        }
+        for path in ["", "a", "//", "/b/", "/a/x", "/c", "/b/a/x/", "b", "/b//c"] {
+            assert_eq!(nodes.find(path), None, "{path:?}");
+        }
+        assert_eq!(nodes.meeting(2, 4), 1);
+        assert_eq!(nodes.meeting(2, 6), 0);
+        assert_eq!(nodes.meeting(3, 4), 3);
     }
-}
 
-impl PartialOrd for Ordered<'_> {
-    fn partial_cmp(&self, other: &Self) -> Option<std::cmp::Ordering> {
-        Some(self.cmp(other))
+    #[test]
+    fn nobody_is_found_in_the_place_of_another() {
+        let mut nodes = Nodes::new(["/a", "/b"]).unwrap();
+        nodes.numbers.0.clear();
+        // All have the same hash.
+        for number in 0..3 {
+            nodes.numbers.keep(u64::MAX, number);
+        }
+        for number in 0..3 {
+            assert_eq!(
+                nodes.numbers.find(u64::MAX, |it| it == number),
+                Some(number)
+            );
+        }
+        assert_eq!(nodes.numbers.find(u64::MAX, |_| false), None);
     }
 }

@@ -1,21 +1,27 @@
 use crate::access::Reply;
+use crate::numbers::{NumberedRow, NumberedStep, Planned};
+use crate::paths::Paths;
+use std::collections::HashMap;
+use std::fmt;
+use std::sync::Arc;
 
 /// A step of a plan.
-#[derive(Clone, Debug, PartialEq, Eq)]
-pub enum Step {
+#[derive(Clone, Copy, Debug, PartialEq, Eq, Hash)]
+pub enum Step<'p> {
     /// Locks the node of this path.
-    Lock(String),
+    Lock(&'p str),
     /// Unlocks it.
-    Unlock(String),
+    Unlock(&'p str),
     /// Does the access of this number.
     Access(usize),
 }
 
-/// A row of a certificate, of one node that every legal plan locks: what flows along each of its constraints.
-#[derive(Clone, Debug, PartialEq, Eq)]
-pub struct FlowRow {
+/// A row of a flow, of one node that every legal plan locks: what flows along each of its constraints
+/// (docs/CERTIFICATE.md).
+#[derive(Clone, Copy, Debug, PartialEq, Eq, Hash)]
+pub struct FlowRow<'p> {
     /// The path of the node.
-    pub node: String,
+    pub node: &'p str,
     /// Prices that its parent is locked no later.
     pub above: u64,
     /// Prices that the parent is still held when it is locked.
@@ -28,22 +34,140 @@ pub struct FlowRow {
     pub own: u64,
 }
 
-/// What proves that no legal plan costs less.
-#[derive(Clone, Debug, PartialEq, Eq)]
-pub struct Certificate {
-    /// A row for each node that every legal plan locks, in the tree's order.
-    pub rows: Vec<FlowRow>,
+/// A plan of a list, what it costs, and the flow that proves that no legal plan costs less. A clone is the same plan:
+/// it takes no more than a count.
+#[derive(Clone)]
+pub struct Plan(Arc<Inner>);
+
+struct Inner {
+    cost: u64,
+    steps: Box<[NumberedStep]>,
+    rows: Box<[NumberedRow]>,
+    paths: Arc<Paths>,
 }
 
-/// A plan of a list, what it costs, and what proves that none costs less.
-#[derive(Clone, Debug, PartialEq, Eq)]
-pub struct Plan {
+impl Plan {
+    /// A plan that somebody else has made. Nothing is looked at yet: [`Tree::check`](crate::Tree::check) does so.
+    pub fn new<'p>(
+        cost: u64,
+        steps: impl IntoIterator<Item = Step<'p>>,
+        flow: impl IntoIterator<Item = FlowRow<'p>>,
+    ) -> Plan {
+        let mut named = Named::default();
+        let steps = steps.into_iter().map(|it| named.step(it)).collect();
+        let rows = flow.into_iter().map(|it| named.row(it)).collect();
+        let paths = Arc::new(named.paths);
+        Plan::of(Planned { cost, steps, rows }, paths)
+    }
+
+    /// A plan by the numbers that nodes have in these paths.
+    pub(crate) fn of(planned: Planned, paths: Arc<Paths>) -> Plan {
+        Plan(Arc::new(Inner {
+            cost: planned.cost,
+            steps: planned.steps.into(),
+            rows: planned.rows.into(),
+            paths,
+        }))
+    }
+
     /// Weight times holding, added up over all nodes.
-    pub cost: u64,
+    pub fn cost(&self) -> u64 {
+        self.0.cost
+    }
+
     /// The steps, in order.
-    pub steps: Vec<Step>,
-    /// What proves the cost.
-    pub certificate: Certificate,
+    pub fn steps(&self) -> impl ExactSizeIterator<Item = Step<'_>> + Clone {
+        let path = |node| self.0.paths.path(node);
+        self.0.steps.iter().map(move |step| match *step {
+            NumberedStep::Lock(node) => Step::Lock(path(node)),
+            NumberedStep::Unlock(node) => Step::Unlock(path(node)),
+            NumberedStep::Access(number) => Step::Access(number as usize),
+        })
+    }
+
+    /// What proves that no legal plan costs less: a row for each node that every legal plan locks, in the tree's order.
+    pub fn flow(&self) -> impl ExactSizeIterator<Item = FlowRow<'_>> + Clone {
+        self.0.rows.iter().map(|row| FlowRow {
+            node: self.0.paths.path(row.node),
+            above: row.above,
+            held: row.held,
+            first: row.first,
+            last: row.last,
+            own: row.own,
+        })
+    }
+
+    pub(crate) fn numbered_steps(&self) -> &[NumberedStep] {
+        &self.0.steps
+    }
+
+    pub(crate) fn numbered_rows(&self) -> &[NumberedRow] {
+        &self.0.rows
+    }
+
+    pub(crate) fn paths(&self) -> &Arc<Paths> {
+        &self.0.paths
+    }
+}
+
+impl PartialEq for Plan {
+    fn eq(&self, other: &Plan) -> bool {
+        self.cost() == other.cost()
+            && self.steps().eq(other.steps())
+            && self.flow().eq(other.flow())
+    }
+}
+
+impl Eq for Plan {}
+
+impl fmt::Debug for Plan {
+    fn fmt(&self, out: &mut fmt::Formatter<'_>) -> fmt::Result {
+        out.debug_struct("Plan")
+            .field("cost", &self.cost())
+            .field("steps", &self.steps().collect::<Vec<_>>())
+            .field("flow", &self.flow().collect::<Vec<_>>())
+            .finish()
+    }
+}
+
+/// Paths by numbers in the order in which they come.
+#[derive(Default)]
+struct Named<'p> {
+    paths: Paths,
+    number_of: HashMap<&'p str, u32>,
+}
+
+impl<'p> Named<'p> {
+    fn number(&mut self, path: &'p str) -> u32 {
+        *self.number_of.entry(path).or_insert_with(|| {
+            self.paths.push(path);
+            self.paths.len() as u32 - 1
+        })
+    }
+
+    fn step(&mut self, step: Step<'p>) -> NumberedStep {
+        match step {
+            Step::Lock(path) => NumberedStep::Lock(self.number(path)),
+            Step::Unlock(path) => NumberedStep::Unlock(self.number(path)),
+            Step::Access(number) => NumberedStep::Access(access_number(number)),
+        }
+    }
+
+    fn row(&mut self, row: FlowRow<'p>) -> NumberedRow {
+        NumberedRow {
+            node: self.number(row.node),
+            above: row.above,
+            held: row.held,
+            first: row.first,
+            last: row.last,
+            own: row.own,
+        }
+    }
+}
+
+/// The number of an access. None that is too large for it is one of a list.
+pub(crate) fn access_number(number: usize) -> u32 {
+    u32::try_from(number).unwrap_or(u32::MAX)
 }
 
 /// What is said of a list that is done alone, by a legal plan.

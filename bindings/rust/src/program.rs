@@ -1,5 +1,5 @@
-use crate::nodes::Target;
-use crate::shape::PlacedStep;
+use crate::numbers::NumberedStep;
+use crate::target::Target;
 
 /// What is done at a step of a plan over locks.
 #[derive(Clone, Copy, Debug, PartialEq, Eq)]
@@ -29,32 +29,32 @@ pub(crate) struct Program {
 
 impl Program {
     /// The program of a list that a plan has over the part of its tree that is cut.
-    pub(crate) fn new(epoch: u64, list: &[Target], cut: &[u32], plan: &[PlacedStep]) -> Program {
+    pub(crate) fn new(epoch: u64, list: &[Target], cut: &[u32], plan: &[NumberedStep]) -> Program {
         let mut until = vec![plan.len() as u32; cut.len()];
         for (at, step) in plan.iter().enumerate() {
-            if let PlacedStep::Unlock(place) = step {
-                until[usize::from(*place)] = at as u32;
+            if let NumberedStep::Unlock(place) = step {
+                until[*place as usize] = at as u32;
             }
         }
         let mut is_accessed = vec![false; cut.len()];
         for target in list {
             is_accessed[cut.partition_point(|&number| number < target.node)] = true;
         }
-        let locked = |place: usize| Locked {
-            number: cut[place],
-            is_accessed: is_accessed[place],
+        let locked = |place: u32| Locked {
+            number: cut[place as usize],
+            is_accessed: is_accessed[place as usize],
         };
-        let action = |step: &PlacedStep| match *step {
-            PlacedStep::Lock(place) => Action::Lock {
-                node: locked(place.into()),
-                until: until[usize::from(place)],
+        let action = |step: &NumberedStep| match *step {
+            NumberedStep::Lock(place) => Action::Lock {
+                node: locked(place),
+                until: until[place as usize],
             },
-            PlacedStep::Unlock(place) => Action::Unlock {
-                node: locked(place.into()),
+            NumberedStep::Unlock(place) => Action::Unlock {
+                node: locked(place),
             },
-            PlacedStep::Access(access) => Action::Access {
-                access: access.into(),
-                node: list[usize::from(access)].node,
+            NumberedStep::Access(access) => Action::Access {
+                access,
+                node: list[access as usize].node,
             },
         };
         Program {
@@ -89,8 +89,8 @@ impl Program {
 #[cfg(test)]
 mod tests {
     use super::{Action, Locked, Program};
-    use crate::nodes::Target;
-    use crate::shape::PlacedStep::{Access, Lock, Unlock};
+    use crate::numbers::NumberedStep::{Access, Lock, Unlock};
+    use crate::target::Target;
 
     /// Two accesses below a node that is let go first.
     fn program() -> Program {

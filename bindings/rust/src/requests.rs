@@ -2,9 +2,8 @@ use crate::access::{Access, Reply};
 use crate::error::Error;
 use crate::fault::Fault;
 use crate::json::Value;
-use crate::plan::Plan;
-use crate::planning::{plan_of, read_reply};
-use crate::tree::{question, written};
+use crate::plan::{FlowRow, Plan, Step};
+use crate::writing::{claim, written_list};
 
 /// So much of what is no reply is told.
 const MOST_TOLD: usize = 100;
@@ -13,8 +12,8 @@ const MOST_TOLD: usize = 100;
 /// [`Client`](crate::Client)'s server.
 ///
 /// Each may be [`Error::Refused`], by which nothing changes, with the fault's name, and with a hint if the server says
-/// one. A server may be [`Error::Lost`], and what it says [`Error::NoReply`]; a store may be out of [`Error::Memory`],
-/// and is then as it was.
+/// one. A server may be [`Error::Lost`], and what it says [`Error::NoReply`]; a store may be out of
+/// [`Error::NoMemory`], and is then as it was.
 pub trait Requests {
     /// The reply to a line, both without a line feed.
     ///
@@ -32,7 +31,8 @@ pub trait Requests {
         &self,
         lists: impl IntoIterator<Item = L>,
     ) -> Result<Round, Error> {
-        let lists: Vec<String> = lists.into_iter().map(|it| written(it.as_ref())).collect();
+        let lists = lists.into_iter().map(|it| written_list(it.as_ref()));
+        let lists: Vec<String> = lists.collect();
         ask(self, "batch", &format!("[{}]", lists.join(",")), |reply| {
             Some(Round {
                 places: reply.member("places")?.each(Value::number)?,
@@ -48,9 +48,12 @@ pub trait Requests {
     ///
     /// As above.
     fn plan(&self, list: &[Access]) -> Result<Plan, Error> {
-        ask(self, "plan", &written(list), |reply| {
-            let cost = reply.member("cost")?.number()?;
-            plan_of(cost, reply.member("plan")?, reply.member("flow")?)
+        ask(self, "plan", &written_list(list), |reply| {
+            let steps = reply.member("plan")?.items()?.iter().map(read_step);
+            let rows = reply.member("flow")?.items()?.iter().map(read_row);
+            let steps: Option<Vec<Step<'_>>> = steps.collect();
+            let rows: Option<Vec<FlowRow<'_>>> = rows.collect();
+            Some(Plan::new(reply.member("cost")?.number()?, steps?, rows?))
         })
     }
 
@@ -60,8 +63,7 @@ pub trait Requests {
     ///
     /// As above.
     fn check(&self, list: &[Access], plan: &Plan) -> Result<u64, Error> {
-        let asked = question(list, Some(&plan.steps), Some(&plan.certificate));
-        ask(self, "check", &asked, |reply| {
+        ask(self, "check", &claim(list, plan), |reply| {
             reply.member("cost")?.number()
         })
     }
@@ -102,6 +104,40 @@ fn ask<A>(
     let reply = requests.send(format!("{{\"{name}\":{asked}}}").as_bytes())?;
     let found = Value::read(&reply).as_ref().and_then(read);
     found.ok_or_else(|| Error::NoReply(reply.chars().take(MOST_TOLD).collect()))
+}
+
+fn read_step(value: &Value) -> Option<Step<'_>> {
+    let [kind, of] = value.items()? else {
+        return None;
+    };
+    match kind.text()? {
+        "lock" => Some(Step::Lock(of.text()?)),
+        "unlock" => Some(Step::Unlock(of.text()?)),
+        "access" => Some(Step::Access(of.number()?)),
+        _ => None,
+    }
+}
+
+fn read_row(value: &Value) -> Option<FlowRow<'_>> {
+    let amount = |name| value.member(name)?.number();
+    Some(FlowRow {
+        node: value.member("node")?.text()?,
+        above: amount("above")?,
+        held: amount("held")?,
+        first: amount("first")?,
+        last: amount("last")?,
+        own: amount("own")?,
+    })
+}
+
+fn read_reply(value: &Value) -> Option<Reply> {
+    match value.text() {
+        Some("ok") => Some(Reply::Stored),
+        Some("range") => Some(Reply::Range),
+        Some("short") => Some(Reply::Short),
+        Some(_) => None,
+        None => value.number().map(Reply::Number),
+    }
 }
 
 /// A reply as it is, if it is no refusal.

@@ -3,6 +3,7 @@ use crate::library::KeptStore;
 use crate::requests::{Requests, unrefused};
 use crate::tree::Tree;
 use crate::unpoisoned;
+use crate::writing::no_list;
 use std::fmt;
 use std::sync::Mutex;
 
@@ -13,7 +14,7 @@ use std::sync::Mutex;
 /// use pickbracken::{Access, Reply, Requests, Store, Tree};
 ///
 /// # fn main() -> Result<(), pickbracken::Error> {
-/// let store = Store::open(&Tree::from_weights([("/", 5), ("/a", 1)])?)?;
+/// let store = Store::open(&Tree::from_paths([("/", 5), ("/a", 1)])?)?;
 /// let round = store.batch([[Access::add("/a", 7)]])?;
 /// assert_eq!(round.replies, [[Reply::Number(7)]]);
 /// # Ok(())
@@ -26,9 +27,9 @@ impl Store {
     ///
     /// # Errors
     ///
-    /// [`Error::Refused`] of what is no tree, and [`Error::Memory`].
+    /// [`Error::Refused`] of what is no tree, and [`Error::NoMemory`].
     pub fn open(tree: &Tree) -> Result<Store, Error> {
-        Store::open_document(tree.alone().as_bytes())
+        Store::open_document(tree.document(&no_list()).as_bytes())
     }
 
     /// A store of the tree and the records of a document's bytes.

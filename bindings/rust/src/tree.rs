@@ -1,71 +1,65 @@
 use crate::access::Access;
+use crate::claim::Claim;
+use crate::drawing::{Form, drawn};
 use crate::error::Error;
-use crate::json::quoted;
-use crate::kept::Kept;
-use crate::plan::{Certificate, FlowRow, Step};
-use std::fmt::Write;
+use crate::kept::{Kept, Whole};
+use crate::library::{KeptTree, plan_part};
+use crate::nodes::Nodes;
+use crate::numbers::{Arrays, Planned};
+use crate::part::{MOST_NODES, Part};
+use crate::paths::names_of;
+use crate::plan::{Judgement, Plan, Step};
+use crate::target::{Target, Targets};
+use crate::weighing::{reweighed, weights_of};
+use crate::writing::{question, written_tree};
+use std::fmt;
+use std::sync::Arc;
 
-/// The version of documents in which accesses have lengths.
-const VERSION: u32 = 2;
-
-/// Nodes with a weight and a record each, in preorder. Whether they are a tree as grove takes it is seen by each call.
+/// Nodes with a weight and a record each, in preorder, siblings in the order in which they were named. There may be any
+/// number of them, and their names are free; a [`Store`](crate::Store) and a drawing take no more than 4,096, at most
+/// 32 deep, with names as documents have them (docs/FORMATS.md).
 ///
-/// From its first plan on the library keeps the tree, which is read but once. Threads that plan over one tree wait for
-/// each other; a clone is read anew, and waits for nobody.
-#[derive(Clone, Debug, PartialEq, Eq)]
+/// Plans that were made are kept, some thousands of them, and found again by their lists. Threads that make new ones
+/// over one tree wait for each other, and a clone waits for nobody.
+#[derive(Clone)]
 pub struct Tree {
-    nodes: Vec<Node>,
-    pub(crate) kept: Kept,
-}
-
-#[derive(Clone, Debug, PartialEq, Eq)]
-struct Node {
-    parent: Option<usize>,
-    name: String,
-    weight: u32,
-    record: i64,
+    nodes: Arc<Nodes>,
+    weights: Vec<u32>,
+    records: Vec<i64>,
+    kept: Kept,
 }
 
 impl Tree {
-    /// A tree of the nodes of these paths, each with its weight; each node above one of them has weight 1 unless it is
-    /// one of them too. The records are 0. Of a path that comes twice the later weight counts.
-    pub fn from_weights<'p>(
+    /// A tree of the nodes of these paths, each with its weight, 1 to 1,000; each node above one of them has weight 1
+    /// unless it is one of them too. The records are 0. Of a path that comes twice the later weight counts.
+    ///
+    /// # Errors
+    ///
+    /// [`Error::BadPath`] of what is no path from the root down, and [`Error::Weight`].
+    pub fn from_paths<'p>(
         weights: impl IntoIterator<Item = (&'p str, u32)>,
     ) -> Result<Tree, Error> {
-        let mut branches = vec![Branch::new("")];
-        for (path, weight) in weights {
-            let at = names_of(path)?.fold(0, |above, name| child(&mut branches, above, name));
-            branches[at].weight = weight;
-        }
+        let given: Vec<(&str, u32)> = weights.into_iter().collect();
+        let nodes = Nodes::new(given.iter().map(|(path, _)| *path))?;
         Ok(Tree {
-            nodes: laid_out(&branches),
+            weights: weights_of(&nodes, &given)?,
+            records: vec![0; nodes.len()],
+            nodes: Arc::new(nodes),
             kept: Kept::default(),
         })
     }
 
-    /// A tree of nodes in preorder, by their depths and weights. Their numbers are their names.
-    pub(crate) fn from_depths(rows: impl Iterator<Item = (u32, u32)>) -> Tree {
-        let (mut nodes, mut way) = (Vec::new(), Vec::new());
-        for (number, (depth, weight)) in rows.enumerate() {
-            way.truncate(depth as usize);
-            let parent = way.last().copied();
-            nodes.push(Node {
-                parent,
-                name: parent.map_or(String::new(), |_| number.to_string()),
-                weight,
-                record: 0,
-            });
-            way.push(number);
-        }
-        let kept = Kept::default();
-        Tree { nodes, kept }
-    }
-
-    /// The same tree with another record at the node of a path, if there is such a node.
+    /// The same tree with another record at the node of a path.
+    ///
+    /// # Errors
+    ///
+    /// [`Error::BadPath`] and [`Error::NoNode`].
     pub fn with_record(mut self, path: &str, record: i64) -> Result<Tree, Error> {
-        let at = self.at(path)?;
-        self.nodes[at].record = record;
-        self.kept = Kept::default();
+        if names_of(path).is_none() {
+            return Err(Error::BadPath(path.to_owned()));
+        }
+        let number = self.nodes.number(path)?;
+        self.records[number as usize] = record;
         Ok(self)
     }
 
@@ -75,181 +69,163 @@ impl Tree {
         self.nodes.len()
     }
 
-    /// The path of each node, in the tree's order: that of records.
-    pub fn paths(&self) -> Vec<String> {
-        let mut paths: Vec<String> = Vec::with_capacity(self.nodes.len());
-        for node in &self.nodes {
-            let path = match node.parent {
-                None => "/".to_owned(),
-                Some(0) => format!("/{}", node.name),
-                Some(parent) => format!("{}/{}", paths[parent], node.name),
-            };
-            paths.push(path);
+    /// The path of each node, in the tree's order: that of weights, waits and records.
+    pub fn paths(&self) -> impl ExactSizeIterator<Item = &str> {
+        self.nodes.paths.iter()
+    }
+
+    /// The place of the node of a path in the tree's order, if there is one.
+    pub fn number(&self, path: &str) -> Option<usize> {
+        self.nodes.find(path).map(|number| number as usize)
+    }
+
+    /// The weight of each node.
+    pub fn weights(&self) -> &[u32] {
+        &self.weights
+    }
+
+    /// Makes new weights of the old ones and of how often each node was waited for (docs/PROTOCOL.md has the rule), and
+    /// gives how many have changed. Nodes behind the last wait that is given weren't waited for.
+    ///
+    /// # Errors
+    ///
+    /// [`Error::NoMemory`], and the weights are as they were.
+    pub fn reweigh(&mut self, waits: &[u32]) -> Result<usize, Error> {
+        let waits = waits.iter().copied().chain(std::iter::repeat(0));
+        let (weights, changed) = reweighed(&self.weights, waits)?;
+        self.weights = weights;
+        self.kept = Kept::default();
+        Ok(changed)
+    }
+
+    /// The settled plan of a list: no legal plan costs less, and of all that cost as little it is the latest.
+    ///
+    /// # Errors
+    ///
+    /// [`Error::Refused`]: `limit` of more than 64 accesses, `no-path` or `bad-length` of one of them, and `too-deep`
+    /// if one is more than 32 below the lowest common ancestor of all. [`Error::NoMemory`].
+    pub fn plan(&self, list: &[Access]) -> Result<Plan, Error> {
+        let key = self.kept.key(list);
+        if let Some(plan) = self.kept.plan(key, list, &self.nodes) {
+            return Ok(plan);
         }
-        paths
+        let targets = Targets::of_accesses(&self.nodes, list)?;
+        let plan = Plan::of(self.planned(&targets)?, Arc::clone(&self.nodes.paths));
+        self.kept.keep(key, &targets, &plan);
+        Ok(plan)
     }
 
-    /// Where the node of a path is.
-    fn at(&self, path: &str) -> Result<usize, Error> {
-        let found = names_of(path)?.try_fold(0, |above, name| {
-            let is_it = |node: &Node| node.parent == Some(above) && node.name == name;
-            (above + 1..self.nodes.len()).find(|&at| is_it(&self.nodes[at]))
-        });
-        found.ok_or_else(|| Error::NoNode(path.to_owned()))
+    /// What a plan costs that its flow proves to be least; or why that isn't so, whoever made the two. The cost that
+    /// the plan has isn't looked at.
+    ///
+    /// # Errors
+    ///
+    /// [`Error::Refused`] of the list, as for a plan, or by what is wrong with steps or flow. [`Error::NoMemory`].
+    pub fn check(&self, list: &[Access], plan: &Plan) -> Result<u64, Error> {
+        let targets = Targets::of_accesses(&self.nodes, list)?;
+        self.accepted(&Claim::of_plan(&self.nodes, &targets, plan)?)
     }
 
-    /// The document of the tree, with the rest of it.
+    /// What some steps cost, if they are a legal plan of the list, and what the list replies and leaves.
+    ///
+    /// # Errors
+    ///
+    /// Those of [`Tree::check`].
+    pub fn judge<'p>(
+        &self,
+        list: &[Access],
+        steps: impl IntoIterator<Item = Step<'p>>,
+    ) -> Result<Judgement, Error> {
+        let targets = Targets::of_accesses(&self.nodes, list)?;
+        let cost = self.accepted(&Claim::of_steps(&self.nodes, &targets, steps)?)?;
+        let mut records = self.records.clone();
+        let both = list.iter().zip(targets.iter());
+        let replies =
+            both.map(|(access, target)| access.op.done(&mut records[target.node as usize]));
+        Ok(Judgement {
+            cost,
+            replies: replies.collect(),
+            records,
+        })
+    }
+
+    /// The settled plan of a list as a picture.
+    ///
+    /// # Errors
+    ///
+    /// [`Error::Refused`] of a tree or a list that a document can't have. [`Error::NoMemory`].
+    pub fn draw(&self, list: &[Access], form: Form) -> Result<String, Error> {
+        drawn(form, &self.document(&question(list, None::<[Step<'_>; 0]>)))
+    }
+
+    /// The same, and above it the picture of some steps, if they are a legal plan of the list.
+    ///
+    /// # Errors
+    ///
+    /// As above, or by what is wrong with the steps.
+    pub fn draw_beside<'p>(
+        &self,
+        list: &[Access],
+        steps: impl IntoIterator<Item = Step<'p>>,
+        form: Form,
+    ) -> Result<String, Error> {
+        drawn(form, &self.document(&question(list, Some(steps))))
+    }
+
+    /// The document of the tree and its records, with the rest of it.
     pub(crate) fn document(&self, rest: &str) -> String {
-        let mut text = String::from("{\"nodes\":[");
-        join(&mut text, &self.nodes, write_node);
-        text.push_str("],");
-        text.push_str(rest.trim_start_matches('{'));
-        text
+        written_tree(&self.nodes, &self.weights, &self.records, rest)
     }
 
-    /// The document of the tree alone.
-    pub(crate) fn alone(&self) -> String {
-        self.document(&format!("{{\"version\":{VERSION}}}"))
-    }
-}
-
-/// The accesses as a document has them.
-pub(crate) fn written(list: &[Access]) -> String {
-    let mut text = String::from("[");
-    join(&mut text, list, write_access);
-    text.push(']');
-    text
-}
-
-/// The document without a tree of a list, and of a plan and a certificate if there are any.
-pub(crate) fn question(
-    list: &[Access],
-    steps: Option<&[Step]>,
-    certificate: Option<&Certificate>,
-) -> String {
-    let list = written(list);
-    let mut text = format!("{{\"version\":{VERSION},\"list\":{list}");
-    if let Some(steps) = steps {
-        text.push_str(",\"plan\":[");
-        join(&mut text, steps, write_step);
-        text.push(']');
-    }
-    if let Some(certificate) = certificate {
-        text.push_str(",\"flow\":[");
-        join(&mut text, &certificate.rows, write_row);
-        text.push(']');
-    }
-    text.push('}');
-    text
-}
-
-/// A node of a tree that isn't laid out yet.
-struct Branch<'p> {
-    name: &'p str,
-    weight: u32,
-    children: Vec<usize>,
-}
-
-impl Branch<'_> {
-    fn new(name: &str) -> Branch<'_> {
-        Branch {
-            name,
-            weight: 1,
-            children: Vec::new(),
+    fn planned(&self, list: &[Target]) -> Result<Planned, Error> {
+        let arrays = Arrays::of(list);
+        let asked = self
+            .kept
+            .ask(|| self.whole(), |tree| tree.plan(arrays.accesses()))?;
+        match asked {
+            Some(planned) => planned,
+            None => {
+                let part = Part::of(&self.nodes, arrays.nodes.clone())?;
+                let rows = part.rows(&self.weights, |_, number| number);
+                plan_part(&rows, arrays.numbered(|it| part.place(it)).accesses(), true)
+            }
         }
     }
-}
 
-/// Where the child of this name is, which is made if there is none.
-fn child<'p>(branches: &mut Vec<Branch<'p>>, above: usize, name: &'p str) -> usize {
-    let children = &branches[above].children;
-    if let Some(&found) = children.iter().find(|&&it| branches[it].name == name) {
-        return found;
+    /// What is said of a claim.
+    fn accepted(&self, claim: &Claim<'_>) -> Result<u64, Error> {
+        let asked = self.kept.ask(|| self.whole(), |tree| claim.ask(tree))?;
+        let said = match asked {
+            Some(said) => said?,
+            None => claim.ask_part(&self.nodes, &self.weights)?,
+        };
+        said.map_err(|fault| Error::Refused(fault.told(|node| self.nodes.path(node))))
     }
-    let at = branches.len();
-    branches[above].children.push(at);
-    branches.push(Branch::new(name));
-    at
-}
 
-/// The nodes of the branches, in preorder. (A path may be longer than the stack is deep.)
-fn laid_out(branches: &[Branch<'_>]) -> Vec<Node> {
-    let mut nodes = Vec::with_capacity(branches.len());
-    let mut left = vec![(None, 0)];
-    while let Some((parent, at)) = left.pop() {
-        let (branch, number) = (&branches[at], nodes.len());
-        nodes.push(Node {
-            parent,
-            name: branch.name.to_owned(),
-            weight: branch.weight,
-            record: 0,
-        });
-        let children = branch.children.iter().rev();
-        left.extend(children.map(|&child| (Some(number), child)));
-    }
-    nodes
-}
-
-/// The names on the way down a path.
-pub(crate) fn names_of(path: &str) -> Result<impl Iterator<Item = &str>, Error> {
-    match path.strip_prefix('/') {
-        Some("") => Ok("".split_terminator('/')),
-        Some(names) if names.split('/').all(|name| !name.is_empty()) => {
-            Ok(names.split_terminator('/'))
+    /// The tree as the library has it.
+    fn whole(&self) -> Result<Whole, Error> {
+        if self.len() > MOST_NODES {
+            return Ok(Whole::InParts);
         }
-        _ => Err(Error::Path(path.to_owned())),
+        let built = KeptTree::build(self.nodes.parents(), &self.weights)?;
+        Ok(built.map_or(Whole::InParts, Whole::Kept))
     }
 }
 
-/// Writes the items, with commas between them.
-fn join<T>(text: &mut String, items: &[T], write: impl Fn(&mut String, &T) -> std::fmt::Result) {
-    for (at, item) in items.iter().enumerate() {
-        if at > 0 {
-            text.push(',');
-        }
-        write(text, item).expect("a string takes what is written");
+impl PartialEq for Tree {
+    /// What is kept adds nothing to what a tree is.
+    fn eq(&self, other: &Tree) -> bool {
+        self.weights == other.weights
+            && self.records == other.records
+            && (Arc::ptr_eq(&self.nodes, &other.nodes) || self.paths().eq(other.paths()))
     }
 }
 
-fn write_node(text: &mut String, node: &Node) -> std::fmt::Result {
-    let name = quoted(&node.name);
-    match node.parent {
-        Some(parent) => write!(text, "{{\"parent\":{parent}")?,
-        None => text.push_str("{\"parent\":null"),
-    }
-    let (weight, record) = (node.weight, node.record);
-    write!(
-        text,
-        ",\"name\":{name},\"weight\":{weight},\"value\":{record}}}"
-    )
-}
+impl Eq for Tree {}
 
-fn write_access(text: &mut String, access: &Access) -> std::fmt::Result {
-    use crate::access::Op;
-
-    let path = quoted(&access.path);
-    match access.op {
-        Op::Get => write!(text, "[\"get\",{path}")?,
-        Op::Set(number) => write!(text, "[\"set\",{path},{number}")?,
-        Op::Add(number) => write!(text, "[\"add\",{path},{number}")?,
-        Op::Take(number) => write!(text, "[\"take\",{path},{number}")?,
-    }
-    write!(text, ",{}]", access.length)
-}
-
-fn write_row(text: &mut String, row: &FlowRow) -> std::fmt::Result {
-    let node = quoted(&row.node);
-    write!(
-        text,
-        "{{\"node\":{node},\"above\":{},\"held\":{},\"first\":{},\"last\":{},\"own\":{}}}",
-        row.above, row.held, row.first, row.last, row.own
-    )
-}
-
-fn write_step(text: &mut String, step: &Step) -> std::fmt::Result {
-    match step {
-        Step::Lock(path) => write!(text, "[\"lock\",{}]", quoted(path)),
-        Step::Unlock(path) => write!(text, "[\"unlock\",{}]", quoted(path)),
-        Step::Access(number) => write!(text, "[\"access\",{number}]"),
+impl fmt::Debug for Tree {
+    fn fmt(&self, out: &mut fmt::Formatter<'_>) -> fmt::Result {
+        let both = self.weights.iter().zip(&self.records);
+        out.debug_map().entries(self.paths().zip(both)).finish()
     }
 }

@@ -1,9 +1,13 @@
+use crate::error::Error;
+use crate::library::KeptTree;
+use crate::nodes::Nodes;
+use crate::part::MOST_NODES;
 use crate::unpoisoned;
 use std::sync::atomic::{AtomicU64, Ordering};
 use std::sync::{Arc, Mutex};
 
 /// The most that a node weighs, and the most waits that are told of one.
-pub(crate) const MOST_WEIGHT: u32 = 1_000;
+const MOST_WEIGHT: u32 = 1_000;
 const MOST_WAITS: u64 = 1_000;
 
 /// The weights of nodes, and which time it is that they were made.
@@ -44,6 +48,39 @@ impl Weighing {
     }
 }
 
+/// The weight of each node by those that are given.
+pub(crate) fn weights_of<P: AsRef<str>>(
+    nodes: &Nodes,
+    given: &[(P, u32)],
+) -> Result<Vec<u32>, Error> {
+    let mut weights = vec![1; nodes.len()];
+    for (path, weight) in given {
+        let (path, weight) = (path.as_ref(), *weight);
+        if !(1..=MOST_WEIGHT).contains(&weight) {
+            let path = path.to_owned();
+            return Err(Error::Weight { path, weight });
+        }
+        weights[nodes.number(path)? as usize] = weight;
+    }
+    Ok(weights)
+}
+
+/// The new weights of nodes by their waits, and how many have changed. The library makes them, of some nodes at a time:
+/// for this nobody is above another one, but for the first.
+pub(crate) fn reweighed(
+    weights: &[u32],
+    waits: impl Iterator<Item = u32>,
+) -> Result<(Vec<u32>, usize), Error> {
+    let waits: Vec<u32> = waits.take(weights.len()).collect();
+    let (mut new, mut changed) = (weights.to_vec(), 0);
+    let each = weights.chunks(MOST_NODES).zip(waits.chunks(MOST_NODES));
+    for ((weights, waits), new) in each.zip(new.chunks_mut(MOST_NODES)) {
+        let tree = KeptTree::build(&vec![0; weights.len()], weights)?;
+        changed += tree.expect("it is in the limits").reweigh(waits, new);
+    }
+    Ok((new, changed))
+}
+
 /// So many waits as are told of a node.
 pub(crate) fn told(waits: u64) -> u32 {
     waits.min(MOST_WAITS) as u32
@@ -56,7 +93,7 @@ fn new_weight(weight: u32, waits: u64) -> u32 {
 
 #[cfg(test)]
 mod tests {
-    use super::{Weighing, new_weight, told};
+    use super::{Weighing, new_weight, reweighed, told};
 
     #[test]
     fn new_weights_go_by_the_rule() {
@@ -73,6 +110,21 @@ mod tests {
             assert_eq!(new_weight(weight, waits), new, "{weight}, {waits}");
         }
         assert_eq!([999, 1_000, 1_001].map(told), [999, 1_000, 1_000]);
+    }
+
+    #[test]
+    fn the_rule_is_that_of_the_library() {
+        let weights: Vec<u32> = (1..=1_000).chain(1..=1_000).cycle().take(9_000).collect();
+        for waits in [0, 1, 2, 499, 500, 501, 1_000] {
+            let all = (0..9_000).map(|node| waits + node % 3);
+            let wanted = weights.iter().zip(all.clone());
+            let wanted: Vec<u32> = wanted
+                .map(|(&it, waits)| new_weight(it, waits.into()))
+                .collect();
+            let both = weights.iter().zip(&wanted);
+            let changed = both.filter(|(before, after)| before != after).count();
+            assert_eq!(reweighed(&weights, all), Ok((wanted, changed)));
+        }
     }
 
     #[test]

@@ -106,16 +106,17 @@ fn requests_and_replies() {
     assert_eq!(round.replies, wanted);
     let list = [Access::get("/a")];
     let plan = client.plan(&list).unwrap();
-    assert_eq!(plan.steps, [Step::Lock("/a".into()), Step::Access(0)]);
+    assert!(plan.steps().eq([Step::Lock("/a"), Step::Access(0)]));
     let row = FlowRow {
-        node: "/a".into(),
+        node: "/a",
         above: 0,
         held: 0,
         first: 1,
         last: 1,
         own: 0,
     };
-    assert_eq!((plan.cost, &plan.certificate.rows), (1, &vec![row]));
+    assert_eq!(plan.cost(), 1);
+    assert!(plan.flow().eq([row]));
     assert_eq!(client.check(&list, &plan), Ok(1));
     let told = client.weights().unwrap();
     assert_eq!((told.weights, told.waits), (vec![5, 1], vec![0, 2]));

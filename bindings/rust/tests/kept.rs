@@ -4,7 +4,7 @@ use pickbracken::{Access, Error, Tree};
 use std::thread;
 
 fn stock() -> Tree {
-    Tree::from_weights([("/", 5), ("/a", 1), ("/b", 1)])
+    Tree::from_paths([("/", 5), ("/a", 1), ("/b", 1)])
         .and_then(|tree| tree.with_record("/a", 10))
         .and_then(|tree| tree.with_record("/b", 20))
         .unwrap()
@@ -32,16 +32,16 @@ fn trees_go_from_thread_to_thread() {
             .collect();
         assert!(planning.into_iter().all(|it| it.join().unwrap()));
     });
-    let moved = thread::spawn(move || tree.check(&list, &wanted).unwrap() == wanted.cost);
+    let moved = thread::spawn(move || tree.check(&list, &wanted).unwrap() == wanted.cost());
     assert!(moved.join().unwrap());
 }
 
 #[test]
-fn a_tree_that_is_refused_is_refused_again() {
-    let heavy = Tree::from_weights([("/", 1001)]).unwrap();
+fn a_list_that_is_refused_is_refused_again() {
+    let tree = stock();
     for _ in 0..2 {
-        let error = heavy.plan(&[]).unwrap_err();
-        assert_eq!(name_of(error), refusal("bad-weight", "row 0"));
+        let error = tree.plan(&[Access::get("/a"), Access::get("/c")]);
+        assert_eq!(name_of(error.unwrap_err()), refusal("no-path", "list 1"));
     }
 }
 

@@ -56,7 +56,7 @@ fn accesses_come_in_order_while_their_nodes_are_held() {
 #[test]
 fn nodes_are_held_as_the_settled_plan_says() {
     let locks = made(());
-    let tree = Tree::from_weights(weights().iter().map(|(path, it)| (path.as_str(), *it))).unwrap();
+    let tree = Tree::from_paths(weights().iter().map(|(path, it)| (path.as_str(), *it))).unwrap();
     for wanted in [
         vec![(A, 1), (B, 1)],
         vec![(A, 1), ("/g1", 4), (B, 2), (A, 1)],
@@ -68,16 +68,16 @@ fn nodes_are_held_as_the_settled_plan_says() {
             .map(|(path, length)| Access::get(*path).lasting(*length))
             .collect();
         let plan = tree.plan(&accesses).unwrap();
-        let mut steps = plan.steps.iter();
+        let mut steps = plan.steps();
         let mut planned = BTreeSet::new();
         let list = locks.list(wanted.iter().copied()).unwrap();
         let done = locks.run(&list, |number, _| {
             for step in steps.by_ref() {
                 match step {
-                    Step::Lock(path) => assert!(planned.insert(path.clone())),
+                    Step::Lock(path) => assert!(planned.insert(path.to_owned())),
                     Step::Unlock(path) => assert!(planned.remove(path)),
                     Step::Access(access) => {
-                        assert_eq!(*access, number);
+                        assert_eq!(access, number);
                         break;
                     }
                 }
@@ -310,7 +310,7 @@ fn weights_are_1_to_1000() {
         assert_eq!(refused.to_string(), wanted);
     }
     let refused = Locks::new([("a", 1)], |_| ()).unwrap_err();
-    assert_eq!(refused, Error::Path("a".to_owned()));
+    assert_eq!(refused, Error::BadPath("a".to_owned()));
     let locks = Locks::new([("/a/b", 1_000), ("/", 7), ("/", 1)], |_| ()).unwrap();
     assert_eq!(locks.weights(), [("/", 1), ("/a", 1), ("/a/b", 1_000)]);
 }

@@ -17,7 +17,7 @@ fn resident() -> usize {
 fn ten_thousand_calls_keep_nothing() {
     let list = [Access::get("/a"), Access::add("/b", 1)];
     let each = || {
-        let tree = Tree::from_weights([("/", 5), ("/a", 1), ("/b", 1)]).unwrap();
+        let tree = Tree::from_paths([("/", 5), ("/a", 1), ("/b", 1)]).unwrap();
         let plan = tree.plan(&list).unwrap();
         tree.check(&list, &plan).unwrap();
         document::judge(b"{").unwrap_err();

@@ -6,7 +6,7 @@ use std::thread;
 const ADD: &[u8] = br#"{"batch":[[["add","/a",1]]]}"#;
 
 fn stock() -> Tree {
-    Tree::from_weights([("/", 5), ("/a", 1), ("/b", 1)])
+    Tree::from_paths([("/", 5), ("/a", 1), ("/b", 1)])
         .and_then(|tree| tree.with_record("/a", 10))
         .unwrap()
 }
@@ -32,7 +32,7 @@ fn requests_are_those_of_a_client() {
     let list = [Access::get("/a"), Access::add("/b", 1).lasting(2)];
     let plan = store.plan(&list).unwrap();
     assert_eq!(plan, stock().plan(&list).unwrap());
-    assert_eq!(store.check(&list, &plan), Ok(plan.cost));
+    assert_eq!(store.check(&list, &plan), Ok(plan.cost()));
     for (root, changed) in [(5, 1), (3, 1), (2, 1), (1, 0)] {
         let told = store.weights().unwrap();
         assert_eq!((told.weights, told.waits), (vec![root, 1, 1], vec![0; 3]));
@@ -130,6 +130,6 @@ fn threads_take_turns() {
 #[test]
 fn documents_that_are_refused_open_no_store() {
     assert_eq!(refused(Store::open_document(b"{").unwrap_err()), "bad-json");
-    let heavy = Tree::from_weights([("/", 1001)]).unwrap();
-    assert_eq!(refused(Store::open(&heavy).unwrap_err()), "bad-weight");
+    let named = Tree::from_paths([("/a b", 1)]).unwrap();
+    assert_eq!(refused(Store::open(&named).unwrap_err()), "bad-name");
 }
