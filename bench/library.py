@@ -119,7 +119,7 @@ def main() -> None:
             tell(case.name, timed(case, given.grove, given.runs, rust))
         in_rust = times_in_rust(rust, given.runs)
     first = {name: in_rust.pop(name) for name in list(in_rust) if name.endswith(" shape")}
-    tell("a transaction of 2 accesses", transactions(given.runs) | in_rust)
+    tell("a transaction of 2 accesses", transactions(given.runs) | in_rust | times_in_c(given.runs))
     tell("a list that comes first, of 2 accesses", first_times(given.runs) | first)
     print(f"load of the machine: {' '.join(f'{load:.1f}' for load in os.getloadavg())}")
 
@@ -240,6 +240,16 @@ async def transactions_of_a_task(runs: int) -> dict[str, list[float]]:
         times["asyncio, planned"].append(await once_awaited(planned))
     need(sum(records.values()) == 2 * TRANSACTIONS * (2 * runs + 1), "an access was lost")
     return times
+
+
+def times_in_c(runs: int) -> dict[str, list[float]]:
+    """The same in C, by bench/transactions.c."""
+    with tempfile.TemporaryDirectory(prefix="grove-bench-") as room:
+        parts = [f"-I{TOP / 'include'}", TOP / "bench/transactions.c", TOP / "out/library/libgrove.a", "-pthread"]
+        subprocess.run(["cc", "-std=c99", "-O2", *parts, "-o", f"{room}/transactions"], check=True)
+        ran = subprocess.run([f"{room}/transactions", str(runs)], stdout=subprocess.PIPE, check=True, text=True)
+    lines = (line.split("\t") for line in ran.stdout.splitlines())
+    return {name: [float(word) / 1e9 for word in numbers.split()] for name, numbers in lines}
 
 
 def first_times(runs: int) -> dict[str, list[float]]:

@@ -47,14 +47,14 @@ typedef struct bytes {
 
 static int is_wrong;
 
-static void want(int is_so, const char *name, const char *what) {
+static inline void want(int is_so, const char *name, const char *what) {
     if (!is_so) {
         printf("%s: not so: %s\n", name, what);
         is_wrong = 1;
     }
 }
 
-static void read_file(const char *path, bytes *read) {
+static inline void read_file(const char *path, bytes *read) {
     FILE *file = fopen(path, "rb");
     if (file == NULL)
         exit(2);

@@ -35,6 +35,8 @@ WRAPS = [f"-Wl,--wrap={name}" for name in ("malloc", "realloc", "free")]
 HERE = Path(__file__).resolve().parent
 # How many lines a store in C and in Rust answers.
 FEW_LINES = 300
+# How many transactions are made in C where the environment doesn't say it.
+FEW_TRANSACTIONS = "10000"
 # What a store of examples/settings.json replies to `note_store`.
 STORE_SAID = """\
 {"places":[0],"replies":[[9]],"round":1}
@@ -94,6 +96,9 @@ def example_in_c(_given: Given, room: Path, tally: Tally) -> None:
             made = compiled("bindings/c/store.c", room, library, f"-std={standard}")
             note_well(tally, f"store, {standard}, {library}", made)
             note_store(tally, room)
+            made = compiled("bindings/c/locks.c", room, library, f"-std={standard}", "-pthread")
+            note_well(tally, f"locks, {standard}, {library}", made)
+            note_locks(tally, room)
 
 
 def note_example(tally: Tally, room: Path) -> None:
@@ -116,6 +121,12 @@ def note_store(tally: Tally, room: Path) -> None:
     note_unread(tally, "store", room)
 
 
+def note_locks(tally: Tally, room: Path, *under: str) -> None:
+    ran = called(*under, room / "program", env={**os.environ, "LD_LIBRARY_PATH": str(LIBRARY)})
+    wanted = "4000 moves, and the shelves hold 400\n"
+    note_equal(tally, "locks", (ran.returncode, ran.stdout, ran.stderr), (0, wanted, ""))
+
+
 def note_unread(tally: Tally, name: str, room: Path) -> None:
     """A folder, and what isn't there, can't be read."""
     for document in (room, room / "nothing"):
@@ -134,10 +145,12 @@ def example_on(room: Path, document: Path, *under: str) -> subprocess.CompletedP
 
 
 def header_in_cpp(_given: Given, room: Path, tally: Tally) -> None:
-    (room / "header.cpp").write_text('#include "grove.h"\n')
+    """Both headers."""
     folder = f"-I{TOP / 'include'}"
-    made = called("c++", *STRICT, folder, "-c", room / "header.cpp", "-o", room / "header.o")
-    note_well(tally, "header", made)
+    for header in ("grove.h", "grove_locks.h"):
+        (room / "header.cpp").write_text(f'#include "{header}"\n')
+        made = called("c++", *STRICT, folder, "-c", room / "header.cpp", "-o", room / "header.o")
+        note_well(tally, header, made)
 
 
 def valgrind(_given: Given, room: Path, tally: Tally) -> None:
@@ -153,6 +166,8 @@ def valgrind(_given: Given, room: Path, tally: Tally) -> None:
     note_well(tally, "stores", called(*words, room / "program", *written_for_stores(room)))
     compile_trial("numbers", room, tally)
     note_well(tally, "numbers", called(*words, room / "program", EXAMPLES / "settings.json"))
+    note_well(tally, "compiled locks", compiled("bindings/c/locks.c", room, "libgrove.a", "-g", "-pthread"))
+    note_locks(tally, room, *words)
 
 
 def buffers(_given: Given, room: Path, tally: Tally) -> None:
@@ -181,6 +196,13 @@ def numbers(_given: Given, room: Path, tally: Tally) -> None:
     """The calls over numbers, likewise."""
     compile_trial("numbers", room, tally)
     note_well(tally, "numbers", called(room / "program", EXAMPLES / "settings.json"))
+
+
+def locks_in_c(_given: Given, room: Path, tally: Tally) -> None:
+    """Transactions of sixteen threads by include/grove_locks.h, some of which are broken off."""
+    made = compiled("tests/library/transactions.c", room, "libgrove.a", "-std=c99", "-O1", "-pthread")
+    note_well(tally, "compiled", made)
+    note_well(tally, "transactions", called(room / "program", os.environ.get("GROVE_TRANSACTIONS", FEW_TRANSACTIONS)))
 
 
 def compile_trial(name: str, room: Path, tally: Tally) -> None:
@@ -448,6 +470,7 @@ TRIALS = [
     Trial("handles", handles, ("cc",)),
     Trial("stores", stores, ("cc",)),
     Trial("numbers", numbers, ("cc",)),
+    Trial("locks_in_c", locks_in_c, ("cc",)),
     Trial("valgrind", valgrind, ("cc", "valgrind")),
     Trial("rust", rust, ("cargo", "cargo-fmt", "cargo-clippy")),
     Trial("python", python, ("python3",)),
