@@ -43,6 +43,14 @@ STORE_SAID = """\
 {"error":"shape"}
 {"waits":[0,0,0,0,0,0,0,0,0,0,0,0,0,0,0],"weights":[50,10,2,2,4,1,1,10,2,4,1,1,10,1,1]}
 """
+# Where Debian's packages have the crates of others.
+DEBIAN_CRATES = """\
+[source.crates-io]
+replace-with = "debian"
+
+[source.debian]
+directory = "/usr/share/cargo/registry"
+"""
 MANIFEST = """\
 [package]
 name = "NAME"
@@ -243,6 +251,20 @@ def rust(_given: Given, room: Path, tally: Tally) -> None:
     ):
         note_well(tally, words[0], called("cargo", *words, cwd=crate_at(room), env=where))
     note_no_library(room, tally, surroundings)
+
+
+def tokio(_given: Given, room: Path, tally: Tally) -> None:
+    """The crate for tasks of tokio, over that of Debian: its tests, its form, and nothing that clippy would have."""
+    crate = shutil.copytree(TOP / "bindings/tokio", crate_at(room).with_name("tokio"))
+    (crate / ".cargo").mkdir()
+    (crate / ".cargo/config.toml").write_text(DEBIAN_CRATES)
+    surroundings = {**os.environ, "GROVE_LIBRARY": str(LIBRARY), "CARGO_TARGET_DIR": str(room / "target")}
+    for words in (
+        ["fmt", "--check"],
+        ["clippy", "--offline", "--all-targets", "--", "-D", "warnings"],
+        ["test", "--offline"],
+    ):
+        note_well(tally, words[0], called("cargo", *words, cwd=crate, env=surroundings))
 
 
 def note_no_library(room: Path, tally: Tally, surroundings: dict[str, str]) -> None:
@@ -473,6 +495,7 @@ TRIALS = [
     Trial("locks_in_c", locks_in_c, ("cc",)),
     Trial("valgrind", valgrind, ("cc", "valgrind")),
     Trial("rust", rust, ("cargo", "cargo-fmt", "cargo-clippy")),
+    Trial("tokio", tokio, ("cargo", "cargo-fmt", "cargo-clippy", "tokio")),
     Trial("python", python, ("python3",)),
     Trial("types", types, ("mypy",)),
     Trial("locks_of_redis", locks_of_redis, ("python3", "redis-server")),
