@@ -44,16 +44,28 @@ def blocks(language: str) -> list[str]:
 
 
 def linked_in_c(packages: Packages, room: Path, tally: Tally) -> None:
-    """The example in C, with the static library and with the shared one."""
+    """The examples in C, with the static library, as pkg-config says, and with the shared one."""
     prefix = packages.unpacked(room / "prefix")
     pages = prefix / "share/doc/grove"
     document = pages / "examples/settings.json"
     wanted = called(prefix / "bin/grove", "plan", document).stdout + "cost 16\n"
-    shared = [f"-L{prefix}/lib/grove", f"-Wl,-rpath,{prefix}/lib/grove"]
-    for place in ([f"-L{prefix}/lib"], shared):
-        parts = [f"-I{prefix}/include", f"{pages}/bindings/c/plan.c", *place, "-lgrove"]
-        note_silent(tally, place[0], called("cc", *STRICT, *parts, "-o", room / "plan"))
+    static = configured(packages, prefix, tally)
+    shared = [f"-I{prefix}/include", f"-L{prefix}/lib/grove", f"-Wl,-rpath,{prefix}/lib/grove", "-lgrove"]
+    for place in (static, shared):
+        note_silent(tally, place[1], called("cc", *STRICT, f"{pages}/bindings/c/plan.c", *place, "-o", room / "plan"))
         note_equal(tally, "settings.json", called(room / "plan", document, env=SURROUNDINGS).stdout, wanted)
+        words = [f"{pages}/bindings/c/locks.c", *place, "-pthread"]
+        note_silent(tally, f"locks, {place[1]}", called("cc", *STRICT, *words, "-o", room / "locks"))
+        moved = called(room / "locks", env=SURROUNDINGS).stdout
+        note_equal(tally, "locks", moved, "4000 moves, and the shelves hold 400\n")
+
+
+def configured(packages: Packages, prefix: Path, tally: Tally) -> list[str]:
+    """What pkg-config says of compiling with the library."""
+    surroundings = {**SURROUNDINGS, "PKG_CONFIG_PATH": f"{prefix}/lib/pkgconfig"}
+    version = called("pkg-config", "--modversion", "grove", env=surroundings).stdout
+    note_equal(tally, "the version", version, f"{packages.version}\n")
+    return called("pkg-config", "--cflags", "--libs", "grove", env=surroundings).stdout.split()
 
 
 def crate(packages: Packages, room: Path, tally: Tally) -> None:

@@ -139,7 +139,7 @@ TRIALS = [
     Trial("served", served, ("chroot", "ldd")),
     Trial("paged", paged, ("chroot", "ldd")),
     Trial("behind_nginx", behind_nginx, ("nginx", "openssl")),
-    Trial("linked_in_c", linked_in_c, ("cc",)),
+    Trial("linked_in_c", linked_in_c, ("cc", "pkg-config")),
     Trial("crate", crate, ("cargo",)),
     Trial("wheel", wheel, ("ensurepip",)),
     Trial("pip_install", pip_install, ("ensurepip",)),

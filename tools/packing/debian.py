@@ -12,7 +12,7 @@ import time
 from pathlib import Path
 
 from .archive import compressed, folders, install
-from .bindings import LOADED, wheels
+from .bindings import loaded, wheels
 from .layout import MANUAL, PAGES
 from .placed import Placed
 from .source import Source
@@ -135,7 +135,7 @@ def write_control(source: Source, placed: list[Placed], files: list[Placed], fol
         architecture=ARCHITECTURE,
         author=source.author(),
         kibibytes=kibibytes,
-        libc=libc_of(content_of(placed, PROGRAM), content_of(placed, LOADED)),
+        libc=libc_of(content_of(placed, PROGRAM), content_of(placed, loaded(source.version()))),
     )
     sums = [f"{hashlib.md5(each.content).hexdigest()}  {each.path}\n" for each in files if each.target is None]
     services = " ".join(Path(each.path).name for each in placed if each.path.endswith((".service", ".timer")))
