@@ -1,9 +1,10 @@
 """The documents of examples/ and those refused in each way: named and on standard input, the output that is right. The
-session of examples/, by the client of bindings/python; each call of that client, and how it ends if the server is
-lost."""
+session of examples/, by the client of bindings/python; each call of that client and of the one for asyncio, and how it
+ends if the server is lost."""
 
 from __future__ import annotations
 
+import asyncio
 import json
 import os
 import re
@@ -29,6 +30,7 @@ def tries(program: str, room: str) -> list[Try]:
     return parts + [
         Try("a session", partial(ask_lines, program)),
         Try("the client's calls", partial(call_client, program)),
+        Try("the calls of asyncio's client", partial(call_async_client, program)),
         Try("a client without a server", lose_server),
         Try("the plans of hot_root.json", partial(plan_again, program)),
         Try("hot_root.py", run_hot_root),
@@ -57,8 +59,7 @@ def run_client(port: int | str, lines: bytes = b"") -> Ran:
 
 def call_client(program: str, tally: Tally) -> None:
     """What each method of the client gives, of the tree of two leaves; the answers are those of docs/SESSIONS.md."""
-    if PACKAGES not in sys.path:
-        sys.path.append(PACKAGES)
+    need_packages()
     from pickbracken import Access, FlowRow, Plan, Refused, Step
     from pickbracken.client import Client, Round
 
@@ -81,6 +82,57 @@ def call_client(program: str, tally: Tally) -> None:
         equal("weights", client.weights(), ((5, 1, 1), (0, 0, 0)))
         equal("reweigh", client.reweigh(), 1)
         equal("a refusal", refusal([Access.get("/c")]), "refused no-path")
+
+
+def call_async_client(program: str, tally: Tally) -> None:
+    """The same by tasks that share a connection, and the session of examples/, whose lines go ahead of the replies."""
+    need_packages()
+    from pickbracken import Access, Refused
+    from pickbracken.async_client import AsyncClient
+    from pickbracken.client import Lost
+
+    def equal(what: str, came: object, wanted: object) -> None:
+        tally.note(what, None if came == wanted else f"wanted {wanted}; came {came}")
+
+    async def ask_all(client: AsyncClient) -> None:
+        adds = await asyncio.gather(*(client.batch([Access.add("/a", 1)]) for _ in range(500)))
+        equal("500 tasks", sorted(round_.replies[0][0] for round_ in adds), list(range(11, 511)))
+        leaf = [Access.get("/a")]
+        plan = await client.plan(leaf)
+        equal("check", await client.check(leaf, plan), 1)
+        equal("weights", await client.weights(), ((5, 1, 1), (0, 0, 0)))
+        equal("reweigh", await client.reweigh(), 1)
+        refused = await asyncio.gather(client.plan([Access.get("/c")]), return_exceptions=True)
+        equal("a refusal", [(type(why), str(why)) for why in refused], [(Refused, "no-path")])
+
+    async def ask_lines(port: int) -> list[bytes]:
+        async with AsyncClient(port, seconds=60) as client:
+            lines = (EXAMPLES / "orders.lines").read_bytes().splitlines()
+            return [reply async for reply in client.send_all(lines)]
+
+    async def ask(port: int) -> None:
+        async with AsyncClient(port, seconds=60) as client:
+            await ask_all(client)
+
+    async def lose(server: Serving) -> str:
+        async with AsyncClient(server.port, seconds=60) as client:
+            await client.weights()
+            server.started.kill()
+            try:
+                return str(await client.weights())
+            except Lost as why:
+                return f"lost, without {why.unanswered} replies"
+
+    with Serving(program, (EXAMPLES / "two-leaves.json").read_bytes(), workers=4) as server:
+        asyncio.run(ask(server.port))
+    with Serving(program, (EXAMPLES / "orders.json").read_bytes(), workers=4) as server:
+        equal("a session", asyncio.run(ask_lines(server.port)), (EXAMPLES / "orders.replies").read_bytes().splitlines())
+        equal("a server that is killed", asyncio.run(lose(server)), "lost, without 1 replies")
+
+
+def need_packages() -> None:
+    if PACKAGES not in sys.path:
+        sys.path.append(PACKAGES)
 
 
 def plan_again(program: str, tally: Tally) -> None:

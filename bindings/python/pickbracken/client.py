@@ -54,8 +54,7 @@ class Client(Requests):
     lines. While one takes the replies of `send_all`, the calls of others raise `InUse`."""
 
     def __init__(self, port: int, host: str = "127.0.0.1", seconds: Optional[float] = None) -> None:
-        if not is_port(port):
-            raise ValueError(f"{port} is no port: those are 1 to 65535")
+        need_port(port)
         try:
             self.connection = socket.create_connection((host, port), timeout=seconds)
         except OSError as error:
@@ -152,6 +151,11 @@ class Client(Requests):
 def is_port(number: int) -> bool:
     """Whether a port has this number. (Of a larger one the system would take the last 16 bits.)"""
     return 1 <= number <= 65_535
+
+
+def need_port(number: int) -> None:
+    if not is_port(number):
+        raise ValueError(f"{number} is no port: those are 1 to 65535")
 
 
 def with_end(line: bytes) -> bytes:
