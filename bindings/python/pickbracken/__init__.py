@@ -20,14 +20,15 @@ made in the forked child of a process with threads.
 
 from .accesses import Access, Kind, Reply
 from .async_locks import AsyncLocks, AsyncTransaction
-from .faults import BadPath, Closed, Error, Nested, NoMemory, Refused, TimedOut, Unfinished
+from .faults import BadPath, Closed, Error, Nested, NoMemory, OtherVersion, Refused, TimedOut, Unfinished
 from .locks import Locks, Transaction
-from .planning import Drawing, FlowRow, Judgement, Plan, Step, StepKind, check, draw, judge, plan
+from .planning import Drawing, Judgement, Plan, check, draw, judge, plan, reweigh
+from .plans import Plans
 from .requests import Round
+from .steps import FlowRow, Step, StepKind
 from .store import Store
 from .tree import Tree
-
-__version__ = "0.2.0"
+from .version import __version__
 
 __all__ = [
     "Access",
@@ -43,7 +44,9 @@ __all__ = [
     "Locks",
     "Nested",
     "NoMemory",
+    "OtherVersion",
     "Plan",
+    "Plans",
     "Refused",
     "Reply",
     "Round",
@@ -59,4 +62,5 @@ __all__ = [
     "draw",
     "judge",
     "plan",
+    "reweigh",
 ]

@@ -31,7 +31,8 @@ from typing import (
 )
 
 from .faults import Nested, TimedOut, Unfinished
-from .programs import Action, Program, Programs, Wanted
+from .lists import Wanted
+from .programs import WHOLE, Action, Program, Programs
 from .shapes import Planner, settled
 
 __all__ = ["AnyAsyncLock", "AsyncLocks", "AsyncTransaction"]
@@ -117,8 +118,8 @@ class AsyncLocks(Programs[Node]):
     ) -> AsyncTransaction:
         """As `Locks.transaction`. A task that is cancelled leaves the queue of the node that it waits for, and lets go
         what it holds; a node that was just handed to it is handed on."""
-        kept, key = self.kept, tuple(wanted)
-        program = (kept.whole if whole else kept.programs).get(key)
+        key = tuple(wanted)
+        program = self.kept.made.get((WHOLE, *key) if whole else key)
         return AsyncTransaction(self, program or self.program(key, whole), timeout)
 
     async def run(

@@ -2,10 +2,32 @@
 
 from __future__ import annotations
 
-from typing import List, Optional
+from typing import List, Optional, Sequence
 
 # How many words of a fault's text name the item at fault, before the fault's own name.
 BEFORE = {"row": 2, "step": 2, "access": 2, "node": 2, "event": 2, "tree": 1}
+
+# What the program prints of each fault of a list, a plan or a flow, by the number that calls over numbers have for it.
+FAULTS = {
+    1: "limit list",
+    2: "no-path list {place}",
+    3: "bad-length list {place}",
+    4: "step {place} strange",
+    5: "step {place} relock",
+    6: "step {place} parent-not-held",
+    7: "step {place} not-held",
+    8: "step {place} wrong-access",
+    9: "step {place} access-not-held",
+    10: "access {place} missing",
+    11: "node {path} still-held",
+    12: "rows {place}",
+    13: "sign {place}",
+    14: "too-big {place}",
+    15: "lock-balance {place}",
+    16: "release-balance {place}",
+    17: "value {cost}",
+}
+STILL_HELD = 11
 
 
 class Error(Exception):
@@ -38,6 +60,14 @@ class Closed(Error, ValueError):
     """It was closed before."""
 
 
+class OtherVersion(Error, OSError):
+    """The library that was found isn't of the package's version. Nothing was called."""
+
+    def __init__(self, library: str, package: str) -> None:
+        super().__init__(f"the version of libgrove is {library}, and that of the package pickbracken {package}")
+        self.library, self.package = library, package
+
+
 class BadPath(Error, ValueError):
     """This is no path from the root down, as `/` or `/a/b`, or no node has it."""
 
@@ -68,3 +98,9 @@ def name_at(words: List[str]) -> int:
     if words[0] == "job":
         return 2 + name_at(words[2:])
     return BEFORE.get(words[0], 0)
+
+
+def fault_text(number: int, place: int, cost: int, paths: Sequence[str]) -> str:
+    """What the program prints of a fault, but for the bound that isn't the plan's cost."""
+    path = paths[place] if number == STILL_HELD else ""
+    return FAULTS[number].format(place=place, cost=cost, path=path)

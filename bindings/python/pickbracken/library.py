@@ -3,18 +3,29 @@
 from __future__ import annotations
 
 import ctypes
+import mmap
 import os
 import weakref
+from array import array
 from enum import Enum
 from functools import lru_cache
 from pathlib import Path
-from typing import Any, Callable, Iterator, List
+from typing import Any, Callable, Iterator, List, NoReturn, Optional, Sequence, Tuple
 
-from .faults import Closed, NoMemory, Refused
+from .accesses import MOST_ACCESSES
+from .faults import Closed, NoMemory, OtherVersion, Refused, fault_text
+from .version import __version__, packed, unpacked
 
 DONE, REFUSED, ROOM, MEMORY, CLOSED = 0, 1, 2, 3, 4
-# The room that a text is given at first.
-FIRST_ROOM = 16_384
+# The file that tools/library makes, and the name by which a system has it.
+FILE, SONAME = "libgrove.so", "libgrove.so.0"
+# The room that a text is given at first; and what is kept of it for the next, if there was more in it.
+FIRST_ROOM, KEPT_ROOM = 1 << 24, 1 << 20
+# A step is two numbers of 32 bits, and a row of a flow six of 64, the first of which has its node in its lower half.
+STEP, ROW, NODE = 2, 6, 0xFFFF_FFFF
+# A node of a part of a tree is three numbers of 32 bits. What is told of a plan that was made is six: the lower half of
+# its cost, the upper one, how many steps and rows it has, the place of a fault, and one that stands for nothing.
+PART, PLANNED = 3, 6
 
 
 class Told(ctypes.Structure):
@@ -27,6 +38,12 @@ class Handle(ctypes.Structure):
     """What a tree or a store is kept by. It's changed by the calls below alone, and is never copied."""
 
     _fields_ = [("held", ctypes.c_void_p)]
+
+
+class Checked(ctypes.Structure):
+    """What a call says of a plan that it was given."""
+
+    _fields_ = [("cost", ctypes.c_uint64), ("fault", ctypes.c_uint32), ("place", ctypes.c_uint32)]
 
 
 class Command(Enum):
@@ -45,8 +62,6 @@ class Kept(Enum):
     """A call with a handle, which takes a text and says another."""
 
     OPEN = "grove_c_tree_open"
-    PLAN = "grove_c_tree_plan"
-    CHECK = "grove_c_tree_check"
     OPEN_STORE = "grove_c_store_open"
     ANSWER = "grove_c_store_answer"
 
@@ -60,51 +75,82 @@ class Close(Enum):
 
 # The call with a handle that takes no text, and says one.
 REPLY = "grove_c_store_reply"
+# The calls over numbers. What they take stands in arrays, which are handed over as they are, with their lengths.
+BUILD, REWEIGH = "grove_c_tree_build", "grove_c_tree_reweigh"
+PLAN_NODES, PLAN_PART = "grove_c_tree_plan_nodes", "grove_c_plan_part"
+CHECK_NODES, JUDGE_NODES = "grove_c_tree_check_nodes", "grove_c_tree_judge_nodes"
+OVER_NUMBERS = (BUILD, REWEIGH, PLAN_NODES, PLAN_PART, CHECK_NODES, JUDGE_NODES)
+VERSION = "grove_c_version"
 
 
 def places() -> Iterator[Path]:
     """Where the library may be: as GROVE_LIBRARY says, or beside this file, or where tools/library puts it."""
     folder = os.environ.get("GROVE_LIBRARY")
     if folder:
-        yield Path(folder, "libgrove.so")
+        yield Path(folder)
         return
     here = Path(__file__).resolve()
-    yield here.with_name("libgrove.so")
+    yield here.parent
     if len(here.parents) > 3:
-        yield here.parents[3] / "out/library/libgrove.so"
+        yield here.parents[3] / "out/library"
 
 
 @lru_cache(maxsize=None)
 def loaded() -> ctypes.CDLL:
-    """The library, with the types of its calls. It's loaded as the first call is made."""
-    for path in places():
-        if path.exists():
-            return typed(ctypes.CDLL(str(path)))
-    raise OSError(f"there is no {' and no '.join(map(str, places()))}: tools/library makes it")
+    """The library, with the types of its calls, if it's of this package's version. It's loaded as the first call is
+    made."""
+    library = typed(found())
+    version: int = getattr(library, VERSION)()
+    if version != packed(__version__):
+        raise OtherVersion(unpacked(version), __version__)
+    return library
+
+
+def found() -> ctypes.CDLL:
+    """The library in the first of the places that has it, or else the system's, unless a place is named."""
+    folders = list(places())
+    for folder in folders:
+        for name in (FILE, SONAME):
+            if (folder / name).exists():
+                return ctypes.CDLL(str(folder / name))
+    if not os.environ.get("GROVE_LIBRARY"):
+        try:
+            return ctypes.CDLL(SONAME)
+        except OSError:
+            pass
+    looked = " and no ".join(str(folder / FILE) for folder in folders)
+    raise OSError(f"there is no {looked}: tools/library makes it")
 
 
 def typed(library: ctypes.CDLL) -> ctypes.CDLL:
     """The library, whose calls know what they take and give."""
     handle, text = ctypes.POINTER(Handle), [ctypes.c_char_p, ctypes.c_size_t]
+    said = [ctypes.c_void_p, ctypes.c_size_t]
+    try:
+        declare(library, VERSION, [], ctypes.c_uint32)
+    except AttributeError:
+        raise OtherVersion("earlier than 0.2.0", __version__) from None
     for command in Command:
-        declare(library, command.value, [*text, *text], Told)
+        declare(library, command.value, [*text, *said], Told)
     for kept in Kept:
-        declare(library, kept.value, [handle, *text, *text], Told)
-    declare(library, REPLY, [handle, *text], Told)
+        declare(library, kept.value, [handle, *text, *said], Told)
+    declare(library, REPLY, [handle, *said], Told)
     for close in Close:
         declare(library, close.value, [handle], None)
+    for name in OVER_NUMBERS:
+        # (What they take has its type already. To have it looked at once more takes as long as a short plan.)
+        declare(library, name, None, ctypes.c_uint32)
     return library
 
 
-def declare(library: ctypes.CDLL, name: str, takes: List[Any], gives: Any) -> None:
+def declare(library: ctypes.CDLL, name: str, takes: Optional[List[Any]], gives: Any) -> None:
     call = getattr(library, name)
     call.argtypes, call.restype = takes, gives
 
 
-def call_of(name: str) -> Callable[..., Told]:
+def call_of(name: str) -> Any:
     """A call of the library. While it goes on, Python's other threads do."""
-    call: Callable[..., Told] = getattr(loaded(), name)
-    return call
+    return getattr(loaded(), name)
 
 
 def checked(text: object) -> bytes:
@@ -112,6 +158,9 @@ def checked(text: object) -> bytes:
     if not isinstance(text, bytes):
         raise TypeError(f"bytes are needed, and not {type(text).__name__}")
     return text
+
+
+# ---- texts
 
 
 def say(command: Command, document: bytes) -> str:
@@ -129,9 +178,9 @@ def say_kept(kept: Kept, handle: Handle, text: bytes) -> str:
 def answer(handle: Handle, line: bytes) -> bytes:
     """The reply of the store that a handle holds to a line, which has its effect once. Its caller has the handle
     alone."""
-    text = ctypes.create_string_buffer(FIRST_ROOM)
-    told = call_of(Kept.ANSWER.value)(ctypes.byref(handle), line, len(line), text, FIRST_ROOM)
-    return last_reply(handle) if told.status == ROOM else bytes_by(told, text)
+    call, reply = call_of(Kept.ANSWER.value), call_of(REPLY)
+    by = ctypes.byref(handle)
+    return bytes_of(lambda text, room: call(by, line, len(line), text, room), lambda *room: reply(by, *room))
 
 
 def last_reply(handle: Handle) -> bytes:
@@ -152,33 +201,166 @@ def close_after(owner: object, call: Close, handle: Handle) -> None:
     weakref.finalize(owner, close, call, handle).atexit = False
 
 
-# Makes a call with a buffer and its length.
-Call = Callable[["ctypes.Array[ctypes.c_char]", int], Told]
+# Makes a call with a buffer and its length, which gives what it told.
+Call = Callable[[Any, int], Any]
+
+
+class Room:
+    """A buffer for a text. Its pages take memory only once something is written to them."""
+
+    def __init__(self, size: int) -> None:
+        self.pages = mmap.mmap(-1, size, flags=mmap.MAP_PRIVATE | mmap.MAP_ANONYMOUS)
+        self.text: Any = (ctypes.c_char * size).from_buffer(self.pages)
+        self.size = size
+
+
+# The buffers that no call has.
+ROOMS: List[Room] = []
 
 
 def text_of(call: Call) -> str:
     return bytes_of(call).decode()
 
 
-def bytes_of(call: Call) -> bytes:
-    """What a call says, which is made once more where its text has no room."""
-    room = FIRST_ROOM
-    while True:
-        text = ctypes.create_string_buffer(room)
-        told = call(text, room)
-        if told.status != ROOM:
-            return bytes_by(told, text)
-        room = told.length
+def bytes_of(call: Call, again: Optional[Call] = None) -> bytes:
+    """What a call says. Where its text has no room, that is had once more, by the other call if there is one."""
+    room = ROOMS.pop() if ROOMS else Room(FIRST_ROOM)
+    told = call(room.text, room.size)
+    if told.status == ROOM:
+        ROOMS.append(room)
+        larger = Room(told.length)
+        return bytes_by((again or call)(larger.text, larger.size), larger.text)
+    try:
+        return bytes_by(told, room.text)
+    finally:
+        if told.length > KEPT_ROOM:
+            room.pages.madvise(mmap.MADV_DONTNEED)
+        ROOMS.append(room)
 
 
-def bytes_by(told: Told, text: ctypes.Array[ctypes.c_char]) -> bytes:
+def bytes_by(told: Told, text: Any) -> bytes:
     """The text of a call that had room for it."""
-    if told.status == DONE:
-        return text.raw[: told.length]
-    if told.status == REFUSED:
-        raise Refused(text.raw[: told.length].decode())
-    if told.status == MEMORY:
+    said: bytes = text[: told.length]
+    if told.status != DONE:
+        fail(told.status, said.decode())
+    return said
+
+
+def fail(status: int, fault: str) -> NoReturn:
+    """Raises what a call ended with that isn't done."""
+    if status == REFUSED:
+        raise Refused(fault)
+    if status == MEMORY:
         raise NoMemory("memory")
-    if told.status == CLOSED:
+    if status == CLOSED:
         raise Closed("it is closed")
-    raise AssertionError(f"there is no status {told.status}")
+    raise AssertionError(f"there is no status {status}")
+
+
+# ---- numbers
+
+# The cost of a plan, its steps, and the rows of its flow, all in numbers.
+Settled = Tuple[int, "array[int]", "array[int]"]
+# What a call over numbers takes: an address or a length, as it's handed over.
+Given = Any
+SIZES: List[Given] = [ctypes.c_size_t.from_param(size) for size in range(MOST_ACCESSES + 1)]
+
+
+def short(count: int) -> array[int]:
+    """So many numbers of 32 bits."""
+    return array("I", bytes(4 * count))
+
+
+def long(count: int) -> array[int]:
+    """So many numbers of 64 bits."""
+    return array("Q", bytes(8 * count))
+
+
+def at(numbers: array[int]) -> Given:
+    """Where an array begins, as long as somebody has it and nobody changes its length."""
+    return ctypes.c_void_p.from_param(numbers.buffer_info()[0])
+
+
+def count_of(numbers: array[int], each: int = 1) -> Given:
+    """How many items of so many numbers an array has."""
+    return ctypes.c_size_t.from_param(len(numbers) // each)
+
+
+def room_for(nodes: int, accesses: int) -> Tuple[array[int], array[int]]:
+    """Arrays for the steps and the rows of any settled plan: it locks no node twice, and each row has another node."""
+    return short(STEP * (2 * nodes + accesses)), long(ROW * nodes)
+
+
+class TreeCalls:
+    """The calls over numbers by a handle that holds the tree of these paths, with arrays for what goes in and comes
+    out. Their caller has all of this alone; a call is about the first `count` of `nodes` and `lengths`."""
+
+    def __init__(self, handle: Handle, paths: Sequence[str]) -> None:
+        self.paths = paths
+        self.plans, self.checks, self.judges = call_of(PLAN_NODES), call_of(CHECK_NODES), call_of(JUDGE_NODES)
+        self.nodes, self.lengths = short(MOST_ACCESSES), short(MOST_ACCESSES)
+        self.steps, self.rows = room_for(len(paths), MOST_ACCESSES)
+        self.planned, self.checked = short(PLANNED), Checked()
+        by, nodes, lengths = ctypes.byref(handle), at(self.nodes), at(self.lengths)
+        buffers = at(self.steps), count_of(self.steps, STEP), at(self.rows), count_of(self.rows, ROW)
+        # What each call takes of a list, by its length, and what else it takes to make a plan.
+        self.lists = [(by, nodes, size, lengths, size) for size in SIZES]
+        self.planning = [(*given, *buffers, at(self.planned)) for given in self.lists]
+
+    def plan(self, count: int) -> Settled:
+        """The settled plan of a list, and its flow."""
+        status = self.plans(*self.planning[count])
+        low, high, steps, rows, place, _ = self.planned
+        if status:
+            fail(status, f"shape list {place}")
+        return high << 32 | low, self.steps[: STEP * steps], self.rows[: ROW * rows]
+
+    def check(self, count: int, steps: array[int], rows: array[int]) -> int:
+        """What the steps cost, if the rows prove them least."""
+        plan, flow = (at(steps), count_of(steps, STEP)), (at(rows), count_of(rows, ROW))
+        return self.told(self.checks(*self.lists[count], *plan, *flow, ctypes.byref(self.checked)))
+
+    def judge(self, count: int, steps: array[int]) -> int:
+        """What the steps cost, if they are legal."""
+        plan = at(steps), count_of(steps, STEP)
+        return self.told(self.judges(*self.lists[count], *plan, ctypes.byref(self.checked)))
+
+    def told(self, status: int) -> int:
+        told = self.checked
+        if status:
+            fail(status, fault_text(told.fault, told.place, told.cost, self.paths))
+        cost: int = told.cost
+        return cost
+
+
+def plan_part(part: array[int], nodes: array[int], lengths: array[int], wants_flow: bool = False) -> Settled:
+    """The settled plan of accesses of these places of a part of a tree, and its flow if that is wanted. A node of the
+    part is three numbers: its own in the whole tree, the place of its parent in the part, and its weight."""
+    planned = short(PLANNED)
+    steps, rows = room_for(len(part) // PART, len(nodes))
+    room = count_of(rows, ROW) if wants_flow else SIZES[0]
+    listed = at(nodes), count_of(nodes), at(lengths), count_of(lengths)
+    buffers = at(steps), count_of(steps, STEP), at(rows), room
+    status = call_of(PLAN_PART)(at(part), count_of(part, PART), *listed, *buffers, at(planned))
+    low, high, step_count, row_count, place, _ = planned
+    if status:
+        fail(status, f"shape {place}")
+    return high << 32 | low, steps[: STEP * step_count], rows[: ROW * row_count if wants_flow else 0]
+
+
+def build(handle: Handle, parents: array[int], weights: array[int]) -> None:
+    """Has a handle hold the tree of nodes with these parents and weights."""
+    by, tree = ctypes.byref(handle), (at(parents), count_of(parents), at(weights), count_of(weights))
+    status = call_of(BUILD)(by, *tree)
+    if status:
+        fail(status, "shape nodes")
+
+
+def reweigh(handle: Handle, waits: array[int]) -> array[int]:
+    """The new weights of the nodes of the tree that a handle holds, by how often each was waited for. The tree has them
+    from now on."""
+    weights, changed, count = short(len(waits)), ctypes.c_uint32(), count_of(waits)
+    status = call_of(REWEIGH)(ctypes.byref(handle), at(waits), count, at(weights), count, ctypes.byref(changed))
+    if status:
+        fail(status, "shape waits")
+    return weights

@@ -16,7 +16,8 @@ from types import TracebackType
 from typing import Callable, Dict, Iterable, Iterator, List, Mapping, Optional, Protocol, Tuple, Type, TypeVar
 
 from .faults import Nested, TimedOut, Unfinished
-from .programs import Action, Program, Programs, Wanted
+from .lists import Wanted
+from .programs import WHOLE, Action, Program, Programs
 from .shapes import Planner, settled
 
 __all__ = ["AnyLock", "Locks", "Transaction"]
@@ -73,8 +74,8 @@ class Locks(Programs[Node]):
         is held is let go. Nothing is undone: others have seen what was done at a node that was let go before. With
         `whole` each accessed node is held until the block is left, so that who catches an error in the block can undo
         what was done."""
-        kept, key = self.kept, tuple(wanted)
-        program = (kept.whole if whole else kept.programs).get(key)
+        key = tuple(wanted)
+        program = self.kept.made.get((WHOLE, *key) if whole else key)
         return Transaction(self, program or self.program(key, whole), timeout)
 
     def run(

@@ -3,77 +3,44 @@
 from __future__ import annotations
 
 import json
-from dataclasses import dataclass
-from enum import Enum
-from typing import Any, Dict, Iterable, List, Optional, Sequence, Tuple, Union
+from dataclasses import dataclass, replace
+from typing import Any, Dict, Iterable, List, Mapping, Optional, Sequence, Tuple, Union
 
 from . import document
 from .accesses import Access, Reply, reply_of
-from .library import Kept
+from .library import Settled
+from .steps import KINDS, NUMBERS, FlowRow, Rows, Step, Steps
 from .tree import Tree
-
-
-class StepKind(str, Enum):
-    """What a step does. Each kind is the text that a document has for it, too."""
-
-    LOCK = "lock"
-    UNLOCK = "unlock"
-    ACCESS = "access"
-
-    def __str__(self) -> str:
-        return self.value
-
-    def __format__(self, form: str) -> str:
-        return format(self.value, form)
-
-
-KINDS = {kind.value: kind for kind in StepKind}
-
-
-@dataclass(frozen=True)
-class Step:
-    """A step of a plan: locks or unlocks the node of a path, or does the access of a number."""
-
-    kind: StepKind
-    of: Union[str, int]
-
-    def __post_init__(self) -> None:
-        if type(self.kind) is not StepKind:
-            # It was given as a text.
-            object.__setattr__(self, "kind", StepKind(self.kind))
-
-    @staticmethod
-    def lock(path: str) -> Step:
-        return Step(StepKind.LOCK, path)
-
-    @staticmethod
-    def unlock(path: str) -> Step:
-        return Step(StepKind.UNLOCK, path)
-
-    @staticmethod
-    def access(number: int) -> Step:
-        return Step(StepKind.ACCESS, number)
-
-
-@dataclass(frozen=True)
-class FlowRow:
-    """A row of a flow, of one node that every legal plan locks; docs/CERTIFICATE.md has the five amounts."""
-
-    node: str
-    above: int
-    held: int
-    first: int
-    last: int
-    own: int
 
 
 @dataclass(frozen=True)
 class Plan:
-    """A plan of a list, what it costs, and the flow that proves that no legal plan costs less."""
+    """A plan of a list, what it costs, and the flow that proves that no legal plan costs less. Steps and rows of a plan
+    that was made are values only once they are read; they equal tuples of the same."""
 
     cost: int
-    steps: Tuple[Step, ...]
-    flow: Tuple[FlowRow, ...]
+    steps: Sequence[Step]
+    flow: Sequence[FlowRow]
+
+    @staticmethod
+    def of(settled: Settled, paths: Sequence[str]) -> Plan:
+        """The plan of these numbers, by the paths of their nodes."""
+        made = object.__new__(Plan)
+        # (To make the views of the numbers at once would take as long as to plan a short list.)
+        parts = made.__dict__
+        parts["cost"], parts["numbers"] = settled[0], (settled, paths)
+        return made
+
+    def __getattr__(self, name: str) -> Any:
+        """The steps, or the flow, of a plan of numbers, when they are first asked for."""
+        if name not in ("steps", "flow") or "numbers" not in vars(self):
+            raise AttributeError(f"a plan has no {name}")
+        (_, steps, rows), paths = self.numbers
+        view = vars(self)[name] = Steps(steps, paths) if name == "steps" else Rows(rows, paths)
+        return view
+
+    def __reduce__(self) -> Tuple[Any, ...]:
+        return Plan, (self.cost, tuple(self.steps), tuple(self.flow))
 
 
 @dataclass(frozen=True)
@@ -102,20 +69,37 @@ class Drawing:
 
 def plan(tree: Tree, accesses: Iterable[Access]) -> Plan:
     """The settled plan: no legal plan of the list costs less, and of all that cost as little it is the latest."""
-    return plan_of(lines_of(tree.kept.say(Kept.PLAN, written(None, accesses))))
+    kept = tree.kept
+    return Plan.of(kept.plan(tuple(accesses)), kept.names.paths)
 
 
 def check(tree: Tree, accesses: Iterable[Access], plan: Plan) -> int:
     """What a plan costs that its flow proves to be least. Else it is refused, whoever made the two; the cost that the
     plan has isn't looked at."""
-    question = written(None, accesses, plan.steps, plan.flow)
-    return cost_in(lines_of(tree.kept.say(Kept.CHECK, question)))
+    return tree.kept.check(tuple(accesses), plan.steps, plan.flow)
 
 
 def judge(tree: Tree, accesses: Iterable[Access], steps: Sequence[Step]) -> Judgement:
     """What steps cost that are a legal plan of the list, and what the list replies and leaves."""
-    told = lines_of(document.judge(written(tree, accesses, steps)))
-    return Judgement(told["cost"], tuple(map(reply_of, told["replies"])), tuple(told["records"]))
+    kept, given = tree.kept, tuple(accesses)
+    cost = kept.judge(given, steps)
+    records = [node.record for node in tree.nodes]
+    replies: List[Union[int, Reply]] = []
+    for access in given:
+        node = kept.names.number_of[access.path]
+        reply, records[node] = access.done_on(records[node])
+        replies.append(reply)
+    return Judgement(cost, tuple(replies), tuple(records))
+
+
+def reweigh(tree: Tree, waits: Mapping[str, int]) -> Tree:
+    """The tree with new weights, made of the old ones and of how often each node was waited for: not at all if its path
+    isn't named (docs/PROTOCOL.md has the rule)."""
+    parents, weights = [node.parent for node in tree.nodes], [node.weight for node in tree.nodes]
+    kept, weighed = tree.kept.reweighed(parents, weights, waits)
+    made = Tree(tuple([replace(node, weight=weight) for node, weight in zip(tree.nodes, weighed)]))
+    made.keep(kept)
+    return made
 
 
 def draw(tree: Tree, accesses: Iterable[Access], steps: Optional[Sequence[Step]] = None) -> Drawing:
@@ -124,19 +108,13 @@ def draw(tree: Tree, accesses: Iterable[Access], steps: Optional[Sequence[Step]]
     return Drawing(document.draw_svg(whole), document.draw_text(whole))
 
 
-def written(
-    tree: Optional[Tree],
-    accesses: Iterable[Access],
-    steps: Optional[Sequence[Step]] = None,
-    flow: Optional[Sequence[FlowRow]] = None,
-) -> bytes:
-    """The document of a list, with a tree, a plan and a flow if there are any."""
-    nodes = {"nodes": tree.rows()} if tree else {}
-    parts = {"version": 2, **nodes, "list": [access.form() for access in accesses], **plan_parts(steps, flow)}
+def written(tree: Tree, accesses: Iterable[Access], steps: Optional[Sequence[Step]]) -> bytes:
+    """The document of a tree and a list, with a plan if there is one."""
+    parts = {"version": 2, "nodes": tree.rows(), "list": [access.form() for access in accesses], **plan_parts(steps)}
     return json.dumps(parts, separators=(",", ":")).encode()
 
 
-def plan_parts(steps: Optional[Sequence[Step]], flow: Optional[Sequence[FlowRow]]) -> Dict[str, object]:
+def plan_parts(steps: Optional[Sequence[Step]], flow: Optional[Sequence[FlowRow]] = None) -> Dict[str, object]:
     """A plan and a flow as a document has them."""
     parts: Dict[str, object] = {}
     if steps is not None:
@@ -147,17 +125,6 @@ def plan_parts(steps: Optional[Sequence[Step]], flow: Optional[Sequence[FlowRow]
 
 
 def plan_of(told: Dict[str, Any]) -> Plan:
-    """The plan that an answer has."""
-    steps = tuple([Step(KINDS[kind], of) for kind, of in told["plan"]])
+    """The plan that a reply has."""
+    steps = tuple([Step(KINDS[NUMBERS[kind]], of) for kind, of in told["plan"]])
     return Plan(told["cost"], steps, tuple(FlowRow(**row) for row in told["flow"]))
-
-
-def lines_of(answer: str) -> Dict[str, Any]:
-    """What each line of an answer has, by the line's name."""
-    parts: List[List[str]] = [line.split(" ", 1) for line in answer.splitlines()]
-    return {name: json.loads(value) for name, value in parts}
-
-
-def cost_in(told: Dict[str, Any]) -> int:
-    cost: int = told["cost"]
-    return cost

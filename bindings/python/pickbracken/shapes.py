@@ -7,26 +7,28 @@ each shape.
 
 from __future__ import annotations
 
-import json
 from array import array
-from typing import Callable, Dict, List, Mapping, NamedTuple, Sequence, Tuple
+from itertools import chain
+from typing import Callable, Dict, Generic, List, Mapping, NamedTuple, Sequence, Tuple, TypeVar
 
-from . import document
-from .faults import BadPath
+from .faults import BadPath, Refused
+from .library import STEP, Settled, plan_part
+from .steps import ACCESS, LOCK, NUMBERS, UNLOCK
 from .tree import names_of
+
+__all__ = ["ACCESS", "LOCK", "MOST_DEPTH", "NUMBERS", "UNLOCK", "Nodes", "Numbers", "Planner", "Shape", "settled"]
 
 # So many shapes are kept, and of their plans so many steps; then all are forgotten.
 MOST_SHAPES, MOST_STEPS = 1_024, 1_048_576
-# What a step does, as its first number says.
-LOCK, UNLOCK, ACCESS = 0, 1, 2
-NUMBERS = {"lock": LOCK, "unlock": UNLOCK, "access": ACCESS}
+# A node that is accessed is at most so far below the top of its part.
+MOST_DEPTH = 32
 
 
 class Shape(NamedTuple):
-    """What a plan depends on: the depths and weights of nodes in preorder, the first of which is the top; and of each
-    access the place of its node among them, and its length."""
+    """What a plan depends on: of nodes in preorder, the first of which is the top, the places of their parents among
+    them and their weights; and of each access the place of its node, and its length."""
 
-    depths: Tuple[int, ...]
+    parents: Tuple[int, ...]
     weights: Tuple[int, ...]
     places: Tuple[int, ...]
     lengths: Tuple[int, ...]
@@ -39,41 +41,41 @@ Planner = Callable[[Shape], Numbers]
 
 
 def settled(shape: Shape) -> Numbers:
-    """The settled plan of a shape, by the library. The nodes have their places for names."""
-    paths = ["/"]
-    rows: List[Dict[str, object]] = [{"parent": None, "name": "", "weight": shape.weights[0], "value": 0}]
-    way = [0]
-    for place, depth in enumerate(shape.depths[1:], 1):
-        del way[depth:]
-        paths.append(f"{paths[way[-1]] if depth > 1 else ''}/{place}")
-        rows.append({"parent": way[-1], "name": str(place), "weight": shape.weights[place], "value": 0})
-        way.append(place)
-    accesses = [["get", paths[place], length] for place, length in zip(shape.places, shape.lengths)]
-    asked = {"version": 2, "nodes": rows, "list": accesses}
-    _, line, _ = document.plan(json.dumps(asked, separators=(",", ":")).encode()).split("\n", 2)
-    numbers = array("H")
-    for kind, of in json.loads(line[len("plan ") :]):
-        numbers.append(NUMBERS[kind])
-        numbers.append(of if kind == "access" else int(of[of.rindex("/") + 1 :] or 0))
-    return numbers
+    """The settled plan of a shape, by the library."""
+    return planned(shape, wants_flow=False)[1]
 
 
-class Plans:
-    """The plans of shapes, each made when it is first asked for. Any number of threads may ask at once; a plan that
-    two ask for at the same time may be made twice."""
+def settled_with_flow(shape: Shape) -> Settled:
+    """The same with its cost, and with the flow that proves it."""
+    return planned(shape, wants_flow=True)
 
-    def __init__(self, planner: Planner) -> None:
-        self.planner = planner
-        self.kept: Dict[Shape, Numbers] = {}
+
+def planned(shape: Shape, wants_flow: bool) -> Settled:
+    nodes = zip(range(len(shape.parents)), shape.parents, shape.weights)
+    part = array("I", list(chain.from_iterable(nodes)))
+    return plan_part(part, array("I", shape.places), array("I", shape.lengths), wants_flow)
+
+
+Made = TypeVar("Made")
+
+
+class Shapes(Generic[Made]):
+    """What is made of shapes, each when it is first asked for, and the numbers of the steps that it has. Any number of
+    threads may ask at once; what two ask for at the same time may be made twice."""
+
+    def __init__(self, make: Callable[[Shape], Made], steps_of: Callable[[Made], Numbers]) -> None:
+        self.make, self.steps_of = make, steps_of
+        self.kept: Dict[Shape, Made] = {}
         self.steps = 0
 
-    def plan(self, shape: Shape) -> Numbers:
+    def made(self, shape: Shape) -> Made:
         found = self.kept.get(shape)
         if found is None:
-            found = self.planner(shape)
-            self.steps += len(found) // 2
+            found = self.make(shape)
+            steps = len(self.steps_of(found)) // STEP
+            self.steps += steps
             if len(self.kept) >= MOST_SHAPES or self.steps > MOST_STEPS:
-                self.kept, self.steps = {}, len(found) // 2
+                self.kept, self.steps = {}, steps
             self.kept[shape] = found
         return found
 
@@ -120,9 +122,14 @@ class Nodes:
         self, cut: Sequence[int], weights: Sequence[int], numbers: Sequence[int], lengths: Sequence[int]
     ) -> Shape:
         """The shape of accesses of the nodes of these numbers, over the part of the tree that is cut."""
-        top, place_of = self.depths[cut[0]], {number: place for place, number in enumerate(cut)}
+        depths, parents, place_of = self.depths, self.parents, {number: place for place, number in enumerate(cut)}
+        lowest = MOST_DEPTH + depths[cut[0]]
+        for place, number in enumerate(cut):
+            if depths[number] > lowest:
+                raise Refused(f"row {place} too-deep")
         return Shape(
-            tuple([self.depths[number] - top for number in cut]),
+            # (The top's parent isn't among them.)
+            tuple([place_of.get(parents[number], 0) for number in cut]),
             tuple([weights[number] for number in cut]),
             tuple([place_of[number] for number in numbers]),
             tuple(lengths),

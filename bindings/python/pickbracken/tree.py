@@ -8,7 +8,7 @@ from functools import cached_property
 from typing import Any, Dict, Iterator, List, Mapping, Optional, Tuple
 
 from .faults import BadPath
-from .kept import KeptTree
+from .kept import KeptTree, opened
 
 
 @dataclass(frozen=True)
@@ -70,7 +70,11 @@ class Tree:
     @cached_property
     def kept(self) -> KeptTree:
         """The tree as the library keeps it."""
-        return KeptTree(self.document())
+        return KeptTree(opened(self.document()), self.paths())
+
+    def keep(self, kept: KeptTree) -> None:
+        """Takes over what the library keeps of this tree already."""
+        vars(self)["kept"] = kept
 
     def paths(self) -> List[str]:
         """The path of each node, in the tree's order: that of records."""

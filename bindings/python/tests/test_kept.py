@@ -5,14 +5,20 @@ import gc
 import json
 import os
 import pickle
+import shutil
 import subprocess
 import sys
 import tempfile
 import threading
 import unittest
-from typing import List
+from pathlib import Path
+from typing import Dict, List, Tuple
+from unittest import mock
 
-from pickbracken import Access, Refused, Tree, check, document, plan
+import pickbracken
+from pickbracken import Access, OtherVersion, Refused, Tree, check, document, plan
+from pickbracken.library import Room, loaded
+from pickbracken.tree import Node
 
 STOCK = Tree.from_paths({"/": 5, "/a": 1, "/b": 1}, {"/a": 10, "/b": 20})
 
@@ -69,13 +75,77 @@ for call in (lambda tree: plan(tree, []), Store):
 """
 
 
-class NoLibrary(unittest.TestCase):
-    def test_the_first_call_says_so_and_nothing_else_does(self) -> None:
-        with tempfile.TemporaryDirectory() as folder:
-            words, surroundings = [sys.executable, "-B", "-c", TRIES], {**os.environ, "GROVE_LIBRARY": folder}
-            ran = subprocess.run(words, env=surroundings, capture_output=True, text=True, check=False)
-        wanted = f"there is no {folder}/libgrove.so: tools/library makes it\n"
-        self.assertEqual((ran.returncode, ran.stdout, ran.stderr), (0, wanted * 2, ""))
+# Plans over a tree, and says what it costs.
+PLANS = "from pickbracken import Access, Tree, plan; print(plan(Tree.from_paths({'/a': 5}), [Access.get('/a')]).cost)"
+PACKAGE = Path(pickbracken.__file__).parent
+
+
+def said_by(program: str, **more: str) -> Tuple[int, str, str]:
+    """How a program ends, and what it says, whose surroundings name no library but by these variables."""
+    unset = ("GROVE_LIBRARY", "LD_LIBRARY_PATH")
+    surroundings = {name: value for name, value in os.environ.items() if name not in unset}
+    words = [sys.executable, "-B", "-c", program]
+    surroundings = {**surroundings, "PYTHONPATH": str(PACKAGE.parent), **more}
+    ran = subprocess.run(words, cwd="/", env=surroundings, capture_output=True, text=True, check=False)
+    return ran.returncode, ran.stdout, ran.stderr
+
+
+class Libraries(unittest.TestCase):
+    def setUp(self) -> None:
+        self.room = Path(self.enter(tempfile.TemporaryDirectory()))
+        self.real = os.path.realpath(loaded()._name)
+
+    def enter(self, folder: "tempfile.TemporaryDirectory[str]") -> str:
+        self.addCleanup(folder.cleanup)
+        return folder.name
+
+    def test_without_one_the_first_call_says_so_and_nothing_else_does(self) -> None:
+        wanted = f"there is no {self.room}/libgrove.so: tools/library makes it\n"
+        self.assertEqual(said_by(TRIES, GROVE_LIBRARY=str(self.room)), (0, wanted * 2, ""))
+
+    def test_it_may_have_either_name(self) -> None:
+        for name in ("libgrove.so", "libgrove.so.0"):
+            folder = self.room / name[-1]
+            folder.mkdir()
+            (folder / name).symlink_to(self.real)
+            self.assertEqual(said_by(PLANS, GROVE_LIBRARY=str(folder)), (0, "5\n", ""))
+
+    def test_it_may_be_the_system_s(self) -> None:
+        """If none is named, and there is none beside the package."""
+        shutil.copytree(PACKAGE, self.room / "pickbracken", ignore=shutil.ignore_patterns("*.so*"))
+        (self.room / "libgrove.so.0").symlink_to(self.real)
+        paths = {"PYTHONPATH": str(self.room), "LD_LIBRARY_PATH": str(self.room)}
+        self.assertEqual(said_by(PLANS, **paths), (0, "5\n", ""))
+        nowhere = said_by(TRIES, **{**paths, "LD_LIBRARY_PATH": ""})
+        self.assertIn(f"there is no {self.room}/pickbracken/libgrove.so", nowhere[1])
+
+    def test_another_version_is_told_at_the_first_call(self) -> None:
+        version = pickbracken.__version__
+        with mock.patch("pickbracken.library.__version__", "9.8.7"):
+            with self.assertRaises(OtherVersion) as caught:
+                loaded.__wrapped__()
+        text = f"the version of libgrove is {version}, and that of the package pickbracken 9.8.7"
+        self.assertEqual((str(caught.exception), caught.exception.library), (text, version))
+        with mock.patch("pickbracken.library.found", return_value=object()):
+            with self.assertRaises(OtherVersion) as caught:
+                loaded.__wrapped__()
+        text = f"the version of libgrove is earlier than 0.2.0, and that of the package pickbracken {version}"
+        self.assertEqual(str(caught.exception), text)
+        self.assertIsInstance(caught.exception, OSError)
+
+    def test_answers_are_made_once(self) -> None:
+        """Also the longest: there is room for them at first."""
+        rows: List[Dict[str, object]] = [{"parent": None, "name": "", "weight": 1}]
+        for number in range(1, 4096):
+            above = number - 1 if (number - 1) % 32 else 0
+            rows.append({"parent": above, "name": f"name{number}", "weight": 1})
+        paths = Tree(tuple(Node(**row) for row in rows)).paths()  # type: ignore[arg-type]
+        gets = [["get", path] for path in paths[32::32][:64]]
+        whole = json.dumps({"version": 2, "nodes": rows, "list": gets}).encode()
+        for call in (document.plan, document.plan_document, document.draw_svg, document.draw_text):
+            with mock.patch("pickbracken.library.Room", side_effect=Room) as rooms:
+                self.assertGreater(len(call(whole)), 100_000)
+            self.assertLessEqual(rooms.call_count, 1, call)
 
 
 class Memory(unittest.TestCase):

@@ -13,8 +13,9 @@ from contextlib import contextmanager
 from typing import Any, Callable, Dict, Iterator, List, Tuple
 
 from pickbracken import Access, BadPath, Locks, Nested, Refused, StepKind, TimedOut, Tree, Unfinished, plan
-from pickbracken import programs, shapes
+from pickbracken import lists, shapes
 from pickbracken.locks import AnyLock
+from pickbracken.weights import new_weight
 
 from serial_order import LEAVES, TRANSACTIONS, WEIGHTS, Records, Run, drawn_paths
 
@@ -429,8 +430,8 @@ class Weights(unittest.TestCase):
     def test_new_weights_go_by_the_rule(self) -> None:
         learnt = ((1, 0, 1), (2, 0, 1), (3, 0, 2), (1000, 0, 500), (1000, 500, 1000), (999, 500, 1000))
         for weight, waits, new in learnt:
-            self.assertEqual(programs.new_weight(weight, waits), new)
-        self.assertEqual(programs.new_weight(998, 500), 999)
+            self.assertEqual(new_weight(weight, waits), new)
+        self.assertEqual(new_weight(998, 500), 999)
         locks, kept = made()
         locks.run([A], lambda number, path: None)
         for counted, told in ((999, 999), (1000, 1000), (1001, 1000)):
@@ -495,25 +496,26 @@ class Plans(unittest.TestCase):
         locks, _ = made(planner=planner)
         for pair in ([A, B], [B, A], ["/g5/leaf13", "/g3/leaf3"]):
             locks.run(pair, lambda number, path: None)
-        self.assertEqual(asked, [((0, 1, 2, 1, 2), (64, 8, 1, 8, 1), (2, 4), (1, 1)), asked[-1]][: len(asked)])
+        self.assertEqual(asked, [((0, 0, 1, 0, 3), (64, 8, 1, 8, 1), (2, 4), (1, 1)), asked[-1]][: len(asked)])
         self.assertEqual([shape.places for shape in asked], [(2, 4), (4, 2)])
         # Of one node nothing above it matters.
         locks.run([(A, 7)], lambda number, path: None)
         self.assertEqual(asked[-1], ((0,), (1,), (0,), (7,)))
 
     def test_what_is_kept_is_bounded(self) -> None:
-        locks = Locks({f"/{number}": 1 for number in range(programs.MOST_LISTS + 1)})
-        for number in range(programs.MOST_LISTS + 1):
+        locks = Locks({f"/{number}": 1 for number in range(lists.MOST_LISTS + 1)})
+        for number in range(lists.MOST_LISTS + 1):
             locks.run([f"/{number}"], lambda number, path: None)
-            self.assertLessEqual(len(locks.kept.programs), programs.MOST_LISTS)
-        self.assertLess(len(locks.kept.programs), 10)
-        plans = shapes.Plans(lambda shape: shape.weights)
+            self.assertLessEqual(len(locks.kept.made), lists.MOST_LISTS)
+        self.assertLess(len(locks.kept.made), 10)
+        few: shapes.Shapes[shapes.Numbers] = shapes.Shapes(lambda shape: shape.weights, lambda numbers: numbers)
         for number in range(shapes.MOST_SHAPES + 1):
-            plans.plan(shapes.Shape((0,), (number,), (0,), (1,)))
-        self.assertEqual(len(plans.kept), 1)
-        large = shapes.Plans(lambda shape: range(2 * shapes.MOST_STEPS))
+            few.made(shapes.Shape((0,), (number,), (0,), (1,)))
+        self.assertEqual(len(few.kept), 1)
+        most = range(2 * shapes.MOST_STEPS)
+        large: shapes.Shapes[shapes.Numbers] = shapes.Shapes(lambda shape: most, lambda numbers: numbers)
         for number in range(3):
-            large.plan(shapes.Shape((0,), (number,), (0,), (1,)))
+            large.made(shapes.Shape((0,), (number,), (0,), (1,)))
             self.assertEqual(len(large.kept), 1)
 
     def test_a_long_plan_has_no_object_for_each_step(self) -> None:

@@ -1,12 +1,17 @@
 """Trees, lists and plans as values."""
 
+import copy
+import pickle
 import unittest
 from dataclasses import replace
 from pathlib import Path
-from typing import Any, Callable
+from typing import Any, Callable, Sequence
+from unittest import mock
 
 import pickbracken
-from pickbracken import Access, BadPath, Kind, Refused, Reply, Step, StepKind, Tree, check, draw, judge, plan
+from pickbracken import Access, BadPath, FlowRow, Kind, Plan, Refused, Reply, Step, StepKind, Tree
+from pickbracken import check, draw, judge, plan, reweigh
+from pickbracken.weights import new_weight
 
 STOCK = Tree.from_paths({"/": 5, "/a": 1, "/b": 1}, {"/a": 10, "/b": 20})
 
@@ -37,6 +42,73 @@ class Planning(unittest.TestCase):
         altered = replace(planned, flow=(top, replace(first, last=first.last + 1), *others))
         self.assertTrue(self.name_of(lambda: check(STOCK, accesses, altered)).endswith("-balance"))
 
+    def test_the_first_fault_is_told_with_its_place(self) -> None:
+        accesses = [Access.get("/a"), Access.get("/b")]
+        lock, unlock, access = Step.lock, Step.unlock, Step.access
+        for steps, text in (
+            ([lock("/a"), lock("/a")], "step 1 relock"),
+            ([lock("/a"), lock("/b")], "step 1 parent-not-held"),
+            ([unlock("/a")], "step 0 not-held"),
+            ([lock("/a"), access(1)], "step 1 wrong-access"),
+            ([lock("/b"), access(0)], "step 1 access-not-held"),
+            ([lock("/a"), access(2)], "step 1 strange"),
+            ([lock("/a"), access(0), unlock("/a")], "access 1 missing"),
+            ([lock("/"), lock("/a"), lock("/b"), access(0), access(1)], "node / still-held"),
+            ([lock("/c")], "no-path plan 0"),
+            ([lock("/a"), access(2**32)], "shape plan 1"),
+        ):
+            with self.assertRaises(Refused) as caught:
+                judge(STOCK, accesses, steps)
+            self.assertEqual(caught.exception.text, text)
+            with self.assertRaises(Refused) as caught:
+                check(STOCK, accesses, Plan(0, steps, ()))
+            self.assertEqual(caught.exception.text, text)
+
+    def test_the_first_fault_of_a_flow_is_told_with_its_place(self) -> None:
+        accesses = [Access.get("/a"), Access.get("/b")]
+        planned = plan(STOCK, accesses)
+        top, *others = planned.flow
+        for flow, text in (
+            ((), "rows 0"),
+            ((*others, top), "rows 0"),
+            ((replace(top, above=1), *others), "sign 0"),
+            ((replace(top, own=2**41), *others), "too-big 0"),
+            ((top, replace(others[0], last=others[0].last + 1), *others[1:]), "release-balance 1"),
+            ((replace(top, own=2**64), *others), "shape flow 0"),
+            ((top, replace(others[0], node="/c")), "no-path flow 1"),
+        ):
+            with self.assertRaises(Refused) as caught:
+                check(STOCK, accesses, replace(planned, flow=flow))
+            self.assertEqual(caught.exception.text, text)
+
+    def test_a_plan_that_costs_more_is_not_proved(self) -> None:
+        accesses = [Access.get("/a"), Access.get("/b")]
+        planned = plan(STOCK, accesses)
+        nodes = ("/", "/a", "/b")
+        longest = (*map(Step.lock, nodes), Step.access(0), Step.access(1), *map(Step.unlock, nodes))
+        with self.assertRaises(Refused) as caught:
+            check(STOCK, accesses, replace(planned, steps=longest))
+        self.assertEqual((caught.exception.name, caught.exception.place), ("value", "14"))
+        self.assertEqual(judge(STOCK, accesses, longest).cost, 14)
+
+    def test_weights_are_made_anew(self) -> None:
+        tree = Tree.from_paths({"/": 64, "/a": 9, "/b": 1000, "/c": 1}, {"/a": 7})
+        waits = {"/": 3, "/b": 10**9}
+        made = reweigh(tree, waits)
+        self.assertEqual([node.weight for node in made.nodes], [35, 5, 1000, 1])
+        wanted = [new_weight(node.weight, waits.get(path, 0)) for node, path in zip(tree.nodes, tree.paths())]
+        self.assertEqual([node.weight for node in made.nodes], wanted)
+        self.assertEqual([node.record for node in made.nodes], [0, 7, 0, 0])
+        accesses = [Access.get("/a"), Access.get("/b").lasting(3)]
+        self.assertEqual(plan(made, accesses), plan(Tree(made.nodes), accesses))
+        self.assertEqual(plan(tree, accesses), plan(Tree(tree.nodes), accesses))
+        with self.assertRaises(BadPath):
+            reweigh(tree, {"/d": 1})
+        strange: Any = (-1, 1.5, "1")
+        for count in strange:
+            with self.assertRaises(ValueError):
+                reweigh(tree, {"/a": count})
+
     def test_bad_values_are_refused_by_name(self) -> None:
         self.assertEqual(self.name_of(lambda: plan(STOCK, [Access.get("/c")])), "no-path")
         self.assertEqual(self.name_of(lambda: plan(STOCK, [Access.get("/a").lasting(0)])), "bad-length")
@@ -58,6 +130,15 @@ class Planning(unittest.TestCase):
         with self.assertRaises(TypeError) as caught:
             Access(Kind.GET, "/a", 9)
         self.assertEqual(str(caught.exception), "an access that is to get takes no number")
+
+    def test_a_number_has_64_bits(self) -> None:
+        for number in (2**63 - 1, -(2**63)):
+            self.assertEqual(Access.add("/a", number).number, number)
+        strange: Any = (2**63, -(2**63) - 1, 1.5, "1", True)
+        for number in strange:
+            with self.assertRaises(Refused) as caught:
+                Access.set("/a", number)
+            self.assertEqual(caught.exception.text, "shape")
 
     def test_an_access_takes_1_to_1000_slots(self) -> None:
         access = Access.get("/a")
@@ -109,6 +190,57 @@ class Planning(unittest.TestCase):
         with self.assertRaises(Refused) as caught:
             call()
         return caught.exception.name
+
+
+class Lazily(unittest.TestCase):
+    """Steps and rows of a plan that was made are values only once they are read."""
+
+    ACCESSES = [Access.get("/a"), Access.get("/b").lasting(2)]
+
+    def test_nothing_is_made_that_is_not_read(self) -> None:
+        last = Step.unlock("/b")
+        with mock.patch("pickbracken.steps.Step", side_effect=Step) as steps:
+            planned = plan(STOCK, self.ACCESSES)
+            self.assertEqual((len(planned.steps), check(STOCK, self.ACCESSES, planned)), (8, planned.cost))
+            self.assertEqual(planned, plan(STOCK, self.ACCESSES))
+            self.assertEqual(steps.call_count, 0)
+            self.assertEqual(planned.steps[-1], last)
+            self.assertEqual(steps.call_count, 1)
+
+    def test_they_are_as_tuples_are(self) -> None:
+        planned = plan(STOCK, self.ACCESSES)
+        parts: Sequence[Sequence[Any]] = (planned.steps, planned.flow)
+        for part in parts:
+            whole = tuple(part)
+            self.assertTrue(part == whole and whole == part and not part != whole)
+            self.assertEqual((hash(part), repr(part), len(part)), (hash(whole), repr(whole), len(whole)))
+            self.assertEqual((part[0], part[-1], part[1:], part[::-1]), (whole[0], whole[-1], whole[1:], whole[::-1]))
+            self.assertEqual((part.index(whole[2]), whole[2] in part, None in part), (2, True, False))
+            self.assertNotEqual(part, whole[1:])
+            self.assertNotEqual(part, list(whole))
+            for other in (pickle.loads(pickle.dumps(part)), copy.deepcopy(part)):
+                self.assertEqual(other, whole)
+            with self.assertRaises(IndexError):
+                part[len(whole)]
+        self.assertNotEqual(planned.steps, planned.flow)
+
+    def test_plans_of_different_trees_are_compared_by_their_paths(self) -> None:
+        planned = plan(STOCK, [Access.get("/a")])
+        same, other = Tree.from_paths({"/": 5, "/a": 1}), Tree.from_paths({"/": 5, "/z": 1})
+        again = plan(same, [Access.get("/a")])
+        self.assertEqual((planned, hash(planned)), (again, hash(again)))
+        self.assertNotEqual(planned, plan(other, [Access.get("/z")]))
+
+    def test_a_plan_is_a_value(self) -> None:
+        planned = plan(STOCK, [Access.get("/a")])
+        row = FlowRow("/a", above=0, held=0, first=1, last=1, own=0)
+        written = Plan(1, (Step.lock("/a"), Step.access(0), Step.unlock("/a")), (row,))
+        self.assertEqual((planned, repr(planned), hash(planned)), (written, repr(written), hash(written)))
+        for other in (pickle.loads(pickle.dumps(planned)), copy.copy(planned), replace(planned, cost=1)):
+            self.assertEqual(other, planned)
+        nothing: Any = planned
+        with self.assertRaises(AttributeError):
+            nothing.costs
 
 
 class Version(unittest.TestCase):
