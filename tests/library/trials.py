@@ -405,8 +405,20 @@ def note_same(given: Given, room: Path, tally: Tally, words: list[str | Path], *
 
 def rust_values_say_the_same(given: Given, room: Path, tally: Tally) -> None:
     """Plans, checks and judgements of values, which go by numbers, on each document of which there are values."""
-    documents, program = documents_of(given.documents), built_in_rust("values", room, tally)
-    ran = called(program, input=b"".join(map(lines_of, documents)), stdin=None, text=False)
+    program = built_in_rust("values", room, tally)
+    note_each_value(given, room, tally, [program])
+
+
+def python_values_say_the_same(given: Given, room: Path, tally: Tally) -> None:
+    note_each_value(given, room, tally, ["python3", "-B", HERE / "values.py"], env=with_package())
+
+
+def note_each_value(given: Given, room: Path, tally: Tally, words: list[str | Path], **how) -> None:
+    """Compares what a program says of values with what grove prints of the documents that they are in."""
+    documents = documents_of(given.documents)
+    (room / "values.lines").write_bytes(b"".join(map(lines_of, documents)))
+    with (room / "values.lines").open("rb") as source:
+        ran = called(*words, stdin=source, text=False, **how)
     tally.blame("it ran", None if ran.returncode == 0 else f"status {ran.returncode}: {ran.stderr[-2000:]!r}")
     note_values(tally, documents, read_answers(ran.stdout), by_program(given.program, documents))
 
@@ -508,4 +520,5 @@ TRIALS = [
     Trial("rust_store_says_the_same", rust_store_says_the_same, ("cargo",)),
     Trial("python_store_says_the_same", python_store_says_the_same, ("python3",)),
     Trial("rust_values_say_the_same", rust_values_say_the_same, ("cargo",)),
+    Trial("python_values_say_the_same", python_values_say_the_same, ("python3",)),
 ]
