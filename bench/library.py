@@ -4,23 +4,30 @@ the bindings beside plain locks, and prints microseconds.
 
     usage: bench/library.py [--grove PROGRAM] [--runs N]        (default: the proved program, 200 runs)
 
-Each plan is made in these ways, in turn, N times each; of the process there are a tenth as many runs:
+Each plan is made in these ways, N times each; of the process there are a tenth as many runs:
 
 - process: the document is handed to `grove plan`, and what it prints is taken;
-- Python, Rust by document: the same text by a call over the document's bytes;
-- Python, Rust by kept tree: a plan as a value of the list's accesses, over a tree that the library keeps.
+- by document: the same text by a call over the document's bytes;
+- by kept tree: a plan as a value of the list's accesses, over a tree that the library keeps, with its steps unread;
+- a list that is new: the same over a tree of any size, of which the list's part is cut; no two runs have one list;
+- a kept plan: the same of a list that has been planned, 100 times in each run.
 
-The lists: that of examples/settings.json, and the largest, 64 accesses that force 2,049 of 4,096 nodes. Then come 400
+The lists: that of examples/settings.json; the largest, 64 accesses that force 2,049 of 4,096 nodes; and, in the last
+two ways, four accesses of trees of some 5,000 and 1,000,000 nodes, whose ways down have as many nodes. Then come 400
 transactions of two of 64 leaves that do next to nothing, by one thread and by one task, in turn and N times: with
-sorted locks of the two leaves, and by plans that are kept. In Rust one thread and each of sixteen make 2,000. The last
-is how long a list takes until it has its plan, of a shape that has been planned or hasn't. The median is printed, and
-in brackets the least. bench/library.rs and bench/transactions.rs, compiled here by `cargo`, are the parts in Rust;
-tools/library has to have made the library. Each way has to give the same plan.
+sorted locks of the two leaves, and by plans that are kept. In Rust one thread and each of sixteen make 2,000. Then
+how long a list takes until it has its plan, of a shape that has been planned or hasn't. The last are `down` and `quota`
+of bench/hot.py by sixteen workers, by its own plans and by `Locks` of Python, in turn and five times.
+
+The median is printed, and in brackets the least. bench/library.rs, bench/transactions.rs and bench/hot.rs, compiled
+here by `cargo` and `rustc`, are the parts in Rust; tools/library has to have made the library. Each way has to give the
+same plan.
 """
 from __future__ import annotations
 
 import argparse
 import asyncio
+import itertools
 import json
 import os
 import statistics
@@ -36,14 +43,20 @@ from typing import Awaitable, Callable, Union
 
 TOP = Path(__file__).resolve().parent.parent
 sys.dont_write_bytecode = True
-sys.path.insert(0, str(TOP / "bindings/python"))
-from pickbracken import Access, AsyncLocks, Locks, Tree, document, plan  # noqa: E402
+sys.path[:0] = [str(TOP / "bench"), str(TOP / "bindings/python")]
+import hot  # noqa: E402
+from pickbracken import Access, AsyncLocks, Locks, Plans, Tree, document, plan  # noqa: E402
 
 PROGRAM = TOP / "crates/grove/out/grove"
 DEPTH, NODES, ACCESSES = 32, 4_096, 64
 LEAVES = [f"/g{number % 8}/leaf{number}" for number in range(64)]
 WEIGHTS = {"/": 64, **{f"/g{number}": 8 for number in range(8)}, **dict.fromkeys(LEAVES, 1)}
 TRANSACTIONS = 400
+# So often a kept plan is asked for in a run.
+FINDS = 100
+# Trees of which all but the root and its children are leaves: so many children, with so many leaves each.
+WIDE = {"5,000": 70, "1,000,000": 1_000}
+HOT, HOT_RUNS, HOT_WORKERS = ("down", "quota"), 5, 16
 MANIFEST = """\
 [package]
 name = "library"
@@ -117,10 +130,12 @@ def main() -> None:
         rust = built(Path(room))
         for case in (settings(), largest()):
             tell(case.name, timed(case, given.grove, given.runs, rust))
+        tell("four accesses of a larger tree", wide(given.runs) | named_lines(printed_by(rust, given.runs, "")))
         in_rust = times_in_rust(rust, given.runs)
     first = {name: in_rust.pop(name) for name in list(in_rust) if name.endswith(" shape")}
     tell("a transaction of 2 accesses", transactions(given.runs) | in_rust | times_in_c(given.runs))
     tell("a list that comes first, of 2 accesses", first_times(given.runs) | first)
+    tell(f"64 jobs of 8 accesses of a millisecond, {HOT_WORKERS} workers", hot_times(given.grove))
     print(f"load of the machine: {' '.join(f'{load:.1f}' for load in os.getloadavg())}")
 
 
@@ -142,9 +157,39 @@ def timed(case: Case, grove: str, runs: int, rust: Path) -> dict[str, list[float
         "Python, by kept tree": lambda: plan(tree, accesses),
     }
     need(printed(grove, whole) == wanted, "the process prints another plan")
-    need(f"cost {plan(tree, accesses).cost}\n" == wanted[: wanted.index("\n") + 1], "a kept tree has another plan")
+    for found in (plan(tree, accesses), Plans(case.weights()).plan(case.gets)):
+        need(f"cost {found.cost}\n" == wanted[: wanted.index("\n") + 1], "Python has another plan")
     times = {name: seconds_of(way, max(runs // 10, 1) if name == "process" else runs) for name, way in ways.items()}
+    times |= {f"Python, {name}": seconds for name, seconds in of_any_size(case.weights(), case.gets, runs).items()}
     return times | in_rust(case, rust, runs, wanted)
+
+
+def of_any_size(weights: dict[str, int], gets: list[tuple[str, int]], runs: int) -> dict[str, list[float]]:
+    """Plans over a tree of any size: of lists that are new, and of one that is known."""
+    plans, known = Plans(weights), tuple(gets)
+    (first, _), *others = gets
+    new = iter([((first, 2 + run % 999), *others) for run in range(runs)])
+    plans.plan(known)
+    return {
+        "a list that is new": seconds_of(lambda: plans.plan(next(new)), runs),
+        "a kept plan": [seconds / FINDS for seconds in seconds_of(lambda: repeated(plans, known), runs)],
+    }
+
+
+def repeated(plans: Plans, known: tuple[tuple[str, int], ...]) -> None:
+    for _ in itertools.repeat(None, FINDS):
+        plans.plan(known)
+
+
+def wide(runs: int) -> dict[str, list[float]]:
+    """Four accesses over trees of different sizes, of which the ways down have as many nodes."""
+    times: dict[str, list[float]] = {}
+    for name, count in WIDE.items():
+        paths = [f"/g{leaf // count}/leaf{leaf % count}" for leaf in range(count * count)]
+        gets = [(paths[fifth * len(paths) // 5], 1) for fifth in (1, 2, 3, 4)]
+        found = of_any_size(dict.fromkeys(paths, 1), gets, runs)
+        times |= {f"Python, {name} nodes, {way}": seconds for way, seconds in found.items()}
+    return times
 
 
 def printed(grove: str, whole: bytes) -> str:
@@ -162,13 +207,22 @@ def once(way: Callable[[], object]) -> float:
 
 
 def in_rust(case: Case, rust: Path, runs: int, wanted: str) -> dict[str, list[float]]:
-    """What the part in Rust prints: the cost, and for each way a line of nanoseconds."""
-    words = [rust / "library", str(runs)]
-    ran = subprocess.run(words, input=case.numbers(), stdout=subprocess.PIPE, check=True, text=True)
-    cost, by_document, by_tree = ran.stdout.splitlines()
+    """What the part in Rust prints: the cost, and lines of nanoseconds."""
+    cost, *lines = printed_by(rust, runs, case.numbers())
     need(wanted.startswith(f"{cost}\n"), "Rust has another plan")
-    named = {"Rust, by document": by_document, "Rust, by kept tree": by_tree}
-    return {name: [int(word) / 1e9 for word in line.split()] for name, line in named.items()}
+    return named_lines(lines)
+
+
+def printed_by(rust: Path, runs: int, text: str) -> list[str]:
+    """What the part in Rust prints of a case, or of the larger trees if there is none."""
+    words = [rust / "library", str(runs)]
+    return subprocess.run(words, input=text, stdout=subprocess.PIPE, check=True, text=True).stdout.splitlines()
+
+
+def named_lines(lines: list[str]) -> dict[str, list[float]]:
+    """The seconds of each way in Rust, of which a line has the name and the nanoseconds."""
+    named = (line.split("\t") for line in lines)
+    return {f"Rust, {name}": [float(word) / 1e9 for word in times.split()] for name, times in named}
 
 
 def built(room: Path) -> Path:
@@ -271,12 +325,25 @@ def times_in_rust(rust: Path, runs: int) -> dict[str, list[float]]:
     return {name: [float(word) / 1e9 for word in numbers.split()] for name, numbers in lines}
 
 
+def hot_times(grove: str) -> dict[str, list[float]]:
+    """The seconds of shapes of bench/hot.py, by its plans and by `Locks`."""
+    times: dict[str, list[float]] = {}
+    cases = [case for name in HOT for case in hot.cases_of(grove, name, ["settled"], in_python=True)]
+    with tempfile.TemporaryDirectory(prefix="grove-hot-") as folder:
+        command = [str(hot.built(folder))]
+        for _, case in itertools.product(range(HOT_RUNS), cases):
+            by_locks = case.shape and hot.python_milliseconds(case, case.shape, HOT_WORKERS)
+            seconds = (by_locks or hot.milliseconds(command, case, HOT_WORKERS)) / 1e3
+            times.setdefault(case.name, []).append(seconds)
+    return times
+
+
 def tell(name: str, times: dict[str, list[float]]) -> None:
     print(name)
     for way, seconds in times.items():
         median, least = 1e6 * statistics.median(seconds), 1e6 * min(seconds)
         digits = 0 if median >= 100 else 1 if median >= 1 else 3
-        print(f"  {way:32}{median:10,.{digits}f} µs ({least:,.{digits}f})")
+        print(f"  {way:44}{median:10,.{digits}f} µs ({least:,.{digits}f})")
 
 
 def need(is_so: bool, otherwise: str) -> None:
