@@ -11,7 +11,7 @@ from __future__ import annotations
 
 import time
 from concurrent.futures import ThreadPoolExecutor
-from contextlib import contextmanager, nullcontext
+from contextlib import contextmanager
 from dataclasses import dataclass, field, replace
 from functools import cached_property, partial
 from typing import Callable, Iterator, Optional
@@ -79,13 +79,19 @@ class Means:
         self.unused.append(makes)
 
     @contextmanager
-    def waited(self) -> Iterator[None]:
+    def waited(self, name: str, node: str = "") -> Iterator[None]:
         """While a job waits, signs of life are given, and it needs no turn."""
-        with self.signs.during(), self.turns.waited() if self.turns else nullcontext():
+        if self.turns is not None:
+            self.turns.give_to_wait(name, node)
+        with self.signs.during():
             yield
 
-    def takes_turn(self, seconds: float) -> bool:
-        return self.turns is None or self.turns.take_again(seconds)
+    def keeps_turn(self) -> float:
+        """For how many seconds a job that begins to wait keeps its turn."""
+        return self.turns.kept_for() if self.turns else 0.0
+
+    def takes_turn(self, name: str, seconds: float) -> bool:
+        return self.turns is None or self.turns.take_again(name, seconds)
 
     @cached_property
     def aside(self) -> ThreadPoolExecutor:
@@ -503,10 +509,10 @@ class Attempt:
         until, last = time.monotonic() + next(self.pauses), self.put_under_way(found, under_way)
         self.following = None
         self.when_it_waits()
-        with self.means.waited():
+        with self.means.waited(self.job.name):
             while last is not None and time.monotonic() < until and not self.means.stopping:
                 time.sleep(min(until - time.monotonic() + 0.001, LONGEST_NAP_SECONDS))
-        self.has_waited, self.has_turn = True, self.means.takes_turn(FOREVER)
+        self.has_waited, self.has_turn = True, self.means.takes_turn(self.job.name, FOREVER)
         return last
 
     def set_aside(self, found: Seen, why: str, fails: int) -> None:
@@ -553,17 +559,30 @@ class Attempt:
     # Waiting
 
     def wait(self, found: Seen, group: Group) -> Seen | None:
-        """Waits for the job before this one in line, or if there is none for the node. Meanwhile the worker's other
-        jobs go on. If they all go on once this one is woken, it is left for another worker."""
+        """Waits for the job before this one in line, or if there is none for the node."""
         path = str(group.blocked)
         before = older_waiter(self.keys, self.job, path, found.found) if self.limits.queues else None
         if before is None and group.turn is not Turn.HELD:
             return self.look(found.progress.step)
+        woken = self.woken_soon(found, path, before)
+        return woken() if woken is not None else self.park(found, path, before)
+
+    def woken_soon(self, found: Seen, path: str, before: str | None) -> Callable[[], Seen | None] | None:
+        """Waits for a moment, in which the job keeps its turn; gives how it is then to be had, if it is woken."""
+        seconds = self.means.keeps_turn()
+        if not seconds:
+            return None
+        with self.means.signs.during():
+            return self.wait_once(found, path, before, seconds)
+
+    def park(self, found: Seen, path: str, before: str | None) -> Seen | None:
+        """The worker's other jobs go on while this one waits. If they all go on once it is woken, it is left for
+        another worker."""
         self.has_waited, self.following = True, None
         self.when_it_waits()
-        with self.means.waited():
+        with self.means.waited(self.job.name, path):
             woken = self.woken(found, path, before)
-        self.has_turn = self.means.takes_turn(WOKEN_SECONDS)
+        self.has_turn = self.means.takes_turn(self.job.name, WOKEN_SECONDS)
         if self.has_turn:
             return woken()
         self.leave(found)
@@ -571,27 +590,35 @@ class Attempt:
 
     def woken(self, found: Seen, path: str, before: str | None) -> Callable[[], Seen | None]:
         """Waits; gives how the job is then to be had."""
-        step = found.progress.step
-        wait_once = partial(self.wait_behind, found, path, before) if before else partial(self.wait_at, found, path)
         while not self.means.stopping:
-            came = wait_once()
+            came = self.wait_once(found, path, before, self.means.patience)
             if came is not None:
                 return came
             if before is not None and self.is_nobody(before):
                 self.limits = replace(self.limits, queues=False)
                 break
-        return partial(self.look, step)
+        return partial(self.look, found.progress.step)
 
-    def wait_behind(self, found: Seen, path: str, before: str) -> Callable[[], Seen | None] | None:
+    def wait_once(
+        self, found: Seen, path: str, before: str | None, seconds: float
+    ) -> Callable[[], Seen | None] | None:
+        """None if it isn't woken in time."""
+        if before is None:
+            return self.wait_at(found, path, seconds)
+        return self.wait_behind(found, path, before, seconds)
+
+    def wait_behind(
+        self, found: Seen, path: str, before: str, seconds: float
+    ) -> Callable[[], Seen | None] | None:
         """The node may be handed to this job all the same, by a job that hasn't seen those before it."""
         own = self.keys.waiter(path, self.job.age, self.job.name)
         watched = Watched(before, own + "\0", (before, own))
-        came = self.await_change(watched, found, lambda change: change.value is None)
+        came = wait(self.members, watched, found.found.revision, seconds, lambda change: change.value is None)
         return partial(self.look, found.progress.step, came.revision) if came else None
 
-    def wait_at(self, found: Seen, path: str) -> Callable[[], Seen | None] | None:
-        ours = ("", self.job.name)
-        came = self.await_change(Watched(self.keys.owner(path)), found, lambda change: change.value in ours)
+    def wait_at(self, found: Seen, path: str, seconds: float) -> Callable[[], Seen | None] | None:
+        watched, ours = Watched(self.keys.owner(path)), ("", self.job.name)
+        came = wait(self.members, watched, found.found.revision, seconds, lambda change: change.value in ours)
         if came is None:
             return None
         if not came.value and self.limits.works:
@@ -599,9 +626,6 @@ class Attempt:
             freed = found.freed(self.keys, path, came.revision)
             return lambda: freed
         return partial(self.look, found.progress.step + bool(came.value), came.revision)
-
-    def await_change(self, watched: Watched, found: Seen, is_it: Callable[[Change], bool]) -> Change | None:
-        return wait(self.members, watched, found.found.revision, self.means.patience, is_it)
 
     def is_nobody(self, waiter: str) -> bool:
         """Stands a job in line that isn't under way? It may have been set aside, or be gone."""

@@ -34,7 +34,7 @@ from .waiting import Watched, wait
 from .wire import Found, after, deleting, reading, reading_below, unchanged
 
 # How many jobs are looked at at once, and how many are chosen of them: with work, and without.
-MOST_LOOKED_AT, MOST_BEGUN = 768, 24
+MOST_LOOKED_AT, MOST_BEGUN, LEAST_BEGUN = 768, 12, 2
 MOST_SHORT, MOST_CHOSEN = 3072, 1536
 # How many of the latter are read for one transaction. After two of fewer jobs than so many within a moment, for how
 # long it is waited until it is looked for more.
@@ -53,6 +53,8 @@ FULL_SECONDS = 0.2
 GONE_SECONDS = 60.0
 # How many jobs of one worker wait at most, if it isn't told.
 MOST_WAITING = 256
+# What a thread does; it gives whether it still has its turn.
+Task = Callable[[], bool]
 
 
 class Worker:
@@ -84,6 +86,8 @@ class Worker:
         self.threads: set[threading.Thread] = set()
         # The jobs that its threads have chosen; what is begun of these is what they go on with.
         self.lock, self.chosen = threading.Lock(), set[str]()
+        # The chosen jobs that were read for threads that wait for the one before them; and when it was looked last.
+        self.rests, self.looked_at = list[Job](), 0.0
         # The first error of one of them.
         self.error: Optional[BaseException] = None
         # How many tasks have ended, and what is waited for while there is none.
@@ -153,45 +157,69 @@ class Worker:
                 self.means.signs.leash = None
 
     def do_jobs(self, until_ended: bool) -> None:
-        """Whenever there is a turn, something is done in another thread. That gives the turn back."""
+        """Whenever there is a turn, something is done in another thread."""
         while not self.means.stopping and self.error is None:
-            if not self.turns.take(LOOK_SECONDS):
+            if not self.turns.is_free(LOOK_SECONDS):
                 continue
-            is_given, ended = False, self.ended
-            try:
-                found = self.look()
-                fresh, begun = self.fresh_of(found), self.under_way_of(found)
-                if until_ended and not fresh and not begun:
-                    return
-                task = self.task(found, begun)
-                is_given = task is not None
-                if task is not None:
-                    self.start(task)
-            finally:
-                if not is_given:
-                    self.turns.give()
-            if not is_given and not fresh:
+            if time.monotonic() - self.looked_at < LOOK_SECONDS and self.rests and self.start(self.rest):
+                continue
+            ended, found = self.ended, self.look()
+            fresh, begun = self.fresh_of(found), self.under_way_of(found)
+            if until_ended and not fresh and not begun:
+                return
+            if self.start(partial(self.task, found, begun)):
+                continue
+            if not fresh or self.turns.waits:
                 self.idle(found, ended)
-            elif not is_given:
+            else:
                 time.sleep(SHARED_SECONDS if self.shares.by_nodes else CHOSEN_SECONDS)
 
-    def task(self, found: Found, begun: dict[str, UnderWay]) -> Optional[Callable[[], bool]]:
-        """What there is to do: a job with which nobody goes on, or jobs that nobody has begun. Each task gives whether
-        it still has its turn."""
+    def start(self, choose: Callable[[], Optional[Task]]) -> bool:
+        """Does in another thread what is chosen, which gives the turn back. False if that is nothing; if woken jobs have
+        taken all turns meanwhile, nothing is chosen."""
+        if not self.turns.take():
+            return True
+        task = None
+        try:
+            task = choose()
+        finally:
+            if task is None:
+                self.turns.give()
+        if task is not None:
+            self.start_thread(task)
+        return task is not None
+
+    def task(self, found: Found, begun: dict[str, UnderWay]) -> Optional[Task]:
+        """What there is to do: a job with which nobody goes on, those that another thread has left, or others that
+        nobody has begun."""
         left = self.abandoned(begun, found)
         if left:
             abandoned = random.choice(left)
             return self.chosen_for([abandoned.name], lambda names: self.go_on_with(abandoned))
+        rest = self.rest()
+        if rest is not None:
+            return rest
         some = self.some_of(found)
         if some:
             return self.chosen_for(some, lambda names: self.run_some(in_order(some, names), names))
         return None
 
-    def chosen_for(self, some: list[str], task: Callable[[set[str]], bool]) -> Callable[[], bool]:
+    def rest(self) -> Optional[Task]:
+        """Jobs that another thread has left, without those that would wait behind another one of this worker."""
+        avoided = self.turns.avoided()
+        with self.lock:
+            jobs = [job for job in self.rests if job.begins_at() not in avoided]
+            self.rests = [job for job in self.rests if job.begins_at() in avoided]
+        if not jobs:
+            return None
+        return self.with_chosen({job.name for job in jobs}, partial(self.run_batch, jobs))
+
+    def chosen_for(self, some: list[str], task: Callable[[set[str]], bool]) -> Task:
         """No other thread of this worker chooses these jobs until the task is done, or comes to wait for one. The task
         gets the set of their names, to which it adds those that it chooses itself."""
-        names = self.choose(some)
+        return self.with_chosen(self.choose(some), task)
 
+    def with_chosen(self, names: set[str], task: Callable[[set[str]], bool]) -> Task:
         def chosen() -> bool:
             try:
                 return task(names)
@@ -207,14 +235,21 @@ class Worker:
             self.chosen |= chosen
         return chosen
 
-    def let_go(self, names: set[str], but: str | None = None) -> None:
-        """Other threads may choose these again, and they are taken out of the set."""
+    def let_go(self, names: set[str]) -> None:
+        """Other threads may choose these again."""
         with self.lock:
-            gone = names - {but}
-            self.chosen -= gone
-            names -= gone
+            self.chosen -= names
 
-    def start(self, task: Callable[[], bool]) -> None:
+    def leave_rest(self, name: str, attempts: deque[Attempt], names: set[str]) -> None:
+        """A job waits, and keeps its thread. Another thread goes on with those that were read with it."""
+        jobs = [attempt.job for attempt in attempts]
+        attempts.clear()
+        with self.lock:
+            self.rests += jobs
+            self.chosen -= names - {name, *(job.name for job in jobs)}
+            names.intersection_update({name})
+
+    def start_thread(self, task: Task) -> None:
         def run() -> None:
             has_turn = True
             try:
@@ -240,6 +275,7 @@ class Worker:
 
     def look(self) -> Found:
         """Reads the oldest jobs that nobody has begun, those under way, and the workers' signs."""
+        self.looked_at = time.monotonic()
         fresh, begun, signs = (self.keys.whole(kind) for kind in "qus")
         return self.members.read([reading_below(fresh, self.most), reading_below(begun), reading_below(signs)])
 
@@ -259,16 +295,21 @@ class Worker:
         """Some of the jobs that nobody has begun; no more than leaves as many for each thread."""
         keys = found.below(self.keys.whole("q"))
         nodes = {last_part(key): keys[key].value for key in sorted(keys) if len(key) <= MOST_KEY}
-        fresh = {name: node for name, node in nodes.items() if name not in self.chosen}
-        most = MOST_CHOSEN if self.means.work is None else MOST_BEGUN
-        return self.shares.choose(fresh, self.others(found), min(most, max(1, len(fresh) // self.count)))
+        avoided = self.turns.avoided()
+        fresh = {name: node for name, node in nodes.items() if name not in self.chosen and node not in avoided}
+        workers = self.workers(found)
+        if self.means.work is None:
+            return self.shares.choose(fresh, workers, min(MOST_CHOSEN, max(1, len(fresh) // self.count)))
+        # As many are left for each thread of each worker.
+        each = len(fresh) // (self.count * len(workers))
+        return self.shares.choose(fresh, workers, min(MOST_BEGUN, max(LEAST_BEGUN, each)))
 
-    def others(self, found: Found) -> list[str]:
-        """The workers that give signs of life. The last sign of one that is long gone is deleted."""
-        there = []
+    def workers(self, found: Found) -> set[str]:
+        """The workers that give signs of life, and this one. The last sign of one that is long gone is deleted."""
+        there = {self.means.name}
         for key, entry in found.below(self.keys.whole("s")).items():
             if not self.means.stills.is_still(key, entry.put_at, self.means.patience):
-                there.append(last_part(key))
+                there.add(last_part(key))
             elif self.means.stills.is_still(key, entry.put_at, GONE_SECONDS + self.means.patience):
                 self.members.write([deleting(key)], [unchanged(key, entry.put_at)])
         return there
@@ -330,14 +371,14 @@ class Worker:
         one that has waited. Gives whether it still has its turn. The names are those of the jobs that were chosen."""
         until = time.monotonic() + self.means.patience
         ahead: Seen | None = None
-        is_idle = bool(jobs)
-        for attempt in self.in_turn(jobs, names):
+        is_idle, attempts = bool(jobs), deque(self.attempts(jobs))
+        for attempt in self.in_turn(attempts, names):
             found = ahead or self.first_look(attempt)
             if found is None or not found.is_for(self.means.name):
                 break
             if time.monotonic() > until:
                 attempt.following = None
-            attempt.when_it_waits = partial(self.let_go, names, attempt.job.name)
+            attempt.when_it_waits = partial(self.leave_rest, attempt.job.name, attempts, names)
             attempt.run(found)
             ahead, is_idle = attempt.ahead, is_idle and attempt.is_left_for_later
             self.step_back(attempt.stepped_back)
@@ -352,9 +393,8 @@ class Worker:
             time.sleep(FULL_SECONDS)
         return True
 
-    def in_turn(self, jobs: list[Job], names: set[str]) -> Iterator[Attempt]:
-        """Attempts at these jobs, and at more, which are read while there is work for the last but one."""
-        attempts = deque(self.attempts(jobs))
+    def in_turn(self, attempts: deque[Attempt], names: set[str]) -> Iterator[Attempt]:
+        """These attempts, and more, whose jobs are read while there is work for the last but one."""
         more: Future[list[Job]] | None = None
         while attempts:
             attempt = attempts.popleft()

@@ -1,5 +1,7 @@
 """The jobs that the threads of a worker have chosen: no two of them have chosen one."""
 import unittest
+from collections import deque
+from types import SimpleNamespace
 
 import here  # noqa: F401
 
@@ -16,14 +18,19 @@ class Chosen(unittest.TestCase):
         self.assertEqual(self.worker.choose(["a", "b"]), {"a", "b"})
         self.assertEqual(self.worker.choose(["b", "c"]), {"c"})
 
-    def test_what_was_let_go_is_not_let_go_again(self):
-        """A thread that waits for one of its jobs lets go of the others, and later of that one: by then another thread
-        may have chosen the others."""
-        first = self.worker.choose(["a", "b", "c"])
-        self.worker.let_go(first, "a")
-        second = self.worker.choose(["b"])
-        self.worker.let_go(first)
-        self.assertEqual((first, second, self.worker.chosen), (set(), {"b"}, {"b"}))
+    def test_who_waits_leaves_what_was_read_with_its_job_to_another_thread(self):
+        """And later lets go of its own job alone: by then other threads may have chosen the others."""
+        names = self.worker.choose(["a", "b", "c"])
+        read = deque([SimpleNamespace(job=SimpleNamespace(name="b", begins_at=lambda: "/n"))])
+        self.worker.leave_rest("a", read, names)
+        self.assertEqual((names, self.worker.chosen, len(read)), ({"a"}, {"a", "b"}, 0))
+        self.worker.turns.give_to_wait("a", "/n")
+        self.assertIsNone(self.worker.rest())
+        self.worker.turns.take_again("a", 0.01)
+        self.assertIsNotNone(self.worker.rest())
+        self.assertIsNone(self.worker.rest())
+        self.worker.let_go(names)
+        self.assertEqual(self.worker.chosen, {"b"})
 
     def test_a_task_lets_go_of_what_it_has_added(self):
         task = self.worker.chosen_for(["a"], lambda names: bool(names.update(self.worker.choose(["b"]))))
