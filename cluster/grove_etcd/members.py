@@ -16,7 +16,6 @@ import grpc
 from . import etcdrpc
 from .refusals import Failed
 from .wire import (
-    Branches,
     Done,
     Found,
     Guard,
@@ -29,13 +28,12 @@ from .wire import (
     ranging,
     reading,
     request_of,
-    request_of_all,
 )
 
 # Of operations in a transaction, and of its compares (etcd's default limit).
 MOST_OPERATIONS = 128
-# Of transactions within one that have few operations, and of the operations of each of a few.
-MOST_WIDE, MOST_OF_WIDE = 64, 100
+# Of transactions within one that have few operations.
+MOST_WIDE = 64
 # Keys of one answer.
 PAGE = 2000
 # For how long one member is waited for, and for how long a call is repeated.
@@ -128,6 +126,12 @@ class Member:
         )
         self.token: tuple[tuple[str, str], ...] = ()
 
+    def transact_all(self, requests: list[Request], seconds: float, metadata: Any) -> list[Any]:
+        """Several transactions, side by side."""
+        calls = [self.transact.future(request, seconds, metadata=metadata) for request in requests[1:]]
+        first = [self.transact(request, seconds, metadata=metadata) for request in requests[:1]]
+        return [*first, *(call.result() for call in calls)]
+
     def authenticate(self, seconds: float) -> None:
         """Gets a token for the user's name and password, if there is a user."""
         if self.credentials.user is None:
@@ -199,19 +203,28 @@ class Members:
             whole.entries.update(self.read(list(reads[start : start + MOST_OPERATIONS])).entries)
         return whole
 
-    def read_at_once(self, reads: list[Operation]) -> Found:
-        """At most 2,800 reads, at one revision."""
-        if len(reads) <= MOST_OPERATIONS:
-            return self.read(reads)
-        return self.read_wide([reads[start : start + MOST_OF_WIDE] for start in range(0, len(reads), MOST_OF_WIDE)])
+    def read_side_by_side(self, reads: Sequence[Operation], since: int = 0) -> Found:
+        """Any number of reads, some in a transaction, all of which are on their way at once. So each has a revision of
+        its own; that of what was found is the least of them. With `since` none is older than that revision, and if the
+        member that is asked has it, no other one is involved."""
+        if not reads:
+            return Found(since)
+        if since:
+            found = self.found_by_some(list(map(at_hand, reads)))
+            if found.revision >= since:
+                return found
+        return self.found_by_some(reads)
 
-    def read_wide(self, parts: Sequence[list[Operation]]) -> Found:
-        """More than 128 reads at one revision, as transactions within one."""
-        return done(self.transact(request_of_all(Branches([], part, []) for part in parts))).found
+    def found_by_some(self, reads: Sequence[Operation]) -> Found:
+        starts = range(0, len(reads), MOST_OPERATIONS)
+        requests = [request_of([], list(reads[start : start + MOST_OPERATIONS]), []) for start in starts]
+        answers = self.call_until_answered(lambda member: member.ask(member.transact_all, requests, self.seconds))
+        revisions = [int(answer.header.revision) for answer in answers]
+        return Found(min(revisions, default=0), responses=[each for answer in answers for each in answer.responses])
 
-    def count(self, prefix: str, revision: int = 0) -> int:
-        """How many keys have this prefix."""
-        return int(self.range(counting(prefix, revision)).count)
+    def count(self, prefix: str, revision: int = 0, is_at_hand: bool = False) -> int:
+        """How many keys have this prefix; by the asked member alone, if that is enough."""
+        return int(self.range(counting(prefix, revision, is_at_hand)).count)
 
     def counts(self, prefixes: Sequence[str], revision: int) -> list[int]:
         """The same of several, side by side."""

@@ -54,10 +54,13 @@ class Reader:
         """Those of these that are jobs. With them it is read whether there are the nodes at which they begin."""
         if not names:
             return []
-        begun_at = {self.fresh[name].node for name in names if name in self.fresh} - self.nodes
+        fresh = [self.fresh[name] for name in names if name in self.fresh]
+        begun_at = {each.node for each in fresh} - self.nodes
         unknown = {self.keys.weight(path): path for path in filter(is_path, begun_at)}
         reads = [reading(self.keys.job(name)) for name in names]
-        found = self.members.read_at_once(reads + [reading(key, keys_only=True) for key in unknown])
+        # The key by which nobody has begun a job was put with the job.
+        since = max(each.put_at for each in fresh) if len(fresh) == len(names) else 0
+        found = self.members.read_side_by_side(reads + [reading(key, keys_only=True) for key in unknown], since)
         self.nodes |= {path for key, path in unknown.items() if key in found.entries}
         jobs = [job for job in (self.job(name, found) for name in names) if job is not None]
         self.know({path for job in jobs for path in job.nodes()})
@@ -83,12 +86,13 @@ class Reader:
         return job
 
     def know(self, paths: Iterable[str]) -> None:
-        """Finds out which of these are nodes."""
+        """Finds out which of these are nodes: by one member, and those that it doesn't have by all."""
         if len(self.nodes) > MOST_KNOWN:
             self.nodes.clear()
         unknown = {self.keys.weight(path): path for path in set(paths) - self.nodes}
-        found = self.members.read_all([reading(key, keys_only=True) for key in unknown])
-        self.nodes |= {unknown[key] for key in found.entries}
+        for since in (1, 0):
+            found = self.members.read_side_by_side([reading(key, keys_only=True) for key in unknown], since)
+            self.nodes |= {unknown.pop(key) for key in found.entries}
 
     def is_legal(self, job: Job) -> bool:
         try:

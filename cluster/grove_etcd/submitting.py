@@ -5,7 +5,7 @@ from __future__ import annotations
 import time
 import uuid
 from concurrent.futures import ThreadPoolExecutor
-from typing import Any, Callable, Iterator, NamedTuple, Optional
+from typing import Any, Iterator, NamedTuple, Optional
 
 from .head import need_store
 from .jobs import Access, Job, Progress
@@ -18,13 +18,11 @@ from .sharing import Commits, Part
 from .waiting import Watched, changes
 from .weighing import last_weighing
 from .weights import Weight
-from .wire import Found, Operation, absent, after, at_hand, putting, reading
+from .wire import Found, absent, after, putting, reading
 
 # Of parts of a transaction, of jobs in each, which are two puts, and of transactions that are on their way at once.
 MOST_PARTS, MOST_SENT = 16, 4
 MOST_JOBS = (MOST_OPERATIONS - MOST_PARTS) // 2
-# Of weights that are read at once.
-MOST_READ = 2000
 # For how long weights are kept, and of how many nodes.
 KNOWN_SECONDS, MOST_KNOWN = 1.0, 100_000
 # The length of a watch for replies.
@@ -93,17 +91,15 @@ class Submitter:
             self.reweighing = last_weighing(self.members, self.keys).number
         paths = {path for accesses in lists for path in ways_of(accesses)}
         # One member's own are enough: nodes stay, and a plan by old weights is legal. What it hasn't all are asked for.
-        self.learn(paths, at_hand)
-        self.learn(paths, lambda read: read)
+        self.learn(paths, since=1)
+        self.learn(paths, since=0)
         return {path: self.known[path] for path in paths if path in self.known}
 
-    def learn(self, paths: set[str], how: Callable[[Operation], Operation]) -> None:
+    def learn(self, paths: set[str], since: int) -> None:
         """Reads the weights of these that aren't known."""
         new = {self.keys.weight(path): path for path in sorted(paths - self.known.keys())}
-        reads = [how(reading(key)) for key in new]
-        for start in range(0, len(reads), MOST_READ):
-            found = self.members.read_at_once(reads[start : start + MOST_READ]).entries
-            self.known |= {new[key]: Weight.read(entry.value).at(self.reweighing) for key, entry in found.items()}
+        found = self.members.read_side_by_side(list(map(reading, new)), since).entries
+        self.known |= {new[key]: Weight.read(entry.value).at(self.reweighing) for key, entry in found.items()}
 
     def put_all(self, jobs: list[Job]) -> None:
         self.put_written(list(map(written_of, jobs)))

@@ -195,7 +195,8 @@ class Batch:
         """Does as many of the jobs as can be done whole."""
         if not self.chunks:
             return Outcome(left=self.large, rest=self.rest)
-        found = members.read_wide([chunk.reads(keys) for chunk in self.chunks])
+        # Each key that matters is guarded, so what was read needn't be of one revision.
+        found = members.read_side_by_side([read for chunk in self.chunks for read in chunk.reads(keys)], since=1)
         every = [Together(keys, found) for _ in self.chunks]
         for together, chunk in zip(every, self.chunks):
             for job in chunk.jobs:

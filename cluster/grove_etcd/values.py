@@ -29,9 +29,16 @@ class Value:
 
     @classmethod
     def of(cls: type[Kept], members: dict[str, Any]) -> Kept:
-        known = {each.name for each in fields(cls)} - {"more"}
+        known = cls.known()
         own = {name: member for name, member in members.items() if name in known}
         return cls(**own, more={name: member for name, member in members.items() if name not in known})
+
+    @classmethod
+    def known(cls) -> frozenset[str]:
+        """The fields that this version knows."""
+        if cls not in KNOWN:
+            KNOWN[cls] = frozenset(each.name for each in fields(cls)) - {"more"}
+        return KNOWN[cls]
 
     def members(self) -> dict[str, Any]:
         """Without those that are none."""
@@ -40,3 +47,6 @@ class Value:
 
     def text(self) -> str:
         return written(self.members())
+
+
+KNOWN: dict[type[Value], frozenset[str]] = {}

@@ -144,9 +144,13 @@ def ranging(start: str, end: str, limit: int = 0, revision: int = 0, keys_only: 
     )
 
 
-def counting(prefix: str, revision: int = 0) -> Any:
+def counting(prefix: str, revision: int = 0, is_at_hand: bool = False) -> Any:
     return etcdrpc.RangeRequest(
-        key=prefix.encode(), range_end=after(prefix).encode(), count_only=True, revision=revision
+        key=prefix.encode(),
+        range_end=after(prefix).encode(),
+        count_only=True,
+        revision=revision,
+        serializable=is_at_hand,
     )
 
 
