@@ -8,13 +8,15 @@ from __future__ import annotations
 import random
 import time
 from dataclasses import dataclass, field
-from typing import Sequence
+from typing import Collection
 from zlib import crc32
 
-# How long a job of another worker's share is left to that.
-LEFT_SECONDS = 1.0
+# How long a job of another worker's share is left to that, if nothing is begun meanwhile; and if something is.
+LEFT_SECONDS, LONGEST_LEFT_SECONDS = 1.0, 5.0
 # If workers choose the same jobs, each takes a smaller part of them, at least one in so many.
 MOST_PARTS = 32
+# So many jobs are left to one worker alone: in one transaction they cost less than in several.
+MOST_ALONE = 96
 
 
 @dataclass
@@ -26,12 +28,16 @@ class Shares:
     parts: int = 1
     # Since when jobs of others' shares have been seen, by name.
     seen: dict[str, float] = field(default_factory=dict)
+    # When it saw last that one of them had been begun.
+    begun_at: float = float("-inf")
+    # Its place among the workers that gave signs of life when it chose last.
+    place: int = 0
 
     def note(self, are_taken: bool) -> None:
         """Has another worker begun one of the jobs that it chose?"""
         self.parts = min(MOST_PARTS, self.parts * 2) if are_taken else max(1, self.parts // 2)
 
-    def choose(self, fresh: dict[str, str], workers: Sequence[str], most: int) -> list[str]:
+    def choose(self, fresh: dict[str, str], workers: Collection[str], most: int) -> list[str]:
         """Some of these jobs, which have the nodes at which they begin: the first ones of its own share, or else, from
         a random one on, those that have been left for a while."""
         if self.by_nodes:
@@ -43,13 +49,28 @@ class Shares:
 
     def left(self, fresh: dict[str, str]) -> list[str]:
         now = time.monotonic()
+        if self.seen.keys() - fresh.keys():
+            self.begun_at = now
         self.seen = {name: self.seen.get(name, now) for name in fresh}
-        return [name for name, since in self.seen.items() if now - since >= LEFT_SECONDS]
+        most = LEFT_SECONDS if now - self.begun_at >= LEFT_SECONDS else LONGEST_LEFT_SECONDS
+        return [name for name, since in self.seen.items() if now - since >= most]
 
-    def own(self, fresh: dict[str, str], workers: Sequence[str]) -> list[str]:
+    def own(self, fresh: dict[str, str], workers: Collection[str]) -> list[str]:
+        """Of few jobs, the first workers alone have shares."""
         every = sorted({*workers, self.worker})
-        place = every.index(self.worker)
-        return [name for name, node in fresh.items() if crc32((node or name).encode()) % len(every) == place]
+        self.place = every.index(self.worker)
+        count = min(len(every), shares_of(len(fresh)))
+        if self.place >= count:
+            return []
+        return [name for name, node in fresh.items() if crc32((node or name).encode()) % count == self.place]
+
+    def may_have_one(self, jobs: int) -> bool:
+        """Does this worker have a share of so many jobs?"""
+        return self.place < shares_of(jobs)
+
+
+def shares_of(jobs: int) -> int:
+    return -(-jobs // MOST_ALONE)
 
 
 def from_a_random_one(names: list[str]) -> list[str]:

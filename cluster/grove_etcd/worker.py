@@ -26,7 +26,7 @@ from .members import Lost, Members, pauses
 from .reading import Reader
 from .refusals import Failed
 from .seeing import Seen
-from .shares import Shares
+from .shares import LEFT_SECONDS, Shares
 from .signs import PATIENCE, Abandoned
 from .together import Batch, Outcome
 from .turns import Turns
@@ -172,7 +172,7 @@ class Worker:
             if not fresh or self.turns.waits:
                 self.idle(found, ended)
             else:
-                time.sleep(SHARED_SECONDS if self.shares.by_nodes else CHOSEN_SECONDS)
+                self.await_share()
 
     def start(self, choose: Callable[[], Optional[Task]]) -> bool:
         """Does in another thread what is chosen, which gives the turn back. False if that is nothing; if woken jobs have
@@ -476,6 +476,18 @@ class Worker:
         except Exception as why:  # whatever stands there
             self.reader.set_aside(attempt.job.name, why_of(why))
             return None
+
+    def await_share(self) -> None:
+        """Waits while all jobs that nobody has begun are chosen by its other threads; or, without work, while there are
+        so few that other workers do them all."""
+        if not self.shares.by_nodes:
+            time.sleep(CHOSEN_SECONDS)
+            return
+        until = time.monotonic() + LEFT_SECONDS
+        while not self.means.stopping and self.error is None and time.monotonic() < until:
+            time.sleep(SHARED_SECONDS)
+            if self.shares.may_have_one(self.members.count(self.keys.whole("q"), is_at_hand=True)):
+                break
 
     def idle(self, found: Found, ended: int) -> None:
         """Waits until jobs are submitted, a task ends beside those that had when it was read, or it is time to look for

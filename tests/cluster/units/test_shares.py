@@ -4,9 +4,10 @@ from unittest import mock
 
 import here  # noqa: F401
 from grove_etcd import shares
-from grove_etcd.shares import LEFT_SECONDS, Shares
+from grove_etcd.shares import LEFT_SECONDS, LONGEST_LEFT_SECONDS, MOST_ALONE, Shares
 
 FRESH = {f"job{number}.0": f"/l{number % 40}" for number in range(200)}
+MANY = {f"job{number}.0": f"/l{number % 40}" for number in range(4 * MOST_ALONE)}
 WORKERS = ["a", "b", "c"]
 
 
@@ -20,7 +21,7 @@ class Chosen(unittest.TestCase):
 
     def test_what_others_leave_is_taken_after_a_while(self):
         own = Shares("a", True)
-        left = {name: node for name, node in FRESH.items() if name not in own.choose(FRESH, WORKERS, 200)}
+        left = {name: node for name, node in MANY.items() if name not in own.choose(MANY, WORKERS, 200)}
         with mock.patch.object(shares.time, "monotonic") as clock:
             clock.return_value = 10.0
             self.assertEqual(Shares("a", True).choose({}, WORKERS, 5), [])
@@ -28,7 +29,25 @@ class Chosen(unittest.TestCase):
             self.assertEqual(late.choose(left, WORKERS, 5), [])
             clock.return_value += LEFT_SECONDS
             self.assertEqual(len(late.choose(left, WORKERS, 5)), 5)
-            self.assertEqual(len(late.choose({**left, **FRESH}, WORKERS, 500)), len(FRESH) - len(left))
+            self.assertEqual(len(late.choose({**left, **MANY}, WORKERS, 500)), len(MANY) - len(left))
+
+    def test_what_others_leave_is_left_for_longer_while_something_is_begun(self):
+        worker, last = Shares("z", True), list(FRESH)[-1]
+        some = {name: FRESH[name] for name in list(FRESH)[:10]}
+        with mock.patch.object(shares.time, "monotonic") as clock:
+            clock.return_value = 10.0
+            self.assertEqual(worker.choose({**some, last: "/l1"}, WORKERS, 5), [])
+            clock.return_value += LEFT_SECONDS
+            self.assertEqual(worker.choose(some, WORKERS, 5), [])
+            clock.return_value = 10.0 + LONGEST_LEFT_SECONDS
+            self.assertEqual(len(worker.choose(some, WORKERS, 5)), 5)
+
+    def test_of_few_jobs_the_first_workers_have_shares(self):
+        few = {name: FRESH[name] for name in list(FRESH)[:MOST_ALONE]}
+        every = {worker: Shares(worker, True) for worker in WORKERS}
+        chosen = {worker: each.choose(few, WORKERS, 200) for worker, each in every.items()}
+        self.assertEqual([len(chosen[worker]) for worker in WORKERS], [MOST_ALONE, 0, 0])
+        self.assertEqual([every["b"].may_have_one(jobs) for jobs in (MOST_ALONE, MOST_ALONE + 1)], [False, True])
 
     def test_one_alone_and_one_with_work_choose_of_all(self):
         self.assertEqual(set(Shares("a", True).choose(FRESH, [], 200)), set(FRESH))
