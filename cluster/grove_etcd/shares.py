@@ -16,7 +16,7 @@ LEFT_SECONDS, LONGEST_LEFT_SECONDS = 1.0, 5.0
 # If workers choose the same jobs, each takes a smaller part of them, at least one in so many.
 MOST_PARTS = 32
 # So many jobs are left to one worker alone: in one transaction they cost less than in several.
-MOST_ALONE = 96
+MOST_ALONE = 64
 
 
 @dataclass

@@ -175,8 +175,8 @@ class Worker:
                 self.await_share()
 
     def start(self, choose: Callable[[], Optional[Task]]) -> bool:
-        """Does in another thread what is chosen, which gives the turn back. False if that is nothing; if woken jobs have
-        taken all turns meanwhile, nothing is chosen."""
+        """Does in another thread what is chosen, which gives the turn back. False if that is nothing. If woken jobs
+        have taken all turns meanwhile, nothing is chosen."""
         if not self.turns.take():
             return True
         task = None
