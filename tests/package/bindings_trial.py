@@ -68,6 +68,13 @@ def configured(packages: Packages, prefix: Path, tally: Tally) -> list[str]:
     return called("pkg-config", "--cflags", "--libs", "grove", env=surroundings).stdout.split()
 
 
+# What the code of the pages in Rust prints: the amounts of a run, and the steps of a plan for two leaves.
+STEPS = (
+    'Lock("/")', 'Lock("/a")', 'Lock("/b")', 'Unlock("/")', "Access(0)", 'Unlock("/a")', "Access(1)", 'Unlock("/b")'
+)
+PRINTED = "\n".join(["[9, 11]", *STEPS, ""])
+
+
 def crate(packages: Packages, room: Path, tally: Tally) -> None:
     """A program that names the crate of the prefix, and that of the crate's own archive."""
     prefix = packages.unpacked(room / "prefix")
@@ -80,7 +87,7 @@ def crate(packages: Packages, room: Path, tally: Tally) -> None:
         (project / "src/main.rs").write_text(MAIN % "".join(f"{{\n{block}}}\n" for block in blocks("rust")))
         surroundings = {**SURROUNDINGS, "CARGO_TARGET_DIR": str(room / "target")}
         ran = called("cargo", "run", "--quiet", "--offline", cwd=project, env=surroundings)
-        note_equal(tally, place.name, (ran.stdout, ran.stderr, ran.returncode), ("[9, 11]\n", "", 0))
+        note_equal(tally, place.name, (ran.stdout, ran.stderr, ran.returncode), (PRINTED, "", 0))
         ran = called("cargo", "run", "--quiet", "--offline", "--example", "stock", cwd=place, env=surroundings)
         note_equal(tally, "stock", (ran.stdout, ran.returncode), ("4000 moves, and the shelves hold 400\n", 0))
 
