@@ -11,6 +11,7 @@ pub mod OutlineRows
 pub mod Names
 pub mod PathParts
 pub mod NameMarks
+pub mod AsciiNames
 pub mod PathDescent
 pub mod Paths
 pub mod UniquePaths
