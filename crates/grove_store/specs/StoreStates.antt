@@ -2,6 +2,7 @@
 use Rattle.std.specs.Prelude.{◌≡◌, ℕ, ◌^◌, ◌<◌, ◌≤◌, ◌==◌, not, ℤ, List, length, replicate, All}
 use Rattle.grove_base.specs.Numbers.{count_below}
 use Rattle.grove_tree.specs.Trees.{Rows, IsTree, weight_of}
+use Rattle.grove_tree.specs.Weights.{unweighed}
 use Rattle.grove_tree.specs.Rules.{IsWithinLimits}
 use Rattle.grove_meter.specs.Waits.{reweighed}
 
@@ -23,6 +24,13 @@ pub record IsStore (store : StoreState) : Type 0 where
   pub some_workers : 1 ≤ store.workers
   pub few_workers : store.workers ≤ 16
   pub counted : store.rounds < 2 ^ 64
+
+-- what lines leave of a store: one over the same names, with as many workers
+pub record IsSuccessor (before after : StoreState) : Type 0 where
+  pub old : IsStore before
+  pub new : IsStore after
+  pub names : unweighed after.rows ≡ unweighed before.rows
+  pub workers : after.workers ≡ before.workers
 
 -- a store that has answered nothing yet
 abbrev pub opened : Rows → List ℤ → ℕ → StoreState

@@ -1,6 +1,7 @@
 //! A store that answers lines, alone or in a round of batches.
 #![tactic(auto)]
 
+pub use keeper::{InMemory, Keeper, Unkept};
 pub use laws::round_laws;
 pub use line_reply::LineReply;
 pub use refusal::Refusal;
@@ -9,6 +10,7 @@ pub use store::Store;
 
 mod begun;
 mod crew;
+mod keeper;
 mod kept_texts;
 mod laws;
 mod line_reply;

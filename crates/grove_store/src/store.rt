@@ -1,4 +1,4 @@
-ghost use Rattle.std.specs.Prelude.{◌≡◌, ◌≤◌, ◌↔◌, length, IsTrue, IfOk, IfErr};
+ghost use Rattle.std.specs.Prelude.{◌≡◌, ◌≤◌, ◌↔◌, All, length, IsTrue, IfOk, IfErr};
 ghost use Rattle.grove_store.specs.StoreStates.{IsStore, opened};
 
 use crate::NoStore;
@@ -70,17 +70,40 @@ impl Store {
         ensures records { IfErr result (λ refused. refused.records ≡ records) }
     {
         match vec![in alloc; 0; tree.len() as usize] {
-            Ok(waits) => Ok(Store {
-                tree,
-                records,
-                waits,
-                workers,
-                rounds: 0,
-                plans: KeptPlans::new(alloc),
-                texts: KeptTexts::new(alloc),
-                reader: LineReader::new(),
-            }),
+            Ok(waits) => Ok(Store::resume(alloc, tree, records, waits, workers, 0)),
             Err(_) => Err(NoStore { tree, records }),
+        }
+    }
+
+    /// A store as it stood after so many rounds, with what its nodes had waited for by then. It takes no memory.
+    pub fn resume(
+        alloc: Global,
+        tree: Tree,
+        records: Records,
+        waits: Vec<u32>,
+        workers: u32,
+        rounds: u64,
+    ) -> Store
+        requires records { length records ≡ length tree }
+        requires waits { (length waits.items ≡ length tree) × All (λ count. count ≤ 1000) waits.items }
+        requires workers { (1 ≤ workers) × (workers ≤ 16) }
+        ensures { result ≡ record {
+          rows = tree;
+          records = records;
+          waits = waits.items;
+          workers = workers;
+          rounds = rounds;
+        } }
+    {
+        Store {
+            tree,
+            records,
+            waits,
+            workers,
+            rounds,
+            plans: KeptPlans::new(alloc),
+            texts: KeptTexts::new(alloc),
+            reader: LineReader::new(),
         }
     }
 
@@ -136,15 +159,6 @@ impl Store {
         let tree = self.tree.copy(alloc)?;
         let records = self.records.copy(alloc)?;
         let waits = Vec::from_slice(alloc, &self.waits)?;
-        Ok(Store {
-            tree,
-            records,
-            waits,
-            workers: self.workers,
-            rounds: self.rounds,
-            plans: KeptPlans::new(alloc),
-            texts: KeptTexts::new(alloc),
-            reader: LineReader::new(),
-        })
+        Ok(Store::resume(alloc, tree, records, waits, self.workers, self.rounds))
     }
 }
