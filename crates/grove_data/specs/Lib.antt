@@ -1,0 +1,5 @@
+pub mod Numbers
+pub mod Files
+pub mod Refusals
+pub mod Keeping
+pub mod Parts
